@@ -1,0 +1,4 @@
+pub mod Choice
+pub mod Limits
+pub mod Order
+pub mod Refusals
