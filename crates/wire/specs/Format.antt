@@ -1,0 +1,140 @@
+-- The format of document 01, 'Messages': what bytes a message is. `widths` and `words` are all of it.
+use Prim.Native.Nat.{ℕ, _+_}
+use mathlib.Core.Bool.{Bool, true, false, _&&_}
+use mathlib.Core.List.{List, [], _∷_, _++_}
+use lib.Dec.{eqb, leb}
+use lib.ListN.{getD}
+use Rattle.ids.specs.Choice.{if_then_else_}
+use Rattle.ids.specs.Limits.{validClient, validServer, validTimestamp, validOwner, within}
+use Rattle.ids.specs.declared.ClientId.{ClientId}
+use Rattle.ids.specs.declared.ServerId.{ServerId}
+use Rattle.ids.specs.declared.Timestamp.{Timestamp}
+use Rattle.ids.specs.declared.Owner.{Owner}
+use Rattle.ids.specs.declared.Owner.the-variants.{Nobody, Of}
+use Rattle.wire.specs.Bytes.{encode, decode, total}
+use Rattle.wire.specs.declared.Message.{Message}
+use Rattle.wire.specs.declared.Message.the-variants.{Request, Yield, Release, Inquiry, Response, Check}
+use Rattle.wire.specs.declared.Fields.{Fields}
+
+-- the kind of RESPONSE, which alone names an owner
+abbrev pub response : ℕ
+response = 5
+
+abbrev pub known : ℕ → Bool
+known kind = within kind 6
+
+-- the widths of a message's numbers in bytes: length and kind, then client, server, timestamp, and in a RESPONSE the owner's client
+abbrev pub header : List ℕ
+header = 2 ∷ 2 ∷ []
+
+abbrev pub widths : ℕ → List ℕ
+widths kind = header ++ 2 ∷ 2 ∷ 4 ∷ (if eqb kind response then 2 ∷ [] else [])
+
+-- a message's length in bytes, which is also its first number: 14 of a RESPONSE, 12 of every other
+unfoldable pub lengthOf : ℕ → ℕ
+lengthOf kind = total (widths kind)
+
+abbrev pub plain : ℕ → ClientId → ServerId → Timestamp → Fields
+plain kind k j t = record { kind = kind; client = k .0; server = j .0; timestamp = t .0; owner = 0 }
+
+-- the owner's numbers: 0 and 0 for nobody
+abbrev pub answer : ClientId → ServerId → Owner → Fields
+answer k j Nobody = record { kind = response; client = k .0; server = j .0; timestamp = 0; owner = 0 }
+answer k j (Of q) = record { kind = response; client = k .0; server = j .0; timestamp = q .timestamp .0; owner = q .client .0 }
+
+-- a message's numbers
+unfoldable pub fieldsOf : Message → Fields
+fieldsOf (Request k j t) = plain 1 k j t
+fieldsOf (Yield k j t) = plain 2 k j t
+fieldsOf (Release k j t) = plain 3 k j t
+fieldsOf (Inquiry k j t) = plain 4 k j t
+fieldsOf (Response k j o) = answer k j o
+fieldsOf (Check k j t) = plain 6 k j t
+
+-- the numbers in their order
+abbrev pub words : Fields → List ℕ
+words f = f .kind ∷ f .client ∷ f .server ∷ f .timestamp ∷ f .owner ∷ []
+
+-- the bytes that every kind begins with: the length, then all but the owner
+unfoldable pub front : Fields → List ℕ
+front f = encode (header ++ 2 ∷ 2 ∷ 4 ∷ []) (lengthOf (f .kind) ∷ words f)
+
+-- the bytes of these numbers, their length first
+unfoldable pub bytesOfFields : Fields → List ℕ
+bytesOfFields f = encode (widths (f .kind)) (lengthOf (f .kind) ∷ words f)
+
+-- THE FORMAT: the bytes that a message is
+unfoldable pub bytesOf : Message → List ℕ
+bytesOf m = bytesOfFields (fieldsOf m)
+
+-- how many they are
+unfoldable pub sizeOf : Message → ℕ
+sizeOf m = lengthOf (fieldsOf m .kind)
+
+unfoldable pub validParties : ClientId → ServerId → Bool
+validParties k j = validClient k && validServer j
+
+unfoldable pub validPlain : ClientId → ServerId → Timestamp → Bool
+validPlain k j t = validParties k j && validTimestamp t
+
+unfoldable pub validResponse : ClientId → ServerId → Owner → Bool
+validResponse k j o = validParties k j && validOwner o
+
+-- every number of the message is in its range; the server's is, whatever n is
+unfoldable pub valid : Message → Bool
+valid (Request k j t) = validPlain k j t
+valid (Yield k j t) = validPlain k j t
+valid (Release k j t) = validPlain k j t
+valid (Inquiry k j t) = validPlain k j t
+valid (Response k j o) = validResponse k j o
+valid (Check k j t) = validPlain k j t
+
+-- a server's owner from its numbers
+abbrev pub ownerOf : ℕ → ℕ → Owner
+ownerOf client timestamp =
+    if eqb client 0 && eqb timestamp 0 then Nobody
+    else Of (record { client = record { 0 = client }; timestamp = record { 0 = timestamp } })
+
+-- the message with these numbers, where their kind is known
+unfoldable pub messageOf : Fields → Message
+messageOf f =
+    let k : ClientId = record { 0 = f .client } in
+    let j : ServerId = record { 0 = f .server } in
+    let t : Timestamp = record { 0 = f .timestamp } in
+    if eqb (f .kind) 1 then Request k j t
+    else if eqb (f .kind) 2 then Yield k j t
+    else if eqb (f .kind) 3 then Release k j t
+    else if eqb (f .kind) 4 then Inquiry k j t
+    else if eqb (f .kind) response then Response k j (ownerOf (f .owner) (f .timestamp))
+    else Check k j t
+
+-- the length and the kind that the bytes s begin with
+unfoldable pub lengthIn : List ℕ → ℕ
+lengthIn s = getD (decode header s) 0 0
+
+unfoldable pub kindIn : List ℕ → ℕ
+kindIn s = getD (decode header s) 1 0
+
+-- the number at place i of those that s begins with, at the widths of their kind; 0 where the kind has none
+unfoldable pub fieldIn : List ℕ → ℕ → ℕ
+fieldIn s i = getD (decode (widths (kindIn s)) s) i 0
+
+-- all of them
+unfoldable pub fieldsIn : List ℕ → Fields
+fieldsIn s =
+    record {
+      kind = kindIn s;
+      client = fieldIn s 2;
+      server = fieldIn s 3;
+      timestamp = fieldIn s 4;
+      owner = fieldIn s 5;
+    }
+
+-- several messages, one after another
+unfoldable pub bytesOfAll : List Message → List ℕ
+bytesOfAll [] = []
+bytesOfAll (m ∷ ms) = bytesOf m ++ bytesOfAll ms
+
+unfoldable pub sizeOfAll : List Message → ℕ
+sizeOfAll [] = 0
+sizeOfAll (m ∷ ms) = sizeOf m + sizeOfAll ms

@@ -1,0 +1,320 @@
+// Messages and their bytes: document 01, 'Messages'.
+ghost use mathlib.Core.Path.{_≡_};
+ghost use Prim.Native.Nat.{_+_, _*_, _≤_};
+ghost use lib.ListN.{length, take, drop};
+ghost use lib.Seq.{sets};
+ghost use Rattle.wire.specs.Bytes.{littleEndian, number};
+ghost use Rattle.wire.specs.Format.{known, lengthOf, plain, answer, fieldsOf, messageOf, kindIn, fieldIn, fieldsIn, bytesOf, front, bytesOfFields, sizeOf, validParties, validPlain, validResponse, valid, ownerOf};
+ghost use Rattle.wire.specs.Calls.{readOf, writeOf, bufferAfter};
+use ids::ClientId;
+use ids::Owner;
+use ids::Refusal;
+use ids::Request;
+use ids::ServerId;
+use ids::Timestamp;
+
+// REQUEST, YIELD, RELEASE and INQUIRY go from the client to the server, RESPONSE and CHECK from the server to the client.
+pub enum Message {
+    Request(ClientId, ServerId, Timestamp),
+    Yield(ClientId, ServerId, Timestamp),
+    Release(ClientId, ServerId, Timestamp),
+    Inquiry(ClientId, ServerId, Timestamp),
+    Response(ClientId, ServerId, Owner),
+    Check(ClientId, ServerId, Timestamp),
+}
+
+// A message's numbers, as wide as the format has them. The owner's client is 0 where the kind has none.
+pub struct Fields {
+    pub kind: u16,
+    pub client: u16,
+    pub server: u16,
+    pub timestamp: u32,
+    pub owner: u16,
+}
+
+// A message with the bytes it took, or why there is none.
+pub enum Parsed {
+    Accepted(Message, usize),
+    Refused(Refusal),
+}
+
+// The bytes written, or why there are none.
+pub enum Written {
+    Bytes(usize),
+    Refused(Refusal),
+}
+
+fn join16(lo: u8, hi: u8) -> u16
+    ensures { λ r. ⌜ r ≡ lo + 256 * hi ⌝ }
+{
+    (lo as u16) + 256 * (hi as u16)
+}
+
+fn join32(lo: u16, hi: u16) -> u32
+    ensures { λ r. ⌜ r ≡ lo + 65536 * hi ⌝ }
+{
+    (lo as u32) + 65536 * (hi as u32)
+}
+
+fn get16(bytes: &[u8], at: usize) -> u16
+    requires { ⌜ at + 2 ≤ length (now bytes) ⌝ }
+    ensures { λ r. ⌜ r ≡ number (take 2 (drop at (now (bytes .entry)))) ⌝ }
+{
+    join16(bytes[at], bytes[at + 1])
+}
+
+fn get32(bytes: &[u8], at: usize) -> u32
+    requires { ⌜ at + 4 ≤ length (now bytes) ⌝ }
+    ensures { λ r. ⌜ r ≡ number (take 4 (drop at (now (bytes .entry)))) ⌝ }
+{
+    join32(get16(bytes, at), get16(bytes, at + 2))
+}
+
+fn put16(out: &mut [u8], at: usize, x: u16)
+    requires { ⌜ at + 2 ≤ length (now out) ⌝ }
+    ensures { λ _. ⌜ now (out .exit) ≡ sets (now (out .entry)) at (littleEndian 2 x) ⌝ }
+{
+    out[at] = (x % 256) as u8;
+    out[at + 1] = (x / 256 % 256) as u8;
+}
+
+fn put32(out: &mut [u8], at: usize, x: u32)
+    requires { ⌜ at + 4 ≤ length (now out) ⌝ }
+    ensures { λ _. ⌜ now (out .exit) ≡ sets (now (out .entry)) at (littleEndian 4 x) ⌝ }
+{
+    out[at] = (x % 256) as u8;
+    out[at + 1] = (x / 256 % 256) as u8;
+    out[at + 2] = (x / 65536 % 256) as u8;
+    out[at + 3] = (x / 16777216 % 256) as u8;
+}
+
+// Whether this is one of the six kinds.
+pub fn is_kind(kind: u16) -> bool
+    ensures { λ r. ⌜ r ≡ known kind ⌝ }
+{
+    ids::within_limit(kind as u32, 6)
+}
+
+// The bytes that a message of this kind has.
+pub fn length_of(kind: u16) -> u16
+    ensures { λ r. ⌜ r ≡ lengthOf kind ⌝ }
+{
+    if kind == 5 { 14 } else { 12 }
+}
+
+fn plain_fields(kind: u16, k: ClientId, j: ServerId, t: Timestamp) -> Fields
+    ensures { λ r. ⌜ r ≡ plain kind k j t ⌝ }
+{
+    Fields {
+        kind,
+        client: k.0,
+        server: j.0,
+        timestamp: t.0,
+        owner: 0,
+    }
+}
+
+fn response_fields(k: ClientId, j: ServerId, o: Owner) -> Fields
+    ensures { λ r. ⌜ r ≡ answer k j o ⌝ }
+{
+    match o {
+        Owner::Nobody => plain_fields(5, k, j, Timestamp(0)),
+        Owner::Of(q) => Fields {
+            kind: 5,
+            client: k.0,
+            server: j.0,
+            timestamp: q.timestamp.0,
+            owner: q.client.0,
+        },
+    }
+}
+
+// A message's numbers.
+pub fn fields_of(m: Message) -> Fields
+    ensures { λ r. ⌜ r ≡ fieldsOf m ⌝ }
+{
+    match m {
+        Message::Request(k, j, t) => plain_fields(1, k, j, t),
+        Message::Yield(k, j, t) => plain_fields(2, k, j, t),
+        Message::Release(k, j, t) => plain_fields(3, k, j, t),
+        Message::Inquiry(k, j, t) => plain_fields(4, k, j, t),
+        Message::Response(k, j, o) => response_fields(k, j, o),
+        Message::Check(k, j, t) => plain_fields(6, k, j, t),
+    }
+}
+
+fn owner_of(client: u16, timestamp: u32) -> Owner
+    ensures { λ r. ⌜ r ≡ ownerOf client timestamp ⌝ }
+{
+    if client == 0 {
+        if timestamp == 0 {
+            return Owner::Nobody;
+        }
+    }
+    let q = Request {
+        client: ClientId(client),
+        timestamp: Timestamp(timestamp),
+    };
+    Owner::Of(q)
+}
+
+// The message with these numbers; a kind that is not known is taken for CHECK's.
+pub fn message_of(f: Fields) -> Message
+    ensures { λ r. ⌜ r ≡ messageOf f ⌝ }
+{
+    let k = ClientId(f.client);
+    let j = ServerId(f.server);
+    let t = Timestamp(f.timestamp);
+    let kind = f.kind;
+    if kind == 1 {
+        return Message::Request(k, j, t);
+    }
+    if kind == 2 {
+        return Message::Yield(k, j, t);
+    }
+    if kind == 3 {
+        return Message::Release(k, j, t);
+    }
+    if kind == 4 {
+        return Message::Inquiry(k, j, t);
+    }
+    if kind == 5 {
+        let o = owner_of(f.owner, f.timestamp);
+        return Message::Response(k, j, o);
+    }
+    Message::Check(k, j, t)
+}
+
+fn valid_parties(k: ClientId, j: ServerId) -> bool
+    ensures { λ r. ⌜ r ≡ validParties k j ⌝ }
+{
+    ids::valid_client(k) && ids::valid_server(j)
+}
+
+fn valid_plain(k: ClientId, j: ServerId, t: Timestamp) -> bool
+    ensures { λ r. ⌜ r ≡ validPlain k j t ⌝ }
+{
+    valid_parties(k, j) && ids::valid_timestamp(t)
+}
+
+fn valid_response(k: ClientId, j: ServerId, o: Owner) -> bool
+    ensures { λ r. ⌜ r ≡ validResponse k j o ⌝ }
+{
+    valid_parties(k, j) && ids::valid_owner(o)
+}
+
+// Whether every number of the message is in its range.
+pub fn valid_message(m: Message) -> bool
+    ensures { λ r. ⌜ r ≡ valid m ⌝ }
+{
+    match m {
+        Message::Request(k, j, t) => valid_plain(k, j, t),
+        Message::Yield(k, j, t) => valid_plain(k, j, t),
+        Message::Release(k, j, t) => valid_plain(k, j, t),
+        Message::Inquiry(k, j, t) => valid_plain(k, j, t),
+        Message::Response(k, j, o) => valid_response(k, j, o),
+        Message::Check(k, j, t) => valid_plain(k, j, t),
+    }
+}
+
+fn owner_in(bytes: &[u8], kind: u16) -> u16
+    requires { ⌜ (lengthOf kind ≤ length (now bytes)) × (kind ≡ kindIn (now bytes)) ⌝ }
+    ensures { λ r. ⌜ r ≡ fieldIn (now (bytes .entry)) 5 ⌝ }
+{
+    if kind == 5 { get16(bytes, 12) } else { 0 }
+}
+
+fn fields_in(bytes: &[u8], kind: u16) -> Fields
+    requires { ⌜ (lengthOf kind ≤ length (now bytes)) × (kind ≡ kindIn (now bytes)) ⌝ }
+    ensures { λ r. ⌜ r ≡ fieldsIn (now (bytes .entry)) ⌝ }
+{
+    let client = get16(bytes, 4);
+    let server = get16(bytes, 6);
+    let timestamp = get32(bytes, 8);
+    let owner = owner_in(bytes, kind);
+    Fields {
+        kind,
+        client,
+        server,
+        timestamp,
+        owner,
+    }
+}
+
+// The message that `bytes` begins with, and the bytes it takes. Bytes behind it are not looked at.
+pub fn read(bytes: &[u8]) -> Parsed
+    ensures { λ r. ⌜ r ≡ readOf (now (bytes .entry)) ⌝ }
+{
+    if bytes.len() < 4 {
+        return Parsed::Refused(Refusal::HeaderShort);
+    }
+    let kind = get16(bytes, 2);
+    if !is_kind(kind) {
+        return Parsed::Refused(Refusal::KindUnknown);
+    }
+    let size = length_of(kind);
+    if get16(bytes, 0) != size {
+        return Parsed::Refused(Refusal::LengthWrong);
+    }
+    if bytes.len() < size as usize {
+        return Parsed::Refused(Refusal::MessageCut);
+    }
+    let m = message_of(fields_in(bytes, kind));
+    if !valid_message(m) {
+        return Parsed::Refused(Refusal::NumberOutOfRange);
+    }
+    Parsed::Accepted(m, size as usize)
+}
+
+fn put_front(out: &mut [u8], at: usize, f: Fields)
+    requires { ⌜ at + 12 ≤ length (now out) ⌝ }
+    ensures { λ _. ⌜ now (out .exit) ≡ sets (now (out .entry)) at (front f) ⌝ }
+{
+    put16(out, at, length_of(f.kind));
+    put16(out, at + 2, f.kind);
+    put16(out, at + 4, f.client);
+    put16(out, at + 6, f.server);
+    put32(out, at + 8, f.timestamp);
+}
+
+fn put_fields(out: &mut [u8], at: usize, f: Fields) -> usize
+    requires { ⌜ at + lengthOf (f .kind) ≤ length (now out) ⌝ }
+    ensures { λ r. ⌜ (r ≡ at + lengthOf (f .kind)) × (now (out .exit) ≡ sets (now (out .entry)) at (bytesOfFields f)) ⌝ }
+{
+    put_front(out, at, f);
+    if f.kind == 5 {
+        put16(out, at + 12, f.owner);
+        return at + 14;
+    }
+    at + 12
+}
+
+// Writes `m` from place `at` on and returns the place behind it. For the steps that send several messages, once they know that all fit.
+pub fn put(out: &mut [u8], at: usize, m: Message) -> usize
+    requires { ⌜ at + sizeOf m ≤ length (now out) ⌝ }
+    ensures { λ r. ⌜ (r ≡ at + sizeOf m) × (now (out .exit) ≡ sets (now (out .entry)) at (bytesOf m)) ⌝ }
+{
+    put_fields(out, at, fields_of(m))
+}
+
+// The bytes that `m` takes.
+pub fn size_of(m: Message) -> usize
+    ensures { λ r. ⌜ r ≡ sizeOf m ⌝ }
+{
+    let f = fields_of(m);
+    length_of(f.kind) as usize
+}
+
+// Writes `m` at the start of `out`. The bytes behind it stay, and a refusal changes none.
+pub fn write(m: Message, out: &mut [u8]) -> Written
+    ensures { λ r. ⌜ (r ≡ writeOf m (length (now (out .entry)))) × (now (out .exit) ≡ bufferAfter m (now (out .entry))) ⌝ }
+{
+    if !valid_message(m) {
+        return Written::Refused(Refusal::NumberOutOfRange);
+    }
+    if out.len() < size_of(m) {
+        return Written::Refused(Refusal::RoomShort);
+    }
+    let n = put(out, 0, m);
+    Written::Bytes(n)
+}
