@@ -1,6 +1,6 @@
 -- How the code's tests decide a definition's `&&` and `if`.
-use mathlib.Core.Path.{_≡_, refl, ap}
-use mathlib.Core.Bool.{Bool, true, false, _&&_, not}
+use mathlib.Core.Path.{_≡_, refl}
+use mathlib.Core.Bool.{Bool, true, false, _&&_}
 use mathlib.Core.Logic.{_⊎_, inl, inr}
 use Rattle.ids.specs.Choice.{if_then_else_}
 
@@ -22,3 +22,8 @@ and-true a b p q = rw (p, q)
 pub decided : (b : Bool) → (b ≡ true) ⊎ (b ≡ false)
 decided true = inl refl
 decided false = inr refl
+
+-- an `if` that gave something else than its first branch took the second
+pub passed : {A : Type 0} {x y z : A} (b : Bool) → (x ≡ z → ⊥) → (if b then x else y) ≡ z → (b ≡ false) × (y ≡ z)
+passed true n h = absurd (n h)
+passed false n h = (refl, h)

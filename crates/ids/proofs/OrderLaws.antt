@@ -1,5 +1,5 @@
 -- The order of requests is a strict total order. The test is turned into an order of numbers, once each way, and arithmetic does the rest.
-use Prim.Native.Nat.{ℕ, _<_, _≤_}
+use Prim.Native.Nat.{ℕ, _<_}
 use native.Mathlib.Omega.{arith}
 use mathlib.Core.Path.{_≡_, refl}
 use mathlib.Core.Bool.{Bool, true, false}

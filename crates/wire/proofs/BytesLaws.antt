@@ -1,12 +1,12 @@
 -- Laws of numbers as bytes, over every width: what is laid out is read back, and what is read is laid out as it stood.
 use Prim.Native.Nat.{ℕ, zero, suc, _+_, _*_, _/_, _%_, _^_, _<_, _≤_, _-_}
-use native.Mathlib.Nat.{pow-suc, add-suc, suc-add}
+use native.Mathlib.Nat.{pow-suc}
 use native.Mathlib.Numerals.{add-one, add-two}
 use native.Mathlib.Omega.{arith}
-use mathlib.Core.Path.{_≡_, refl, sym, ap, _∙_}
+use mathlib.Core.Path.{_≡_, refl, ap, _∙_}
 use mathlib.Core.List.{List, [], _∷_, _++_, append-assoc}
-use lib.ListN.{length, getD, take, drop, set, length-append, length-drop}
-use lib.Seq.{drop-cons, sets, length-sets, take-at, drop-at, take-add, drop-drop}
+use lib.ListN.{length, getD, take, drop, set, length-drop}
+use lib.Seq.{drop-cons, sets, take-at, drop-at, take-add}
 use Rattle.wire.specs.Bytes.{littleEndian, number, encode, decode, total}
 
 -- every element is a byte
@@ -49,11 +49,6 @@ littleEndian-number (suc w) (more {b} {bs} hb h) l =
 pub data Fit : List ℕ → List ℕ → Type 0 where
   done : {xs : List ℕ} → Fit [] xs
   next : {w x : ℕ} {ws xs : List ℕ} → x < 256 ^ w → Fit ws xs → Fit (w ∷ ws) (x ∷ xs)
-
-pub length-encode : {ws xs : List ℕ} → Fit ws xs → length (encode ws xs) ≡ total ws
-unfolding encode
-length-encode done = refl
-length-encode (next {w} {x} h r) = simp (length-append, length-littleEndian w x, length-encode r)
 
 pub decode-encode : {ws xs : List ℕ} (rest : List ℕ) → Fit ws xs → decode ws (encode ws xs ++ rest) ≡ take (length ws) xs
 unfolding encode decode

@@ -1,10 +1,9 @@
 -- What `read` and `write` answer at each of their returns, from the tests that led there.
 use Prim.Native.Nat.{ℕ, _+_, _<_, _≤_}
 use native.Mathlib.Omega.{arith}
-use mathlib.Core.Path.{_≡_, refl, sym, ap, _∙_}
-use mathlib.Core.Bool.{Bool, true, false, not}
-use mathlib.Core.List.{List, [], _∷_, _++_}
-use lib.Dec.{eqb, ltb}
+use mathlib.Core.Path.{_≡_, sym, _∙_}
+use mathlib.Core.Bool.{Bool, true, false}
+use mathlib.Core.List.{List}
 use lib.ListN.{length, take, drop}
 use lib.Seq.{sets}
 use borrow.Author.Tests.{lt-ltb, le-ltb, eq-eqb, ne-eqb, le-leb, lt-leb}
@@ -14,7 +13,6 @@ use Rattle.wire.specs.Format.{known, lengthOf, messageOf, lengthIn, kind
 use Rattle.wire.specs.Calls.{readOf, writeOf, bufferAfter}
 use Rattle.wire.specs.declared.Fields.{Fields}
 use Rattle.wire.specs.declared.Message.{Message}
-use Rattle.wire.specs.declared.Parsed.{Parsed}
 use Rattle.wire.specs.declared.Parsed.the-variants.{Accepted, Refused as NotRead}
 use Rattle.wire.specs.declared.Written.the-variants.{Bytes, Refused as NotWritten}
 use Rattle.wire.proofs.FormatLaws.{length-in, kind-in}

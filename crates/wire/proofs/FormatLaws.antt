@@ -1,21 +1,21 @@
 -- Laws of the format's definitions, one for each way in which the code decides them.
-use Prim.Native.Nat.{ℕ, zero, suc, _+_, _*_, _/_, _%_, _<_, _≤_}
+use Prim.Native.Nat.{ℕ, _+_, _≤_}
 use native.Mathlib.Omega.{arith}
-use mathlib.Core.Path.{_≡_, refl, sym, ap, _∙_}
-use mathlib.Core.Bool.{Bool, true, false, _&&_}
+use mathlib.Core.Path.{_≡_, refl}
+use mathlib.Core.Bool.{Bool, true, false}
 use mathlib.Core.List.{List, [], _∷_, _++_}
-use lib.Dec.{eqb, leb, ltb}
-use lib.ListN.{length, getD, take, drop}
+use lib.Dec.{eqb}
+use lib.ListN.{length, take, drop}
 use lib.Seq.{drop-drop, sets}
-use borrow.Author.Tests.{eq-eqb, ne-eqb, eqb-true}
+use borrow.Author.Tests.{eq-eqb, ne-eqb}
 use Rattle.ids.specs.Choice.{if_then_else_}
 use Rattle.ids.specs.declared.Owner.{Owner}
 use Rattle.ids.specs.declared.ClientId.{ClientId}
 use Rattle.ids.specs.declared.ServerId.{ServerId}
 use Rattle.ids.specs.declared.Timestamp.{Timestamp}
 use Rattle.wire.proofs.BytesLaws.{stored-on}
-use Rattle.wire.specs.Bytes.{littleEndian, number, encode, decode}
-use Rattle.wire.specs.Format.{known, widths, lengthOf, words, front, bytesOfFields, messageOf, ownerOf, lengthIn, kindIn, fieldIn, fieldsIn, response, header}
+use Rattle.wire.specs.Bytes.{littleEndian, number, encode, decode, total}
+use Rattle.wire.specs.Format.{lengthOf, front, bytesOfFields, bytesOf, sizeOf, fieldsOf, messageOf, ownerOf, lengthIn, kindIn, fieldIn, fieldsIn}
 use Rattle.wire.specs.declared.Message.{Message}
 use Rattle.wire.specs.declared.Message.the-variants.{Request, Yield, Release, Inquiry, Response, Check}
 use Rattle.wire.specs.declared.Fields.{Fields}
@@ -137,3 +137,16 @@ length-front f = refl
 pub stored-response : (f : Fields) (at : ℕ) (o l l′ : List ℕ) → f .kind ≡ 5 → l ≡ sets o at (front f) → l′ ≡ sets l (at + 12) (littleEndian 2 (f .owner)) → l′ ≡ sets o at (bytesOfFields f)
 stored-response f at o l l′ e p q =
     rw (front-response f e) at (stored-on o l l′ (front f) (littleEndian 2 (f .owner)) at (at + 12) p q (omega (arith, length-front f)))
+
+length-tail : (b : Bool) (o : ℕ) → let ws : List ℕ = if b then 2 ∷ [] else [] in length (encode ws (o ∷ [])) ≡ total ws
+unfolding encode
+length-tail true o = refl
+length-tail false o = refl
+
+pub length-fields : (f : Fields) → length (bytesOfFields f) ≡ lengthOf (f .kind)
+unfolding bytesOfFields lengthOf encode
+length-fields f = omega (arith, length-tail (eqb (f .kind) 5) (f .owner))
+
+pub length-bytesOf : (m : Message) → length (bytesOf m) ≡ sizeOf m
+unfolding bytesOf sizeOf
+length-bytesOf m = length-fields (fieldsOf m)

@@ -1,3 +1,7 @@
 pub mod BytesLaws
 pub mod FormatLaws
 pub mod CallLaws
+pub mod RoundTrip
+pub mod Prefix
+pub mod Sequence
+pub mod Carried

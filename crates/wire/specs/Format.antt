@@ -1,8 +1,8 @@
 -- The format of document 01, 'Messages': what bytes a message is. `widths` and `words` are all of it.
 use Prim.Native.Nat.{ℕ, _+_}
-use mathlib.Core.Bool.{Bool, true, false, _&&_}
+use mathlib.Core.Bool.{Bool, _&&_}
 use mathlib.Core.List.{List, [], _∷_, _++_}
-use lib.Dec.{eqb, leb}
+use lib.Dec.{eqb}
 use lib.ListN.{getD}
 use Rattle.ids.specs.Choice.{if_then_else_}
 use Rattle.ids.specs.Limits.{validClient, validServer, validTimestamp, validOwner, within}
@@ -38,9 +38,16 @@ abbrev pub plain : ℕ → ClientId → ServerId → Timestamp → Fields
 plain kind k j t = record { kind = kind; client = k .0; server = j .0; timestamp = t .0; owner = 0 }
 
 -- the owner's numbers: 0 and 0 for nobody
+abbrev pub ownerClient : Owner → ℕ
+ownerClient Nobody = 0
+ownerClient (Of q) = q .client .0
+
+abbrev pub ownerTimestamp : Owner → ℕ
+ownerTimestamp Nobody = 0
+ownerTimestamp (Of q) = q .timestamp .0
+
 abbrev pub answer : ClientId → ServerId → Owner → Fields
-answer k j Nobody = record { kind = response; client = k .0; server = j .0; timestamp = 0; owner = 0 }
-answer k j (Of q) = record { kind = response; client = k .0; server = j .0; timestamp = q .timestamp .0; owner = q .client .0 }
+answer k j o = record { kind = response; client = k .0; server = j .0; timestamp = ownerTimestamp o; owner = ownerClient o }
 
 -- a message's numbers
 unfoldable pub fieldsOf : Message → Fields

@@ -1,6 +1,5 @@
 -- `wire::length_of` meets its contract: the test is the one by which `widths` goes.
 use Rattle.wire.proofs.FormatLaws.{length-response, length-plain}
-use borrow.Author.Needs.{needs}
 use Rattle.wire.proofs.length_of.Statement.{statement}
 use Rattle.wire.proofs.length_of.Tie as tie
 

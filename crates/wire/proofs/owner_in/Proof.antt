@@ -1,7 +1,6 @@
 -- `wire::owner_in` meets its contract: a RESPONSE has two bytes more.
 use Rattle.wire.proofs.FormatLaws.{length-response, owner-in, no-owner-in}
 use native.Mathlib.Omega.{arith}
-use borrow.Author.Needs.{needs}
 use Rattle.wire.proofs.owner_in.Statement.{statement}
 use Rattle.wire.proofs.owner_in.Tie as tie
 

@@ -1,6 +1,5 @@
 -- `wire::owner_of` meets its contract: the two tests decide the definition's `&&`.
 use borrow.Author.Tests.{eq-eqb, ne-eqb}
-use borrow.Author.Needs.{needs}
 use Rattle.wire.proofs.owner_of.Statement.{statement}
 use Rattle.wire.proofs.owner_of.Tie as tie
 
