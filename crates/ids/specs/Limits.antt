@@ -38,3 +38,10 @@ validRequest q = validClient (q .client) && validTimestamp (q .timestamp)
 unfoldable pub validOwner : Owner → Bool
 validOwner Nobody = true
 validOwner (Of q) = validRequest q
+
+-- what every message names: a client and a server; and, but for a RESPONSE, the client's timestamp
+unfoldable pub validParties : ClientId → ServerId → Bool
+validParties k j = validClient k && validServer j
+
+unfoldable pub validStamped : ClientId → ServerId → Timestamp → Bool
+validStamped k j t = validParties k j && validTimestamp t

@@ -1,6 +1,6 @@
 // Who takes part, in what order requests are served, and why a call is refused.
 ghost use mathlib.Core.Path.{_≡_};
-ghost use Rattle.ids.specs.Limits.{within, validClient, validServer, validTimestamp, validRequest, validOwner};
+ghost use Rattle.ids.specs.Limits.{within, validClient, validServer, validTimestamp, validRequest, validOwner, validParties, validStamped};
 ghost use Rattle.ids.specs.Order.{before};
 ghost use Rattle.ids.specs.Refusals.{code};
 
@@ -92,6 +92,18 @@ pub fn valid_owner(o: Owner) -> bool
         Owner::Nobody => true,
         Owner::Of(q) => valid_request(q),
     }
+}
+
+pub fn valid_parties(k: ClientId, j: ServerId) -> bool
+    ensures { λ r. ⌜ r ≡ validParties k j ⌝ }
+{
+    valid_client(k) && valid_server(j)
+}
+
+pub fn valid_stamped(k: ClientId, j: ServerId, t: Timestamp) -> bool
+    ensures { λ r. ⌜ r ≡ validStamped k j t ⌝ }
+{
+    valid_parties(k, j) && valid_timestamp(t)
 }
 
 // Whether `a` is served before `b`: lower timestamp first, with equal timestamps lower client first.

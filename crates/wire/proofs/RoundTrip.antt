@@ -9,7 +9,7 @@ use lib.Dec.{eqb, ltb}
 use lib.ListN.{length, take, drop, getD, length-append}
 use borrow.Author.Tests.{le-ltb, eq-eqb, ne-eqb, eqb-true, eqb-false, not-false, ltb-false}
 use Rattle.ids.specs.Choice.{if_then_else_}
-use Rattle.ids.specs.Limits.{validClient, validServer, validTimestamp, validOwner}
+use Rattle.ids.specs.Limits.{validClient, validServer, validTimestamp, validOwner, validParties, validStamped}
 use Rattle.ids.specs.declared.Refusal.{Refusal}
 use Rattle.ids.specs.declared.Refusal.the-variants.{HeaderShort, KindUnknown, LengthWrong, MessageCut, NumberOutOfRange}
 use Rattle.ids.specs.declared.Owner.{Owner}
@@ -20,7 +20,7 @@ use Rattle.ids.specs.declared.Timestamp.{Timestamp}
 use Rattle.ids.proofs.Choice.{both, decided, passed}
 use Rattle.ids.proofs.LimitsLaws.{within-range, client-range, server-range, timestamp-range, request-range}
 use Rattle.wire.specs.Bytes.{encode, decode}
-use Rattle.wire.specs.Format.{known, widths, lengthOf, words, plain, answer, ownerClient, ownerTimestamp, fieldsOf, messageOf, ownerOf, bytesOf, bytesOfFields, sizeOf, valid, validPlain, validParties, validResponse, lengthIn, kindIn, fieldIn, fieldsIn}
+use Rattle.wire.specs.Format.{known, widths, lengthOf, words, plain, answer, ownerClient, ownerTimestamp, fieldsOf, messageOf, ownerOf, bytesOf, bytesOfFields, sizeOf, valid, validResponse, lengthIn, kindIn, fieldIn, fieldsIn}
 use Rattle.wire.specs.Calls.{readOf}
 use Rattle.wire.specs.declared.Fields.{Fields}
 use Rattle.wire.specs.declared.Message.{Message}
@@ -44,8 +44,8 @@ parties k j v =
     let (a, b) = both (validClient k) (validServer j) v in
     (client-range k a .1, server-range j b .1)
 
-plain-sound : (kind : ℕ) (k : ClientId) (j : ServerId) (t : Timestamp) → known kind ≡ true → validPlain k j t ≡ true → Sound (plain kind k j t)
-unfolding validPlain
+plain-sound : (kind : ℕ) (k : ClientId) (j : ServerId) (t : Timestamp) → known kind ≡ true → validStamped k j t ≡ true → Sound (plain kind k j t)
+unfolding validStamped
 plain-sound kind k j t e v =
     let (a, b) = both (validParties k j) (validTimestamp t) v in
     let (kk, jj) = parties k j a in
@@ -117,7 +117,7 @@ fields-message (suc (suc (suc (suc (suc zero))))) k j t o e a =
 fields-message (suc (suc (suc (suc (suc (suc zero)))))) k j t o e a = rw (a (λ n. omega arith))
 fields-message (suc (suc (suc (suc (suc (suc (suc n))))))) k j t o e a = absurd (omega (arith, within-range (suc (suc (suc (suc (suc (suc (suc n))))))) 6 e))
 
-short : (kind : ℕ) → lengthOf kind < 65536
+pub short : (kind : ℕ) → lengthOf kind < 65536
 unfolding lengthOf
 short kind = ⊎-elim (λ e. rw e (omega arith)) (λ e. rw e (omega arith)) (decided (eqb kind 5))
 

@@ -5,7 +5,7 @@ use mathlib.Core.List.{List, [], _∷_, _++_}
 use lib.Dec.{eqb}
 use lib.ListN.{getD}
 use Rattle.ids.specs.Choice.{if_then_else_}
-use Rattle.ids.specs.Limits.{validClient, validServer, validTimestamp, validOwner, within}
+use Rattle.ids.specs.Limits.{validParties, validStamped, validOwner, within}
 use Rattle.ids.specs.declared.ClientId.{ClientId}
 use Rattle.ids.specs.declared.ServerId.{ServerId}
 use Rattle.ids.specs.declared.Timestamp.{Timestamp}
@@ -78,23 +78,17 @@ bytesOf m = bytesOfFields (fieldsOf m)
 unfoldable pub sizeOf : Message → ℕ
 sizeOf m = lengthOf (fieldsOf m .kind)
 
-unfoldable pub validParties : ClientId → ServerId → Bool
-validParties k j = validClient k && validServer j
-
-unfoldable pub validPlain : ClientId → ServerId → Timestamp → Bool
-validPlain k j t = validParties k j && validTimestamp t
-
 unfoldable pub validResponse : ClientId → ServerId → Owner → Bool
 validResponse k j o = validParties k j && validOwner o
 
 -- every number of the message is in its range; the server's is, whatever n is
 unfoldable pub valid : Message → Bool
-valid (Request k j t) = validPlain k j t
-valid (Yield k j t) = validPlain k j t
-valid (Release k j t) = validPlain k j t
-valid (Inquiry k j t) = validPlain k j t
+valid (Request k j t) = validStamped k j t
+valid (Yield k j t) = validStamped k j t
+valid (Release k j t) = validStamped k j t
+valid (Inquiry k j t) = validStamped k j t
 valid (Response k j o) = validResponse k j o
-valid (Check k j t) = validPlain k j t
+valid (Check k j t) = validStamped k j t
 
 -- a server's owner from its numbers
 abbrev pub ownerOf : ℕ → ℕ → Owner

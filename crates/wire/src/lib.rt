@@ -4,7 +4,7 @@ ghost use Prim.Native.Nat.{_+_, _*_, _≤_};
 ghost use lib.ListN.{length, take, drop};
 ghost use lib.Seq.{sets};
 ghost use Rattle.wire.specs.Bytes.{littleEndian, number};
-ghost use Rattle.wire.specs.Format.{known, lengthOf, plain, answer, fieldsOf, messageOf, kindIn, fieldIn, fieldsIn, bytesOf, front, bytesOfFields, sizeOf, validParties, validPlain, validResponse, valid, ownerOf};
+ghost use Rattle.wire.specs.Format.{known, lengthOf, plain, answer, fieldsOf, messageOf, kindIn, fieldIn, fieldsIn, bytesOf, front, bytesOfFields, sizeOf, validResponse, valid, ownerOf};
 ghost use Rattle.wire.specs.Calls.{readOf, writeOf, bufferAfter};
 use ids::ClientId;
 use ids::Owner;
@@ -185,22 +185,10 @@ pub fn message_of(f: Fields) -> Message
     Message::Check(k, j, t)
 }
 
-fn valid_parties(k: ClientId, j: ServerId) -> bool
-    ensures { λ r. ⌜ r ≡ validParties k j ⌝ }
-{
-    ids::valid_client(k) && ids::valid_server(j)
-}
-
-fn valid_plain(k: ClientId, j: ServerId, t: Timestamp) -> bool
-    ensures { λ r. ⌜ r ≡ validPlain k j t ⌝ }
-{
-    valid_parties(k, j) && ids::valid_timestamp(t)
-}
-
 fn valid_response(k: ClientId, j: ServerId, o: Owner) -> bool
     ensures { λ r. ⌜ r ≡ validResponse k j o ⌝ }
 {
-    valid_parties(k, j) && ids::valid_owner(o)
+    ids::valid_parties(k, j) && ids::valid_owner(o)
 }
 
 // Whether every number of the message is in its range.
@@ -208,12 +196,12 @@ pub fn valid_message(m: Message) -> bool
     ensures { λ r. ⌜ r ≡ valid m ⌝ }
 {
     match m {
-        Message::Request(k, j, t) => valid_plain(k, j, t),
-        Message::Yield(k, j, t) => valid_plain(k, j, t),
-        Message::Release(k, j, t) => valid_plain(k, j, t),
-        Message::Inquiry(k, j, t) => valid_plain(k, j, t),
+        Message::Request(k, j, t) => ids::valid_stamped(k, j, t),
+        Message::Yield(k, j, t) => ids::valid_stamped(k, j, t),
+        Message::Release(k, j, t) => ids::valid_stamped(k, j, t),
+        Message::Inquiry(k, j, t) => ids::valid_stamped(k, j, t),
         Message::Response(k, j, o) => valid_response(k, j, o),
-        Message::Check(k, j, t) => valid_plain(k, j, t),
+        Message::Check(k, j, t) => ids::valid_stamped(k, j, t),
     }
 }
 

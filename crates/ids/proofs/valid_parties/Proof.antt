@@ -1,9 +1,9 @@
--- `wire::valid_parties` meets its contract: the first test decides the definition's `&&`.
+-- `ids::valid_parties` meets its contract: the first test decides the definition's `&&`.
 use borrow.Author.Needs.{needs}
 use Rattle.ids.proofs.Choice.{and-goes-on, and-stops}
-use Rattle.wire.specs.Format.{validParties}
-use Rattle.wire.proofs.valid_parties.Statement.{statement}
-use Rattle.wire.proofs.valid_parties.Tie as tie
+use Rattle.ids.specs.Limits.{validParties}
+use Rattle.ids.proofs.valid_parties.Statement.{statement}
+use Rattle.ids.proofs.valid_parties.Tie as tie
 
 valid-client-requires : tie.Need-valid-client-requires
 valid-client-requires c κs = search needs
