@@ -15,8 +15,9 @@ pub both : (a b : Bool) → a && b ≡ true → (a ≡ true) × (b ≡ true)
 both true b p = (refl, p)
 both false b p = let z : true ≡ false = cc in (cc, cc)
 
-pub and-true : (a b : Bool) → a ≡ true → b ≡ true → a && b ≡ true
-and-true a b p q = rw (p, q)
+pub and-true : (a : Bool) → a && true ≡ a
+and-true true = refl
+and-true false = refl
 
 -- a test is true or false
 pub decided : (b : Bool) → (b ≡ true) ⊎ (b ≡ false)

@@ -1,20 +1,27 @@
 -- What `read` and `write` answer at each of their returns, from the tests that led there.
 use Prim.Native.Nat.{ℕ, _+_, _<_, _≤_}
 use native.Mathlib.Omega.{arith}
-use mathlib.Core.Path.{_≡_, sym, _∙_}
+use mathlib.Core.Path.{refl, _≡_, sym, _∙_}
 use mathlib.Core.Bool.{Bool, true, false}
 use mathlib.Core.List.{List}
 use lib.ListN.{length, take, drop}
 use lib.Seq.{sets}
 use borrow.Author.Tests.{lt-ltb, le-ltb, eq-eqb, ne-eqb, le-leb, lt-leb}
+use Rattle.ids.specs.declared.Refusal.{Refusal}
 use Rattle.ids.specs.declared.Refusal.the-variants.{HeaderShort, KindUnknown, LengthWrong, MessageCut, NumberOutOfRange, RoomShort}
 use Rattle.wire.specs.Bytes.{number}
-use Rattle.wire.specs.Format.{known, lengthOf, messageOf, lengthIn, kindIn, fieldsIn, valid, sizeOf, bytesOf}
-use Rattle.wire.specs.Calls.{readOf, writeOf, bufferAfter}
+use Rattle.wire.specs.Format.{known, fieldsOf, lengthOf, messageOf, lengthIn, kindIn, fieldsIn, valid, validFields, sizeOf, bytesOf, bytesOfFields}
+use Rattle.wire.specs.Calls.{readOf, numbersOf, writeOf, bufferAfter, layOf, laidIn, writeNumbers, numbersAfter}
 use Rattle.wire.specs.declared.Fields.{Fields}
 use Rattle.wire.specs.declared.Message.{Message}
 use Rattle.wire.specs.declared.Parsed.the-variants.{Accepted, Refused as NotRead}
+use Rattle.wire.specs.declared.Parsed.{Parsed}
+use Rattle.wire.specs.declared.Numbers.{Numbers}
+use Rattle.wire.specs.declared.Numbers.the-variants.{Fitting, Refused as NoNumbers}
+use Rattle.wire.specs.declared.Written.{Written}
 use Rattle.wire.specs.declared.Written.the-variants.{Bytes, Refused as NotWritten}
+use Rattle.wire.proofs.NumbersLaws.{message-fields, valid-message, alone-in, fields-of-message}
+use Rattle.wire.proofs.RoundTrip.{Took, took}
 use Rattle.wire.proofs.FormatLaws.{length-in, kind-in}
 
 module _ (s : List ℕ) where
@@ -43,34 +50,76 @@ module _ (s : List ℕ) where
         unfolding readOf
         read-cut c = let e : known kind ≡ true = cc in simp (le-ltb _ _ h, its-kind, e, its-length, ← z, eq-eqb _ _ n, lt-ltb _ _ c)
 
-        module _ (f : Fields) (m : Message) (v : Bool) (c : size ≤ length s) (p : f ≡ fieldsIn s) (q : m ≡ messageOf f) (w : v ≡ valid m) where
+        module _ (f : Fields) (v : Bool) (c : size ≤ length s) (p : f ≡ fieldsIn s) (w : v ≡ validFields f) where
+          in-range : v ≡ valid (messageOf (fieldsIn s))
+          unfolding validFields fieldsIn
+          in-range =
+              let e : known kind ≡ true = cc in
+              let q : known (kindIn s) ≡ true = rw its-kind e in
+              rw (p, q) at w ∙ valid-message (fieldsIn s) q (alone-in s)
+
           pub read-invalid : v ≡ false → NotRead NumberOutOfRange ≡ readOf s
           unfolding readOf
           read-invalid b =
               let e : known kind ≡ true = cc in
-              let i : valid m ≡ false = cc in
-              simp (le-ltb _ _ h, its-kind, e, its-length, ← z, eq-eqb _ _ n, le-ltb _ _ c, ← p, ← q, i)
+              let i : valid (messageOf (fieldsIn s)) ≡ false = cc in-range in
+              simp (le-ltb _ _ h, its-kind, e, its-length, ← z, eq-eqb _ _ n, le-ltb _ _ c, i)
 
-          pub read-accepted : v ≡ true → Accepted m size ≡ readOf s
+          accepted : v ≡ true → readOf s ≡ Accepted (messageOf (fieldsIn s)) size
           unfolding readOf
+          accepted b =
+              let e : known kind ≡ true = cc in
+              let i : valid (messageOf (fieldsIn s)) ≡ true = cc in-range in
+              simp (le-ltb _ _ h, its-kind, e, its-length, ← z, eq-eqb _ _ n, le-ltb _ _ c, i)
+
+          pub read-accepted : v ≡ true → Fitting f size ≡ numbersOf (readOf s)
           read-accepted b =
               let e : known kind ≡ true = cc in
-              let i : valid m ≡ true = cc in
-              simp (le-ltb _ _ h, its-kind, e, its-length, ← z, eq-eqb _ _ n, le-ltb _ _ c, ← p, ← q, i)
+              let q : known (kindIn s) ≡ true = rw its-kind e in
+              rw (accepted b, fields-of-message s q, p)
+
+-- what `read` makes of the numbers
+module _ (s : List ℕ) (p : Numbers) where
+  again : (q : Parsed) (f : Fields) (m : Message) (n : ℕ) → readOf s ≡ q → p ≡ numbersOf q → p ≡ Fitting f n → m ≡ messageOf f → Accepted m n ≡ q
+  again (NotRead e) f m n a b c d = let z : _≡_ {A = ℕ} 0 1 = cc in absurd (omega arith)
+  again (Accepted m′ n′) f m n a b c d =
+      let g : messageOf (fieldsOf m′) ≡ m′ = message-fields m′ (took s m′ n′ a .range) in
+      let h : fieldsOf m′ ≡ f = cc in
+      let k : n′ ≡ n = cc in
+      let l : messageOf f ≡ m′ = rw h at g in
+      cc
+
+  pub read-message : (f : Fields) (m : Message) (n : ℕ) → p ≡ numbersOf (readOf s) → p ≡ Fitting f n → m ≡ messageOf f → Accepted m n ≡ readOf s
+  read-message f m n a b c = again (readOf s) f m n refl a b c
+
+  none : (q : Parsed) (e : Refusal) → p ≡ numbersOf q → p ≡ NoNumbers e → NotRead e ≡ q
+  none (NotRead e′) e b c = let h : e′ ≡ e = cc in cc
+  none (Accepted m n) e b c = let z : _≡_ {A = ℕ} 0 1 = cc in absurd (omega arith)
+
+  pub read-refused : (e : Refusal) → p ≡ numbersOf (readOf s) → p ≡ NoNumbers e → NotRead e ≡ readOf s
+  read-refused e a b = none (readOf s) e a b
+
+module _ (f : Fields) (o : List ℕ) (size : ℕ) (z : size ≡ lengthOf (f .kind)) where
+  pub lay-short : length o < size → (NotWritten RoomShort ≡ layOf f (length o)) × (o ≡ laidIn f o)
+  unfolding layOf laidIn
+  lay-short h = (simp (← z, lt-ltb _ _ h), simp (← z, lt-leb _ _ h))
+
+  pub lay-done : (n : ℕ) (l : List ℕ) → size ≤ length o → n ≡ 0 + lengthOf (f .kind) → l ≡ sets o 0 (bytesOfFields f) → (Bytes n ≡ layOf f (length o)) × (l ≡ laidIn f o)
+  unfolding layOf laidIn
+  lay-done n l h e p = let s : n ≡ size = omega arith in (simp (← z, le-ltb _ _ h, s), simp (← z, le-leb _ _ h, p))
 
 module _ (m : Message) (o : List ℕ) (v : Bool) (w : v ≡ valid m) where
   pub write-invalid : v ≡ false → (NotWritten NumberOutOfRange ≡ writeOf m (length o)) × (o ≡ bufferAfter m o)
   unfolding writeOf bufferAfter
   write-invalid b = let i : valid m ≡ false = cc in (simp i, simp i)
 
-  module _ (t : v ≡ true) (size : ℕ) (z : size ≡ sizeOf m) where
-    pub write-short : length o < size → (NotWritten RoomShort ≡ writeOf m (length o)) × (o ≡ bufferAfter m o)
-    unfolding writeOf bufferAfter
-    write-short h = let i : valid m ≡ true = cc in (simp (i, ← z, lt-ltb _ _ h), simp (i, ← z, lt-leb _ _ h))
+  pub write-laid : v ≡ true → (f : Fields) (r : Written) (l : List ℕ) → f ≡ fieldsOf m → r ≡ layOf f (length o) → l ≡ laidIn f o → (r ≡ writeOf m (length o)) × (l ≡ bufferAfter m o)
+  unfolding writeOf bufferAfter layOf laidIn sizeOf bytesOf
+  write-laid t f r l e p q = let i : valid m ≡ true = cc in (simp i (rw e at p), simp i (rw e at q))
 
-    pub write-accepted : (n : ℕ) (l : List ℕ) → size ≤ length o → n ≡ 0 + sizeOf m → l ≡ sets o 0 (bytesOf m) → (Bytes n ≡ writeOf m (length o)) × (l ≡ bufferAfter m o)
-    unfolding writeOf bufferAfter
-    write-accepted n l h e p =
-        let i : valid m ≡ true = cc in
-        let s : n ≡ size = omega arith in
-        (simp (i, ← z, le-ltb _ _ h, s), simp (i, ← z, le-leb _ _ h, p))
+module _ (f : Fields) (o : List ℕ) (v : Bool) (w : v ≡ validFields f) where
+  pub numbers-invalid : v ≡ false → (NotWritten NumberOutOfRange ≡ writeNumbers f (length o)) × (o ≡ numbersAfter f o)
+  numbers-invalid b = let i : validFields f ≡ false = cc in (rw i, rw i)
+
+  pub numbers-laid : v ≡ true → (r : Written) (l : List ℕ) → r ≡ layOf f (length o) → l ≡ laidIn f o → (r ≡ writeNumbers f (length o)) × (l ≡ numbersAfter f o)
+  numbers-laid t r l p q = let i : validFields f ≡ true = cc in (rw i p, rw i q)

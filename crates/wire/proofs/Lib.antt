@@ -1,5 +1,6 @@
 pub mod BytesLaws
 pub mod FormatLaws
+pub mod NumbersLaws
 pub mod CallLaws
 pub mod RoundTrip
 pub mod Prefix

@@ -1,121 +1,27 @@
 -- The format is one to one: what is written is read as the same message, whatever stands behind it, and what is read is written as the same bytes.
-use Prim.Native.Nat.{ℕ, zero, suc, _<_, _≤_}
+use Prim.Native.Nat.{ℕ, _<_, _≤_}
 use native.Mathlib.Omega.{arith}
 use mathlib.Core.Path.{_≡_, refl, sym, ap, _∙_}
-use mathlib.Core.Bool.{Bool, true, false, not, _&&_}
+use mathlib.Core.Bool.{Bool, true, false, not}
 use mathlib.Core.List.{List, [], _∷_, _++_}
 use mathlib.Core.Logic.{⊎-elim}
 use lib.Dec.{eqb, ltb}
 use lib.ListN.{length, take, drop, getD, length-append}
-use borrow.Author.Tests.{le-ltb, eq-eqb, ne-eqb, eqb-true, eqb-false, not-false, ltb-false}
+use borrow.Author.Tests.{le-ltb, eq-eqb, eqb-true, eqb-false, not-false, ltb-false}
 use Rattle.ids.specs.Choice.{if_then_else_}
-use Rattle.ids.specs.Limits.{validClient, validServer, validTimestamp, validOwner, validParties, validStamped}
 use Rattle.ids.specs.declared.Refusal.{Refusal}
 use Rattle.ids.specs.declared.Refusal.the-variants.{HeaderShort, KindUnknown, LengthWrong, MessageCut, NumberOutOfRange}
-use Rattle.ids.specs.declared.Owner.{Owner}
-use Rattle.ids.specs.declared.Owner.the-variants.{Nobody, Of}
-use Rattle.ids.specs.declared.ClientId.{ClientId}
-use Rattle.ids.specs.declared.ServerId.{ServerId}
-use Rattle.ids.specs.declared.Timestamp.{Timestamp}
-use Rattle.ids.proofs.Choice.{both, decided, passed}
-use Rattle.ids.proofs.LimitsLaws.{within-range, client-range, server-range, timestamp-range, request-range}
+use Rattle.ids.proofs.Choice.{decided, passed}
+use Rattle.ids.proofs.LimitsLaws.{within-range}
 use Rattle.wire.specs.Bytes.{encode, decode}
-use Rattle.wire.specs.Format.{known, widths, lengthOf, words, plain, answer, ownerClient, ownerTimestamp, fieldsOf, messageOf, ownerOf, bytesOf, bytesOfFields, sizeOf, valid, validResponse, lengthIn, kindIn, fieldIn, fieldsIn}
+use Rattle.wire.specs.Format.{known, widths, lengthOf, words, fieldsOf, messageOf, bytesOf, bytesOfFields, sizeOf, valid, lengthIn, kindIn, fieldIn, fieldsIn}
 use Rattle.wire.specs.Calls.{readOf}
 use Rattle.wire.specs.declared.Fields.{Fields}
 use Rattle.wire.specs.declared.Message.{Message}
-use Rattle.wire.specs.declared.Message.the-variants.{Request, Yield, Release, Inquiry, Response, Check}
 use Rattle.wire.specs.declared.Parsed.the-variants.{Accepted, Refused as NotRead}
 use Rattle.wire.proofs.BytesLaws.{AllBytes, Fit, done, next, decode-encode, encode-decode}
 use Rattle.wire.proofs.FormatLaws.{at-least, kind-in, length-fields}
-
--- the numbers of a message that can be written: each fits its width, the kind is known, and only a RESPONSE has an owner
-pub record Sound (f : Fields) : Type 0 where
-  pub kind : known (f .kind) ≡ true
-  pub client : f .client < 65536
-  pub server : f .server < 65536
-  pub timestamp : f .timestamp < 4294967296
-  pub owner : f .owner < 65536
-  pub alone : (f .kind ≡ 5 → ⊥) → f .owner ≡ 0
-
-parties : (k : ClientId) (j : ServerId) → validParties k j ≡ true → (k .0 ≤ 65535) × (j .0 ≤ 31)
-unfolding validParties
-parties k j v =
-    let (a, b) = both (validClient k) (validServer j) v in
-    (client-range k a .1, server-range j b .1)
-
-plain-sound : (kind : ℕ) (k : ClientId) (j : ServerId) (t : Timestamp) → known kind ≡ true → validStamped k j t ≡ true → Sound (plain kind k j t)
-unfolding validStamped
-plain-sound kind k j t e v =
-    let (a, b) = both (validParties k j) (validTimestamp t) v in
-    let (kk, jj) = parties k j a in
-    let tt′ = timestamp-range t b in
-    record { kind = e; client = omega arith; server = omega arith; timestamp = omega arith; owner = omega arith; alone = λ n. refl }
-
-owner-sound : (o : Owner) → validOwner o ≡ true → (ownerClient o ≤ 65535) × (ownerTimestamp o ≤ 4294967295)
-unfolding validOwner
-owner-sound Nobody v = (omega arith, omega arith)
-owner-sound (Of q) v =
-    let (a, b) = request-range q v in
-    (client-range (q .client) a .1, timestamp-range (q .timestamp) b .1)
-
-response-sound : (k : ClientId) (j : ServerId) (o : Owner) → validResponse k j o ≡ true → Sound (answer k j o)
-unfolding validResponse
-response-sound k j o v =
-    let (a, b) = both (validParties k j) (validOwner o) v in
-    let (kk, jj) = parties k j a in
-    let (oo, tt′) = owner-sound o b in
-    record { kind = refl; client = omega arith; server = omega arith; timestamp = omega arith; owner = omega arith; alone = λ n. absurd (n refl) }
-
-pub valid-sound : (m : Message) → valid m ≡ true → Sound (fieldsOf m)
-unfolding valid fieldsOf
-valid-sound (Request k j t) v = plain-sound 1 k j t refl v
-valid-sound (Yield k j t) v = plain-sound 2 k j t refl v
-valid-sound (Release k j t) v = plain-sound 3 k j t refl v
-valid-sound (Inquiry k j t) v = plain-sound 4 k j t refl v
-valid-sound (Response k j o) v = response-sound k j o v
-valid-sound (Check k j t) v = plain-sound 6 k j t refl v
-
--- the numbers of a valid message make the message again
-owner-again : (o : Owner) → validOwner o ≡ true → ownerOf (ownerClient o) (ownerTimestamp o) ≡ o
-unfolding validOwner
-owner-again Nobody v = refl
-owner-again (Of q) v =
-    let c = client-range (q .client) (request-range q v .0) in
-    let n : q .client .0 ≡ 0 → ⊥ = omega arith in
-    simp (ne-eqb _ _ n)
-
-pub message-fields : (m : Message) → valid m ≡ true → messageOf (fieldsOf m) ≡ m
-unfolding valid fieldsOf messageOf validResponse
-message-fields (Request k j t) v = refl
-message-fields (Yield k j t) v = refl
-message-fields (Release k j t) v = refl
-message-fields (Inquiry k j t) v = refl
-message-fields (Response k j o) v = ap (Response k j) (owner-again o (both (validParties k j) (validOwner o) v .1))
-message-fields (Check k j t) v = refl
-
--- a message with known numbers has these numbers
-owner-numbers : (o t : ℕ) (b : Bool) → eqb o 0 && eqb t 0 ≡ b → (ownerClient (ownerOf o t) ≡ o) × (ownerTimestamp (ownerOf o t) ≡ t)
-owner-numbers o t true e =
-    let (a, b) = both (eqb o 0) (eqb t 0) e in
-    let o0 : o ≡ 0 = eqb-true _ _ a in
-    let t0 : t ≡ 0 = eqb-true _ _ b in
-    (rw (o0, t0), rw (o0, t0))
-owner-numbers o t false e = (rw e, rw e)
-
-fields-message : (kind k j t o : ℕ) → known kind ≡ true → ((kind ≡ 5 → ⊥) → o ≡ 0)
-    → let f : Fields = record { kind = kind; client = k; server = j; timestamp = t; owner = o } in fieldsOf (messageOf f) ≡ f
-unfolding fieldsOf messageOf
-fields-message zero k j t o e a = absurd (omega (arith, within-range 0 6 e))
-fields-message (suc zero) k j t o e a = rw (a (λ n. omega arith))
-fields-message (suc (suc zero)) k j t o e a = rw (a (λ n. omega arith))
-fields-message (suc (suc (suc zero))) k j t o e a = rw (a (λ n. omega arith))
-fields-message (suc (suc (suc (suc zero)))) k j t o e a = rw (a (λ n. omega arith))
-fields-message (suc (suc (suc (suc (suc zero))))) k j t o e a =
-    let (p, q) = owner-numbers o t _ refl in
-    rw (p, q)
-fields-message (suc (suc (suc (suc (suc (suc zero)))))) k j t o e a = rw (a (λ n. omega arith))
-fields-message (suc (suc (suc (suc (suc (suc (suc n))))))) k j t o e a = absurd (omega (arith, within-range (suc (suc (suc (suc (suc (suc (suc n))))))) 6 e))
+use Rattle.wire.proofs.NumbersLaws.{Sound, valid-sound, message-fields, kind-of, fields-of-message}
 
 pub short : (kind : ℕ) → lengthOf kind < 65536
 unfolding lengthOf
@@ -208,19 +114,6 @@ took s m n e =
       used = cc (r₅ .1);
       range = let v : valid (messageOf (fieldsIn s)) ≡ true = not-false _ (r₅ .0) in rw same at v;
     }
-
-kind-of : (s : List ℕ) → fieldsIn s .kind ≡ kindIn s
-unfolding fieldsIn
-kind-of s = refl
-
--- only a RESPONSE's numbers have an owner
-alone-in : (s : List ℕ) → (kindIn s ≡ 5 → ⊥) → fieldIn s 5 ≡ 0
-unfolding fieldIn decode
-alone-in s n = simp (ne-eqb _ _ n)
-
-fields-of-message : (s : List ℕ) → known (kindIn s) ≡ true → fieldsOf (messageOf (fieldsIn s)) ≡ fieldsIn s
-unfolding fieldsIn
-fields-of-message s k = fields-message (kindIn s) (fieldIn s 2) (fieldIn s 3) (fieldIn s 4) (fieldIn s 5) k (alone-in s)
 
 -- the numbers that are laid out again are those that were read; past a plain message's fifth number nothing is laid out
 tail-again : (b : Bool) (t : List ℕ) → let ws : List ℕ = if b then 2 ∷ [] else [] in encode ws (getD (decode ws t) 0 0 ∷ []) ≡ encode ws (decode ws t)

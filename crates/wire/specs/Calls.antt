@@ -7,8 +7,11 @@ use lib.ListN.{length}
 use lib.Seq.{sets}
 use Rattle.ids.specs.Choice.{if_then_else_}
 use Rattle.ids.specs.declared.Refusal.the-variants.{HeaderShort, KindUnknown, LengthWrong, MessageCut, NumberOutOfRange, RoomShort}
-use Rattle.wire.specs.Format.{known, lengthOf, lengthIn, kindIn, fieldsIn, messageOf, valid, sizeOf, bytesOf}
+use Rattle.wire.specs.Format.{known, fieldsOf, bytesOfFields, validFields, lengthOf, lengthIn, kindIn, fieldsIn, messageOf, valid, sizeOf, bytesOf}
 use Rattle.wire.specs.declared.Message.{Message}
+use Rattle.wire.specs.declared.Fields.{Fields}
+use Rattle.wire.specs.declared.Numbers.{Numbers}
+use Rattle.wire.specs.declared.Numbers.the-variants.{Fitting, Refused as NoNumbers}
 use Rattle.wire.specs.declared.Parsed.{Parsed}
 use Rattle.wire.specs.declared.Parsed.the-variants.{Accepted, Refused as NotRead}
 use Rattle.wire.specs.declared.Written.{Written}
@@ -35,3 +38,22 @@ writeOf m room =
 unfoldable pub bufferAfter : Message → List ℕ → List ℕ
 bufferAfter m buffer =
     if valid m && leb (sizeOf m) (length buffer) then sets buffer 0 (bytesOf m) else buffer
+
+-- an answer of reading with the message as its numbers
+abbrev pub numbersOf : Parsed → Numbers
+numbersOf (NotRead e) = NoNumbers e
+numbersOf (Accepted m n) = Fitting (fieldsOf m) n
+
+-- a message's numbers laid down where there is room for them
+unfoldable pub layOf : Fields → ℕ → Written
+layOf f room = if ltb room (lengthOf (f .kind)) then NotWritten RoomShort else Bytes (lengthOf (f .kind))
+
+unfoldable pub laidIn : Fields → List ℕ → List ℕ
+laidIn f buffer = if leb (lengthOf (f .kind)) (length buffer) then sets buffer 0 (bytesOfFields f) else buffer
+
+-- numbers that may be no message: 5, then as above
+abbrev pub writeNumbers : Fields → ℕ → Written
+writeNumbers f room = if validFields f then layOf f room else NotWritten NumberOutOfRange
+
+abbrev pub numbersAfter : Fields → List ℕ → List ℕ
+numbersAfter f buffer = if validFields f then laidIn f buffer else buffer

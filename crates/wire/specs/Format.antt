@@ -5,7 +5,7 @@ use mathlib.Core.List.{List, [], _∷_, _++_}
 use lib.Dec.{eqb}
 use lib.ListN.{getD}
 use Rattle.ids.specs.Choice.{if_then_else_}
-use Rattle.ids.specs.Limits.{validParties, validStamped, validOwner, within}
+use Rattle.ids.specs.Limits.{validParties, validStamped, validTimestamp, validOwner, within}
 use Rattle.ids.specs.declared.ClientId.{ClientId}
 use Rattle.ids.specs.declared.ServerId.{ServerId}
 use Rattle.ids.specs.declared.Timestamp.{Timestamp}
@@ -130,6 +130,18 @@ fieldsIn s =
       timestamp = fieldIn s 4;
       owner = fieldIn s 5;
     }
+
+unfoldable pub validRest : ℕ → ℕ → ℕ → Bool
+validRest kind timestamp owner =
+    if eqb kind response then validOwner (ownerOf owner timestamp) else validTimestamp (record { 0 = timestamp }) && eqb owner 0
+
+unfoldable pub validNumbers : Fields → Bool
+validNumbers f =
+    validParties (record { 0 = f .client }) (record { 0 = f .server }) && validRest (f .kind) (f .timestamp) (f .owner)
+
+-- the same test of numbers that may be no message at all: a known kind, an owner only in a RESPONSE, all in range
+unfoldable pub validFields : Fields → Bool
+validFields f = known (f .kind) && validNumbers f
 
 -- several messages, one after another
 unfoldable pub bytesOfAll : List Message → List ℕ

@@ -4,8 +4,9 @@ ghost use Prim.Native.Nat.{_+_, _*_, _≤_};
 ghost use lib.ListN.{length, take, drop};
 ghost use lib.Seq.{sets};
 ghost use Rattle.wire.specs.Bytes.{littleEndian, number};
-ghost use Rattle.wire.specs.Format.{known, lengthOf, plain, answer, fieldsOf, messageOf, kindIn, fieldIn, fieldsIn, bytesOf, front, bytesOfFields, sizeOf, validResponse, valid, ownerOf};
-ghost use Rattle.wire.specs.Calls.{readOf, writeOf, bufferAfter};
+ghost use Rattle.wire.specs.Format.{known, lengthOf, plain, answer, fieldsOf, messageOf, kindIn, fieldIn, fieldsIn, bytesOf, front, bytesOfFields, sizeOf, validResponse, valid, validRest, validNumbers, validFields, ownerOf};
+ghost use Rattle.wire.specs.Calls.{readOf, numbersOf, writeOf, bufferAfter, layOf, laidIn, writeNumbers, numbersAfter};
+ghost use Rattle.ids.specs.Limits.{validOwner};
 use ids::ClientId;
 use ids::Owner;
 use ids::Refusal;
@@ -35,6 +36,12 @@ pub struct Fields {
 // A message with the bytes it took, or why there is none.
 pub enum Parsed {
     Accepted(Message, usize),
+    Refused(Refusal),
+}
+
+// A message's numbers with the bytes it took, or why there are none.
+pub enum Numbers {
+    Fitting(Fields, usize),
     Refused(Refusal),
 }
 
@@ -205,6 +212,37 @@ pub fn valid_message(m: Message) -> bool
     }
 }
 
+fn valid_owner_numbers(owner: u16, timestamp: u32) -> bool
+    ensures { λ r. ⌜ r ≡ validOwner (ownerOf owner timestamp) ⌝ }
+{
+    if owner == 0 {
+        return timestamp == 0;
+    }
+    timestamp != 0
+}
+
+fn valid_rest(kind: u16, timestamp: u32, owner: u16) -> bool
+    ensures { λ r. ⌜ r ≡ validRest kind timestamp owner ⌝ }
+{
+    if kind == 5 {
+        return valid_owner_numbers(owner, timestamp);
+    }
+    ids::valid_timestamp(Timestamp(timestamp)) && owner == 0
+}
+
+fn valid_numbers(f: Fields) -> bool
+    ensures { λ r. ⌜ r ≡ validNumbers f ⌝ }
+{
+    ids::valid_parties(ClientId(f.client), ServerId(f.server)) && valid_rest(f.kind, f.timestamp, f.owner)
+}
+
+// Whether these numbers are a message's.
+pub fn valid_fields(f: Fields) -> bool
+    ensures { λ r. ⌜ r ≡ validFields f ⌝ }
+{
+    is_kind(f.kind) && valid_numbers(f)
+}
+
 fn owner_in(bytes: &[u8], kind: u16) -> u16
     requires { ⌜ (lengthOf kind ≤ length (now bytes)) × (kind ≡ kindIn (now bytes)) ⌝ }
     ensures { λ r. ⌜ r ≡ fieldIn (now (bytes .entry)) 5 ⌝ }
@@ -229,29 +267,43 @@ fn fields_in(bytes: &[u8], kind: u16) -> Fields
     }
 }
 
-// The message that `bytes` begins with, and the bytes it takes. Bytes behind it are not looked at.
-pub fn read(bytes: &[u8]) -> Parsed
-    ensures { λ r. ⌜ r ≡ readOf (now (bytes .entry)) ⌝ }
+// The numbers of the message that `bytes` begins with, and the bytes it takes. Bytes behind it are not looked at.
+pub fn read_fields(bytes: &[u8]) -> Numbers
+    ensures { λ r. ⌜ r ≡ numbersOf (readOf (now (bytes .entry))) ⌝ }
 {
     if bytes.len() < 4 {
-        return Parsed::Refused(Refusal::HeaderShort);
+        return Numbers::Refused(Refusal::HeaderShort);
     }
     let kind = get16(bytes, 2);
     if !is_kind(kind) {
-        return Parsed::Refused(Refusal::KindUnknown);
+        return Numbers::Refused(Refusal::KindUnknown);
     }
     let size = length_of(kind);
     if get16(bytes, 0) != size {
-        return Parsed::Refused(Refusal::LengthWrong);
+        return Numbers::Refused(Refusal::LengthWrong);
     }
     if bytes.len() < size as usize {
-        return Parsed::Refused(Refusal::MessageCut);
+        return Numbers::Refused(Refusal::MessageCut);
     }
-    let m = message_of(fields_in(bytes, kind));
-    if !valid_message(m) {
-        return Parsed::Refused(Refusal::NumberOutOfRange);
+    let f = fields_in(bytes, kind);
+    if !valid_fields(f) {
+        return Numbers::Refused(Refusal::NumberOutOfRange);
     }
-    Parsed::Accepted(m, size as usize)
+    Numbers::Fitting(f, size as usize)
+}
+
+// The message that `bytes` begins with, and the bytes it takes.
+pub fn read(bytes: &[u8]) -> Parsed
+    ensures { λ r. ⌜ r ≡ readOf (now (bytes .entry)) ⌝ }
+{
+    let p = read_fields(bytes);
+    match p {
+        Numbers::Fitting(f, used) => {
+            let m = message_of(f);
+            Parsed::Accepted(m, used)
+        }
+        Numbers::Refused(e) => Parsed::Refused(e),
+    }
 }
 
 fn put_front(out: &mut [u8], at: usize, f: Fields)
@@ -293,6 +345,17 @@ pub fn size_of(m: Message) -> usize
     length_of(f.kind) as usize
 }
 
+// A message's numbers at the start of `out`, if there is room.
+fn lay(f: Fields, out: &mut [u8]) -> Written
+    ensures { λ r. ⌜ (r ≡ layOf f (length (now (out .entry)))) × (now (out .exit) ≡ laidIn f (now (out .entry))) ⌝ }
+{
+    if out.len() < length_of(f.kind) as usize {
+        return Written::Refused(Refusal::RoomShort);
+    }
+    let n = put_fields(out, 0, f);
+    Written::Bytes(n)
+}
+
 // Writes `m` at the start of `out`. The bytes behind it stay, and a refusal changes none.
 pub fn write(m: Message, out: &mut [u8]) -> Written
     ensures { λ r. ⌜ (r ≡ writeOf m (length (now (out .entry)))) × (now (out .exit) ≡ bufferAfter m (now (out .entry))) ⌝ }
@@ -300,9 +363,15 @@ pub fn write(m: Message, out: &mut [u8]) -> Written
     if !valid_message(m) {
         return Written::Refused(Refusal::NumberOutOfRange);
     }
-    if out.len() < size_of(m) {
-        return Written::Refused(Refusal::RoomShort);
+    lay(fields_of(m), out)
+}
+
+// The same of numbers that may be no message.
+pub fn write_fields(f: Fields, out: &mut [u8]) -> Written
+    ensures { λ r. ⌜ (r ≡ writeNumbers f (length (now (out .entry)))) × (now (out .exit) ≡ numbersAfter f (now (out .entry))) ⌝ }
+{
+    if !valid_fields(f) {
+        return Written::Refused(Refusal::NumberOutOfRange);
     }
-    let n = put(out, 0, m);
-    Written::Bytes(n)
+    lay(f, out)
 }

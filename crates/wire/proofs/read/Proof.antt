@@ -1,91 +1,34 @@
--- `wire::read` meets its contract: each return is one case of `readOf`, by the tests that led there.
-use Rattle.wire.proofs.CallLaws.{read-short, read-unknown, read-wrong, read-cut, read-invalid, read-accepted}
-use mathlib.Core.Path.{_∙_}
+-- `wire::read` meets its contract: each arm is given which numbers were read.
+use Rattle.wire.proofs.CallLaws.{read-message, read-refused}
 use borrow.Author.Needs.{needs}
-use borrow.Author.Tests.{not-true, not-false}
-use Rattle.wire.proofs.FormatLaws.{kind-in}
 use Rattle.wire.proofs.read.Statement.{statement}
 use Rattle.wire.proofs.read.Tie as tie
 
-returns : tie.Need-returns
-returns c = search read-short
+read-fields-requires : tie.Need-read-fields-requires
+read-fields-requires c κs = search needs
 
-get16-requires : tie.Need-get16-requires
-get16-requires c κs = search needs
-
-is-kind-requires : tie.Need-is-kind-requires
-is-kind-requires c κs = search needs
-
-returns-2 : tie.Need-returns-2
-returns-2 c = read-unknown _ _ _ (c .before .before .before .if1 .left) (c .before .before .get16 .ensures) (c .before .is-kind .ensures) (not-true _ (c .if2 .taken))
-
-length-of-requires : tie.Need-length-of-requires
-length-of-requires c κs = search needs
-
-get16-requires-2 : tie.Need-get16-requires-2
-get16-requires-2 c κs = search needs
-
-returns-3 : tie.Need-returns-3
-returns-3 c =
-    let k = c .before .before .before in
-    let h = k .before .before .before in
-    read-wrong _ _ _ (h .if1 .left) (k .before .before .get16 .ensures) (k .before .is-kind .ensures) _ _ (not-false _ (k .if2 .left)) (c .before .before .length-of .ensures) (c .before .get162 .ensures) (c .if3 .taken)
-
-cast-if4 : tie.Need-cast-if4
-cast-if4 c = search needs
-
-returns-4 : tie.Need-returns-4
-returns-4 c =
-    let k = c .before .before .before .before in
-    let h = k .before .before .before in
-    read-cut _ _ _ (h .if1 .left) (k .before .before .get16 .ensures) (k .before .is-kind .ensures) _ _ (not-false _ (k .if2 .left)) (c .before .before .before .length-of .ensures) (c .before .before .get162 .ensures) (c .before .if3 .left) (c .if4 .taken)
-
-fields-in-requires : tie.Need-fields-in-requires
-fields-in-requires c κs =
-    let k = c .before .before .before .before in
-    (rw (c .before .before .before .length-of .ensures) at (c .if4 .left), k .before .before .get16 .ensures ∙ kind-in _)
+enum-known-p : tie.Need-enum-known-p
+enum-known-p c = search needs
 
 message-of-requires : tie.Need-message-of-requires
 message-of-requires c κs = search needs
 
-valid-message-requires : tie.Need-valid-message-requires
-valid-message-requires c κs = search needs
+enum-known-p-2 : tie.Need-enum-known-p-2
+enum-known-p-2 c = search needs
 
-returns-5 : tie.Need-returns-5
-returns-5 c =
-    let d = c .before .before .before .before in
-    let k = d .before .before .before .before in
-    let h = k .before .before .before in
-    read-invalid _ _ _ (h .if1 .left) (k .before .before .get16 .ensures) (k .before .is-kind .ensures) _ _ (not-false _ (k .if2 .left)) (d .before .before .before .length-of .ensures) (d .before .before .get162 .ensures)
-    (d .before .if3 .left) _ _ _ (d .if4 .left) (c .before .before .before .fields-in .ensures) (c .before .before .message-of .ensures) (c .before .valid-message .ensures) (not-true _ (c .if5 .taken))
+returns : tie.Need-returns
+returns c = search read-message
 
-cast-t5 : tie.Need-cast-t5
-cast-t5 c = search needs
-
-returns-6 : tie.Need-returns-6
-returns-6 c =
-    let d = c .before .before .before .before in
-    let k = d .before .before .before .before in
-    let h = k .before .before .before in
-    read-accepted _ _ _ (h .if1 .left) (k .before .before .get16 .ensures) (k .before .is-kind .ensures) _ _ (not-false _ (k .if2 .left)) (d .before .before .before .length-of .ensures) (d .before .before .get162 .ensures)
-    (d .before .if3 .left) _ _ _ (d .if4 .left) (c .before .before .before .fields-in .ensures) (c .before .before .message-of .ensures) (c .before .valid-message .ensures) (not-false _ (c .if5 .left))
+returns-2 : tie.Need-returns-2
+returns-2 c = search read-refused
 
 pub read-spec : {M : Type 1} → statement M
 read-spec =
     tie.close
     (tie.spec
-    returns
-    get16-requires
-    is-kind-requires
-    returns-2
-    length-of-requires
-    get16-requires-2
-    returns-3
-    cast-if4
-    returns-4
-    fields-in-requires
+    read-fields-requires
+    enum-known-p
     message-of-requires
-    valid-message-requires
-    returns-5
-    cast-t5
-    returns-6)
+    enum-known-p-2
+    returns
+    returns-2)

@@ -1,6 +1,6 @@
--- `wire::write` meets its contract: each return is one case of `writeOf` and of `bufferAfter`.
+-- `wire::write` meets its contract: the range decides, then `lay`.
 use borrow.Author.Tests.{not-true, not-false}
-use Rattle.wire.proofs.CallLaws.{write-invalid, write-short, write-accepted}
+use Rattle.wire.proofs.CallLaws.{write-invalid, write-laid}
 use borrow.Author.Needs.{needs}
 use Rattle.wire.proofs.write.Statement.{statement}
 use Rattle.wire.proofs.write.Tie as tie
@@ -11,31 +11,21 @@ valid-message-requires c κs = search needs
 returns : tie.Need-returns
 returns c = write-invalid _ _ _ (c .before .valid-message .ensures) (not-true _ (c .if1 .taken))
 
-size-of-requires : tie.Need-size-of-requires
-size-of-requires c κs = search needs
+fields-of-requires : tie.Need-fields-of-requires
+fields-of-requires c κs = search needs
 
-returns-2 : tie.Need-returns-2
-returns-2 c = write-short _ _ _ (c .before .before .before .valid-message .ensures) (not-false _ (c .before .before .if1 .left)) _ (c .before .size-of .ensures) (c .if2 .taken)
-
-put-requires : tie.Need-put-requires
-put-requires c κs = search needs
+lay-requires : tie.Need-lay-requires
+lay-requires c κs = search needs
 
 same-length : tie.Need-same-length
 same-length c = search needs
 
-returns-3 : tie.Need-returns-3
-returns-3 c =
+returns-2 : tie.Need-returns-2
+returns-2 c =
     let b = c .before .before .before .before in
-    write-accepted _ _ _ (b .before .before .before .valid-message .ensures) (not-false _ (b .before .before .if1 .left)) _ (b .before .size-of .ensures) _ _ (b .if2 .left) (c .before .before .put .ensures .0) (c .before .before .put .ensures .1)
+    write-laid _ _ _ (b .before .before .valid-message .ensures) (not-false _ (b .before .if1 .left)) _ _ _ (b .fields-of .ensures) (c .before .before .lay .ensures .0) (c .before .before .lay .ensures .1)
 
 pub write-spec : {M : Type 1} → statement M
 write-spec =
     tie.close
-    (tie.spec
-    valid-message-requires
-    returns
-    size-of-requires
-    returns-2
-    put-requires
-    same-length
-    returns-3)
+    (tie.spec valid-message-requires returns fields-of-requires lay-requires same-length returns-2)
