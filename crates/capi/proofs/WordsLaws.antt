@@ -1,108 +1,120 @@
--- Words and messages: when five words are a message, and the words that a message leaves.
+-- Words and messages: when five words cross, and what the two calls return and leave in each case.
 use Prim.Native.Nat.{ℕ, _<_, _≤_}
 use native.Mathlib.Omega.{arith}
-use mathlib.Core.Path.{_≡_, sym, _∙_}
-use mathlib.Core.Bool.{Bool, true, false, not}
+use mathlib.Core.Path.{_≡_, refl, sym, _∙_}
+use mathlib.Core.Bool.{Bool, true, false, not, _&&_}
 use mathlib.Core.List.{List, [], _∷_, _++_}
-use lib.Dec.{eqb, leb}
+use mathlib.Core.Logic.{⊎-elim}
+use lib.Dec.{leb}
 use lib.ListN.{length, getD}
 use lib.Seq.{sets}
 use borrow.Author.Tests.{le-leb, lt-leb, ne-eqb, leb-true, not-true, not-false, lt-ltb, le-ltb}
-use Rattle.ids.specs.Limits.{within}
 use Rattle.ids.specs.Refusals.{code}
 use Rattle.ids.specs.declared.Refusal.{Refusal}
 use Rattle.ids.specs.declared.Refusal.the-variants.{NumberOutOfRange, RoomShort}
-use Rattle.ids.proofs.Choice.{both}
-use Rattle.ids.proofs.LimitsLaws.{within-range}
-use Rattle.wire.specs.Format.{known, words, fieldsOf, messageOf, kindIn}
-use Rattle.wire.specs.Calls.{readOf, writeOf, bufferAfter}
+use Rattle.ids.proofs.Choice.{both, decided}
+use Rattle.wire.specs.Format.{words, fieldsOf, kindIn, validFields}
+use Rattle.wire.specs.Calls.{readOf, numbersOf, writeNumbers, numbersAfter}
+use Rattle.wire.specs.declared.Fields.{Fields}
+use Rattle.wire.specs.declared.Message.{Message}
 use Rattle.wire.specs.declared.Parsed.{Parsed}
 use Rattle.wire.specs.declared.Parsed.the-variants.{Accepted, Refused as NotRead}
+use Rattle.wire.specs.declared.Numbers.{Numbers as Read}
+use Rattle.wire.specs.declared.Numbers.the-variants.{Fitting, Refused as NoNumbers}
 use Rattle.wire.specs.declared.Written.{Written}
 use Rattle.wire.proofs.RoundTrip.{took, short}
-use Rattle.capi.specs.Calls.{readCode, readWords, writeCode, writeGiven, writtenGiven}
-use Rattle.wire.specs.declared.Fields.{Fields}
-use Rattle.wire.specs.declared.Message.{Message as AMessage}
-use Rattle.capi.specs.Words.{maxShort, fits, givenBy}
+use Rattle.wire.proofs.CallLaws.{written-as-message, buffer-as-message}
+use Rattle.capi.specs.Words.{maxShort, fits, fieldsFrom, crossing, messageIn}
+use Rattle.capi.specs.Calls.{readCode, readWords, writtenCode, writeCode, writeBuffer}
 use Rattle.capi.specs.declared.Crossed.{Crossed}
-use Rattle.capi.specs.declared.Crossed.the-variants.{Message, OutOfRange}
+use Rattle.capi.specs.declared.Crossed.the-variants.{Numbers, TooLarge}
 
-module _ (kind client server owner : ℕ) (x : Bool) (k : x ≡ within kind 6) where
-  pub fit-unknown : not x ≡ true → false ≡ fits kind client server owner
+module _ (kind client server owner : ℕ) where
+  pub fit-kind : 65535 < kind → false ≡ fits kind client server owner
   unfolding fits
-  fit-unknown n = let f : x ≡ false = not-true x n in let e : within kind 6 ≡ false = cc in rw e
+  fit-kind h = rw (lt-leb _ _ h)
 
-  module _ (n : not x ≡ false) where
-    is-known : within kind 6 ≡ true
-    is-known = let t : x ≡ true = not-false x n in cc
+  pub fit-client : kind ≤ 65535 → 65535 < client → false ≡ fits kind client server owner
+  unfolding fits
+  fit-client a h = rw (le-leb _ _ a, lt-leb _ _ h)
 
-    pub fit-client : 65535 < client → false ≡ fits kind client server owner
-    unfolding fits
-    fit-client h = rw (is-known, lt-leb _ _ h)
+  pub fit-server : kind ≤ 65535 → client ≤ 65535 → 65535 < server → false ≡ fits kind client server owner
+  unfolding fits
+  fit-server a b h = rw (le-leb _ _ a, le-leb _ _ b, lt-leb _ _ h)
 
-    pub fit-server : client ≤ 65535 → 65535 < server → false ≡ fits kind client server owner
-    unfolding fits
-    fit-server a h = rw (is-known, le-leb _ _ a, lt-leb _ _ h)
-
-    pub fit-owner : client ≤ 65535 → server ≤ 65535 → 65535 < owner → false ≡ fits kind client server owner
-    unfolding fits
-    fit-owner a b h = rw (is-known, le-leb _ _ a, le-leb _ _ b, lt-leb _ _ h)
-
-    pub fit-response : client ≤ 65535 → server ≤ 65535 → owner ≤ 65535 → kind ≡ 5 → true ≡ fits kind client server owner
-    unfolding fits
-    fit-response a b c e = rw (is-known, le-leb _ _ a, le-leb _ _ b, le-leb _ _ c, e)
-
-    pub fit-plain : client ≤ 65535 → server ≤ 65535 → owner ≤ 65535 → (kind ≡ 5 → ⊥) → eqb owner 0 ≡ fits kind client server owner
-    unfolding fits
-    fit-plain a b c e = rw (is-known, le-leb _ _ a, le-leb _ _ b, le-leb _ _ c, ne-eqb kind 5 e)
+  pub fit-owner : kind ≤ 65535 → client ≤ 65535 → server ≤ 65535 → leb owner 65535 ≡ fits kind client server owner
+  unfolding fits
+  fit-owner a b c = rw (le-leb _ _ a, le-leb _ _ b, le-leb _ _ c)
 
 module _ (ws : List ℕ) where
-  pub given-length : (length ws ≡ 5 → ⊥) → OutOfRange ≡ givenBy ws
-  unfolding givenBy
-  given-length n = rw (ne-eqb (length ws) 5 n)
+  pub cross-length : (length ws ≡ 5 → ⊥) → TooLarge ≡ crossing ws
+  unfolding crossing
+  cross-length n = rw (ne-eqb (length ws) 5 n)
 
   module _ (l : length ws ≡ 5) (x : Bool) (f : x ≡ fits (getD ws 0 0) (getD ws 1 0) (getD ws 2 0) (getD ws 4 0)) where
-    pub given-unfit : not x ≡ true → OutOfRange ≡ givenBy ws
-    unfolding givenBy
-    given-unfit n = let u : x ≡ false = not-true x n in rw (l, ← f, u)
+    pub cross-large : not x ≡ true → TooLarge ≡ crossing ws
+    unfolding crossing
+    cross-large n = let u : x ≡ false = not-true x n in rw (l, ← f, u)
 
     module _ (n : not x ≡ false) where
-      pub given-small : (getD ws 0 0 ≤ maxShort) × (getD ws 1 0 ≤ maxShort) × (getD ws 2 0 ≤ maxShort) × (getD ws 4 0 ≤ maxShort)
+      pub cross-small : (getD ws 0 0 ≤ maxShort) × (getD ws 1 0 ≤ maxShort) × (getD ws 2 0 ≤ maxShort) × (getD ws 4 0 ≤ maxShort)
       unfolding fits
-      given-small =
+      cross-small =
           let t : x ≡ true = not-false x n in
-          let (k, r₁) = both (known (getD ws 0 0)) _ (sym f ∙ t) in
-          let (a, r₂) = both (leb (getD ws 1 0) maxShort) _ r₁ in
-          let (b, r₃) = both (leb (getD ws 2 0) maxShort) _ r₂ in
-          let (c, r₄) = both (leb (getD ws 4 0) maxShort) _ r₃ in
-          (omega (arith, within-range (getD ws 0 0) 6 k), leb-true _ _ a, leb-true _ _ b, leb-true _ _ c)
+          let (k, r₁) = both (leb (getD ws 0 0) maxShort) (leb (getD ws 1 0) maxShort && (leb (getD ws 2 0) maxShort && leb (getD ws 4 0) maxShort)) (sym f ∙ t) in
+          let (a, r₂) = both (leb (getD ws 1 0) maxShort) (leb (getD ws 2 0) maxShort && leb (getD ws 4 0) maxShort) r₁ in
+          let (b, c) = both (leb (getD ws 2 0) maxShort) (leb (getD ws 4 0) maxShort) r₂ in
+          (leb-true _ _ k, leb-true _ _ a, leb-true _ _ b, leb-true _ _ c)
 
-      pub given-message : (m : AMessage) (g : Fields) → g ≡ record { kind = getD ws 0 0; client = getD ws 1 0; server = getD ws 2 0; timestamp = getD ws 3 0; owner = getD ws 4 0 } → m ≡ messageOf g → Message m ≡ givenBy ws
-      unfolding givenBy
-      given-message m g e p = let t : x ≡ true = not-false x n in rw (p, e, l, ← f, t)
+      pub cross-numbers : (g : Fields) → g ≡ fieldsFrom ws → Numbers g ≡ crossing ws
+      unfolding crossing
+      cross-numbers g e = let t : x ≡ true = not-false x n in rw (e, l, ← f, t)
 
--- what `sigma_read` returns and leaves, from what `read` answered
-module _ (s ws : List ℕ) (p : Parsed) (e : p ≡ readOf s) where
-  module _ (m : AMessage) (n : ℕ) (a : p ≡ Accepted m n) where
-    accepted : readOf s ≡ Accepted m n
-    accepted = cc
+-- what `sigma_read` returns and leaves, from the numbers that were read
+module _ (s ws : List ℕ) (p : Read) (e : p ≡ numbersOf (readOf s)) where
+  -- the message that was read
+  record From (f : Fields) (n : ℕ) : Type 0 where
+    message : Message
+    accepted : readOf s ≡ Accepted message n
+    numbers : fieldsOf message ≡ f
+
+  from : (q : Parsed) (f : Fields) (n : ℕ) → readOf s ≡ q → p ≡ numbersOf q → p ≡ Fitting f n → From f n
+  from (NotRead x) f n a b c = let z : _≡_ {A = ℕ} 0 1 = cc in absurd (omega arith)
+  from (Accepted m n′) f n a b c =
+      let g : fieldsOf m ≡ f = cc in
+      let k : n′ ≡ n = cc in
+      record { message = m; accepted = rw k at a; numbers = g }
+
+  module _ (f : Fields) (n : ℕ) (a : p ≡ Fitting f n) where
+    read-from : From f n
+    read-from = from (readOf s) f n refl e a
 
     pub used-small : n < 65536
-    used-small = let k = took s m n accepted in rw (k .used) at (short (kindIn s))
+    used-small = let m = read-from in let k = took s (m .message) n (m .accepted) in rw (k .used) at (short (kindIn s))
 
     pub read-room : (r : ℕ) → length ws < 6 → r ≡ code RoomShort → (r ≡ readCode (readOf s) (length ws)) × (ws ≡ readWords (readOf s) ws)
-    read-room r h c = (rw (accepted, lt-ltb _ _ h, c), rw (accepted, lt-ltb _ _ h))
+    read-room r h c = let m = read-from in (rw (m .accepted, lt-ltb _ _ h, c), rw (m .accepted, lt-ltb _ _ h))
 
-    pub read-done : (l : List ℕ) → 6 ≤ length ws → l ≡ sets ws 0 (words (fieldsOf m) ++ n ∷ []) → (0 ≡ readCode (readOf s) (length ws)) × (l ≡ readWords (readOf s) ws)
-    read-done l h c = (rw (accepted, le-ltb _ _ h), rw (accepted, le-ltb _ _ h, c))
+    pub read-done : (l : List ℕ) → 6 ≤ length ws → l ≡ sets ws 0 (words f ++ n ∷ []) → (0 ≡ readCode (readOf s) (length ws)) × (l ≡ readWords (readOf s) ws)
+    read-done l h c = let m = read-from in (rw (m .accepted, le-ltb _ _ h), rw (m .accepted, le-ltb _ _ h, m .numbers) c)
 
-  pub read-refused : (x : Refusal) (r : ℕ) → p ≡ NotRead x → r ≡ code x → (r ≡ readCode (readOf s) (length ws)) × (ws ≡ readWords (readOf s) ws)
-  read-refused x r a c = let q : readOf s ≡ NotRead x = cc in (rw (q, c), rw q)
+  refused : (q : Parsed) (x : Refusal) → p ≡ numbersOf q → p ≡ NoNumbers x → q ≡ NotRead x
+  refused (NotRead y) x b c = let h : y ≡ x = cc in cc
+  refused (Accepted m n) x b c = let z : _≡_ {A = ℕ} 0 1 = cc in absurd (omega arith)
 
--- the same of `sigma_write`, from the message that the words are
-module _ (ws out : List ℕ) (g : Crossed) (e : g ≡ givenBy ws) where
-  pub write-none : (r : ℕ) → g ≡ OutOfRange → r ≡ code NumberOutOfRange → (r ≡ writeGiven (givenBy ws) out) × (out ≡ writtenGiven (givenBy ws) out)
-  write-none r a c = let q : givenBy ws ≡ OutOfRange = cc in (rw (q, c), rw q)
+  pub read-refused : (x : Refusal) (r : ℕ) → p ≡ NoNumbers x → r ≡ code x → (r ≡ readCode (readOf s) (length ws)) × (ws ≡ readWords (readOf s) ws)
+  read-refused x r a c = let q : readOf s ≡ NotRead x = refused (readOf s) x e a in (rw (q, c), rw q)
 
-  pub write-message : (m : AMessage) (w : Written) (r : ℕ) (l : List ℕ) → g ≡ Message m → w ≡ writeOf m (length out) → l ≡ bufferAfter m out → r ≡ writeCode w → (r ≡ writeGiven (givenBy ws) out) × (l ≡ writtenGiven (givenBy ws) out)
-  write-message m w r l a b c d = let q : givenBy ws ≡ Message m = cc in (rw (q, d, b), rw (q, c))
+-- the same of `sigma_write`, from the numbers that crossed
+module _ (ws out : List ℕ) (g : Crossed) (e : g ≡ crossing ws) where
+  pub write-large : (r : ℕ) → g ≡ TooLarge → r ≡ code NumberOutOfRange → (r ≡ writeCode (messageIn ws) (length out)) × (out ≡ writeBuffer (messageIn ws) out)
+  write-large r a c = let q : crossing ws ≡ TooLarge = cc in (rw (q, c), rw q)
+
+  pub write-numbers : (f : Fields) (w : Written) (r : ℕ) (l : List ℕ) → g ≡ Numbers f → w ≡ writeNumbers f (length out) → l ≡ numbersAfter f out → r ≡ writtenCode w
+      → (r ≡ writeCode (messageIn ws) (length out)) × (l ≡ writeBuffer (messageIn ws) out)
+  write-numbers f w r l a b c d =
+      let q : crossing ws ≡ Numbers f = cc in
+      ⊎-elim
+      (λ (v : validFields f ≡ true). (rw (q, v, d, b, written-as-message f out v, v), rw (q, v, c, buffer-as-message f out v, v)))
+      (λ (v : validFields f ≡ false). (rw (q, v, d, b, v), rw (q, v, c, v)))
+      (decided (validFields f))

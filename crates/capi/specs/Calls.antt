@@ -1,6 +1,7 @@
 -- What each exported call returns, 0 or a refusal's number, and what it leaves in the buffers it was lent.
 use Prim.Native.Nat.{ℕ}
 use mathlib.Core.List.{List, [], _∷_, _++_}
+use mathlib.Core.Option.{Option, none, some}
 use lib.Dec.{ltb}
 use lib.ListN.{length}
 use lib.Seq.{sets}
@@ -9,14 +10,13 @@ use Rattle.ids.specs.Refusals.{code}
 use Rattle.ids.specs.declared.Refusal.the-variants.{NumberOutOfRange, RoomShort}
 use Rattle.wire.specs.Format.{words, fieldsOf}
 use Rattle.wire.specs.Calls.{writeOf, bufferAfter}
+use Rattle.wire.specs.declared.Message.{Message}
 use Rattle.wire.specs.declared.Parsed.{Parsed}
 use Rattle.wire.specs.declared.Parsed.the-variants.{Accepted, Refused as NotRead}
 use Rattle.wire.specs.declared.Written.{Written}
 use Rattle.wire.specs.declared.Written.the-variants.{Bytes, Refused as NotWritten}
-use Rattle.capi.specs.declared.Crossed.{Crossed}
-use Rattle.capi.specs.declared.Crossed.the-variants.{Message, OutOfRange}
 
--- `sigma_read`: the refusals of reading, then 6 where fewer than six words are lent
+-- `sigma_read`, from what reading answers: its refusals, then 6 where fewer than six words are lent
 abbrev pub readCode : Parsed → ℕ → ℕ
 readCode (NotRead e) room = code e
 readCode (Accepted m n) room = if ltb room 6 then code RoomShort else 0
@@ -26,15 +26,16 @@ abbrev pub readWords : Parsed → List ℕ → List ℕ
 readWords (NotRead e) ws = ws
 readWords (Accepted m n) ws = if ltb (length ws) 6 then ws else sets ws 0 (words (fieldsOf m) ++ n ∷ [])
 
--- `sigma_write`: 5 where the words are no message, then the refusals of writing
-abbrev pub writeCode : Written → ℕ
-writeCode (NotWritten e) = code e
-writeCode (Bytes n) = 0
+-- `sigma_write`, from the message that the words are: 5 where they are none, then the refusals of writing
+abbrev pub writtenCode : Written → ℕ
+writtenCode (NotWritten e) = code e
+writtenCode (Bytes n) = 0
 
-abbrev pub writeGiven : Crossed → List ℕ → ℕ
-writeGiven OutOfRange out = code NumberOutOfRange
-writeGiven (Message m) out = writeCode (writeOf m (length out))
+abbrev pub writeCode : Option Message → ℕ → ℕ
+writeCode none room = code NumberOutOfRange
+writeCode (some m) room = writtenCode (writeOf m room)
 
-abbrev pub writtenGiven : Crossed → List ℕ → List ℕ
-writtenGiven OutOfRange out = out
-writtenGiven (Message m) out = bufferAfter m out
+-- the buffer afterwards
+abbrev pub writeBuffer : Option Message → List ℕ → List ℕ
+writeBuffer none out = out
+writeBuffer (some m) out = bufferAfter m out

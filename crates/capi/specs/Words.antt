@@ -1,26 +1,40 @@
 -- How a message crosses to C: five 32-bit words, kind, client, server, timestamp and owner, the last 0 where the kind has none.
 use Prim.Native.Nat.{ℕ}
-use mathlib.Core.Bool.{Bool, _&&_, _||_}
+use mathlib.Core.Bool.{Bool, _&&_}
 use mathlib.Core.List.{List}
+use mathlib.Core.Option.{Option, none, some}
 use lib.Dec.{eqb, leb}
 use lib.ListN.{length, getD}
 use Rattle.ids.specs.Choice.{if_then_else_}
-use Rattle.wire.specs.Format.{known, response, messageOf}
+use Rattle.wire.specs.Format.{validFields, messageOf}
+use Rattle.wire.specs.declared.Fields.{Fields}
+use Rattle.wire.specs.declared.Message.{Message}
 use Rattle.capi.specs.declared.Crossed.{Crossed}
-use Rattle.capi.specs.declared.Crossed.the-variants.{Message, OutOfRange}
+use Rattle.capi.specs.declared.Crossed.the-variants.{Numbers, TooLarge}
 
 -- the largest number of a field of two bytes
 abbrev pub maxShort : ℕ
 maxShort = 65535
 
--- numbers that the format's fields can hold: a known kind, no word too large for its field, an owner only in a RESPONSE
+-- no word is too large for its field of the format
 unfoldable pub fits : ℕ → ℕ → ℕ → ℕ → Bool
 fits kind client server owner =
-    known kind && (leb client maxShort && (leb server maxShort && (leb owner maxShort && (eqb kind response || eqb owner 0))))
+    leb kind maxShort && (leb client maxShort && (leb server maxShort && leb owner maxShort))
 
--- the message that these words are, or none
-unfoldable pub givenBy : List ℕ → Crossed
-givenBy ws =
-    if eqb (length ws) 5 && fits (getD ws 0 0) (getD ws 1 0) (getD ws 2 0) (getD ws 4 0)
-    then Message (messageOf (record { kind = getD ws 0 0; client = getD ws 1 0; server = getD ws 2 0; timestamp = getD ws 3 0; owner = getD ws 4 0 }))
-    else OutOfRange
+-- the numbers in five words
+abbrev pub fieldsFrom : List ℕ → Fields
+fieldsFrom ws = record { kind = getD ws 0 0; client = getD ws 1 0; server = getD ws 2 0; timestamp = getD ws 3 0; owner = getD ws 4 0 }
+
+-- they cross if there are five, each small enough
+unfoldable pub crossing : List ℕ → Crossed
+crossing ws =
+    if eqb (length ws) 5 && fits (getD ws 0 0) (getD ws 1 0) (getD ws 2 0) (getD ws 4 0) then Numbers (fieldsFrom ws) else TooLarge
+
+-- numbers in range are a message: its kind is one of the six, and only a RESPONSE has an owner
+abbrev pub asMessage : Crossed → Option Message
+asMessage TooLarge = none
+asMessage (Numbers f) = if validFields f then some (messageOf f) else none
+
+-- the message that these words are, if they are one
+abbrev pub messageIn : List ℕ → Option Message
+messageIn ws = asMessage (crossing ws)

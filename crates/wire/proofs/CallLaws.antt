@@ -20,8 +20,8 @@ use Rattle.wire.specs.declared.Numbers.{Numbers}
 use Rattle.wire.specs.declared.Numbers.the-variants.{Fitting, Refused as NoNumbers}
 use Rattle.wire.specs.declared.Written.{Written}
 use Rattle.wire.specs.declared.Written.the-variants.{Bytes, Refused as NotWritten}
-use Rattle.wire.proofs.NumbersLaws.{message-fields, valid-message, alone-in, fields-of-message}
-use Rattle.wire.proofs.RoundTrip.{Took, took}
+use Rattle.wire.proofs.NumbersLaws.{fields-again, fields-valid, message-fields, valid-message, alone-in, fields-of-message}
+use Rattle.wire.proofs.RoundTrip.{took}
 use Rattle.wire.proofs.FormatLaws.{length-in, kind-in}
 
 module _ (s : List ℕ) where
@@ -123,3 +123,14 @@ module _ (f : Fields) (o : List ℕ) (v : Bool) (w : v ≡ validFields f) where
 
   pub numbers-laid : v ≡ true → (r : Written) (l : List ℕ) → r ≡ layOf f (length o) → l ≡ laidIn f o → (r ≡ writeNumbers f (length o)) × (l ≡ numbersAfter f o)
   numbers-laid t r l p q = let i : validFields f ≡ true = cc in (rw i p, rw i q)
+
+-- what is written of numbers in range is what is written of their message
+module _ (f : Fields) (o : List ℕ) (v : validFields f ≡ true) where
+  message-written : (writeNumbers f (length o) ≡ writeOf (messageOf f) (length o)) × (numbersAfter f o ≡ bufferAfter (messageOf f) o)
+  message-written = rw v (write-laid (messageOf f) o true (sym (fields-valid f v)) refl f _ _ (sym (fields-again f v)) refl refl)
+
+  pub written-as-message : writeOf (messageOf f) (length o) ≡ writeNumbers f (length o)
+  written-as-message = sym (message-written .0)
+
+  pub buffer-as-message : bufferAfter (messageOf f) o ≡ numbersAfter f o
+  buffer-as-message = sym (message-written .1)

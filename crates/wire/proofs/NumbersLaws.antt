@@ -169,3 +169,23 @@ module _ (kind timestamp owner : ℕ) where
   pub rest-plain : (r : Bool) → (kind ≡ 5 → ⊥) → r ≡ validTimestamp (record { 0 = timestamp }) && eqb owner 0 → r ≡ validRest kind timestamp owner
   unfolding validRest
   rest-plain r n p = rw (ne-eqb kind 5 n) p
+
+-- numbers in range are a valid message's: only a RESPONSE has an owner, and the message has just these numbers
+module _ (f : Fields) (v : validFields f ≡ true) where
+  its-tests : (known (f .kind) ≡ true) × (validNumbers f ≡ true)
+  unfolding validFields
+  its-tests = both (known (f .kind)) (validNumbers f) v
+
+  its-rest : validRest (f .kind) (f .timestamp) (f .owner) ≡ true
+  unfolding validNumbers
+  its-rest = both (validParties (record { 0 = f .client }) (record { 0 = f .server })) (validRest (f .kind) (f .timestamp) (f .owner)) (its-tests .1) .1
+
+  its-owner : Alone f
+  unfolding validRest
+  its-owner n = eqb-true (f .owner) 0 (both (validTimestamp (record { 0 = f .timestamp })) (eqb (f .owner) 0) (rw (ne-eqb (f .kind) 5 n) at its-rest) .1)
+
+  pub fields-again : fieldsOf (messageOf f) ≡ f
+  fields-again = fields-message f (its-tests .0) its-owner
+
+  pub fields-valid : valid (messageOf f) ≡ true
+  fields-valid = rw (valid-message f (its-tests .0) its-owner) at (its-tests .1)

@@ -233,7 +233,8 @@ fn valid_rest(kind: u16, timestamp: u32, owner: u16) -> bool
 fn valid_numbers(f: Fields) -> bool
     ensures { λ r. ⌜ r ≡ validNumbers f ⌝ }
 {
-    ids::valid_parties(ClientId(f.client), ServerId(f.server)) && valid_rest(f.kind, f.timestamp, f.owner)
+    ids::valid_parties(ClientId(f.client), ServerId(f.server))
+        && valid_rest(f.kind, f.timestamp, f.owner)
 }
 
 // Whether these numbers are a message's.

@@ -1,12 +1,9 @@
--- `capi::put_words` meets its contract: five stores, one word each.
+-- `capi::put_words` meets its contract: six stores, one word each.
 use lib.ListN.{length-set}
 use native.Mathlib.Omega.{arith}
 use borrow.Author.Needs.{needs}
 use Rattle.capi.proofs.put_words.Statement.{statement}
 use Rattle.capi.proofs.put_words.Tie as tie
-
-fields-of-requires : tie.Need-fields-of-requires
-fields-of-requires c κs = search needs
 
 cast-words : tie.Need-cast-words
 cast-words c = search needs
@@ -33,19 +30,21 @@ cast-words-4 : tie.Need-cast-words-4
 cast-words-4 c = search needs
 
 slice-write-words-5 : tie.Need-slice-write-words-5
-slice-write-words-5 c = search needs
+slice-write-words-5 c = simp length-set (omega arith)
+
+slice-write-words-6 : tie.Need-slice-write-words-6
+slice-write-words-6 c = search needs
 
 same-length : tie.Need-same-length
 same-length c = search needs
 
 returns : tie.Need-returns
-returns c = rw (c .before .before .before .before .fields-of .ensures)
+returns c = search needs
 
 pub put-words-spec : {M : Type 1} → statement M
 put-words-spec =
     tie.close
     (tie.spec
-    fields-of-requires
     cast-words
     slice-write-words
     cast-words-2
@@ -55,5 +54,6 @@ put-words-spec =
     slice-write-words-4
     cast-words-4
     slice-write-words-5
+    slice-write-words-6
     same-length
     returns)

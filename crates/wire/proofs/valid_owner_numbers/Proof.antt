@@ -1,7 +1,6 @@
 -- `wire::valid_owner_numbers` meets its contract: both numbers are 0, or neither is.
 use native.Mathlib.Omega.{arith}
 use Rattle.wire.proofs.NumbersLaws.{owner-zero, owner-some}
-use borrow.Author.Needs.{needs}
 use Rattle.wire.proofs.valid_owner_numbers.Statement.{statement}
 use Rattle.wire.proofs.valid_owner_numbers.Tie as tie
 

@@ -1,12 +1,12 @@
--- `capi::given` meets its contract: the words are tested as `givenBy` tests them.
-use Rattle.capi.proofs.WordsLaws.{given-length, given-unfit, given-small, given-message}
+-- `capi::cross` meets its contract: the words are tested as `crossing` tests them.
 use denote.Ref.{now}
+use Rattle.capi.proofs.WordsLaws.{cross-length, cross-large, cross-small, cross-numbers}
 use borrow.Author.Needs.{needs}
-use Rattle.capi.proofs.given.Statement.{statement}
-use Rattle.capi.proofs.given.Tie as tie
+use Rattle.capi.proofs.cross.Statement.{statement}
+use Rattle.capi.proofs.cross.Tie as tie
 
 returns : tie.Need-returns
-returns c = search given-length
+returns c = search cross-length
 
 shared-slice-read-kind : tie.Need-shared-slice-read-kind
 shared-slice-read-kind c = search needs
@@ -24,22 +24,19 @@ fit-requires : tie.Need-fit-requires
 fit-requires c κs = search needs
 
 returns-2 : tie.Need-returns-2
-returns-2 c = search given-unfit
+returns-2 c = search cross-large
 
 shared-slice-read-fields-of-words : tie.Need-shared-slice-read-fields-of-words
 shared-slice-read-fields-of-words c = search needs
 
 fields-of-words-requires : tie.Need-fields-of-words-requires
-fields-of-words-requires c κs = given-small (now (c .before .before .before .before .before .before .before .before .before .args .words)) (c .before .before .before .before .before .before .before .if1 .left) _ (c .before .before .fit .ensures) (c .before .if2 .left)
-
-message-of-requires : tie.Need-message-of-requires
-message-of-requires c κs = search needs
+fields-of-words-requires c κs = cross-small (now (c .before .before .before .before .before .before .before .before .before .args .words)) (c .before .before .before .before .before .before .before .if1 .left) _ (c .before .before .fit .ensures) (c .before .if2 .left)
 
 returns-3 : tie.Need-returns-3
-returns-3 c = search given-message
+returns-3 c = search cross-numbers
 
-pub given-spec : {M : Type 1} → statement M
-given-spec =
+pub cross-spec : {M : Type 1} → statement M
+cross-spec =
     tie.close
     (tie.spec
     returns
@@ -51,5 +48,4 @@ given-spec =
     returns-2
     shared-slice-read-fields-of-words
     fields-of-words-requires
-    message-of-requires
     returns-3)
