@@ -1,4 +1,5 @@
 pub mod Choice
 pub mod Limits
 pub mod Order
+pub mod Requests
 pub mod Refusals

@@ -3,6 +3,7 @@ ghost use mathlib.Core.Path.{_≡_};
 ghost use Rattle.ids.specs.Limits.{within, validClient, validServer, validTimestamp, validRequest, validOwner, validParties, validStamped};
 ghost use Rattle.ids.specs.Order.{before};
 ghost use Rattle.ids.specs.Refusals.{code};
+ghost use Rattle.ids.specs.Requests.{same};
 
 pub const MAX_CLIENT: u32 = 65_535;
 
@@ -114,6 +115,13 @@ pub fn precedes(a: Request, b: Request) -> bool
         return a.client.0 < b.client.0;
     }
     a.timestamp.0 < b.timestamp.0
+}
+
+// Whether `a` and `b` are the same client with the same timestamp.
+pub fn same_request(a: Request, b: Request) -> bool
+    ensures { λ r. ⌜ r ≡ same a b ⌝ }
+{
+    a.client.0 == b.client.0 && a.timestamp.0 == b.timestamp.0
 }
 
 // The refusal's number in document 01's table.

@@ -1,3 +1,4 @@
 pub mod Bytes
 pub mod Format
 pub mod Calls
+pub mod Step

@@ -51,6 +51,12 @@ pub enum Written {
     Refused(Refusal),
 }
 
+// What a step sent: how many messages, in how many bytes; or why nothing was done.
+pub enum Answer {
+    Sent(usize, usize),
+    Refused(Refusal),
+}
+
 fn join16(lo: u8, hi: u8) -> u16
     ensures { λ r. ⌜ r ≡ lo + 256 * hi ⌝ }
 {
