@@ -1,0 +1,3 @@
+pub mod SearchLaws
+pub mod ShiftLaws
+pub mod QueueLaws
