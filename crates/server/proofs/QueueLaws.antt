@@ -22,6 +22,21 @@ take-empties zero n h = refl
 take-empties (suc m) zero h = absurd (omega arith)
 take-empties (suc m) (suc n) h = ap (λ (l : List Request). noRequest ∷ l) (take-empties m n (omega arith))
 
+-- a list in a queue: it is in good order, and holds the list
+module _ (l : List Request) (fits : length l ≤ 16) where
+  pub queue-padded : Padded (queueOf l)
+  unfolding queueOf
+  queue-padded =
+      record {
+        size = simp (length-append, length-replicate) (omega arith);
+        within = fits;
+        rest = drop-at l (empties (16 - length l)) (length l) refl;
+      }
+
+  pub list-again : listOf (queueOf l) ≡ l
+  unfolding queueOf
+  list-again = take-at l (empties (16 - length l)) (length l) refl
+
 module _ (q : Queue) (good : Padded q) where
   pub length-list : length (listOf q) ≡ q .len
   length-list = length-take-le (q .len) (q .places) (omega (arith, good .size, good .within))
