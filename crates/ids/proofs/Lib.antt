@@ -1,3 +1,4 @@
 pub mod Choice
 pub mod OrderLaws
 pub mod LimitsLaws
+pub mod RequestLaws

@@ -1,7 +1,5 @@
-pub mod SearchLaws
-pub mod ShiftLaws
-pub mod QueueLaws
-pub mod ListLaws
-pub mod PartLaws
-pub mod MoveLaws
-pub mod ActLaws
+pub mod SendLaws
+pub mod FinishLaws
+pub mod ValidLaws
+pub mod RecordLaws
+pub mod CallLaws

@@ -16,10 +16,11 @@ use Rattle.wire.specs.declared.Message.{Message}
 use Rattle.wire.specs.declared.Message.the-variants.{Request, Yield, Release, Inquiry, Response, Check}
 use Rattle.server.specs.declared.Server.{Server}
 use Rattle.server.specs.declared.Stepped.{Stepped}
-use Rattle.server.specs.declared.Tag.{Tag}
-use Rattle.server.specs.declared.Tag.the-variants.{Request as REQUEST, Yield as YIELD, Release as RELEASE, Inquiry as INQUIRY}
-use Rattle.server.specs.Figure1.{State, idle, receive, suspect, check}
-use Rattle.server.specs.Record.{maxQueue, view, store, valid, validSizes}
+use Rattle.votes.specs.declared.Tag.{Tag}
+use Rattle.votes.specs.declared.Tag.the-variants.{Request as REQUEST, Yield as YIELD, Release as RELEASE, Inquiry as INQUIRY}
+use Rattle.votes.specs.Figure1.{State, idle, receive, suspect, check}
+use Rattle.votes.specs.Queues.{maxQueue, view, store}
+use Rattle.server.specs.Record.{valid, validSizes}
 
 -- what a refused `new` hands back: a record that no call accepts
 abbrev pub blank : Server

@@ -1,37 +1,19 @@
 -- The server's record: which records are valid, and how a record and the state of Figure 1 are one another.
-use Prim.Native.Nat.{ℕ, _-_}
+use Prim.Native.Nat.{ℕ}
 use mathlib.Core.Bool.{Bool, true, false, _&&_}
-use mathlib.Core.List.{List, [], _∷_, _++_}
+use mathlib.Core.List.{List, [], _∷_}
 use lib.Dec.{eqb, leb}
-use lib.ListN.{length, replicate, take, drop}
+use lib.ListN.{length, drop}
 use Rattle.ids.specs.Choice.{maybe}
 use Rattle.ids.specs.Limits.{within, maxServers, validRequest, validOwner}
 use Rattle.ids.specs.Order.{before}
 use Rattle.ids.specs.Requests.{same, noRequest, byOwner}
 use Rattle.ids.specs.declared.ServerId.{ServerId}
 use Rattle.ids.specs.declared.Request.{Request}
-use Rattle.server.specs.declared.Queue.{Queue}
-use Rattle.server.specs.declared.Votes.{Votes}
+use Rattle.votes.specs.declared.Queue.{Queue}
+use Rattle.votes.specs.Queues.{maxQueue, view}
 use Rattle.server.specs.declared.Server.{Server}
-use Rattle.server.specs.Figure1.{State, timestampIn, candidates}
-
--- places of a request queue
-abbrev pub maxQueue : ℕ
-maxQueue = 16
-
--- the requests in a queue's places, and the queue that holds them: the places behind them are empty
-abbrev pub listOf : Queue → List Request
-listOf q = take (q .len) (q .places)
-
-unfoldable pub queueOf : List Request → Queue
-queueOf l = record { len = length l; places = l ++ replicate (maxQueue - length l) noRequest }
-
--- the state that a record holds, and the record that holds a state
-abbrev pub view : Votes → State
-view v = record { owner = v .owner; queue = listOf (v .queue) }
-
-abbrev pub store : State → Votes
-store s = record { owner = s .owner; queue = queueOf (s .queue) }
+use Rattle.votes.specs.Figure1.{State, timestampIn, candidates}
 
 -- server id of n
 abbrev pub validSizes : ℕ → ServerId → Bool

@@ -1,39 +1,33 @@
-// The server: Figure 1, lines 26 to 56, on a record by value.
+// The server's record and its calls: Figure 1, lines 26 to 56.
 ghost use mathlib.Core.Path.{_≡_};
-ghost use mathlib.Core.Bool.{false, true};
 ghost use mathlib.Core.List.{_∷_, _++_};
-ghost use Prim.Native.Nat.{suc, _+_, _<_, _≤_};
-ghost use lib.ListN.{length, take, drop};
-ghost use Rattle.ids.specs.Requests.{noRequest, isRequest, isClient};
-ghost use Rattle.server.specs.Figure1.{timestampIn, candidates, insert, without, promote as promoteOf, delete as deleteOf, inform as informOf, act as actOf, compare as compareOf, receive as receiveOf, suspect as suspectOf, check as checkOf};
-ghost use Rattle.server.specs.Record.{listOf, queueOf, view};
-ghost use Rattle.server.specs.Places.{matching, first, Padded, Moves, MovesTwo, MovesOne, still as stillOf, telling as tellingOf, mails, standingOf, informed, leading, overflowing as overflowingOf, joining, Followed, joined as joinedOf};
+ghost use Prim.Native.Nat.{_+_, _<_, _≤_};
+ghost use lib.ListN.{length, drop};
+ghost use lib.Seq.{sets};
+ghost use Rattle.ids.specs.Limits.{validRequest};
+ghost use Rattle.ids.specs.Requests.{noRequest, same};
+ghost use Rattle.wire.specs.Format.{bytesOfAll, sizeOfAll};
+ghost use Rattle.wire.specs.Step.{withRoom, sentInto};
+ghost use Rattle.votes.specs.Figure1.{idle};
+ghost use Rattle.votes.specs.Queues.{listOf, view, store as storeOf};
+ghost use Rattle.votes.specs.Places.{Padded, mails};
+ghost use Rattle.server.specs.Record.{every, ordered, once, validQueue, validState, valid};
+ghost use Rattle.server.specs.Parts.{threeMails, sentAnswer, sentBuffer, finished, repeats, fitsOwner};
+ghost use Rattle.server.specs.Calls.{result, taken, blank, newResult, messageOutcome, suspectOutcome, checkOutcome};
 use ids::ClientId;
 use ids::Owner;
+use ids::Refusal;
 use ids::Request;
 use ids::ServerId;
 use ids::Timestamp;
+use votes::Mail;
+use votes::Moved;
+use votes::Queue;
+use votes::Tag;
+use votes::Votes;
+use votes::Wanted;
 use wire::Answer;
 use wire::Message;
-
-pub enum Tag {
-    Request,
-    Yield,
-    Release,
-    Inquiry,
-}
-
-// Requests in order, in the first `len` places.
-pub struct Queue {
-    pub len: usize,
-    pub places: [Request; 16],
-}
-
-// A server's owner, and who waits behind it.
-pub struct Votes {
-    pub owner: Owner,
-    pub queue: Queue,
-}
 
 // Server `id` of `n`.
 pub struct Server {
@@ -48,433 +42,346 @@ pub struct Stepped {
     pub answer: Answer,
 }
 
-// A message to send, or none.
-pub enum Mail {
-    Nothing,
-    One(Message),
-}
-
-// What a part of a step leaves: the votes, unless the queue is too small for them, and the messages to send, in order.
-pub struct Moved {
-    pub votes: Votes,
-    pub full: bool,
-    pub first: Mail,
-    pub second: Mail,
-    pub third: Mail,
-}
-
-// What a search through a queue looks for: a request's client, the request itself, or a request behind it.
-pub enum Wanted {
-    Client,
-    Pair,
-    Later,
-}
-
-// Whether a client is owner or waits, and with which timestamp.
-pub enum Standing {
-    Absent,
-    With(Timestamp),
-}
-
-fn sized(q: Queue)
-    ensures { λ _. ⌜ length (q .places) ≡ 16 ⌝ }
+fn mail_size(m: Mail) -> usize
+    ensures { λ r. ⌜ r ≡ sizeOfAll (mails m) ⌝ }
 {
-}
-
-fn nobody() -> Request
-    ensures { λ r. ⌜ r ≡ noRequest ⌝ }
-{
-    Request {
-        client: ClientId(0),
-        timestamp: Timestamp(0),
+    match m {
+        Mail::Nothing => 0,
+        Mail::One(x) => wire::size_of(x),
     }
 }
 
-fn matches(wanted: Wanted, r: Request, x: Request) -> bool
-    ensures { λ b. ⌜ b ≡ matching wanted r x ⌝ }
+fn mail_count(m: Mail) -> usize
+    ensures { λ r. ⌜ r ≡ length (mails m) ⌝ }
 {
-    match wanted {
-        Wanted::Client => x.client.0 == r.client.0,
-        Wanted::Pair => ids::same_request(x, r),
-        Wanted::Later => ids::precedes(r, x),
+    match m {
+        Mail::Nothing => 0,
+        Mail::One(_) => 1,
     }
 }
 
-// The first place from `from` on whose request is wanted, or the length.
-fn search(q: Queue, wanted: Wanted, r: Request, from: usize) -> usize
-    requires { ⌜ (from ≤ q .len) × (q .len ≤ 16) ⌝ }
-    ensures { λ i. ⌜ i ≡ from + first (matching wanted r) (drop from (listOf q)) ⌝ }
+fn put_mail(out: &mut [u8], at: usize, m: Mail) -> usize
+    requires { ⌜ at + sizeOfAll (mails m) ≤ length (now out) ⌝ }
+    ensures { λ r. ⌜ (r ≡ at + sizeOfAll (mails m)) × (now (out .exit) ≡ sets (now (out .entry)) at (bytesOfAll (mails m))) ⌝ }
 {
-    sized(q);
-    let places = q.places;
-    let len = q.len;
-    let mut i = from;
-    while i < len {
-        if matches(wanted, r, places[i]) {
-            return i;
+    match m {
+        Mail::Nothing => at,
+        Mail::One(x) => wire::put(out, at, x),
+    }
+}
+
+fn sizes(first: Mail, second: Mail, third: Mail) -> usize
+    ensures { λ r. ⌜ r ≡ sizeOfAll (threeMails first second third) ⌝ }
+{
+    mail_size(first) + mail_size(second) + mail_size(third)
+}
+
+fn counts(first: Mail, second: Mail, third: Mail) -> usize
+    ensures { λ r. ⌜ r ≡ length (threeMails first second third) ⌝ }
+{
+    mail_count(first) + mail_count(second) + mail_count(third)
+}
+
+fn put_three(out: &mut [u8], first: Mail, second: Mail, third: Mail)
+    requires { ⌜ sizeOfAll (threeMails first second third) ≤ length (now out) ⌝ }
+    ensures { λ _. ⌜ now (out .exit) ≡ sets (now (out .entry)) 0 (bytesOfAll (threeMails first second third)) ⌝ }
+{
+    let a = put_mail(out, 0, first);
+    let b = put_mail(out, a, second);
+    put_mail(out, b, third);
+}
+
+// The messages of a step written one after another, if there is room for all of them.
+fn send(first: Mail, second: Mail, third: Mail, out: &mut [u8]) -> Answer
+    ensures { λ r. ⌜ (r ≡ sentAnswer (threeMails first second third) (length (now (out .entry)))) × (now (out .exit) ≡ sentBuffer (threeMails first second third) (now (out .entry))) ⌝ }
+{
+    let size = sizes(first, second, third);
+    if out.len() < size {
+        return Answer::Refused(Refusal::RoomShort);
+    }
+    put_three(out, first, second, third);
+    Answer::Sent(counts(first, second, third), size)
+}
+
+fn refuse(server: Server, e: Refusal) -> Stepped
+    ensures { λ r. ⌜ r ≡ record { server = server; answer = Answer.Refused e } ⌝ }
+{
+    let answer = Answer::Refused(e);
+    Stepped { server, answer }
+}
+
+// The step's messages are sent and its votes kept, or, for want of room, neither.
+fn finish(s: Server, m: Moved, out: &mut [u8]) -> Stepped
+    ensures { λ r. ⌜ (r ≡ finished s m (length (now (out .entry)))) × (now (out .exit) ≡ sentBuffer (threeMails (m .first) (m .second) (m .third)) (now (out .entry))) ⌝ }
+{
+    let first = m.first;
+    let second = m.second;
+    let third = m.third;
+    let answer = send(first, second, third, out);
+    match answer {
+        Answer::Sent(_, _) => {
+            let n = s.n;
+            let id = s.id;
+            let votes = m.votes;
+            let server = Server { n, id, votes };
+            Stepped { server, answer }
         }
-        i += 1;
-    }
-    i
-}
-
-// The queue without the request at place `at`: those behind it move up.
-fn remove_at(q: Queue, at: usize) -> Queue
-    requires { ⌜ (at < q .len) × Padded q ⌝ }
-    ensures { λ r. ⌜ r ≡ queueOf (take at (listOf q) ++ drop (suc at) (listOf q)) ⌝ }
-{
-    let mut places = q.places;
-    let mut i = at;
-    while i < 15 {
-        let next = places[i + 1];
-        places[i] = next;
-        i += 1;
-    }
-    let none = nobody();
-    places[15] = none;
-    Queue {
-        len: q.len - 1,
-        places,
+        Answer::Refused(_) => Stepped { server: s, answer },
     }
 }
 
-// The queue with `r` at place `at`: those from there on move back.
-fn insert_at(q: Queue, at: usize, r: Request) -> Queue
-    requires { ⌜ (at ≤ q .len) × (q .len < 16) × Padded q ⌝ }
-    ensures { λ s. ⌜ s ≡ queueOf (take at (listOf q) ++ r ∷ drop at (listOf q)) ⌝ }
+// A message of this tag to server `j`, with `k`'s timestamp `t`. For callers that know the record to be valid.
+pub fn take(s: Server, tag: Tag, k: ClientId, j: ServerId, t: Timestamp, out: &mut [u8]) -> Stepped
+    requires { ⌜ Padded (s .votes .queue) ⌝ }
+    ensures { λ r. ⌜ (r ≡ result s (withRoom (length (now (out .entry))) (taken s tag k j t))) × (now (out .exit) ≡ sentInto (now (out .entry)) (withRoom (length (now (out .entry))) (taken s tag k j t))) ⌝ }
 {
-    let mut places = q.places;
-    let mut i: usize = 15;
-    while at < i {
-        let last = places[i - 1];
-        places[i] = last;
-        i -= 1;
+    let id = s.id;
+    if j.0 != id.0 {
+        return refuse(s, Refusal::NotForServer);
     }
-    places[at] = r;
-    Queue {
-        len: q.len + 1,
-        places,
-    }
-}
-
-// The queue with `r` in its order.
-fn insert_request(q: Queue, r: Request) -> Queue
-    requires { ⌜ (q .len < 16) × Padded q ⌝ }
-    ensures { λ s. ⌜ s ≡ queueOf (insert r (listOf q)) ⌝ }
-{
-    let at = search(q, Wanted::Later, r, 0);
-    insert_at(q, at, r)
-}
-
-// The queue without `r`, if it is there.
-fn remove_request(q: Queue, r: Request) -> Queue
-    requires { ⌜ Padded q ⌝ }
-    ensures { λ s. ⌜ s ≡ queueOf (without r (listOf q)) ⌝ }
-{
-    let at = search(q, Wanted::Pair, r, 0);
-    if at < q.len {
-        return remove_at(q, at);
-    }
-    q
-}
-
-// Whether client `k` waits in the queue, and with which timestamp.
-fn waiting(k: ClientId, q: Queue) -> Standing
-    requires { ⌜ Padded q ⌝ }
-    ensures { λ s. ⌜ s ≡ standingOf (timestampIn k (listOf q)) ⌝ }
-{
     let r = Request {
         client: k,
-        timestamp: Timestamp(0),
+        timestamp: t,
     };
-    let at = search(q, Wanted::Client, r, 0);
-    if at < q.len {
-        let places = q.places;
-        let x = places[at];
-        let t = x.timestamp;
-        return Standing::With(t);
+    let m = votes::receive(id, tag, r, s.votes);
+    if m.full {
+        return refuse(s, Refusal::QueueFull);
     }
-    Standing::Absent
+    finish(s, m, out)
 }
 
-// Line 27: whether client `k` is owner or waits, and with which timestamp.
-fn standing_of(k: ClientId, v: Votes) -> Standing
-    requires { ⌜ Padded (v .queue) ⌝ }
-    ensures { λ s. ⌜ s ≡ standingOf (timestampIn k (candidates (view v))) ⌝ }
+// Whether the places behind the queue are empty.
+fn rest_empty(q: Queue) -> bool
+    requires { ⌜ q .len ≤ 16 ⌝ }
+    ensures { λ b. ⌜ b ≡ every (same noRequest) (drop (q .len) (q .places)) ⌝ }
 {
-    let o = v.owner;
-    match o {
-        Owner::Nobody => waiting(k, v.queue),
-        Owner::Of(q) => {
-            if q.client.0 == k.0 {
-                let t = q.timestamp;
-                return Standing::With(t);
-            }
-            waiting(k, v.queue)
-        }
-    }
-}
-
-fn owns(o: Owner, r: Request) -> bool
-    ensures { λ b. ⌜ b ≡ isRequest r o ⌝ }
-{
-    match o {
-        Owner::Nobody => false,
-        Owner::Of(q) => ids::same_request(q, r),
-    }
-}
-
-fn names(o: Owner, k: ClientId) -> bool
-    ensures { λ b. ⌜ b ≡ isClient k o ⌝ }
-{
-    match o {
-        Owner::Nobody => false,
-        Owner::Of(q) => q.client.0 == k.0,
-    }
-}
-
-fn still(votes: Votes) -> Moved
-    ensures { λ m. ⌜ m ≡ stillOf votes ⌝ }
-{
-    Moved {
-        votes,
-        full: false,
-        first: Mail::Nothing,
-        second: Mail::Nothing,
-        third: Mail::Nothing,
-    }
-}
-
-fn telling(votes: Votes, message: Message) -> Moved
-    ensures { λ m. ⌜ m ≡ tellingOf votes message ⌝ }
-{
-    let one = Mail::One(message);
-    Moved {
-        votes,
-        full: false,
-        first: one,
-        second: Mail::Nothing,
-        third: Mail::Nothing,
-    }
-}
-
-// `h` is owner before the queue, and is told so.
-fn lead(j: ServerId, h: Request, queue: Queue) -> Moved
-    ensures { λ m. ⌜ m ≡ leading j h queue ⌝ }
-{
-    let client = h.client;
-    let owner = Owner::Of(h);
-    let message = Message::Response(client, j, owner);
-    telling(Votes { owner, queue }, message)
-}
-
-// Lines 52 to 55: the head of the queue becomes owner; with an empty queue there is no owner.
-fn promote(j: ServerId, q: Queue) -> Moved
-    requires { ⌜ Padded q ⌝ }
-    ensures { λ m. ⌜ MovesOne m (promoteOf j (listOf q)) ⌝ }
-{
-    if q.len == 0 {
-        let owner = Owner::Nobody;
-        return still(Votes { owner, queue: q });
-    }
+    votes::sized(q);
     let places = q.places;
-    lead(j, places[0], remove_at(q, 0))
-}
-
-// Lines 38 to 40: `r` joins the queue, and the head of it becomes owner. A full queue has room, since the head leaves it.
-fn rotate(j: ServerId, r: Request, q: Queue) -> Moved
-    requires { ⌜ Padded q ⌝ }
-    ensures { λ m. ⌜ MovesOne m (promoteOf j (insert r (listOf q))) ⌝ }
-{
-    if q.len == 0 {
-        return lead(j, r, q);
-    }
-    let places = q.places;
-    let head = places[0];
-    if ids::precedes(r, head) {
-        return lead(j, r, q);
-    }
-    lead(j, head, insert_request(remove_at(q, 0), r))
-}
-
-// Lines 50 to 56.
-fn delete(j: ServerId, r: Request, v: Votes) -> Moved
-    requires { ⌜ Padded (v .queue) ⌝ }
-    ensures { λ m. ⌜ MovesOne m (deleteOf j r (view v)) ⌝ }
-{
-    let owner = v.owner;
-    if owns(owner, r) {
-        return promote(j, v.queue);
-    }
-    let queue = remove_request(v.queue, r);
-    still(Votes { owner, queue })
-}
-
-// Lines 35, 41 and 45: RESPONSE with the owner to client `k`, unless `k` is the owner.
-fn inform(j: ServerId, k: ClientId, o: Owner) -> Mail
-    ensures { λ m. ⌜ mails m ≡ informed j k o ⌝ }
-{
-    if names(o, k) {
-        return Mail::Nothing;
-    }
-    let message = Message::Response(k, j, o);
-    Mail::One(message)
-}
-
-fn overflowing(votes: Votes, message: Message) -> Moved
-    ensures { λ m. ⌜ m ≡ overflowingOf votes message ⌝ }
-{
-    let one = Mail::One(message);
-    Moved {
-        votes,
-        full: true,
-        first: one,
-        second: Mail::Nothing,
-        third: Mail::Nothing,
-    }
-}
-
-// Lines 33 to 35 behind an owner: `r` waits, unless its client does already, and is told the owner.
-fn join(j: ServerId, r: Request, v: Votes) -> Moved
-    requires { ⌜ Padded (v .queue) ⌝ }
-    ensures { λ m. ⌜ MovesOne m (joining j r (view v)) ⌝ }
-{
-    let owner = v.owner;
-    let client = r.client;
-    let message = Message::Response(client, j, owner);
-    let w = waiting(client, v.queue);
-    match w {
-        Standing::With(_) => telling(v, message),
-        Standing::Absent => {
-            let q = v.queue;
-            if q.len == 16 {
-                return overflowing(v, message);
-            }
-            let queue = insert_request(q, r);
-            telling(Votes { owner, queue }, message)
+    let none = votes::nobody();
+    let mut i = q.len;
+    while i < 16 {
+        if !ids::same_request(none, places[i]) {
+            return false;
         }
+        i += 1;
+    }
+    true
+}
+
+fn all_valid(q: Queue) -> bool
+    requires { ⌜ q .len ≤ 16 ⌝ }
+    ensures { λ b. ⌜ b ≡ every validRequest (listOf q) ⌝ }
+{
+    votes::sized(q);
+    let places = q.places;
+    let len = q.len;
+    let mut i: usize = 0;
+    while i < len {
+        if !ids::valid_request(places[i]) {
+            return false;
+        }
+        i += 1;
+    }
+    true
+}
+
+fn in_order(q: Queue) -> bool
+    requires { ⌜ q .len ≤ 16 ⌝ }
+    ensures { λ b. ⌜ b ≡ ordered (listOf q) ⌝ }
+{
+    votes::sized(q);
+    let places = q.places;
+    let len = q.len;
+    let mut i: usize = 0;
+    while i + 1 < len {
+        if !ids::precedes(places[i], places[i + 1]) {
+            return false;
+        }
+        i += 1;
+    }
+    true
+}
+
+fn no_client_twice(q: Queue) -> bool
+    requires { ⌜ q .len ≤ 16 ⌝ }
+    ensures { λ b. ⌜ b ≡ once (listOf q) ⌝ }
+{
+    votes::sized(q);
+    let len = q.len;
+    let mut i: usize = 0;
+    while i < len {
+        if repeated(q, i) {
+            return false;
+        }
+        i += 1;
+    }
+    true
+}
+
+// Whether the client at place `i` stands at a later place too.
+fn repeated(q: Queue, i: usize) -> bool
+    requires { ⌜ (i < q .len) × (q .len ≤ 16) ⌝ }
+    ensures { λ b. ⌜ b ≡ repeats (drop i (listOf q)) ⌝ }
+{
+    votes::sized(q);
+    let places = q.places;
+    let at = votes::search(q, Wanted::Client, places[i], i + 1);
+    at < q.len
+}
+
+// Whether the queue's length is in range and the places behind it are empty.
+fn valid_queue(q: Queue) -> bool
+    ensures { λ b. ⌜ b ≡ validQueue q ⌝ }
+{
+    if 16 < q.len {
+        return false;
+    }
+    rest_empty(q)
+}
+
+// Whether a queue stands only behind an owner, who does not wait in it.
+fn owner_fits(o: Owner, q: Queue) -> bool
+    requires { ⌜ q .len ≤ 16 ⌝ }
+    ensures { λ b. ⌜ b ≡ fitsOwner o (listOf q) ⌝ }
+{
+    votes::sized(q);
+    match o {
+        Owner::Nobody => q.len == 0,
+        Owner::Of(r) => votes::search(q, Wanted::Client, r, 0) == q.len,
     }
 }
 
-// Lines 31 to 35.
-fn act_request(j: ServerId, r: Request, v: Votes) -> Moved
-    requires { ⌜ Padded (v .queue) ⌝ }
-    ensures { λ m. ⌜ MovesOne m (actOf j Tag.Request r (view v)) ⌝ }
+fn valid_votes(v: Votes) -> bool
+    requires { ⌜ v .queue .len ≤ 16 ⌝ }
+    ensures { λ b. ⌜ b ≡ validState (view v) ⌝ }
 {
     let owner = v.owner;
-    let client = r.client;
-    if names(owner, client) {
-        return still(v);
+    let q = v.queue;
+    if !ids::valid_owner(owner) {
+        return false;
     }
+    if !all_valid(q) {
+        return false;
+    }
+    if !owner_fits(owner, q) {
+        return false;
+    }
+    if !in_order(q) {
+        return false;
+    }
+    no_client_twice(q)
+}
+
+// Whether the record is one that a server can have: document 01's 'A record is broken if ..', turned round.
+pub fn valid_server(s: Server) -> bool
+    ensures { λ b. ⌜ b ≡ valid s ⌝ }
+{
+    let id = s.id;
+    let v = s.votes;
+    let q = v.queue;
+    if !ids::within_limit(s.n as u32, ids::MAX_SERVERS) {
+        return false;
+    }
+    if !ids::within_limit(id.0 as u32, s.n as u32) {
+        return false;
+    }
+    if !valid_queue(q) {
+        return false;
+    }
+    valid_votes(v)
+}
+
+fn idle_votes() -> Votes
+    ensures { λ v. ⌜ v ≡ storeOf idle ⌝ }
+{
+    let none = votes::nobody();
+    let places = [none; 16];
+    let owner = Owner::Nobody;
+    let queue = Queue { len: 0, places };
+    Votes { owner, queue }
+}
+
+fn blank_server() -> Server
+    ensures { λ s. ⌜ s ≡ blank ⌝ }
+{
+    let votes = idle_votes();
+    let id = ServerId(0);
+    Server { n: 0, id, votes }
+}
+
+// Server `id` of `n`, with no owner. Refused 7.
+pub fn new(n: u16, id: ServerId) -> Stepped
+    ensures { λ r. ⌜ r ≡ newResult n id ⌝ }
+{
+    if !ids::within_limit(n as u32, ids::MAX_SERVERS) {
+        return refuse(blank_server(), Refusal::ParameterOutOfRange);
+    }
+    if !ids::within_limit(id.0 as u32, n as u32) {
+        return refuse(blank_server(), Refusal::ParameterOutOfRange);
+    }
+    let votes = idle_votes();
+    let server = Server { n, id, votes };
+    let answer = Answer::Sent(0, 0);
+    Stepped { server, answer }
+}
+
+// Lines 26 to 45: a REQUEST, YIELD, RELEASE or INQUIRY. Refused 21, 5, 13, 14, 6.
+pub fn message(s: Server, m: Message, out: &mut [u8]) -> Stepped
+    ensures { λ r. ⌜ (r ≡ result s (withRoom (length (now (out .entry))) (messageOutcome s m))) × (now (out .exit) ≡ sentInto (now (out .entry)) (withRoom (length (now (out .entry))) (messageOutcome s m))) ⌝ }
+{
+    let v = s.votes;
+    votes::sized(v.queue);
+    if !valid_server(s) {
+        return refuse(s, Refusal::InvalidRecord);
+    }
+    if !wire::valid_message(m) {
+        return refuse(s, Refusal::NumberOutOfRange);
+    }
+    match m {
+        Message::Request(k, j, t) => take(s, Tag::Request, k, j, t, out),
+        Message::Yield(k, j, t) => take(s, Tag::Yield, k, j, t, out),
+        Message::Release(k, j, t) => take(s, Tag::Release, k, j, t, out),
+        Message::Inquiry(k, j, t) => take(s, Tag::Inquiry, k, j, t, out),
+        Message::Response(_, _, _) => refuse(s, Refusal::NotForServer),
+        Message::Check(_, _, _) => refuse(s, Refusal::NotForServer),
+    }
+}
+
+// Lines 46 and 47: the owner is suspected to have crashed. Refused 21, 15, 6.
+pub fn suspect(s: Server, out: &mut [u8]) -> Stepped
+    ensures { λ r. ⌜ (r ≡ result s (withRoom (length (now (out .entry))) (suspectOutcome s))) × (now (out .exit) ≡ sentInto (now (out .entry)) (withRoom (length (now (out .entry))) (suspectOutcome s))) ⌝ }
+{
+    let v = s.votes;
+    votes::sized(v.queue);
+    if !valid_server(s) {
+        return refuse(s, Refusal::InvalidRecord);
+    }
+    let id = s.id;
+    let owner = v.owner;
     match owner {
-        Owner::Nobody => lead(j, r, v.queue),
-        Owner::Of(_) => join(j, r, v),
+        Owner::Nobody => refuse(s, Refusal::NoOwner),
+        Owner::Of(o) => finish(s, votes::delete(id, o, v), out),
     }
 }
 
-// Line 41 behind what was done before: the sender is told the owner.
-fn followed(j: ServerId, k: ClientId, before: Moved) -> Moved
-    ensures { λ m. ⌜ Followed j k before m ⌝ }
+// Lines 48 and 49: CHECK to the owner. Refused 21, 6.
+pub fn check(s: Server, out: &mut [u8]) -> Stepped
+    ensures { λ r. ⌜ (r ≡ result s (withRoom (length (now (out .entry))) (checkOutcome s))) × (now (out .exit) ≡ sentInto (now (out .entry)) (withRoom (length (now (out .entry))) (checkOutcome s))) ⌝ }
 {
-    let votes = before.votes;
-    let owner = votes.owner;
-    let first = before.first;
-    let second = inform(j, k, owner);
-    Moved {
-        votes,
-        full: before.full,
-        first,
-        second,
-        third: Mail::Nothing,
+    let v = s.votes;
+    votes::sized(v.queue);
+    if !valid_server(s) {
+        return refuse(s, Refusal::InvalidRecord);
     }
-}
-
-// Lines 37 to 41.
-fn act_yield(j: ServerId, r: Request, v: Votes) -> Moved
-    requires { ⌜ Padded (v .queue) ⌝ }
-    ensures { λ m. ⌜ MovesTwo m (actOf j Tag.Yield r (view v)) ⌝ }
-{
+    let id = s.id;
     let owner = v.owner;
-    let client = r.client;
-    if owns(owner, r) {
-        return followed(j, client, rotate(j, r, v.queue));
-    }
-    followed(j, client, still(v))
-}
-
-// Line 45.
-fn act_inquiry(j: ServerId, r: Request, v: Votes) -> Moved
-    requires { ⌜ Padded (v .queue) ⌝ }
-    ensures { λ m. ⌜ MovesTwo m (actOf j Tag.Inquiry r (view v)) ⌝ }
-{
-    let owner = v.owner;
-    let client = r.client;
     match owner {
-        Owner::Nobody => still(v),
-        Owner::Of(_) => followed(j, client, still(v)),
-    }
-}
-
-// Lines 30 to 45.
-fn act(j: ServerId, tag: Tag, r: Request, v: Votes) -> Moved
-    requires { ⌜ Padded (v .queue) ⌝ }
-    ensures { λ m. ⌜ MovesTwo m (actOf j tag r (view v)) ⌝ }
-{
-    match tag {
-        Tag::Request => act_request(j, r, v),
-        Tag::Yield => act_yield(j, r, v),
-        Tag::Release => delete(j, r, v),
-        Tag::Inquiry => act_inquiry(j, r, v),
-    }
-}
-
-// One part of a step after another.
-fn joined(before: Moved, after: Moved) -> Moved
-    ensures { λ m. ⌜ m ≡ joinedOf before after ⌝ }
-{
-    let votes = after.votes;
-    let first = before.first;
-    let second = after.first;
-    let third = after.second;
-    Moved {
-        votes,
-        full: after.full,
-        first,
-        second,
-        third,
-    }
-}
-
-// Lines 28 to 45, where the sender stands with timestamp `t`.
-fn compare(j: ServerId, tag: Tag, r: Request, v: Votes, t: Timestamp) -> Moved
-    requires { ⌜ Padded (v .queue) ⌝ }
-    ensures { λ m. ⌜ Moves m (compareOf j tag r (view v) t) ⌝ }
-{
-    let now = r.timestamp;
-    if now.0 < t.0 {
-        return still(v);
-    }
-    if t.0 < now.0 {
-        let client = r.client;
-        let old = Request {
-            client,
-            timestamp: t,
-        };
-        let before = delete(j, old, v);
-        return joined(before, act(j, tag, r, before.votes));
-    }
-    act(j, tag, r, v)
-}
-
-// Lines 26 to 45.
-fn receive(j: ServerId, tag: Tag, r: Request, v: Votes) -> Moved
-    requires { ⌜ Padded (v .queue) ⌝ }
-    ensures { λ m. ⌜ Moves m (receiveOf j tag r (view v)) ⌝ }
-{
-    let client = r.client;
-    let s = standing_of(client, v);
-    match s {
-        Standing::Absent => act(j, tag, r, v),
-        Standing::With(t) => compare(j, tag, r, v, t),
+        Owner::Nobody => finish(s, votes::still(v), out),
+        Owner::Of(o) => {
+            let client = o.client;
+            let timestamp = o.timestamp;
+            let message = Message::Check(client, id, timestamp);
+            finish(s, votes::telling(v, message), out)
+        }
     }
 }

@@ -1,0 +1,38 @@
+-- `votes::act_yield` meets its contract: whether the request is the owner decides.
+use Rattle.votes.proofs.ActLaws.{yields, yields-not}
+use borrow.Author.Needs.{needs}
+use Rattle.votes.proofs.act_yield.Statement.{statement}
+use Rattle.votes.proofs.act_yield.Tie as tie
+
+owns-requires : tie.Need-owns-requires
+owns-requires c κs = search needs
+
+rotate-requires : tie.Need-rotate-requires
+rotate-requires c κs = search needs
+
+followed-requires : tie.Need-followed-requires
+followed-requires c κs = search needs
+
+returns : tie.Need-returns
+returns c = yields _ (c .before .before .before .before .before .args .r) (c .before .before .before .before .before .args .v) (c .before .before .before .before .before .pre) _ (c .before .before .before .owns .ensures) _ _ (c .before .before .if1 .taken) (c .before .rotate .ensures) (c .followed .ensures)
+
+still-requires : tie.Need-still-requires
+still-requires c κs = search needs
+
+followed-requires-2 : tie.Need-followed-requires-2
+followed-requires-2 c κs = search needs
+
+returns-2 : tie.Need-returns-2
+returns-2 c = yields-not _ (c .before .before .before .before .before .args .r) (c .before .before .before .before .before .args .v) (c .before .before .before .before .before .pre) _ (c .before .before .before .owns .ensures) _ _ (c .before .before .if1 .left) (c .before .still .ensures) (c .followed2 .ensures)
+
+pub act-yield-spec : {M : Type 1} → statement M
+act-yield-spec =
+    tie.close
+    (tie.spec
+    owns-requires
+    rotate-requires
+    followed-requires
+    returns
+    still-requires
+    followed-requires-2
+    returns-2)

@@ -1,0 +1,3 @@
+pub mod Figure1
+pub mod Queues
+pub mod Places
