@@ -1,2 +1,5 @@
 pub mod Places
 pub mod ValidLaws
+pub mod RecordLaws
+pub mod SendLaws
+pub mod StepLaws

@@ -1,15 +1,20 @@
 -- Validity, test by test: what the code's tests decide of it, and what a valid record is known to be.
-use Prim.Native.Nat.{ℕ, _≤_}
+use Prim.Native.Nat.{ℕ, _≤_, _<_}
 use mathlib.Core.Path.{_≡_, refl}
-use mathlib.Core.Bool.{Bool, true, false, _&&_, not}
+use mathlib.Core.Bool.{Bool, true, false, true≢false, _&&_, not}
+use lib.Dec.{leb, ltb}
 use lib.ListN.{drop}
-use borrow.Author.Tests.{not-true, not-false}
-use Rattle.ids.specs.Limits.{within, maxServers, validClient, validOwner}
+use borrow.Author.Tests.{leb-true, ltb-true, not-true, not-false}
+use Rattle.ids.specs.Limits.{within, maxServers, maxTimestamp, validClient, validOwner}
 use Rattle.ids.specs.Requests.{same, noRequest}
+use Rattle.ids.specs.declared.Timestamp.{Timestamp}
 use Rattle.ids.specs.declared.Request.{Request}
 use Rattle.ids.proofs.Choice.{both}
 use Rattle.ids.proofs.LimitsLaws.{within-range}
 use Rattle.client.specs.declared.Client.{Client}
+use Rattle.client.specs.declared.Section.{Section}
+use Rattle.client.specs.declared.Section.the-variants.{Remainder, Trying, Critical}
+use Rattle.client.specs.Calls.{isCritical}
 use Rattle.client.specs.Record.{view, every, ownIsCurrent, validSizes, fitsSection, fitsTimestamp, valid}
 use Rattle.client.specs.Steps.{request, validPlaces}
 use Rattle.client.proofs.Places.{showing}
@@ -81,3 +86,49 @@ sizes-range n m h =
     let (a₁, a₂) = within-range n maxServers a in
     let (b₁, b₂) = within-range m n b in
     (a₁, a₂, b₁, b₂)
+
+-- what is known of a valid record
+pub record Known (c : Client) : Type 0 where
+  pub some : 1 ≤ c .n
+  pub few : c .n ≤ 31
+  pub threshold : 1 ≤ c .m
+  pub reached : c .m ≤ c .n
+  pub client : validClient (c .id) ≡ true
+  pub timestamp : fitsTimestamp (c .section) (c .timestamp) ≡ true
+  pub owners : every validOwner (view c .responses) ≡ true
+  pub own : every (ownIsCurrent (request c)) (view c .responses) ≡ true
+  pub section : fitsSection (c .section) (c .m) (request c) (view c .responses) ≡ true
+  pub rest : every (same noRequest) (drop (c .n) (c .places)) ≡ true
+
+pub valid-known : (c : Client) → valid c ≡ true → Known c
+unfolding validPlaces
+valid-known c h =
+    let (h₁, h₂) = both (validSizes (c .n) (c .m) && validClient (c .id) && fitsTimestamp (c .section) (c .timestamp)) (validPlaces c) (rw valid-split at h) in
+    let (h₃, t) = both (validSizes (c .n) (c .m) && validClient (c .id)) (fitsTimestamp (c .section) (c .timestamp)) h₁ in
+    let (z, k) = both (validSizes (c .n) (c .m)) (validClient (c .id)) h₃ in
+    let (n₁, n₂, m₁, m₂) = sizes-range (c .n) (c .m) z in
+    let (h₄, e) = both (every validOwner (view c .responses) && every (ownIsCurrent (request c)) (view c .responses) && fitsSection (c .section) (c .m) (request c) (view c .responses)) (every (same noRequest) (drop (c .n) (c .places))) h₂ in
+    let (h₅, s) = both (every validOwner (view c .responses) && every (ownIsCurrent (request c)) (view c .responses)) (fitsSection (c .section) (c .m) (request c) (view c .responses)) h₄ in
+    let (v, o) = both (every validOwner (view c .responses)) (every (ownIsCurrent (request c)) (view c .responses)) h₅ in
+    record {
+      some = n₁;
+      few = n₂;
+      threshold = m₁;
+      reached = m₂;
+      client = k;
+      timestamp = t;
+      owners = v;
+      own = o;
+      section = s;
+      rest = e;
+    }
+
+pub trying-range : (t : Timestamp) → fitsTimestamp Trying t ≡ true → (1 ≤ t .0) × (t .0 < maxTimestamp)
+trying-range t h =
+    let (a, b) = both (leb 1 (t .0)) (ltb (t .0) maxTimestamp) h in
+    (leb-true 1 (t .0) a, ltb-true (t .0) maxTimestamp b)
+
+pub critical-below : (s : Section) (t : Timestamp) → isCritical s ≡ true → fitsTimestamp s t ≡ true → t .0 < maxTimestamp
+critical-below Remainder t e h = let z : true ≡ false = cc in absurd (true≢false z)
+critical-below Trying t e h = let z : true ≡ false = cc in absurd (true≢false z)
+critical-below Critical t e h = trying-range t h .1

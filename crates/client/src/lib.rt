@@ -2,18 +2,28 @@
 ghost use mathlib.Core.Path.{_≡_};
 ghost use mathlib.Core.Bool.{_&&_};
 ghost use mathlib.Core.List.{map};
-ghost use Prim.Native.Nat.{_≤_};
-ghost use lib.ListN.{length, take, drop};
+ghost use Prim.Native.Nat.{_*_, _≤_, _<_};
+ghost use lib.ListN.{length, take, drop, replicate};
+ghost use lib.Seq.{sets};
 ghost use Rattle.ids.specs.Choice.{if_then_else_};
-ghost use Rattle.ids.specs.Limits.{validOwner};
+ghost use Rattle.ids.specs.Limits.{maxTimestamp, validOwner};
 ghost use Rattle.ids.specs.Requests.{same, isRequest, noRequest};
-ghost use Rattle.client.specs.Figure1.{filled, count};
-ghost use Rattle.client.specs.Record.{shown, validSizes, every, ownIsCurrent, fitsSection, fitsTimestamp, valid};
-ghost use Rattle.client.specs.Steps.{request, validPlaces};
+ghost use Rattle.wire.specs.Format.{bytesOfAll};
+ghost use Rattle.wire.specs.Step.{refused, stepped, withRoom, sentInto};
+ghost use Rattle.client.specs.Figure1.{filled, count, isTrying, toAll, tries, exits};
+ghost use Rattle.client.specs.Record.{shown, validSizes, every, ownIsCurrent, fitsSection, fitsTimestamp, valid, view, store};
+ghost use Rattle.client.specs.Calls.{isRemainder, isCritical, lastTry, newResult, beginOutcome, exitOutcome, result};
+ghost use Rattle.client.specs.Steps.{request, validPlaces, without, refusedNew, requests, releases, Answers};
 use ids::ClientId;
+use ids::Refusal;
 use ids::Request;
+use ids::ServerId;
 use ids::Timestamp;
 use wire::Answer;
+use wire::Message;
+
+// The last timestamp with which a client may still try.
+pub const LAST_TRY: u32 = 4_294_967_293;
 
 pub enum Section {
     Remainder,
@@ -236,4 +246,203 @@ pub fn valid_client(c: Client) -> bool
         return false;
     }
     valid_places(c)
+}
+
+// 31 empty places.
+fn no_places() -> [Request; 31]
+    ensures { λ r. ⌜ r ≡ replicate 31 noRequest ⌝ }
+{
+    let none = Request {
+        client: ClientId(0),
+        timestamp: Timestamp(0),
+    };
+    [none; 31]
+}
+
+// The record of client `id` in this section and with this timestamp, without a response.
+fn emptied(n: u16, m: u16, id: ClientId, section: Section, timestamp: Timestamp) -> Client
+    requires { ⌜ n ≤ 31 ⌝ }
+    ensures { λ c. ⌜ c ≡ store n m id (without n section timestamp) ⌝ }
+{
+    let places = no_places();
+    Client {
+        n,
+        m,
+        id,
+        section,
+        timestamp,
+        places,
+    }
+}
+
+// What a refused `new` hands back.
+fn no_client() -> Stepped
+    ensures { λ r. ⌜ r ≡ refusedNew ⌝ }
+{
+    let section = Section::Remainder;
+    let places = no_places();
+    let client = Client {
+        n: 0,
+        m: 0,
+        id: ClientId(0),
+        section,
+        timestamp: Timestamp(0),
+        places,
+    };
+    let answer = Answer::Refused(Refusal::ParameterOutOfRange);
+    Stepped { client, answer }
+}
+
+// A new client with `n` servers and threshold `m`: in the remainder section, no timestamp taken.
+pub fn new(n: u16, m: u16, id: ClientId) -> Stepped
+    ensures { λ r. ⌜ r ≡ newResult n m id ⌝ }
+{
+    if !valid_sizes(n, m) {
+        return no_client();
+    }
+    if !ids::valid_client(id) {
+        return no_client();
+    }
+    let section = Section::Remainder;
+    let client = emptied(n, m, id, section, Timestamp(0));
+    let answer = Answer::Sent(0, 0);
+    Stepped { client, answer }
+}
+
+// The answer of a refused call: the record as it was.
+fn refuse(c: Client, e: Refusal) -> Stepped
+    ensures { λ r. ⌜ r ≡ result c (refused e) ⌝ }
+{
+    let answer = Answer::Refused(e);
+    Stepped { client: c, answer }
+}
+
+fn is_remainder(s: Section) -> bool
+    ensures { λ r. ⌜ r ≡ isRemainder s ⌝ }
+{
+    match s {
+        Section::Remainder => true,
+        Section::Trying => false,
+        Section::Critical => false,
+    }
+}
+
+fn is_trying(s: Section) -> bool
+    ensures { λ r. ⌜ r ≡ isTrying s ⌝ }
+{
+    match s {
+        Section::Remainder => false,
+        Section::Trying => true,
+        Section::Critical => false,
+    }
+}
+
+fn is_critical(s: Section) -> bool
+    ensures { λ r. ⌜ r ≡ isCritical s ⌝ }
+{
+    match s {
+        Section::Remainder => false,
+        Section::Trying => false,
+        Section::Critical => true,
+    }
+}
+
+// Writes REQUEST with timestamp `t` from client `k` to each of the servers 1 to `n`.
+fn request_all(k: ClientId, t: Timestamp, n: u16, out: &mut [u8])
+    requires { ⌜ 12 * n ≤ length (now out) ⌝ }
+    ensures { λ _. ⌜ now (out .exit) ≡ sets (now (out .entry)) 0 (bytesOfAll (toAll (requests k t) n)) ⌝ }
+{
+    let mut at: usize = 0;
+    let mut j: u16 = 0;
+    while j < n {
+        j += 1;
+        let m = Message::Request(k, ServerId(j), t);
+        at = wire::put(out, at, m);
+    }
+}
+
+// Writes RELEASE with timestamp `t` from client `k` to each of the servers 1 to `n`.
+fn release_all(k: ClientId, t: Timestamp, n: u16, out: &mut [u8])
+    requires { ⌜ 12 * n ≤ length (now out) ⌝ }
+    ensures { λ _. ⌜ now (out .exit) ≡ sets (now (out .entry)) 0 (bytesOfAll (toAll (releases k t) n)) ⌝ }
+{
+    let mut at: usize = 0;
+    let mut j: u16 = 0;
+    while j < n {
+        j += 1;
+        let m = Message::Release(k, ServerId(j), t);
+        at = wire::put(out, at, m);
+    }
+}
+
+// The answer with the record emptied for another section and timestamp, once a message of 12 bytes went to each of the `n` servers.
+fn moved(c: Client, section: Section, timestamp: Timestamp) -> Stepped
+    requires { ⌜ c .n ≤ 31 ⌝ }
+    ensures { λ r. ⌜ r ≡ record { client = store (c .n) (c .m) (c .id) (without (c .n) section timestamp); answer = Answer.Sent (c .n) (12 * c .n) } ⌝ }
+{
+    let client = emptied(c.n, c.m, c.id, section, timestamp);
+    let n = c.n as usize;
+    let answer = Answer::Sent(n, 12 * n);
+    Stepped { client, answer }
+}
+
+// Lines 1 to 5 of a valid record in the remainder section with two timestamps left: for `begin`, and for callers that know as much.
+pub fn attempt(c: Client, out: &mut [u8]) -> Stepped
+    requires { ⌜ (c .n ≤ 31) × (c .timestamp .0 ≤ lastTry) ⌝ }
+    ensures { λ r. ⌜ Answers c (stepped (tries (c .n) (c .id) (view c))) (now (out .entry)) r (now (out .exit)) ⌝ }
+{
+    let n = c.n;
+    if out.len() < 12 * (n as usize) {
+        return refuse(c, Refusal::RoomShort);
+    }
+    let t = Timestamp(c.timestamp.0 + 1);
+    request_all(c.id, t, n, out);
+    let section = Section::Trying;
+    moved(c, section, t)
+}
+
+// Lines 19 to 23 of a valid record in the critical section: for `exit`, and for callers that know as much.
+pub fn leave(c: Client, out: &mut [u8]) -> Stepped
+    requires { ⌜ (c .n ≤ 31) × (c .timestamp .0 < maxTimestamp) ⌝ }
+    ensures { λ r. ⌜ Answers c (stepped (exits (c .n) (c .id) (view c))) (now (out .entry)) r (now (out .exit)) ⌝ }
+{
+    let n = c.n;
+    if out.len() < 12 * (n as usize) {
+        return refuse(c, Refusal::RoomShort);
+    }
+    release_all(c.id, c.timestamp, n, out);
+    let section = Section::Remainder;
+    let t = Timestamp(c.timestamp.0 + 1);
+    moved(c, section, t)
+}
+
+// Document 01's try: a new timestamp, and REQUEST with it to every server.
+pub fn begin(c: Client, out: &mut [u8]) -> Stepped
+    ensures { λ r. ⌜ (r ≡ result c (withRoom (length (now (out .entry))) (beginOutcome c))) × (now (out .exit) ≡ sentInto (now (out .entry)) (withRoom (length (now (out .entry))) (beginOutcome c))) ⌝ }
+{
+    if !valid_client(c) {
+        return refuse(c, Refusal::InvalidRecord);
+    }
+    let section = c.section;
+    if !is_remainder(section) {
+        return refuse(c, Refusal::WrongSection);
+    }
+    if LAST_TRY < c.timestamp.0 {
+        return refuse(c, Refusal::TimestampsSpent);
+    }
+    attempt(c, out)
+}
+
+// The exit: a new timestamp, and RELEASE with the old one to every server.
+pub fn exit(c: Client, out: &mut [u8]) -> Stepped
+    ensures { λ r. ⌜ (r ≡ result c (withRoom (length (now (out .entry))) (exitOutcome c))) × (now (out .exit) ≡ sentInto (now (out .entry)) (withRoom (length (now (out .entry))) (exitOutcome c))) ⌝ }
+{
+    if !valid_client(c) {
+        return refuse(c, Refusal::InvalidRecord);
+    }
+    let section = c.section;
+    if !is_critical(section) {
+        return refuse(c, Refusal::WrongSection);
+    }
+    leave(c, out)
 }
