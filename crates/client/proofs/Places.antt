@@ -25,12 +25,13 @@ abbrev pub showing : ℕ → List Request → List Owner
 showing n l = map shown (take n l)
 
 -- one place, by the test whether it is empty
+by-test : (b : Bool) (q : Request) → b ≡ same q noRequest → not b ≡ filled (shown q)
+by-test true q e = rw (← e)
+by-test false q e = rw (← e)
+
 module _ (q : Request) (b : Bool) (e : b ≡ same q noRequest) where
   pub filled-shown : not b ≡ filled (shown q)
-  filled-shown = shown-test b q e where
-    shown-test : (b : Bool) (q : Request) → b ≡ same q noRequest → not b ≡ filled (shown q)
-    shown-test true q e = rw (← e)
-    shown-test false q e = rw (← e)
+  filled-shown = by-test b q e
 
   pub own-empty : (r : Request) → not b ≡ false → not b ≡ isRequest r (shown q)
   own-empty r h = let t : b ≡ true = not-false _ h in let f : same q noRequest ≡ true = cc in rw (f, t)

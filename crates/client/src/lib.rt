@@ -1,20 +1,22 @@
 // The client: Figure 1, lines 1 to 25, on a record by value.
 ghost use mathlib.Core.Path.{_≡_};
-ghost use mathlib.Core.Bool.{_&&_};
+ghost use mathlib.Core.Bool.{true, _&&_};
 ghost use mathlib.Core.List.{map};
-ghost use Prim.Native.Nat.{_*_, _≤_, _<_};
+ghost use Prim.Native.Nat.{_+_, _*_, _≤_, _<_};
 ghost use lib.ListN.{length, take, drop, replicate};
 ghost use lib.Seq.{sets};
 ghost use Rattle.ids.specs.Choice.{if_then_else_};
 ghost use Rattle.ids.specs.Limits.{maxTimestamp, validOwner};
 ghost use Rattle.ids.specs.Requests.{same, isRequest, noRequest};
-ghost use Rattle.wire.specs.Format.{bytesOfAll};
-ghost use Rattle.wire.specs.Step.{refused, stepped, withRoom, sentInto};
-ghost use Rattle.client.specs.Figure1.{filled, count, isTrying, toAll, tries, exits};
-ghost use Rattle.client.specs.Record.{shown, validSizes, every, ownIsCurrent, fitsSection, fitsTimestamp, valid, view, store};
-ghost use Rattle.client.specs.Calls.{isRemainder, isCritical, lastTry, newResult, beginOutcome, exitOutcome, result};
-ghost use Rattle.client.specs.Steps.{request, validPlaces, without, refusedNew, requests, releases, Answers};
+ghost use Rattle.wire.specs.Format.{bytesOfAll, sizeOfAll};
+ghost use Rattle.wire.specs.Format as format;
+ghost use Rattle.wire.specs.Step.{refused, stepped, stay, withRoom, sentInto};
+ghost use Rattle.client.specs.Figure1.{filled, count, isTrying, enough, toAll, tries, exits, current, reply, replies, round, judge, responds, checked};
+ghost use Rattle.client.specs.Record.{shown, place, validSizes, every, ownIsCurrent, fitsSection, fitsTimestamp, valid, view, store};
+ghost use Rattle.client.specs.Calls.{isRemainder, isCritical, forClient, received, lastTry, newResult, beginOutcome, exitOutcome, messageOutcome, result};
+ghost use Rattle.client.specs.Steps.{request, validPlaces, without, refusedNew, requests, releases, heardPlaces, yields, Answers};
 use ids::ClientId;
+use ids::Owner;
 use ids::Refusal;
 use ids::Request;
 use ids::ServerId;
@@ -445,4 +447,235 @@ pub fn exit(c: Client, out: &mut [u8]) -> Stepped
         return refuse(c, Refusal::WrongSection);
     }
     leave(c, out)
+}
+
+// Line 8's second part: the owner is another client, or nobody, or the request `r` itself.
+fn is_current(r: Request, o: Owner) -> bool
+    ensures { λ b. ⌜ b ≡ current r o ⌝ }
+{
+    match o {
+        Owner::Nobody => true,
+        Owner::Of(q) => {
+            if q.client.0 != r.client.0 {
+                return true;
+            }
+            q.timestamp.0 == r.timestamp.0
+        }
+    }
+}
+
+fn place_of(o: Owner) -> Request
+    ensures { λ q. ⌜ q ≡ place o ⌝ }
+{
+    match o {
+        Owner::Nobody => Request {
+            client: ClientId(0),
+            timestamp: Timestamp(0),
+        },
+        Owner::Of(q) => q,
+    }
+}
+
+// Lines 8 and 9: the places after server `j` named `o`.
+fn hear(r: Request, places: [Request; 31], j: ServerId, o: Owner) -> [Request; 31]
+    requires { ⌜ (1 ≤ j .0) × (j .0 ≤ 31) ⌝ }
+    ensures { λ l. ⌜ l ≡ heardPlaces r places j o ⌝ }
+{
+    places_sized(places);
+    let i = (j.0 as usize) - 1;
+    if is_own(r, places[i]) {
+        return places;
+    }
+    if !is_current(r, o) {
+        return places;
+    }
+    let q = place_of(o);
+    let mut l = places;
+    l[i] = q;
+    l
+}
+
+// Lines 15 to 17: what the client of `r` sends to server `j`, which named `q`.
+fn reply(r: Request, j: ServerId, q: Request) -> Message
+    ensures { λ m. ⌜ m ≡ reply r j q ⌝ }
+{
+    let k = r.client;
+    let t = r.timestamp;
+    if q.client.0 == k.0 {
+        return Message::Yield(k, j, t);
+    }
+    if ids::precedes(r, q) {
+        return Message::Request(k, j, t);
+    }
+    Message::Inquiry(k, j, t)
+}
+
+// The same for the place `q` of server `j`, written at `at`; returns the place behind it. Nothing is sent for an empty place.
+fn send_reply(r: Request, j: ServerId, q: Request, out: &mut [u8], at: usize) -> usize
+    requires { ⌜ at + sizeOfAll (replies r j (shown q)) ≤ length (now out) ⌝ }
+    ensures { λ e. ⌜ (e ≡ at + sizeOfAll (replies r j (shown q))) × (now (out .exit) ≡ sets (now (out .entry)) at (bytesOfAll (replies r j (shown q)))) ⌝ }
+{
+    if is_empty(q) {
+        return at;
+    }
+    let m = reply(r, j, q);
+    wire::put(out, at, m)
+}
+
+// Lines 14 to 17 for all of the first `n` places.
+fn send_round(r: Request, places: [Request; 31], n: u16, out: &mut [u8])
+    requires { ⌜ (n ≤ 31) × (12 * count (map filled (map shown (take n places))) ≤ length (now out)) ⌝ }
+    ensures { λ _. ⌜ now (out .exit) ≡ sets (now (out .entry)) 0 (bytesOfAll (round r 1 (map shown (take n places)))) ⌝ }
+{
+    places_sized(places);
+    let mut at: usize = 0;
+    let mut i: u16 = 0;
+    while i < n {
+        let q = places[i as usize];
+        i += 1;
+        at = send_reply(r, ServerId(i), q, out, at);
+    }
+}
+
+// A step that sends nothing and leaves the record with these places.
+fn kept(c: Client, section: Section, places: [Request; 31]) -> Stepped
+    requires { ⌜ (c .n ≤ 31) × (every (same noRequest) (drop (c .n) places) ≡ true) ⌝ }
+    ensures { λ r. ⌜ r ≡ result c (stepped (stay (record { section = section; timestamp = c .timestamp; responses = map shown (take (c .n) places) }))) ⌝ }
+{
+    places_sized(places);
+    let n = c.n;
+    let m = c.m;
+    let id = c.id;
+    let timestamp = c.timestamp;
+    let client = Client {
+        n,
+        m,
+        id,
+        section,
+        timestamp,
+        places,
+    };
+    let answer = Answer::Sent(0, 0);
+    Stepped { client, answer }
+}
+
+// Lines 14 to 18, where `found` of the places name an owner.
+fn yield_round(c: Client, places: [Request; 31], found: u16, out: &mut [u8]) -> Stepped
+    requires { ⌜ (c .n ≤ 31) × (found ≡ count (map filled (map shown (take (c .n) places)))) ⌝ }
+    ensures { λ r. ⌜ Answers c (stepped (yields (c .n) (request c) (map shown (take (c .n) places)))) (now (out .entry)) r (now (out .exit)) ⌝ }
+{
+    let size = 12 * (found as usize);
+    if out.len() < size {
+        return refuse(c, Refusal::RoomShort);
+    }
+    send_round(request_of(c), places, c.n, out);
+    let section = Section::Trying;
+    let client = emptied(c.n, c.m, c.id, section, c.timestamp);
+    let answer = Answer::Sent(found as usize, size);
+    Stepped { client, answer }
+}
+
+// Lines 10 to 18, with `places` for the responses: enter, or yield, or wait on.
+fn judge(c: Client, places: [Request; 31], out: &mut [u8]) -> Stepped
+    requires { ⌜ (c .n ≤ 31) × (every (same noRequest) (drop (c .n) places) ≡ true) ⌝ }
+    ensures { λ r. ⌜ Answers c (stepped (judge (enough (c .m)) (c .n) (request c) (map shown (take (c .n) places)))) (now (out .entry)) r (now (out .exit)) ⌝ }
+{
+    let n = c.n as usize;
+    let found = filled_count(places, n);
+    if found < c.m {
+        let section = Section::Trying;
+        return kept(c, section, places);
+    }
+    if own_count(request_of(c), places, n) < c.m {
+        return yield_round(c, places, found, out);
+    }
+    let section = Section::Critical;
+    kept(c, section, places)
+}
+
+// The answer of a step that changes nothing and sends nothing.
+fn unchanged(c: Client) -> Stepped
+    ensures { λ r. ⌜ r ≡ record { client = c; answer = Answer.Sent 0 0 } ⌝ }
+{
+    let answer = Answer::Sent(0, 0);
+    Stepped { client: c, answer }
+}
+
+// Lines 7 to 18 of a valid record and a RESPONSE for it: for `message`, and for callers that know as much.
+pub fn respond(c: Client, j: ServerId, o: Owner, out: &mut [u8]) -> Stepped
+    requires { ⌜ (valid c ≡ true) × (1 ≤ j .0) × (j .0 ≤ c .n) × (validOwner o ≡ true) ⌝ }
+    ensures { λ r. ⌜ Answers c (stepped (responds (enough (c .m)) (c .n) (c .id) j o (view c))) (now (out .entry)) r (now (out .exit)) ⌝ }
+{
+    sized(c);
+    let section = c.section;
+    if !is_trying(section) {
+        return unchanged(c);
+    }
+    let places = c.places;
+    let heard = hear(request_of(c), places, j, o);
+    judge(c, heard, out)
+}
+
+// Lines 24 and 25 of a valid record and a CHECK for it: for `message`, and for callers that know as much.
+pub fn check(c: Client, j: ServerId, t: Timestamp, out: &mut [u8]) -> Stepped
+    requires { ⌜ valid c ≡ true ⌝ }
+    ensures { λ r. ⌜ Answers c (stepped (checked (c .id) j t (view c))) (now (out .entry)) r (now (out .exit)) ⌝ }
+{
+    sized(c);
+    if t.0 == c.timestamp.0 {
+        return unchanged(c);
+    }
+    if out.len() < 12 {
+        return refuse(c, Refusal::RoomShort);
+    }
+    let id = c.id;
+    let m = Message::Release(id, j, t);
+    let size = wire::put(out, 0, m);
+    let answer = Answer::Sent(1, size);
+    Stepped { client: c, answer }
+}
+
+// Whether a message for client `k` from server `j` is for this client, from one of its servers.
+fn for_client(c: Client, k: ClientId, j: ServerId) -> bool
+    ensures { λ r. ⌜ r ≡ forClient c k j ⌝ }
+{
+    k.0 == c.id.0 && j.0 <= c.n
+}
+
+// A message to a valid record, all its numbers in range: for `message`, and for callers that know as much.
+pub fn receive(c: Client, m: Message, out: &mut [u8]) -> Stepped
+    requires { ⌜ (valid c ≡ true) × (format.valid m ≡ true) ⌝ }
+    ensures { λ r. ⌜ Answers c (received c m) (now (out .entry)) r (now (out .exit)) ⌝ }
+{
+    match m {
+        Message::Request(_, _, _) => refuse(c, Refusal::NotForClient),
+        Message::Yield(_, _, _) => refuse(c, Refusal::NotForClient),
+        Message::Release(_, _, _) => refuse(c, Refusal::NotForClient),
+        Message::Inquiry(_, _, _) => refuse(c, Refusal::NotForClient),
+        Message::Response(k, j, o) => {
+            if !for_client(c, k, j) {
+                return refuse(c, Refusal::NotForClient);
+            }
+            respond(c, j, o, out)
+        }
+        Message::Check(k, j, t) => {
+            if !for_client(c, k, j) {
+                return refuse(c, Refusal::NotForClient);
+            }
+            check(c, j, t, out)
+        }
+    }
+}
+
+// A message that came: RESPONSE and CHECK for this client, from one of its servers.
+pub fn message(c: Client, m: Message, out: &mut [u8]) -> Stepped
+    ensures { λ r. ⌜ (r ≡ result c (withRoom (length (now (out .entry))) (messageOutcome c m))) × (now (out .exit) ≡ sentInto (now (out .entry)) (withRoom (length (now (out .entry))) (messageOutcome c m))) ⌝ }
+{
+    if !valid_client(c) {
+        return refuse(c, Refusal::InvalidRecord);
+    }
+    if !wire::valid_message(m) {
+        return refuse(c, Refusal::NumberOutOfRange);
+    }
+    receive(c, m, out)
 }
