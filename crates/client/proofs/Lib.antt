@@ -5,3 +5,4 @@ pub mod SendLaws
 pub mod RoundLaws
 pub mod HearLaws
 pub mod StepLaws
+pub mod KeepsValid

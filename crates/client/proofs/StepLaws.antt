@@ -253,7 +253,7 @@ module _ (c : Client) (k : ClientId) (j : ServerId) (x : Bool) (p : x ≡ forCli
     its-parts : (eqb (k .0) (c .id .0) ≡ true) × (leb (j .0) (c .n) ≡ true)
     its-parts = both (eqb (k .0) (c .id .0)) (leb (j .0) (c .n)) (holds x (forClient c k j) p t)
 
-    its-client : k ≡ c .id
+    pub its-client : k ≡ c .id
     its-client = let e : k .0 ≡ c .id .0 = eqb-true (k .0) (c .id .0) (its-parts .0) in λ i. record { 0 = e i }
 
     pub its-server : j .0 ≤ c .n

@@ -1,20 +1,23 @@
 -- Validity, test by test: what the code's tests decide of it, and what a valid record is known to be.
 use Prim.Native.Nat.{ℕ, _≤_, _<_}
 use mathlib.Core.Path.{_≡_, refl}
+use mathlib.Core.List.{List, map}
 use mathlib.Core.Bool.{Bool, true, false, true≢false, _&&_, not}
-use lib.Dec.{leb, ltb}
+use lib.Dec.{eqb, leb, ltb}
 use lib.ListN.{drop}
-use borrow.Author.Tests.{leb-true, ltb-true, not-true, not-false}
+use borrow.Author.Tests.{eq-eqb, ne-eqb, leb-true, ltb-true, not-true, not-false}
 use Rattle.ids.specs.Limits.{within, maxServers, maxTimestamp, validClient, validOwner}
-use Rattle.ids.specs.Requests.{same, noRequest}
+use Rattle.ids.specs.Requests.{same, isRequest, noRequest}
 use Rattle.ids.specs.declared.Timestamp.{Timestamp}
 use Rattle.ids.specs.declared.Request.{Request}
+use Rattle.ids.specs.declared.Owner.{Owner}
 use Rattle.ids.proofs.Choice.{both}
 use Rattle.ids.proofs.LimitsLaws.{within-range}
 use Rattle.client.specs.declared.Client.{Client}
 use Rattle.client.specs.declared.Section.{Section}
 use Rattle.client.specs.declared.Section.the-variants.{Remainder, Trying, Critical}
 use Rattle.client.specs.Calls.{isCritical}
+use Rattle.client.specs.Figure1.{filled, count}
 use Rattle.client.specs.Record.{view, every, ownIsCurrent, validSizes, fitsSection, fitsTimestamp, valid}
 use Rattle.client.specs.Steps.{request, validPlaces}
 use Rattle.client.proofs.Places.{showing}
@@ -25,6 +28,14 @@ fails x a p t = let e : x ≡ false = not-true x t in cc
 
 pub holds : (x a : Bool) → x ≡ a → not x ≡ false → a ≡ true
 holds x a p t = let e : x ≡ true = not-false x t in cc
+
+-- in the critical section
+module _ (m : ℕ) (r : Request) (l : List Owner) (found : ℕ) (f : found ≡ count (map filled l)) where
+  pub count-fails : (found ≡ m → ⊥) → eqb found m ≡ fitsSection Critical m r l
+  count-fails n = rw (← f, ne-eqb found m n)
+
+  pub own-decide : (own : ℕ) → found ≡ m → own ≡ count (map (isRequest r) l) → eqb own m ≡ fitsSection Critical m r l
+  own-decide own e g = rw (← f, ← g, eq-eqb found m e)
 
 module _ (c : Client) (r : Request) (x : Bool) (e : r ≡ request c) (p : x ≡ every validOwner (showing (c .n) (c .places)) && every (ownIsCurrent r) (showing (c .n) (c .places))) where
   abbrev fit : Bool
