@@ -537,24 +537,31 @@ fn send_round(r: Request, places: [Request; 31], n: u16, out: &mut [u8])
     }
 }
 
-// A step that sends nothing and leaves the record with these places.
-fn kept(c: Client, section: Section, places: [Request; 31]) -> Stepped
-    requires { ⌜ (c .n ≤ 31) × (every (same noRequest) (drop (c .n) places) ≡ true) ⌝ }
-    ensures { λ r. ⌜ r ≡ result c (stepped (stay (record { section = section; timestamp = c .timestamp; responses = map shown (take (c .n) places) }))) ⌝ }
+// The record in this section and with these places.
+fn with_places(c: Client, section: Section, places: [Request; 31]) -> Client
+    ensures { λ d. ⌜ d ≡ record { n = c .n; m = c .m; id = c .id; section = section; timestamp = c .timestamp; places = places } ⌝ }
 {
-    places_sized(places);
     let n = c.n;
     let m = c.m;
     let id = c.id;
     let timestamp = c.timestamp;
-    let client = Client {
+    Client {
         n,
         m,
         id,
         section,
         timestamp,
         places,
-    };
+    }
+}
+
+// A step that sends nothing and leaves the record in this section and with these places.
+fn kept(c: Client, section: Section, places: [Request; 31]) -> Stepped
+    requires { ⌜ (c .n ≤ 31) × (every (same noRequest) (drop (c .n) places) ≡ true) ⌝ }
+    ensures { λ r. ⌜ r ≡ result c (stepped (stay (record { section = section; timestamp = c .timestamp; responses = map shown (take (c .n) places) }))) ⌝ }
+{
+    places_sized(places);
+    let client = with_places(c, section, places);
     let answer = Answer::Sent(0, 0);
     Stepped { client, answer }
 }
@@ -570,7 +577,8 @@ fn yield_round(c: Client, places: [Request; 31], found: u16, out: &mut [u8]) -> 
     }
     send_round(request_of(c), places, c.n, out);
     let section = Section::Trying;
-    let client = emptied(c.n, c.m, c.id, section, c.timestamp);
+    let none = no_places();
+    let client = with_places(c, section, none);
     let answer = Answer::Sent(found as usize, size);
     Stepped { client, answer }
 }
@@ -642,6 +650,26 @@ fn for_client(c: Client, k: ClientId, j: ServerId) -> bool
     k.0 == c.id.0 && j.0 <= c.n
 }
 
+fn take_response(c: Client, k: ClientId, j: ServerId, o: Owner, out: &mut [u8]) -> Stepped
+    requires { ⌜ (valid c ≡ true) × (format.valid (Message.Response k j o) ≡ true) ⌝ }
+    ensures { λ r. ⌜ Answers c (received c (Message.Response k j o)) (now (out .entry)) r (now (out .exit)) ⌝ }
+{
+    if !for_client(c, k, j) {
+        return refuse(c, Refusal::NotForClient);
+    }
+    respond(c, j, o, out)
+}
+
+fn take_check(c: Client, k: ClientId, j: ServerId, t: Timestamp, out: &mut [u8]) -> Stepped
+    requires { ⌜ valid c ≡ true ⌝ }
+    ensures { λ r. ⌜ Answers c (received c (Message.Check k j t)) (now (out .entry)) r (now (out .exit)) ⌝ }
+{
+    if !for_client(c, k, j) {
+        return refuse(c, Refusal::NotForClient);
+    }
+    check(c, j, t, out)
+}
+
 // A message to a valid record, all its numbers in range: for `message`, and for callers that know as much.
 pub fn receive(c: Client, m: Message, out: &mut [u8]) -> Stepped
     requires { ⌜ (valid c ≡ true) × (format.valid m ≡ true) ⌝ }
@@ -652,18 +680,8 @@ pub fn receive(c: Client, m: Message, out: &mut [u8]) -> Stepped
         Message::Yield(_, _, _) => refuse(c, Refusal::NotForClient),
         Message::Release(_, _, _) => refuse(c, Refusal::NotForClient),
         Message::Inquiry(_, _, _) => refuse(c, Refusal::NotForClient),
-        Message::Response(k, j, o) => {
-            if !for_client(c, k, j) {
-                return refuse(c, Refusal::NotForClient);
-            }
-            respond(c, j, o, out)
-        }
-        Message::Check(k, j, t) => {
-            if !for_client(c, k, j) {
-                return refuse(c, Refusal::NotForClient);
-            }
-            check(c, j, t, out)
-        }
+        Message::Response(k, j, o) => take_response(c, k, j, o, out),
+        Message::Check(k, j, t) => take_check(c, k, j, t, out),
     }
 }
 
