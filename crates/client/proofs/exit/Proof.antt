@@ -1,0 +1,55 @@
+-- `client::exit` meets its contract: each return is one case of the outcome, by the tests in their order.
+use Rattle.client.proofs.StepLaws.{answers-refused, exit-invalid, exit-elsewhere, exit-leaves, valid-few, critical-timestamp}
+use borrow.Author.Needs.{needs}
+use Rattle.client.proofs.exit.Statement.{statement}
+use Rattle.client.proofs.exit.Tie as tie
+
+valid-client-requires : tie.Need-valid-client-requires
+valid-client-requires c κs = search needs
+
+refuse-requires : tie.Need-refuse-requires
+refuse-requires c κs = search needs
+
+returns : tie.Need-returns
+returns c = answers-refused _ _ _ _ _ (exit-invalid _ _ (c .before .before .valid-client .ensures) (c .before .if1 .taken)) (c .refuse .ensures)
+
+is-critical-requires : tie.Need-is-critical-requires
+is-critical-requires c κs = search needs
+
+refuse-requires-2 : tie.Need-refuse-requires-2
+refuse-requires-2 c κs = search needs
+
+returns-2 : tie.Need-returns-2
+returns-2 c =
+    let d = c .before .before .before in
+    answers-refused _ _ _ _ _ (exit-elsewhere _ _ (d .before .valid-client .ensures) _ (d .if1 .left) (c .before .before .is-critical .ensures) (c .before .if2 .taken)) (c .refuse2 .ensures)
+
+leave-requires : tie.Need-leave-requires
+leave-requires c κs =
+    let d = c .before .before .before in (
+      valid-few _ _ (d .before .valid-client .ensures) (d .if1 .left),
+      critical-timestamp _ _ (d .before .valid-client .ensures) _ (d .if1 .left) (c .before .before .is-critical .ensures) (c .before .if2 .left),
+    )
+
+same-length : tie.Need-same-length
+same-length c = search needs
+
+returns-3 : tie.Need-returns-3
+returns-3 c =
+    let a = c .before .before in
+    let d = a .before .before .before .before in
+    rw (exit-leaves _ _ (d .before .valid-client .ensures) _ (d .if1 .left) (a .before .before .before .is-critical .ensures) (a .before .before .if2 .left)) (a .leave .ensures)
+
+pub exit-spec : {M : Type 1} → statement M
+exit-spec =
+    tie.close
+    (tie.spec
+    valid-client-requires
+    refuse-requires
+    returns
+    is-critical-requires
+    refuse-requires-2
+    returns-2
+    leave-requires
+    same-length
+    returns-3)

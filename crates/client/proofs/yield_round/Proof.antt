@@ -1,0 +1,52 @@
+-- `client::yield_round` meets its contract: the room decides, and the places are emptied.
+use mathlib.Core.Path.{_∙_}
+use Rattle.client.proofs.RecordLaws.{stored-without}
+use Rattle.client.proofs.StepLaws.{yields-short, yields-done}
+use borrow.Author.Needs.{needs}
+use Rattle.client.proofs.yield_round.Statement.{statement}
+use Rattle.client.proofs.yield_round.Tie as tie
+
+mul-size : tie.Need-mul-size
+mul-size c = search needs
+
+refuse-requires : tie.Need-refuse-requires
+refuse-requires c κs = search needs
+
+returns : tie.Need-returns
+returns c = yields-short _ _ _ _ (c .before .before .before .pre .1) _ (c .before .if1 .taken) (c .refuse .ensures)
+
+request-of-requires : tie.Need-request-of-requires
+request-of-requires c κs = search needs
+
+send-round-requires : tie.Need-send-round-requires
+send-round-requires c κs = search needs
+
+no-places-requires : tie.Need-no-places-requires
+no-places-requires c κs = search needs
+
+with-places-requires : tie.Need-with-places-requires
+with-places-requires c κs = search needs
+
+same-length : tie.Need-same-length
+same-length c = search needs
+
+returns-2 : tie.Need-returns-2
+returns-2 c =
+    let s = c .before .before .before .before in
+    let t = s .before .before .before in
+    let a = t .before .before in
+    yields-done _ _ _ _ (a .pre .1) _ _ _ (t .if1 .left) (c .with-places .ensures ∙ stored-without _ _ _ _ _ _ (a .pre .0) (c .before .no-places .ensures)) (s .before .before .request-of .ensures) (s .send-round .ensures)
+
+pub yield-round-spec : {M : Type 1} → statement M
+yield-round-spec =
+    tie.close
+    (tie.spec
+    mul-size
+    refuse-requires
+    returns
+    request-of-requires
+    send-round-requires
+    no-places-requires
+    with-places-requires
+    same-length
+    returns-2)
