@@ -1,6 +1,10 @@
 //! A model of document 01, written from the document alone, and the proved library beside it.
 //! The model speaks the document's words (kiosk, keeper, ticket), so that it can be held against the text.
 
+pub mod both;
+pub mod keeper;
+pub mod kiosk;
 pub mod library;
 pub mod model;
 pub mod random;
+pub mod records;

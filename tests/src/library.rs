@@ -3,6 +3,32 @@
 extern "C" {
     fn sigma_read(bytes: *const u8, bytes_len: usize, words: *mut u32, words_len: usize) -> u32;
     fn sigma_write(words: *const u32, words_len: usize, out: *mut u8, out_len: usize) -> u32;
+    fn sigma_server_new(n: u32, id: u32, record: *mut u32, record_len: usize) -> u32;
+    fn sigma_server_message(
+        record: *mut u32,
+        record_len: usize,
+        message: *const u32,
+        message_len: usize,
+        out: *mut u8,
+        out_len: usize,
+        sent: *mut u32,
+        sent_len: usize,
+    ) -> u32;
+    fn sigma_server_suspect(record: *mut u32, r: usize, out: *mut u8, o: usize, sent: *mut u32, s: usize) -> u32;
+    fn sigma_server_check(record: *mut u32, r: usize, out: *mut u8, o: usize, sent: *mut u32, s: usize) -> u32;
+    fn sigma_client_new(n: u32, m: u32, id: u32, record: *mut u32, record_len: usize) -> u32;
+    fn sigma_client_begin(record: *mut u32, r: usize, out: *mut u8, o: usize, sent: *mut u32, s: usize) -> u32;
+    fn sigma_client_exit(record: *mut u32, r: usize, out: *mut u8, o: usize, sent: *mut u32, s: usize) -> u32;
+    fn sigma_client_message(
+        record: *mut u32,
+        record_len: usize,
+        message: *const u32,
+        message_len: usize,
+        out: *mut u8,
+        out_len: usize,
+        sent: *mut u32,
+        sent_len: usize,
+    ) -> u32;
 }
 
 // No call has a `requires`: any slices that Rust can lend are in order.
@@ -13,4 +39,42 @@ pub fn read(bytes: &[u8], words: &mut [u32]) -> u32 {
 
 pub fn write(words: &[u32], out: &mut [u8]) -> u32 {
     unsafe { sigma_write(words.as_ptr(), words.len(), out.as_mut_ptr(), out.len()) }
+}
+
+pub fn server_new(n: u32, id: u32, record: &mut [u32]) -> u32 {
+    unsafe { sigma_server_new(n, id, record.as_mut_ptr(), record.len()) }
+}
+
+pub fn server_message(record: &mut [u32], message: &[u32], out: &mut [u8], sent: &mut [u32]) -> u32 {
+    let (r, m, o, s) = (record.as_mut_ptr(), message.as_ptr(), out.as_mut_ptr(), sent.as_mut_ptr());
+    unsafe { sigma_server_message(r, record.len(), m, message.len(), o, out.len(), s, sent.len()) }
+}
+
+pub fn server_suspect(record: &mut [u32], out: &mut [u8], sent: &mut [u32]) -> u32 {
+    let (r, o, s) = (record.as_mut_ptr(), out.as_mut_ptr(), sent.as_mut_ptr());
+    unsafe { sigma_server_suspect(r, record.len(), o, out.len(), s, sent.len()) }
+}
+
+pub fn server_check(record: &mut [u32], out: &mut [u8], sent: &mut [u32]) -> u32 {
+    let (r, o, s) = (record.as_mut_ptr(), out.as_mut_ptr(), sent.as_mut_ptr());
+    unsafe { sigma_server_check(r, record.len(), o, out.len(), s, sent.len()) }
+}
+
+pub fn client_new(n: u32, m: u32, id: u32, record: &mut [u32]) -> u32 {
+    unsafe { sigma_client_new(n, m, id, record.as_mut_ptr(), record.len()) }
+}
+
+pub fn client_begin(record: &mut [u32], out: &mut [u8], sent: &mut [u32]) -> u32 {
+    let (r, o, s) = (record.as_mut_ptr(), out.as_mut_ptr(), sent.as_mut_ptr());
+    unsafe { sigma_client_begin(r, record.len(), o, out.len(), s, sent.len()) }
+}
+
+pub fn client_exit(record: &mut [u32], out: &mut [u8], sent: &mut [u32]) -> u32 {
+    let (r, o, s) = (record.as_mut_ptr(), out.as_mut_ptr(), sent.as_mut_ptr());
+    unsafe { sigma_client_exit(r, record.len(), o, out.len(), s, sent.len()) }
+}
+
+pub fn client_message(record: &mut [u32], message: &[u32], out: &mut [u8], sent: &mut [u32]) -> u32 {
+    let (r, m, o, s) = (record.as_mut_ptr(), message.as_ptr(), out.as_mut_ptr(), sent.as_mut_ptr());
+    unsafe { sigma_client_message(r, record.len(), m, message.len(), o, out.len(), s, sent.len()) }
 }

@@ -10,7 +10,12 @@ pub struct Message {
     pub owner: u32,
 }
 
+pub const REQUEST: u32 = 1;
+pub const YIELD: u32 = 2;
+pub const RELEASE: u32 = 3;
+pub const INQUIRY: u32 = 4;
 pub const RESPONSE: u32 = 5;
+pub const CHECK: u32 = 6;
 pub const KEEPERS: u32 = 31;
 
 fn u16_at(bytes: &[u8], at: usize) -> u32 {

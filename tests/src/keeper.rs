@@ -1,0 +1,177 @@
+//! The keeper: document 01, 'The keeper', and Figure 1, lines 26 to 56.
+
+use crate::model::{Message, CHECK, INQUIRY, KEEPERS, RELEASE, REQUEST, RESPONSE, YIELD};
+use crate::records::{hand_over, message_of, number_of, pair, place, places, words_of, Pair};
+
+/// n, the keeper's number, owner, the owner's ticket, the line's length, then kiosk and ticket of each place.
+pub const WORDS: usize = 37;
+const PLACES: usize = 16;
+
+#[derive(Clone, Debug, PartialEq, Eq)]
+pub struct Keeper {
+    pub n: u32,
+    pub id: u32,
+    pub owner: Option<Pair>,
+    pub line: Vec<Pair>,
+}
+
+impl Keeper {
+    pub fn new(n: u32, id: u32) -> Result<Keeper, u32> {
+        if (1..=KEEPERS).contains(&n) && (1..=n).contains(&id) {
+            Ok(Keeper { n, id, owner: None, line: vec![] })
+        } else {
+            Err(7)
+        }
+    }
+
+    /// The record in these words, or 21 if they are broken.
+    pub fn read(words: &[u32]) -> Result<Keeper, u32> {
+        if words.len() != WORDS {
+            return Err(21);
+        }
+        let length = words[4] as usize;
+        let owner = place(words[2], words[3])?;
+        let places = places(&words[5..])?;
+        let line: Vec<Pair> = places.iter().copied().flatten().collect();
+        let in_front = length <= PLACES && places.iter().enumerate().all(|(i, p)| p.is_some() == (i < length));
+        let in_order = line.windows(2).all(|two| two[0] < two[1]);
+        let everyone: Vec<&Pair> = owner.iter().chain(&line).collect();
+        let twice = (0..everyone.len()).any(|i| everyone[..i].iter().any(|p| p.kiosk == everyone[i].kiosk));
+        if !in_front || !in_order || twice || (owner.is_none() && length > 0) {
+            return Err(21);
+        }
+        let new = Keeper::new(words[0], words[1]).map_err(|_| 21u32)?;
+        Ok(Keeper { owner, line, ..new })
+    }
+
+    pub fn words(&self) -> [u32; WORDS] {
+        let mut words = [0; WORDS];
+        words[..2].copy_from_slice(&[self.n, self.id]);
+        words[2..4].copy_from_slice(&words_of(self.owner));
+        words[4] = self.line.len() as u32;
+        for (i, &p) in self.line.iter().enumerate() {
+            words[5 + 2 * i..7 + 2 * i].copy_from_slice(&words_of(Some(p)));
+        }
+        words
+    }
+
+    pub fn owned_by(&self, kiosk: u32) -> bool {
+        self.owner.is_some_and(|p| p.kiosk == kiosk)
+    }
+
+    /// RESPONSE with the owner, or with none.
+    fn response(&self, kiosk: u32) -> Message {
+        let [owner, ticket] = words_of(self.owner);
+        Message { kind: RESPONSE, kiosk, keeper: self.id, ticket, owner }
+    }
+
+    fn join(&mut self, pair: Pair) {
+        self.line.push(pair);
+        self.line.sort();
+    }
+
+    /// The head of the line moves up in the owner's place and is told; without a line there is no owner.
+    fn move_up(&mut self) -> Option<Message> {
+        self.owner = if self.line.is_empty() { None } else { Some(self.line.remove(0)) };
+        self.owner.map(|head| self.response(head.kiosk))
+    }
+
+    fn remove(&mut self, pair: Pair) -> Option<Message> {
+        if self.owner == Some(pair) {
+            return self.move_up();
+        }
+        self.line.retain(|p| *p != pair);
+        None
+    }
+
+    pub fn message(&mut self, m: &Message) -> Result<Vec<Message>, u32> {
+        if !(REQUEST..=INQUIRY).contains(&m.kind) || m.keeper != self.id {
+            return Err(13);
+        }
+        let sender = pair(m.kiosk, m.ticket);
+        let mut sent = vec![];
+        if let Some(&known) = self.owner.iter().chain(&self.line).find(|p| p.kiosk == m.kiosk) {
+            if m.ticket < known.ticket {
+                return Ok(sent);
+            }
+            if m.ticket > known.ticket {
+                sent.extend(self.remove(known));
+            }
+        }
+        match m.kind {
+            REQUEST if self.owned_by(m.kiosk) => {}
+            REQUEST => {
+                if self.owner.is_none() {
+                    self.owner = Some(sender);
+                } else if !self.line.contains(&sender) {
+                    if self.line.len() == PLACES {
+                        return Err(14);
+                    }
+                    self.join(sender);
+                }
+                sent.push(self.response(m.kiosk));
+            }
+            YIELD => {
+                if self.owner == Some(sender) {
+                    self.join(sender);
+                    sent.extend(self.move_up());
+                }
+                if !self.owned_by(m.kiosk) {
+                    sent.push(self.response(m.kiosk));
+                }
+            }
+            RELEASE => sent.extend(self.remove(sender)),
+            _ => {
+                if self.owner.is_some() && !self.owned_by(m.kiosk) {
+                    sent.push(self.response(m.kiosk));
+                }
+            }
+        }
+        Ok(sent)
+    }
+
+    pub fn missing(&mut self) -> Result<Vec<Message>, u32> {
+        if self.owner.is_none() {
+            return Err(15);
+        }
+        Ok(self.move_up().into_iter().collect())
+    }
+
+    pub fn check(&self) -> Vec<Message> {
+        let to = |p: Pair| Message { kind: CHECK, kiosk: p.kiosk, keeper: self.id, ticket: p.ticket, owner: 0 };
+        self.owner.map(to).into_iter().collect()
+    }
+}
+
+// The same steps over lent words, as the library offers them.
+
+fn step<F>(record: &mut [u32], out: &mut [u8], sent: &mut [u32], event: F) -> u32
+where
+    F: FnOnce(&mut Keeper) -> Result<Vec<Message>, u32>,
+{
+    number_of(Keeper::read(record).and_then(|mut keeper| {
+        let messages = event(&mut keeper)?;
+        hand_over(&messages, out, sent)?;
+        record.copy_from_slice(&keeper.words());
+        Ok(())
+    }))
+}
+
+pub fn new(n: u32, id: u32, record: &mut [u32]) -> u32 {
+    number_of(Keeper::new(n, id).and_then(|keeper| {
+        record.get_mut(..WORDS).ok_or(7u32)?.copy_from_slice(&keeper.words());
+        Ok(())
+    }))
+}
+
+pub fn message(record: &mut [u32], message: &[u32], out: &mut [u8], sent: &mut [u32]) -> u32 {
+    step(record, out, sent, |keeper| keeper.message(&message_of(message)?))
+}
+
+pub fn missing(record: &mut [u32], out: &mut [u8], sent: &mut [u32]) -> u32 {
+    step(record, out, sent, Keeper::missing)
+}
+
+pub fn check(record: &mut [u32], out: &mut [u8], sent: &mut [u32]) -> u32 {
+    step(record, out, sent, |keeper| Ok(keeper.check()))
+}

@@ -1,0 +1,192 @@
+//! The kiosk: document 01, 'The kiosk', and Figure 1, lines 1 to 25.
+
+use crate::model::{Message, CHECK, INQUIRY, KEEPERS, RELEASE, REQUEST, RESPONSE, YIELD};
+use crate::records::{hand_over, message_of, number_of, pair, place, places, words_of, Pair};
+
+/// n, m, the kiosk's number, section, ticket, then kiosk and ticket of the answer in each keeper's place.
+pub const WORDS: usize = 67;
+
+pub const REMAINDER: u32 = 0;
+pub const TRYING: u32 = 1;
+pub const HOLDING: u32 = 2;
+
+#[derive(Clone, Debug, PartialEq, Eq)]
+pub struct Kiosk {
+    pub n: u32,
+    pub m: u32,
+    pub id: u32,
+    pub section: u32,
+    pub ticket: u32,
+    pub answers: Vec<Option<Pair>>,
+}
+
+fn empty() -> Vec<Option<Pair>> {
+    vec![None; KEEPERS as usize]
+}
+
+impl Kiosk {
+    pub fn new(n: u32, m: u32, id: u32) -> Result<Kiosk, u32> {
+        if (1..=KEEPERS).contains(&n) && (1..=n).contains(&m) && (1..=65_535).contains(&id) {
+            Ok(Kiosk { n, m, id, section: REMAINDER, ticket: 0, answers: empty() })
+        } else {
+            Err(7)
+        }
+    }
+
+    /// The record in these words, or 21 if they are broken.
+    pub fn read(words: &[u32]) -> Result<Kiosk, u32> {
+        if words.len() != WORDS {
+            return Err(21);
+        }
+        let new = Kiosk::new(words[0], words[1], words[2]).map_err(|_| 21u32)?;
+        let kiosk = Kiosk { section: words[3], ticket: words[4], answers: places(&words[5..])?, ..new };
+        let past = kiosk.answers[kiosk.n as usize..].iter().any(|p| p.is_some());
+        let old = kiosk.answers.iter().flatten().any(|p| p.kiosk == kiosk.id && p.ticket != kiosk.ticket);
+        let ticket = (1..u32::MAX).contains(&kiosk.ticket);
+        let fits = match kiosk.section {
+            REMAINDER => kiosk.filled() == 0,
+            TRYING => ticket && kiosk.filled() < kiosk.m,
+            HOLDING => ticket && kiosk.filled() == kiosk.m && kiosk.all_own(),
+            _ => false,
+        };
+        if fits && !past && !old {
+            Ok(kiosk)
+        } else {
+            Err(21)
+        }
+    }
+
+    pub fn words(&self) -> [u32; WORDS] {
+        let mut words = [0; WORDS];
+        words[..5].copy_from_slice(&[self.n, self.m, self.id, self.section, self.ticket]);
+        for (i, &p) in self.answers.iter().enumerate() {
+            words[5 + 2 * i..7 + 2 * i].copy_from_slice(&words_of(p));
+        }
+        words
+    }
+
+    pub fn pair(&self) -> Pair {
+        pair(self.id, self.ticket)
+    }
+
+    pub fn filled(&self) -> u32 {
+        self.answers.iter().flatten().count() as u32
+    }
+
+    fn all_own(&self) -> bool {
+        self.answers.iter().flatten().all(|p| *p == self.pair())
+    }
+
+    fn to(&self, kind: u32, keeper: u32, ticket: u32) -> Message {
+        Message { kind, kiosk: self.id, keeper, ticket, owner: 0 }
+    }
+
+    fn to_all(&self, kind: u32, ticket: u32) -> Vec<Message> {
+        (1..=self.n).map(|keeper| self.to(kind, keeper, ticket)).collect()
+    }
+
+    /// The document's try.
+    pub fn try_wall(&mut self) -> Result<Vec<Message>, u32> {
+        if self.section != REMAINDER {
+            return Err(10);
+        }
+        if self.ticket > 4_294_967_293 {
+            return Err(11);
+        }
+        self.ticket += 1;
+        self.answers = empty();
+        self.section = TRYING;
+        Ok(self.to_all(REQUEST, self.ticket))
+    }
+
+    pub fn exit(&mut self) -> Result<Vec<Message>, u32> {
+        if self.section != HOLDING {
+            return Err(10);
+        }
+        let old = self.ticket;
+        self.ticket += 1;
+        self.answers = empty();
+        self.section = REMAINDER;
+        Ok(self.to_all(RELEASE, old))
+    }
+
+    pub fn message(&mut self, m: &Message) -> Result<Vec<Message>, u32> {
+        if ![RESPONSE, CHECK].contains(&m.kind) || m.kiosk != self.id || m.keeper > self.n {
+            return Err(12);
+        }
+        if m.kind == CHECK {
+            let over = m.ticket != self.ticket;
+            return Ok(over.then(|| self.to(RELEASE, m.keeper, m.ticket)).into_iter().collect());
+        }
+        if self.section == TRYING {
+            self.answer(m.keeper, place(m.owner, m.ticket)?);
+            if self.filled() >= self.m && !self.all_own() {
+                return Ok(self.round());
+            }
+            if self.filled() >= self.m {
+                self.section = HOLDING;
+            }
+        }
+        Ok(vec![])
+    }
+
+    /// Keeps the answer, unless the place already shows this kiosk with its ticket or the owner is this kiosk with another.
+    fn answer(&mut self, keeper: u32, owner: Option<Pair>) {
+        let (own, me) = (self.pair(), self.id);
+        let place = &mut self.answers[keeper as usize - 1];
+        if *place != Some(own) && !owner.is_some_and(|p| p.kiosk == me && p != own) {
+            *place = owner;
+        }
+    }
+
+    /// Writes to every keeper whose place is filled, and empties those places.
+    fn round(&mut self) -> Vec<Message> {
+        let answers = std::mem::replace(&mut self.answers, empty());
+        let filled = answers.iter().zip(1..).filter_map(|(place, keeper)| place.map(|p| (p, keeper)));
+        filled
+            .map(|(p, keeper)| {
+                let kind = if p.kiosk == self.id {
+                    YIELD
+                } else if self.pair() < p {
+                    REQUEST
+                } else {
+                    INQUIRY
+                };
+                self.to(kind, keeper, self.ticket)
+            })
+            .collect()
+    }
+}
+
+// The same steps over lent words, as the library offers them.
+
+fn step<F>(record: &mut [u32], out: &mut [u8], sent: &mut [u32], event: F) -> u32
+where
+    F: FnOnce(&mut Kiosk) -> Result<Vec<Message>, u32>,
+{
+    number_of(Kiosk::read(record).and_then(|mut kiosk| {
+        let messages = event(&mut kiosk)?;
+        hand_over(&messages, out, sent)?;
+        record.copy_from_slice(&kiosk.words());
+        Ok(())
+    }))
+}
+
+pub fn new(n: u32, m: u32, id: u32, record: &mut [u32]) -> u32 {
+    number_of(Kiosk::new(n, m, id).and_then(|kiosk| {
+        record.get_mut(..WORDS).ok_or(7u32)?.copy_from_slice(&kiosk.words());
+        Ok(())
+    }))
+}
+
+pub fn try_wall(record: &mut [u32], out: &mut [u8], sent: &mut [u32]) -> u32 {
+    step(record, out, sent, Kiosk::try_wall)
+}
+
+pub fn exit(record: &mut [u32], out: &mut [u8], sent: &mut [u32]) -> u32 {
+    step(record, out, sent, Kiosk::exit)
+}
+
+pub fn message(record: &mut [u32], message: &[u32], out: &mut [u8], sent: &mut [u32]) -> u32 {
+    step(record, out, sent, |kiosk| kiosk.message(&message_of(message)?))
+}
