@@ -1,0 +1,11 @@
+-- Every starred case holds, by computation.
+use mathlib.Core.Path.{refl}
+use Rattle.ids.specs.Order.{before}
+use Rattle.ids.specs.Requests.{same}
+use Rattle.votes.specs.Figure1.{timestampIn, insert, enqueue, without, promote, delete, inform, act, receive}
+use Rattle.client.specs.Figure1.{enough, heard, reply, round, judge, responds}
+use Rattle.cases.specs.Starred.{starred, All}
+
+pub starred-hold : All starred
+unfolding starred before same timestampIn insert enqueue without promote delete inform act receive enough heard reply round judge responds
+starred-hold = (refl, (refl, (refl, (refl, (refl, (refl, (refl, (refl, (refl, (refl, tt))))))))))

@@ -1,0 +1,1 @@
+// No code: document 01's rehearsed cases, as theorems about the definitions.
