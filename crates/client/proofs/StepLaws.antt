@@ -5,7 +5,7 @@ use mathlib.Core.Path.{_≡_, refl, _∙_}
 use mathlib.Core.Bool.{Bool, true, false, not}
 use mathlib.Core.List.{List, [], _∷_, map}
 use lib.Dec.{eqb, leb}
-use lib.ListN.{length, drop}
+use lib.ListN.{length, drop, replicate}
 use lib.Seq.{sets}
 use borrow.Author.Tests.{lt-ltb, le-ltb, le-leb, lt-leb, eq-eqb, ne-eqb, eqb-true, leb-true}
 use Rattle.ids.specs.Limits.{maxTimestamp, validClient, validOwner, validParties, validServer}
@@ -36,7 +36,7 @@ use Rattle.client.specs.Calls.{isRemainder, isCritical, lastTry, newResu
 use Rattle.client.specs.Steps.{request, without, requests, releases, refusedNew, heardPlaces, yields, Answers}
 use Rattle.client.proofs.Places.{showing}
 use Rattle.client.proofs.ValidLaws.{fails, holds, Known, valid-known, critical-below}
-use Rattle.client.proofs.RecordLaws.{places-again, store-view}
+use Rattle.client.proofs.RecordLaws.{stored-without, places-again, store-view}
 use Rattle.client.proofs.SendLaws.{request-plain, release-plain, length-toAll, size-toAll}
 use Rattle.client.proofs.RoundLaws.{size-round, length-round}
 use Rattle.client.proofs.HearLaws.{heard-shown, heard-rest}
@@ -172,9 +172,10 @@ module _ (c : Client) (l : List Request) (found : ℕ) (o : List ℕ) (f : found
   pub yields-short : (r : Stepped) → length o < 12 * found → r ≡ result c (refused RoomShort) → Answers c (stepped yielded) o r o
   yields-short r h p = answers-short c (stepped yielded) o r yielded refl (omega (arith, its-size)) p
 
-  pub yields-done : (d : Client) (b : List ℕ) (q : Request) → 12 * found ≤ length o → d ≡ store (c .n) (c .m) (c .id) (without (c .n) Trying (c .timestamp)) → q ≡ request c → b ≡ sets o 0 (bytesOfAll (round q 1 (showing (c .n) l)))
-      → Answers c (stepped yielded) o (record { client = d; answer = Sent found (12 * found) }) b
-  yields-done d b q h p g e = answers-done c (stepped yielded) o _ yielded refl b (omega (arith, its-size)) (rw (its-length, its-size, p)) (rw g at e)
+  pub yields-done : (d : Client) (none : List Request) (b : List ℕ) (q : Request) → c .n ≤ 31 → 12 * found ≤ length o → d ≡ record { n = c .n; m = c .m; id = c .id; section = Trying; timestamp = c .timestamp; places = none } → none ≡ replicate 31 noRequest
+      → q ≡ request c → b ≡ sets o 0 (bytesOfAll (round q 1 (showing (c .n) l))) → Answers c (stepped yielded) o (record { client = d; answer = Sent found (12 * found) }) b
+  yields-done d none b q few h p e g w =
+      answers-done c (stepped yielded) o _ yielded refl b (omega (arith, its-size)) (rw (its-length, its-size, p, stored-without (c .n) (c .m) (c .id) Trying (c .timestamp) none few e)) (rw g at w)
 
 -- what the counts decide
 module _ (m n : ℕ) (r : Request) (l : List Owner) (found : ℕ) (f : found ≡ count (map filled l)) where

@@ -1,6 +1,4 @@
 -- `client::yield_round` meets its contract: the room decides, and the places are emptied.
-use mathlib.Core.Path.{_∙_}
-use Rattle.client.proofs.RecordLaws.{stored-without}
 use Rattle.client.proofs.StepLaws.{yields-short, yields-done}
 use borrow.Author.Needs.{needs}
 use Rattle.client.proofs.yield_round.Statement.{statement}
@@ -35,7 +33,7 @@ returns-2 c =
     let s = c .before .before .before .before in
     let t = s .before .before .before in
     let a = t .before .before in
-    yields-done _ _ _ _ (a .pre .1) _ _ _ (t .if1 .left) (c .with-places .ensures ∙ stored-without _ _ _ _ _ _ (a .pre .0) (c .before .no-places .ensures)) (s .before .before .request-of .ensures) (s .send-round .ensures)
+    yields-done _ _ _ _ (a .pre .1) _ _ _ _ (a .pre .0) (t .if1 .left) (c .with-places .ensures) (c .before .no-places .ensures) (s .before .before .request-of .ensures) (s .send-round .ensures)
 
 pub yield-round-spec : {M : Type 1} → statement M
 yield-round-spec =
