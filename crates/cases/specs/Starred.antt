@@ -59,9 +59,9 @@ starred =
     ∷ atServer (votes (Of (pair 5 3)) (pair 2 3 ∷ [])) Asks (pair 5 6) (votes (Of (pair 2 3)) (pair 5 6 ∷ [])) (tells 2 (Of (pair 2 3)) ∷ tells 5 (Of (pair 2 3)) ∷ [])
     ∷ atServer (votes (Of (pair 5 6)) []) Releases (pair 5 3) (votes (Of (pair 5 6)) []) []
     ∷ atClient 4 3 (client 5) ownFromTwo (server 3) (Of (pair 2 3)) emptied
-      (YIELD (client 5) (server 1) (record { 0 = 3 }) ∷ YIELD (client 5) (server 2) (record { 0 = 3 }) ∷ INQUIRY (client 5) (server 3) (record { 0 = 3 }) ∷ [])
+    (YIELD (client 5) (server 1) (record { 0 = 3 }) ∷ YIELD (client 5) (server 2) (record { 0 = 3 }) ∷ INQUIRY (client 5) (server 3) (record { 0 = 3 }) ∷ [])
     ∷ atClient 4 3 (client 5) ownFromTwo (server 3) (Of (pair 9 3)) emptied
-      (YIELD (client 5) (server 1) (record { 0 = 3 }) ∷ YIELD (client 5) (server 2) (record { 0 = 3 }) ∷ REQUEST (client 5) (server 3) (record { 0 = 3 }) ∷ [])
+    (YIELD (client 5) (server 1) (record { 0 = 3 }) ∷ YIELD (client 5) (server 2) (record { 0 = 3 }) ∷ REQUEST (client 5) (server 3) (record { 0 = 3 }) ∷ [])
     ∷ []
 
 -- what a case says of the definitions
