@@ -55,7 +55,7 @@ pub fn sized(c: Client)
 {}
 
 // The same of places that are no record's yet.
-pub fn places_sized(places: [Request; 31])
+fn places_sized(places: [Request; 31])
     ensures { λ _. ⌜ length places ≡ 31 ⌝ }
 {}
 
