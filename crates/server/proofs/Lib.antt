@@ -3,3 +3,4 @@ pub mod FinishLaws
 pub mod ValidLaws
 pub mod RecordLaws
 pub mod CallLaws
+pub mod KeepsValid

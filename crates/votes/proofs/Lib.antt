@@ -5,3 +5,4 @@ pub mod ListLaws
 pub mod PartLaws
 pub mod MoveLaws
 pub mod ActLaws
+pub mod OwnerLaws
