@@ -23,10 +23,13 @@ impl Random {
         from[self.below(from.len() as u64) as usize]
     }
 
-    /// A byte to put in the place of a good one.
-    pub fn damage(&mut self) -> u8 {
+    /// Another byte in the place of `good`.
+    pub fn damage(&mut self, good: u8) -> u8 {
         let any = self.next() as u8;
-        self.one_of(&[0, 1, 31, 32, 255, any])
+        match self.one_of(&[0, 1, 31, 32, 255, any]) {
+            same if same == good => good ^ 0x80,
+            other => other,
+        }
     }
 
     pub fn fill(&mut self, bytes: &mut [u8]) {

@@ -154,6 +154,7 @@ fn every_room() {
 fn a_million_random_inputs() {
     let mut r = Random::new(20_051_058);
     let mut seen = [0usize; 7];
+    let mut damaged = 0;
     for turn in 0..1_200_000u32 {
         let mut bytes = [0u8; 20];
         let mut length = r.below(21) as usize;
@@ -165,8 +166,10 @@ fn a_million_random_inputs() {
             length = whole.len() + r.below(5) as usize;
             compare_write(&words, r.below(21) as usize);
             for _ in 0..=r.below(2) {
-                bytes[r.below(whole.len() as u64) as usize] = r.damage();
+                let at = r.below(whole.len() as u64) as usize;
+                bytes[at] = r.damage(bytes[at]);
             }
+            damaged += usize::from(bytes[..whole.len()] != whole[..]);
         } else if turn % 4 == 1 {
             bytes[1] = 0;
             bytes[3] = 0;
@@ -182,6 +185,7 @@ fn a_million_random_inputs() {
         seen[compare_write(&words, r.below(21) as usize) as usize] += 1;
     }
     assert!(seen.iter().all(|&n| n > 1000), "each refusal was met: {seen:?}");
+    assert!(damaged >= 500_000, "half of a million were damaged messages: {damaged}");
 }
 
 #[test]
