@@ -1,0 +1,12 @@
+pub mod Branch
+pub mod Tokens
+pub mod ServerSteps
+pub mod ClientSteps
+pub mod TransitLaws
+pub mod PlaceLaws
+pub mod Nest
+pub mod Effects
+pub mod Sound
+pub mod Invariant
+pub mod Quorums
+pub mod Exclusion

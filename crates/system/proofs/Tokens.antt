@@ -1,0 +1,100 @@
+-- A token of request p at server j: a pending RESPONSE of j that tells p's client that p is owner, or p's pending YIELD to j.
+use mathlib.Core.Path.{_≡_, refl}
+use Prim.Native.Nat.{ℕ, zero, suc, _+_}
+use native.Mathlib.Omega.{arith}
+use mathlib.Core.Bool.{Bool, true, false, _&&_}
+use mathlib.Core.List.{List, [], _∷_, _++_}
+use lib.Dec.{eqb}
+use lib.ListN.{length, set, length-set}
+use Rattle.ids.specs.Choice.{if_then_else_}
+use Rattle.ids.specs.Requests.{same}
+use Rattle.ids.specs.declared.ClientId.{ClientId}
+use Rattle.ids.specs.declared.ServerId.{ServerId}
+use Rattle.ids.specs.declared.Timestamp.{Timestamp}
+use Rattle.ids.specs.declared.Request.{Request}
+use Rattle.ids.specs.declared.Owner.the-variants.{Nobody, Of}
+use Rattle.wire.specs.declared.Message.{Message}
+use Rattle.wire.specs.declared.Message.the-variants.{Request as REQUEST, Yield as YIELD, Release as RELEASE, Inquiry as INQUIRY, Response as RESPONSE, Check as CHECK}
+use Rattle.votes.specs.declared.Tag.{Tag}
+use Rattle.votes.specs.declared.Tag.the-variants.{Request as Asks, Yield as Yields, Release as Releases, Inquiry as Inquires}
+use Rattle.system.specs.Numbered.{put}
+use Rattle.system.proofs.Branch.{bit}
+
+-- the message with a tag, client k's to server j
+abbrev pub message : Tag → ClientId → ServerId → Timestamp → Message
+message Asks k j t = REQUEST k j t
+message Yields k j t = YIELD k j t
+message Releases k j t = RELEASE k j t
+message Inquires k j t = INQUIRY k j t
+
+-- how much older than the client's last timestamp a message's timestamp is at least
+abbrev pub age : Tag → ℕ
+age Asks = 0
+age Yields = 0
+age Releases = 1
+age Inquires = 0
+
+-- what the message is worth to p, whatever its server
+abbrev pub worth : Request → Message → ℕ
+worth p (REQUEST k j t) = 0
+worth p (YIELD k j t) = bit (same (record { client = k; timestamp = t }) p)
+worth p (RELEASE k j t) = 0
+worth p (INQUIRY k j t) = 0
+worth p (RESPONSE k j Nobody) = 0
+worth p (RESPONSE k j (Of o)) = bit (eqb (p .client .0) (k .0) && same o p)
+worth p (CHECK k j t) = 0
+
+abbrev pub serverOf : Message → ServerId
+serverOf (REQUEST k j t) = j
+serverOf (YIELD k j t) = j
+serverOf (RELEASE k j t) = j
+serverOf (INQUIRY k j t) = j
+serverOf (RESPONSE k j o) = j
+serverOf (CHECK k j t) = j
+
+abbrev pub token : Request → ℕ → Message → ℕ
+token p j m = if eqb (serverOf m .0) j then worth p m else 0
+
+-- the sum of f over a list
+module _ {A : Type 0} where
+  abbrev pub sum : (A → ℕ) → List A → ℕ
+  sum f [] = 0
+  sum f (x ∷ l) = f x + sum f l
+
+  pub sum-append : (f : A → ℕ) (a b : List A) → sum f (a ++ b) ≡ sum f a + sum f b
+  sum-append f [] b = omega arith
+  sum-append f (x ∷ a) b = omega (arith, sum-append f a b)
+
+-- P holds of every element
+pub data All {A : Type 0} (P : A → Type 0) : List A → Type 0 where
+  empty : All P []
+  more : {x : A} {l : List A} → P x → All P l → All P (x ∷ l)
+
+module _ {A : Type 0} {P : A → Type 0} where
+  pub all-head : {x : A} {l : List A} → All P (x ∷ l) → P x
+  all-head (more h g) = h
+
+  pub all-tail : {x : A} {l : List A} → All P (x ∷ l) → All P l
+  all-tail (more h g) = g
+
+  pub all-append : {a b : List A} → All P a → All P b → All P (a ++ b)
+  all-append empty g = g
+  all-append (more h t) g = more h (all-append t g)
+
+  pub all-map : {Q : A → Type 0} {l : List A} → ((x : A) → P x → Q x) → All P l → All Q l
+  all-map f empty = empty
+  all-map f (more {x = x} h t) = more (f x h) (all-map f t)
+
+  pub all-set : {l : List A} (i : ℕ) (v : A) → P v → All P l → All P (set l i v)
+  all-set i v h empty = empty
+  all-set zero v h (more a t) = more h t
+  all-set (suc i) v h (more a t) = more a (all-set i v h t)
+
+  pub all-put : {l : List A} (i : ℕ) (v : A) → P v → All P l → All P (put l i v)
+  all-put zero v h g = g
+  all-put (suc i) v h g = all-set i v h g
+
+module _ {A : Type 0} where
+  pub length-put : (l : List A) (i : ℕ) (v : A) → length (put l i v) ≡ length l
+  length-put l zero v = refl
+  length-put l (suc i) v = length-set l i v
