@@ -5,8 +5,8 @@ use mathlib.Core.Logic.{inl, inr}
 use Prim.Native.Nat.{ℕ, zero, suc, _+_, _-_, _≤_, _<_, zero-le}
 use native.Mathlib.Nat.{le-refl}
 use native.Mathlib.Omega.{arith}
-use mathlib.Core.Bool.{Bool, not, _&&_, and-false, true, false, false≢true, and-eq-true-iff}
-use mathlib.Core.List.{List, [], _∷_, _++_, map}
+use mathlib.Core.Bool.{not, _&&_, true, false, false≢true, and-eq-true-iff}
+use mathlib.Core.List.{List, [], _∷_, map}
 use lib.ListN.{length, getD, set, replicate, length-replicate, length-set}
 use lib.Seq.{getD-set-other}
 use lib.Dec.{eqb}
@@ -21,7 +21,6 @@ use Rattle.ids.specs.declared.Request.{Request}
 use Rattle.ids.specs.declared.Owner.{Owner}
 use Rattle.ids.specs.declared.Owner.the-variants.{Nobody, Of}
 use Rattle.ids.proofs.Choice.{decided}
-use Rattle.ids.proofs.RequestLaws.{same-refl}
 use Rattle.wire.specs.Step.{Step, stay}
 use Rattle.wire.specs.declared.Message.{Message}
 use Rattle.wire.specs.declared.Message.the-variants.{Request as REQUEST, Yield as YIELD, Release as RELEASE, Inquiry as INQUIRY, Response as RESPONSE, Check as CHECK}
@@ -29,11 +28,11 @@ use Rattle.votes.specs.declared.Tag.{Tag}
 use Rattle.votes.specs.declared.Tag.the-variants.{Request as Asks, Yield as Yields, Release as Releases, Inquiry as Inquires}
 use Rattle.client.specs.declared.Section.{Section}
 use Rattle.client.specs.declared.Section.the-variants.{Remainder, Trying, Critical}
-use Rattle.client.specs.Figure1.{State as ClientState, next, Quorum, filled, isTrying, toAll, responseOf, withResponse, current, heard, reply, replies, round, judge, responds, checked}
+use Rattle.client.specs.Figure1.{State as ClientState, next, Quorum, filled, isTrying, toAll, responseOf, withResponse, current, heard, reply, round, judge, responds, checked}
 use Rattle.client.specs.Calls.{isRemainder, isCritical}
 use Rattle.system.specs.Numbered.{at}
 use Rattle.system.proofs.Branch.{branch, Test, bit, bit-one, if-zero, differ}
-use Rattle.system.proofs.Tokens.{message, age, worth, token, serverOf, sum, sum-append, All, empty, more, all-head, all-tail, all-append, all-set}
+use Rattle.system.proofs.Tokens.{age, worth, token, serverOf, sum, sum-append, All, empty, more, all-head, all-tail, all-append, all-set}
 
 -- the request of client k with its last timestamp
 abbrev pub request : ClientId → ClientState → Request

@@ -4,38 +4,30 @@ use Prim.Native.Nat.{ℕ, suc, zero, _≤_, _<_, zero-le}
 use native.Mathlib.Nat.{le-refl}
 use native.Mathlib.Omega.{arith}
 use mathlib.Core.Bool.{true, false, not, false≢true, true≢false, and-eq-true-iff}
-use mathlib.Core.Option.{none, some}
+use mathlib.Core.Option.{some}
 use mathlib.Core.List.{List, [], _∷_, _++_}
 use lib.ListN.{length, length-replicate}
 use borrow.Author.Tests.{eq-eqb}
-use mathlib.Core.Logic.{_⊎_, inl, inr, ⊎-elim}
-use Rattle.ids.specs.Choice.{if_then_else_}
-use Rattle.ids.specs.Requests.{same, isRequest, isClient, byOwner}
+use Rattle.ids.specs.Requests.{isRequest}
 use Rattle.ids.specs.declared.ClientId.{ClientId}
 use Rattle.ids.specs.declared.ServerId.{ServerId}
 use Rattle.ids.specs.declared.Timestamp.{Timestamp}
 use Rattle.ids.specs.declared.Request.{Request}
-use Rattle.ids.specs.declared.Owner.{Owner}
-use Rattle.ids.specs.declared.Owner.the-variants.{Nobody, Of}
-use Rattle.ids.proofs.Choice.{decided}
-use Rattle.wire.specs.Step.{Step, stay, Outcome, refused, stepped}
+use Rattle.ids.specs.declared.Owner.the-variants.{Nobody}
+use Rattle.wire.specs.Step.{Step, stay, refused, stepped}
 use Rattle.wire.specs.declared.Message.{Message}
-use Rattle.wire.specs.declared.Message.the-variants.{Request as REQUEST, Yield as YIELD, Release as RELEASE, Inquiry as INQUIRY, Response as RESPONSE, Check as CHECK}
+use Rattle.wire.specs.declared.Message.the-variants.{Request as REQUEST, Release as RELEASE, Response as RESPONSE, Check as CHECK}
 use Rattle.votes.specs.declared.Tag.{Tag}
 use Rattle.votes.specs.declared.Tag.the-variants.{Request as Asks, Yield as Yields, Release as Releases, Inquiry as Inquires}
-use Rattle.votes.specs.Figure1.{State as ServerState, idle, receive, suspect, check}
-use Rattle.client.specs.declared.Section.{Section}
-use Rattle.client.specs.declared.Section.the-variants.{Remainder, Trying, Critical}
-use Rattle.client.specs.Figure1.{State as ClientState, Quorum, count, enough, toAll, next as newer, tries, exits, responds, checked}
-use Rattle.client.specs.Calls.{isRemainder, isCritical, lastTry}
-use Rattle.system.specs.declared.MessageNumber.{MessageNumber}
+use Rattle.votes.specs.Figure1.{receive, suspect, check}
+use Rattle.client.specs.Figure1.{State as ClientState, Quorum, next as newer, tries, exits}
+use Rattle.client.specs.Calls.{isRemainder, isCritical}
 use Rattle.system.specs.declared.Event.{Event}
-use Rattle.system.specs.declared.Event.the-variants.{Try, Exit, Fall, Down, Up, Take, Drop, Miss, Check}
-use Rattle.system.specs.Numbered.{at, put, has, member, added, span}
-use Rattle.system.specs.Transit.{InTransit, numbered, pending, present, replaced, gone, keeping, isFor, again}
-use Rattle.system.specs.Places.{ClientPlace, ServerPlace, System, noClient, noServer, clientAt, serverAt, inEpoch, isInside, inside, downFrom, downed, worst}
-use Rattle.system.specs.Events.{Result, clientMoves, serverMoves, tried, exited, fallen, wentDown, cameUp, serverTook, responseTook, checkTook, dropped, suspected, asked, toServer, deliver, event}
-use Rattle.system.specs.Runs.{after, isStepped, start, next, runFrom, run, accepted, IsRun}
+use Rattle.system.specs.Numbered.{at, put, has}
+use Rattle.system.specs.Transit.{pending, replaced, gone}
+use Rattle.system.specs.Places.{ClientPlace, ServerPlace, System, noClient, noServer, clientAt, serverAt, inEpoch, downFrom}
+use Rattle.system.specs.Events.{Result, clientMoves, event}
+use Rattle.system.specs.Runs.{after, start, next, runFrom, run}
 use Rattle.system.proofs.Effects.{Effect, refuses, begins, leaves, dies, sinks, rises, serverTakes, clientTakes, clientChecked, loses, suspects, asks, effect}
 use Rattle.system.proofs.Branch.{differ, clash}
 use Rattle.system.proofs.Tokens.{message, worth, token, empty}

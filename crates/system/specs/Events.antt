@@ -22,12 +22,11 @@ use Rattle.votes.specs.declared.Tag.the-variants as tag
 use Rattle.client.specs.Figure1 as client
 use Rattle.client.specs.Figure1.{Quorum}
 use Rattle.client.specs.Calls.{isRemainder, isCritical, lastTry}
-use Rattle.system.specs.declared.MessageNumber.{MessageNumber}
 use Rattle.system.specs.declared.Event.{Event}
 use Rattle.system.specs.declared.Event.the-variants.{Try, Exit, Fall, Down, Up, Take, Drop, Miss, Check}
 use Rattle.system.specs.Numbered.{put, has}
 use Rattle.system.specs.Transit.{InTransit, numbered, pending, present, replaced, gone, keeping, again}
-use Rattle.system.specs.Places.{ClientPlace, ServerPlace, System, clientAt, serverAt, downFrom, downed}
+use Rattle.system.specs.Places.{System, clientAt, serverAt, downFrom, downed}
 
 -- what accepted events leave ------------------------------------------------------------------------------------------------
 

@@ -1,6 +1,6 @@
 -- The state of a whole system: its clients, its servers and the messages in transit. Document 01 says gallery for system.
 use Prim.Native.Nat.{ℕ, suc, max}
-use mathlib.Core.Bool.{Bool, true, false, not, _&&_}
+use mathlib.Core.Bool.{Bool, false, not, _&&_}
 use mathlib.Core.List.{List, [], _∷_, map}
 use lib.ListN.{length}
 use Rattle.ids.specs.Choice.{if_then_else_}

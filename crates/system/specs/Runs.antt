@@ -1,15 +1,14 @@
 -- Runs: a list of events from a fresh start. A refused event changes nothing.
-use mathlib.Core.Path.{_≡_}
-use Prim.Native.Nat.{ℕ, suc, _≤_, max}
+use Prim.Native.Nat.{ℕ, _≤_, max}
 use mathlib.Core.Bool.{Bool, true, false, _&&_}
 use mathlib.Core.List.{List, [], _∷_}
 use lib.ListN.{replicate}
-use Rattle.wire.specs.Step.{Outcome, refused, stepped}
+use Rattle.wire.specs.Step.{refused, stepped}
 use Rattle.votes.specs.Figure1 as votes
 use Rattle.client.specs.Figure1 as client
 use Rattle.client.specs.Figure1.{Quorum}
 use Rattle.system.specs.declared.Event.{Event}
-use Rattle.system.specs.Places.{System, worst, holders}
+use Rattle.system.specs.Places.{System, worst}
 use Rattle.system.specs.Events.{Result, event}
 
 -- the system after an event: the most servers down within an epoch is noted after each accepted one
