@@ -1,4 +1,5 @@
--- A client that no other hinders enters.
+-- The entry lemma: a client in its remainder section and enough vacant servers; its try, their takes of its requests and its takes of
+-- their responses are all accepted, bring it into the critical section, and change nothing outside it and them.
 use mathlib.Core.Path.{_≡_, refl, sym, ap, _∙_}
 use Prim.Native.Nat.{ℕ, zero, suc, _+_, _-_, _≤_, _<_}
 use native.Mathlib.Nat.{le-refl}

@@ -27,7 +27,7 @@ use Rattle.system.specs.Numbered.{at, put, has}
 use Rattle.system.specs.Transit.{pending, replaced, gone}
 use Rattle.system.specs.Places.{ClientPlace, ServerPlace, System, noClient, noServer, clientAt, serverAt, inEpoch, downFrom}
 use Rattle.system.specs.Events.{Result, clientMoves, event}
-use Rattle.system.specs.Runs.{after, start, next, runFrom, run}
+use Rattle.system.specs.Runs.{runBy, after, start, next, runFrom, run}
 use Rattle.system.proofs.Effects.{Effect, refuses, begins, leaves, dies, sinks, rises, serverTakes, clientTakes, clientChecked, loses, suspects, asks, effect}
 use Rattle.system.proofs.Branch.{differ, clash}
 use Rattle.system.proofs.Tokens.{message, worth, token, empty}
@@ -191,7 +191,7 @@ module _ (n : ℕ) (wins : Quorum) where
   inv-event w i e = keeps i (event n wins w e) (good w (i .safe) (effect n wins w e))
 
   pub inv-from : (w : System) → Inv w → (es : List Event) → Inv (runFrom n wins w es)
-  unfolding runFrom
+  unfolding runBy
   inv-from w i [] = i
   inv-from w i (e ∷ es) = inv-from (next n wins w e) (inv-event w i e) es
 
@@ -205,11 +205,11 @@ module _ (n : ℕ) (wins : Quorum) where
   most-after w (stepped v) = omega arith
 
   most-from : (w : System) (es : List Event) → w .most ≤ runFrom n wins w es .most
-  unfolding runFrom
+  unfolding runBy
   most-from w [] = le-refl (w .most)
   most-from w (e ∷ es) = omega (arith, most-after w (event n wins w e), most-from (next n wins w e) es)
 
   pub most-prefix : (w : System) (es fs : List Event) → runFrom n wins w es .most ≤ runFrom n wins w (es ++ fs) .most
-  unfolding runFrom
+  unfolding runBy
   most-prefix w [] fs = most-from w fs
   most-prefix w (e ∷ es) fs = most-prefix (next n wins w e) es fs

@@ -12,7 +12,7 @@ use Rattle.system.specs.declared.Event.{Event}
 use Rattle.system.specs.Numbered.{at, member}
 use Rattle.system.specs.Places.{System}
 use Rattle.system.specs.Events.{event}
-use Rattle.system.specs.Runs.{isStepped, next, runFrom, accepted}
+use Rattle.system.specs.Runs.{acceptedBy, runBy, isStepped, next, runFrom, accepted}
 use Rattle.system.proofs.Branch.{Test, clash}
 use Rattle.system.proofs.PlaceLaws.{mem-tail}
 
@@ -24,11 +24,11 @@ module _ (n : ℕ) (wins : Quorum) where
 
 module _ {n : ℕ} {wins : Quorum} where
   pub lead-none : {w : System} {P : System → Type 0} → P w → Leads n wins w [] P
-  unfolding accepted runFrom
+  unfolding acceptedBy runBy
   lead-none h = record { accepts = refl; ends = h }
 
   pub lead-cons : {w : System} {e : Event} {es : List Event} {P : System → Type 0} → isStepped (event n wins w e) ≡ true → Leads n wins (next n wins w e) es P → Leads n wins w (e ∷ es) P
-  unfolding accepted runFrom
+  unfolding acceptedBy runBy
   lead-cons a l = record { accepts = rw a (l .accepts); ends = l .ends }
 
   pub lead-map : {w : System} {es : List Event} {P Q : System → Type 0} → Leads n wins w es Q → ((u : System) → Q u → P u) → Leads n wins w es P
@@ -36,7 +36,7 @@ module _ {n : ℕ} {wins : Quorum} where
 
   pub lead-append : {w : System} (es : List Event) {fs : List Event} {P Q : System → Type 0} → Leads n wins w es Q →
       (Q (runFrom n wins w es) → Leads n wins (runFrom n wins w es) fs P) → Leads n wins w (es ++ fs) P
-  unfolding accepted runFrom
+  unfolding acceptedBy runBy
   lead-append [] l f = f (l .ends)
   lead-append {w} (e ∷ es) {Q = Q} l f =
       let two = and-eq-true-iff (isStepped (event n wins w e)) (accepted n wins (next n wins w e) es) .0 (l .accepts) in

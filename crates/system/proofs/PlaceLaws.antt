@@ -74,7 +74,7 @@ module _ {A : Type 0} (d : A) where
   at-replicate P (suc n) (suc zero) v a b = b
   at-replicate P (suc n) (suc (suc x)) v a b = at-replicate P n (suc x) v a b
 
--- Keepers that were down.
+-- servers that were down
 abbrev pub Sub : List ℕ → List ℕ → Type 0
 Sub a b = (j : ℕ) → member j a ≡ true → member j b ≡ true
 

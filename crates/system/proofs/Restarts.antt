@@ -1,4 +1,4 @@
--- Keepers that go down or come up one after another; lists of different numbers.
+-- Servers that go down or come up one after another; lists of different numbers.
 use mathlib.Core.Path.{_≡_, refl, sym, ap, _∙_, subst}
 use mathlib.Core.Logic.{_⊎_, inl, inr, ⊎-elim}
 use Prim.Native.Nat.{ℕ, zero, suc, _+_, _≤_, _<_}

@@ -1,4 +1,4 @@
--- Keepers that are down and stay down inform nobody.
+-- Servers that are down and stay down answer nobody: no RESPONSE of theirs is in transit, and no own response of theirs is kept.
 use mathlib.Core.Path.{_≡_, refl, sym, _∙_}
 use Prim.Native.Nat.{ℕ}
 use native.Mathlib.Omega.{arith}
@@ -24,7 +24,7 @@ use Rattle.system.specs.Numbered.{at, member}
 use Rattle.system.specs.Transit.{InTransit, pending, replaced, gone}
 use Rattle.system.specs.Places.{System, noClient, noServer, clientAt, serverAt}
 use Rattle.system.specs.Events.{Result, clientMoves, serverMoves, event}
-use Rattle.system.specs.Runs.{after, runFrom}
+use Rattle.system.specs.Runs.{runBy, after, runFrom}
 use Rattle.system.proofs.Effects.{Effect, refuses, begins, leaves, dies, sinks, rises, serverTakes, clientTakes, clientChecked, loses, suspects, asks, effect}
 use Rattle.system.proofs.Branch.{clash}
 use Rattle.system.proofs.Tokens.{All, empty, more, all-map}
@@ -184,6 +184,6 @@ module _ (n : ℕ) (wins : Quorum) (d : List ℕ) where
 
   -- whatever follows, but for an `up` of theirs
   pub silent-from : {w : System} → Inv n wins w → Silent d w → {es : List Event} → All (Stays d) es → Silent d (runFrom n wins w es)
-  unfolding runFrom
+  unfolding runBy
   silent-from i s empty = s
   silent-from {w} i s (more {x = e} a g) = silent-from (inv-event n wins w i e) (keeps s (event n wins w e) (silent w s i a (effect n wins w e))) g

@@ -32,14 +32,14 @@ use Rattle.system.proofs.ClientSteps.{request, shows, InTime, By, Fine,
 use Rattle.system.proofs.TransitLaws.{weight, Posted, Delivery, again-weight, again-all}
 use Rattle.system.proofs.PlaceLaws.{Changes, each, CountsDown, add-same, add-more, lacks}
 
--- the last ticket of each client
+-- the last timestamp of each client
 abbrev pub last : (ℕ → ClientPlace) → ℕ → ℕ
 last K k = K k .state .timestamp .0
 
 abbrev pub id : ℕ → ClientId
 id k = record { 0 = k }
 
--- the client has taken the request's ticket
+-- the client has taken the request's timestamp
 abbrev pub Old : (ℕ → ℕ) → Request → Type 0
 Old t r = r .timestamp .0 ≤ t (r .client .0)
 
@@ -69,7 +69,7 @@ pub record Sound (n : ℕ) (wins : Quorum) (K : ℕ → ClientPlace) (Q : ℕ �
   pub mail : All (Posted (Past (last K))) l
   pub holds : (j : ℕ) → Holds (Old (last K)) (Q j .state)
 
--- Tickets only grow.
+-- timestamps only grow
 module _ (s t : ℕ → ℕ) (le : (k : ℕ) → s k ≤ t k) where
   named-later : (o : Owner) → Named (Old s) o → Named (Old t) o
   named-later Nobody h = tt

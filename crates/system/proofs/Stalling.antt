@@ -1,4 +1,4 @@
--- When f servers keep a client out, and when none do.
+-- Too few servers that answer keep every client out of every run; enough of them let any client in, by the entry lemma.
 use mathlib.Core.Path.{_≡_, refl, sym, ap, subst, _∙_}
 use Prim.Native.Nat.{ℕ, zero, suc, _+_, _≤_, _<_}
 use native.Mathlib.Omega.{arith}
@@ -23,7 +23,7 @@ use Rattle.system.specs.declared.Event.{Event}
 use Rattle.system.specs.declared.Event.the-variants.{Try, Exit, Fall, Down, Up, Take, Drop, Miss, Check}
 use Rattle.system.specs.Numbered.{at, put, member, span}
 use Rattle.system.specs.Places.{ServerPlace, System, noClient, clientAt, isInside}
-use Rattle.system.specs.Runs.{start, runFrom, run}
+use Rattle.system.specs.Runs.{runBy, start, runFrom, run}
 use Rattle.system.specs.Setting.{client, takes, downs, enters, Different, no-more, another, Occurs, first, later, StayDown, Alone, KeepsOut}
 use Rattle.system.proofs.Branch.{bit, bit-one, Test, clash}
 use Rattle.system.proofs.Tokens.{All, empty, more, length-put}
@@ -83,7 +83,7 @@ kept-out m {d} {w} i s df lt k = go (decided (isInside (clientAt w k)))
         absurd (omega arith)
 
 run-append : (n : ℕ) (wins : Quorum) (w : System) (a b : List Event) → runFrom n wins w (a ++ b) ≡ runFrom n wins (runFrom n wins w a) b
-unfolding runFrom
+unfolding runBy
 run-append n wins w [] b = refl
 run-append n wins w (e ∷ a) b = run-append n wins _ a b
 

@@ -20,7 +20,7 @@ use Rattle.system.specs.Numbered.{at, put, member}
 use Rattle.system.specs.Transit.{InTransit, numbered, replaced, gone, again}
 use Rattle.system.specs.Places.{ClientPlace, ServerPlace, System, noClient, serverAt, inEpoch, downFrom, downed, worst}
 use Rattle.system.specs.Events.{Result, clientMoves, serverMoves, event}
-use Rattle.system.specs.Runs.{after, start, next, runFrom}
+use Rattle.system.specs.Runs.{runBy, after, start, next, runFrom}
 use Rattle.system.proofs.Effects.{Effect, refuses, begins, leaves, dies, sinks, rises, serverTakes, clientTakes, clientChecked, loses, suspects, asks, effect}
 use Rattle.system.proofs.Branch.{branch, bit}
 use Rattle.system.proofs.Tokens.{All, empty, more, all-append, all-map, all-put, length-put}
@@ -220,7 +220,7 @@ module _ (n clients : ℕ) where
     tally-event {x} {w} e t = keeps (grows e x) t (event n wins w e) (good (t .counts) (effect n wins w e))
 
     pub tally-from : {x : ℕ} {w : System} (es : List Event) → Tally n clients x w → Tally n clients (tallies es x) (runFrom n wins w es)
-    unfolding runFrom
+    unfolding runBy
     tally-from [] t = t
     tally-from (e ∷ es) t = tally-from es (tally-event e t)
 
