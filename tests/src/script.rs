@@ -1,5 +1,6 @@
 //! The gallery program: document 01, 'The gallery script', from a whole script to its whole output.
 
+use crate::fault::Fault;
 use crate::gallery::{Event, Gallery, Kind, GALLERY};
 use crate::setting::Setting;
 
@@ -64,10 +65,10 @@ pub fn line_of(event: Event) -> String {
 }
 
 /// The program's output, or the refusal of the first line.
-fn output(script: &[u8]) -> Result<String, u32> {
+fn output(script: &[u8], fault: Fault) -> Result<String, u32> {
     let mut lines = lines(script);
     let (setting, kiosks) = first(lines.next().ok_or(16u32)?)?;
-    let mut gallery = Gallery::new(setting, kiosks, GALLERY)?;
+    let mut gallery = Gallery::new(setting, kiosks, GALLERY)?.with(fault);
     let Setting { n, m, f } = setting;
     let mut out = format!("gallery {n} {m} {f} {kiosks}\n");
     for (line, number) in lines.take(EVENTS).zip(1..) {
@@ -81,5 +82,9 @@ fn output(script: &[u8]) -> Result<String, u32> {
 }
 
 pub fn run(script: &[u8]) -> Vec<u8> {
-    output(script).unwrap_or_else(|refusal| format!("no {refusal}\n")).into_bytes()
+    run_with(script, Fault::None)
+}
+
+pub fn run_with(script: &[u8], fault: Fault) -> Vec<u8> {
+    output(script, fault).unwrap_or_else(|refusal| format!("no {refusal}\n")).into_bytes()
 }
