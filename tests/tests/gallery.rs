@@ -197,3 +197,21 @@ fn a_refused_event_changes_nothing_and_only_19_parts_gallery_and_run() {
     assert_eq!(refusals, [0, 10, 15, 17, 18, 19, 20], "{met:?}");
     assert!(met.values().all(|&times| times > 100), "{met:?}");
 }
+
+/// With 16 kiosks at most 15 wait, so that the line of 16 places is never too short (14), and no message goes astray.
+#[test]
+fn sixteen_kiosks_never_fill_a_line() {
+    let mut r = Random::new(14);
+    let mut longest = 0;
+    for _ in 0..200 {
+        let mut crowd = gallery(2, 2, 16, RUN);
+        for _ in 0..1500 {
+            let kind = r.one_of(&[Kind::Try, Kind::Exit, Kind::Take, Kind::Take, Kind::Take, Kind::Take, Kind::Check]);
+            let number = if kind == Kind::Take { 1 + r.below(crowd.last + 1) } else { 1 + r.below(16) };
+            let answer = crowd.event(Event { kind, number });
+            assert!(answer.is_ok() || answer == Err(10) || answer == Err(17), "{kind:?} {number}: {answer:?}");
+            longest = crowd.servers.iter().map(|s| s.record.line.len()).max().unwrap_or(0).max(longest);
+        }
+    }
+    assert_eq!(longest, 15);
+}

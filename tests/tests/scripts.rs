@@ -41,7 +41,8 @@ fn each_script_has_its_whole_output() {
 fn the_table_says_why_each_script_is_there() {
     let page = String::from_utf8(contents("README.md")).expect("plain text");
     let rows: Vec<&str> = page.lines().filter_map(|line| line.strip_prefix("| `")).collect();
-    let named: BTreeSet<String> = rows.iter().filter_map(|row| row.split_once("` | ")).map(|(name, _)| name.into()).collect();
+    let names_in = rows.iter().filter_map(|row| row.split_once("` | ")).map(|(name, _)| name.into());
+    let named: BTreeSet<String> = names_in.collect();
     assert_eq!((named, rows.len()), (names("script"), names("script").len()));
 }
 
@@ -175,7 +176,8 @@ fn long_lines() {
     }
     assert_eq!(output(b"setting 4294967295 4294967295 42949672 1"), "no 7\n");
     assert_eq!(output(b"setting 4294967295 4294967295 429496729 1"), "no 16\n");
-    assert_eq!(output(b"setting 1 1 0 1\ntake 9999999999999999999999999999999999999"), "gallery 1 1 0 1\n1 no 16\nend 0 0 0\n");
+    let last = b"setting 1 1 0 1\ntake 9999999999999999999999999999999999999";
+    assert_eq!(output(last), "gallery 1 1 0 1\n1 no 16\nend 0 0 0\n");
 }
 
 #[test]

@@ -28,7 +28,8 @@ fn the_outermost_settings() {
     assert_eq!(verdict(31, 31, 30), (Verdict::Stalls, 1));
     assert_eq!(verdict(31, 31, 0), (Verdict::Accepted, 31));
     assert_eq!(verdict(1, 1, 1), (Verdict::Unsafe(8), 0));
-    for (n, m, f) in [(0, 0, 0), (0, 1, 0), (32, 22, 0), (4, 0, 1), (4, 5, 1), (4, 3, 5), (4, 3, u32::MAX), (u32::MAX, 1, 0)] {
+    let outside = [(0, 0, 0), (0, 1, 0), (32, 22, 0), (4, 0, 1), (4, 5, 1), (4, 3, 5), (4, 3, u32::MAX), (u32::MAX, 1, 0)];
+    for (n, m, f) in outside {
         assert_eq!(Setting::new(n, m, f), Err(7), "{n} {m} {f}");
     }
 }
