@@ -1,5 +1,6 @@
 //! The keeper: document 01, 'The keeper', and Figure 1, lines 26 to 56.
 
+use crate::fault::Fault;
 use crate::model::{Message, CHECK, INQUIRY, KEEPERS, RELEASE, REQUEST, RESPONSE, YIELD};
 use crate::records::{hand_over, message_of, number_of, pair, place, places, words_of, Pair};
 
@@ -85,6 +86,10 @@ impl Keeper {
     }
 
     pub fn message(&mut self, m: &Message) -> Result<Vec<Message>, u32> {
+        self.message_with(m, Fault::None)
+    }
+
+    pub fn message_with(&mut self, m: &Message, fault: Fault) -> Result<Vec<Message>, u32> {
         if !(REQUEST..=INQUIRY).contains(&m.kind) || m.keeper != self.id {
             return Err(13);
         }
@@ -99,7 +104,11 @@ impl Keeper {
             }
         }
         match m.kind {
-            REQUEST if self.owned_by(m.kiosk) => {}
+            REQUEST if self.owned_by(m.kiosk) => {
+                if fault == Fault::AnswersOwner {
+                    sent.push(self.response(m.kiosk));
+                }
+            }
             REQUEST => {
                 if self.owner.is_none() {
                     self.owner = Some(sender);

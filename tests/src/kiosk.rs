@@ -1,5 +1,6 @@
 //! The kiosk: document 01, 'The kiosk', and Figure 1, lines 1 to 25.
 
+use crate::fault::Fault;
 use crate::model::{Message, CHECK, INQUIRY, KEEPERS, RELEASE, REQUEST, RESPONSE, YIELD};
 use crate::records::{hand_over, message_of, number_of, pair, place, places, words_of, Pair};
 
@@ -46,7 +47,7 @@ impl Kiosk {
         let fits = match kiosk.section {
             REMAINDER => kiosk.filled() == 0,
             TRYING => ticket && kiosk.filled() < kiosk.m,
-            HOLDING => ticket && kiosk.filled() == kiosk.m && kiosk.all_own(),
+            HOLDING => ticket && kiosk.filled() == kiosk.m && kiosk.own() == kiosk.m,
             _ => false,
         };
         if fits && !past && !old {
@@ -73,8 +74,9 @@ impl Kiosk {
         self.answers.iter().flatten().count() as u32
     }
 
-    fn all_own(&self) -> bool {
-        self.answers.iter().flatten().all(|p| *p == self.pair())
+    /// The answers that name this kiosk with its ticket.
+    fn own(&self) -> u32 {
+        self.answers.iter().flatten().filter(|p| **p == self.pair()).count() as u32
     }
 
     fn to(&self, kind: u32, keeper: u32, ticket: u32) -> Message {
@@ -111,6 +113,10 @@ impl Kiosk {
     }
 
     pub fn message(&mut self, m: &Message) -> Result<Vec<Message>, u32> {
+        self.message_with(m, Fault::None)
+    }
+
+    pub fn message_with(&mut self, m: &Message, fault: Fault) -> Result<Vec<Message>, u32> {
         if ![RESPONSE, CHECK].contains(&m.kind) || m.kiosk != self.id || m.keeper > self.n {
             return Err(12);
         }
@@ -119,20 +125,21 @@ impl Kiosk {
             return Ok(over.then(|| self.to(RELEASE, m.keeper, m.ticket)).into_iter().collect());
         }
         if self.section == TRYING {
-            self.answer(m.keeper, place(m.owner, m.ticket)?);
-            if self.filled() >= self.m && !self.all_own() {
-                return Ok(self.round());
-            }
-            if self.filled() >= self.m {
+            self.answer(m.keeper, place(m.owner, m.ticket)?, fault);
+            if self.own() >= self.m {
                 self.section = HOLDING;
+            } else if self.filled() >= self.m {
+                return Ok(self.round(fault));
             }
         }
         Ok(vec![])
     }
 
     /// Keeps the answer, unless the place already shows this kiosk with its ticket or the owner is this kiosk with another.
-    fn answer(&mut self, keeper: u32, owner: Option<Pair>) {
+    fn answer(&mut self, keeper: u32, owner: Option<Pair>, fault: Fault) {
         let (own, me) = (self.pair(), self.id);
+        let counted = fault == Fault::CountsOldTicket && owner.is_some_and(|p| p.kiosk == me);
+        let owner = if counted { Some(own) } else { owner };
         let place = &mut self.answers[keeper as usize - 1];
         if *place != Some(own) && !owner.is_some_and(|p| p.kiosk == me && p != own) {
             *place = owner;
@@ -140,8 +147,11 @@ impl Kiosk {
     }
 
     /// Writes to every keeper whose place is filled, and empties those places.
-    fn round(&mut self) -> Vec<Message> {
-        let answers = std::mem::replace(&mut self.answers, empty());
+    fn round(&mut self, fault: Fault) -> Vec<Message> {
+        let answers = self.answers.clone();
+        if fault != Fault::KeepsAnswers {
+            self.answers = empty();
+        }
         let filled = answers.iter().zip(1..).filter_map(|(place, keeper)| place.map(|p| (p, keeper)));
         filled
             .map(|(p, keeper)| {

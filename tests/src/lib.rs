@@ -2,9 +2,13 @@
 //! The model speaks the document's words (kiosk, keeper, ticket), so that it can be held against the text.
 
 pub mod both;
+pub mod fault;
+pub mod gallery;
 pub mod keeper;
 pub mod kiosk;
 pub mod library;
 pub mod model;
 pub mod random;
 pub mod records;
+pub mod script;
+pub mod setting;

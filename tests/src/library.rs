@@ -29,6 +29,9 @@ extern "C" {
         sent: *mut u32,
         sent_len: usize,
     ) -> u32;
+    fn sigma_setting(n: u32, m: u32, f: u32, words: *mut u32, words_len: usize) -> u32;
+    fn sigma_run_event(n: u32, m: u32, f: u32, i: u32, words: *mut u32, words_len: usize) -> u32;
+    fn sigma_default_threshold(n: u32, words: *mut u32, words_len: usize) -> u32;
 }
 
 // No call has a `requires`: any slices that Rust can lend are in order.
@@ -77,4 +80,16 @@ pub fn client_exit(record: &mut [u32], out: &mut [u8], sent: &mut [u32]) -> u32 
 pub fn client_message(record: &mut [u32], message: &[u32], out: &mut [u8], sent: &mut [u32]) -> u32 {
     let (r, m, o, s) = (record.as_mut_ptr(), message.as_ptr(), out.as_mut_ptr(), sent.as_mut_ptr());
     unsafe { sigma_client_message(r, record.len(), m, message.len(), o, out.len(), s, sent.len()) }
+}
+
+pub fn setting(n: u32, m: u32, f: u32, words: &mut [u32]) -> u32 {
+    unsafe { sigma_setting(n, m, f, words.as_mut_ptr(), words.len()) }
+}
+
+pub fn run_event(n: u32, m: u32, f: u32, i: u32, words: &mut [u32]) -> u32 {
+    unsafe { sigma_run_event(n, m, f, i, words.as_mut_ptr(), words.len()) }
+}
+
+pub fn default_threshold(n: u32, words: &mut [u32]) -> u32 {
+    unsafe { sigma_default_threshold(n, words.as_mut_ptr(), words.len()) }
 }
