@@ -88,13 +88,39 @@ pub mem-tail : (i j : ℕ) (l : List ℕ) → member i l ≡ true → member i (
 mem-tail i j l h = branch (λ b. b ≡ true) (eqb i j) (λ e. refl) (λ e. h)
 
 pub add-cases : (i j : ℕ) (l : List ℕ) → member i (added j l) ≡ true → (i ≡ j) ⊎ (member i l ≡ true)
-add-cases i j l = branch (λ m. member i m ≡ true → (i ≡ j) ⊎ (member i l ≡ true)) (member j l) (λ e h. inr h) (λ e. mem-cons i j l)
+unfolding added
+add-cases i j [] h = ⊎-elim (λ (e : i ≡ j). inl e) (λ (e : member i [] ≡ true). inr e) (mem-cons i j [] h)
+add-cases i j (x ∷ l) h =
+    let G : List ℕ → Type 0 = λ m. member i m ≡ true → (i ≡ j) ⊎ (member i (x ∷ l) ≡ true) in
+    branch G (eqb j x) (λ _ g. inr g)
+    (λ _. branch G (ltb j x) (λ _. mem-cons i j (x ∷ l))
+    (λ _ g. ⊎-elim (λ (e : i ≡ x). inr (mem-head i x l e))
+    (λ (m : member i (added j l) ≡ true). ⊎-elim (λ (e : i ≡ j). inl e) (λ (e : member i l ≡ true). inr (mem-tail i x l e)) (add-cases i j l m))
+    (mem-cons i x (added j l) g))) h
 
 pub add-same : (j : ℕ) (l : List ℕ) → member j (added j l) ≡ true
-add-same j l = branch (λ m. member j m ≡ true) (member j l) (λ e. e) (λ e. mem-head j j l refl)
+unfolding added
+add-same j [] = mem-head j j [] refl
+add-same j (x ∷ l) =
+    let G : List ℕ → Type 0 = λ m. member j m ≡ true in
+    branch G (eqb j x) (λ e. mem-head j x l (eqb-true j x e))
+    (λ _. branch G (ltb j x) (λ _. mem-head j j (x ∷ l) refl) (λ _. mem-tail j x (added j l) (add-same j l)))
 
 pub add-more : (i j : ℕ) (l : List ℕ) → member i l ≡ true → member i (added j l) ≡ true
-add-more i j l h = branch (λ m. member i m ≡ true) (member j l) (λ e. h) (λ e. mem-tail i j l h)
+unfolding added
+add-more i j [] h = absurd (false≢true h)
+add-more i j (x ∷ l) h =
+    let G : List ℕ → Type 0 = λ m. member i m ≡ true in
+    branch G (eqb j x) (λ _. h)
+    (λ _. branch G (ltb j x) (λ _. mem-tail i j (x ∷ l) h)
+    (λ _. ⊎-elim (λ (e : i ≡ x). mem-head i x (added j l) e) (λ (m : member i l ≡ true). mem-tail i x (added j l) (add-more i j l m)) (mem-cons i x l h)))
+
+pub length-added : (j : ℕ) (l : List ℕ) → length (added j l) ≤ suc (length l)
+unfolding added
+length-added j [] = omega arith
+length-added j (x ∷ l) =
+    let G : List ℕ → Type 0 = λ m. length m ≤ suc (suc (length l)) in
+    branch G (eqb j x) (λ _. omega arith) (λ _. branch G (ltb j x) (λ _. omega arith) (λ _. omega (arith, length-added j l)))
 
 pub add-sub : (j : ℕ) (a b : List ℕ) → Sub a b → Sub (added j a) (added j b)
 add-sub j a b s i h = go (add-cases i j a h)

@@ -16,7 +16,7 @@ use Rattle.system.specs.Transit.{InTransit}
 pub record ClientPlace : Type 0 where
   pub living : Bool
   pub state : client.State
-  -- the different servers ever down in the client's epoch, none outside an epoch; no step reads it
+  -- the different servers ever down in the client's epoch, ascending, none outside an epoch; no step reads it
   pub downs : List ℕ
 
 pub record ServerPlace : Type 0 where
