@@ -1,0 +1,4 @@
+pub mod Listing
+pub mod CheckLaws
+pub mod ReturnLaws
+pub mod ThresholdLaws

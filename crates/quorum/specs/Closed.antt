@@ -1,0 +1,35 @@
+-- The unsafe run's length and its event number i in closed form, as the code computes them; proofs/Listing shows them to be the run's.
+use Prim.Native.Nat.{ℕ, _+_, _*_, _-_}
+use lib.Dec.{leb}
+use Rattle.ids.specs.Choice.{if_then_else_}
+use Rattle.system.specs.declared.Event.{Event}
+use Rattle.system.specs.declared.Event.the-variants.{Try, Down, Up}
+use Rattle.system.specs.Setting.{client, server, takes, lost}
+
+abbrev pub runLength : ℕ → ℕ → ℕ
+runLength n m = 4 * m + 2 + 2 * lost n m
+
+-- client 1 enters by servers 1 to m
+unfoldable pub firstEntry : ℕ → ℕ → ℕ → Event
+firstEntry n m i =
+    if leb i 1 then Try (client 1)
+    else if leb i (1 + m) then takes (i - 1)
+    else takes (n + (i - (1 + m)))
+
+-- l servers go down in order, then up in order
+unfoldable pub restart : ℕ → ℕ → Event
+restart l i = if leb i l then Down (server i) else Up (server (i - l))
+
+-- client 2 enters by those and by the servers from m + 1 up
+unfoldable pub secondEntry : ℕ → ℕ → ℕ → ℕ → Event
+secondEntry n m l i =
+    if leb i 1 then Try (client 2)
+    else if leb i (1 + l) then takes (n + m + (i - 1))
+    else if leb i (1 + m) then takes (n + m + (m + (i - (1 + l))))
+    else takes (n + m + n + (i - (1 + m)))
+
+unfoldable pub eventAt : ℕ → ℕ → ℕ → Event
+eventAt n m i =
+    if leb i (1 + 2 * m) then firstEntry n m i
+    else if leb i (1 + 2 * m + 2 * lost n m) then restart (lost n m) (i - (1 + 2 * m))
+    else secondEntry n m (lost n m) (i - (1 + 2 * m + 2 * lost n m))

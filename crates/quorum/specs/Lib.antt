@@ -1,0 +1,4 @@
+pub mod Check
+pub mod Run
+pub mod Closed
+pub mod Threshold

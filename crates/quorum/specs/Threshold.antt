@@ -1,0 +1,14 @@
+-- The default threshold for n servers: two thirds of n, rounded up. Document 01 says usual threshold.
+use Prim.Native.Nat.{ℕ, _+_, _*_, _/_, _≤_, _<_}
+use Rattle.ids.specs.Choice.{if_then_else_}
+use Rattle.ids.specs.Limits.{within, maxServers}
+use Rattle.quorum.specs.declared.Threshold.{Threshold}
+use Rattle.quorum.specs.declared.Threshold.the-variants.{Default, OutOfRange}
+
+unfoldable pub thresholdOf : ℕ → Threshold
+thresholdOf n = if within n maxServers then Default ((2 * n + 2) / 3) else OutOfRange
+
+-- t is the least whole number that is at least two thirds of n
+pub record TwoThirds (n t : ℕ) : Type 0 where
+  pub enough : 2 * n ≤ 3 * t
+  pub least : 3 * t < 2 * n + 3

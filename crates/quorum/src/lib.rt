@@ -1,0 +1,212 @@
+// The check of a setting: whether n servers with threshold m and f faults exclude and do not stall, and the run that shows it
+// where they do not exclude.
+ghost use mathlib.Core.Path.{_≡_};
+ghost use mathlib.Core.Bool.{true};
+ghost use Prim.Native.Nat.{_+_, _*_, _-_, _≤_};
+ghost use lib.IntN.{pos, negsuc, _-ℤ_};
+ghost use Rattle.system.specs.Setting.{client, takes, lost};
+ghost use Rattle.system.specs.declared.Event.the-variants.{Try};
+ghost use Rattle.quorum.specs.Check.{inRange, margin as marginOf, judged, verdict, Demand3};
+ghost use Rattle.quorum.specs.Run.{listedEvent, runEvent};
+ghost use Rattle.quorum.specs.Closed.{runLength, firstEntry, restart as restartAt, secondEntry, eventAt};
+ghost use Rattle.quorum.specs.Threshold.{thresholdOf};
+use ids::ClientId;
+use ids::Refusal;
+use ids::ServerId;
+use system::Event;
+use system::MessageNumber;
+
+// What the check says of a setting: the margin, and where it is unsafe how many events its run has.
+pub enum Verdict {
+    Accepted(i32),
+    Unsafe(i32, u32),
+    Stalls(i32),
+    OutOfRange,
+}
+
+// An event of the unsafe run, asked for by its number.
+pub enum Asked {
+    Event(Event),
+    Refused(Refusal),
+}
+
+// The threshold that the commissioning screen proposes.
+pub enum Threshold {
+    Default(u32),
+    OutOfRange,
+}
+
+pub fn in_range(n: u32, m: u32, f: u32) -> bool
+    ensures { λ r. ⌜ r ≡ inRange n m f ⌝ }
+{
+    if !ids::within_limit(n, ids::MAX_SERVERS) {
+        return false;
+    }
+    if !ids::within_limit(m, n) {
+        return false;
+    }
+    f <= n
+}
+
+fn margin(n: u32, m: u32, f: u32) -> i32
+    requires { ⌜ (n ≤ 31) × (m ≤ 31) × (f ≤ 31) ⌝ }
+    ensures { λ r. ⌜ r ≡ marginOf n m f ⌝ }
+{
+    let twice = (2 * m) as i32;
+    let servers = n as i32;
+    let faults = f as i32;
+    twice - servers - faults
+}
+
+// The servers that restart in the unsafe run.
+fn restarts(n: u32, m: u32) -> u32
+    requires { ⌜ (n ≤ 31) × (m ≤ 31) ⌝ }
+    ensures { λ r. ⌜ r ≡ lost n m ⌝ }
+{
+    if 2 * m < n {
+        return 0;
+    }
+    2 * m - n
+}
+
+// The events of the unsafe run.
+fn events(n: u32, m: u32) -> u32
+    requires { ⌜ (n ≤ 31) × (m ≤ 31) ⌝ }
+    ensures { λ r. ⌜ r ≡ runLength n m ⌝ }
+{
+    4 * m + 2 + 2 * restarts(n, m)
+}
+
+// A setting in range.
+fn judge(n: u32, m: u32, f: u32) -> Verdict
+    requires { ⌜ (n ≤ 31) × (m ≤ n) × (f ≤ n) ⌝ }
+    ensures { λ r. ⌜ r ≡ judged n m f ⌝ }
+{
+    let by = margin(n, m, f);
+    if 2 * m <= n + f {
+        let count = events(n, m);
+        return Verdict::Unsafe(by, count);
+    }
+    if n < m + f {
+        return Verdict::Stalls(by);
+    }
+    Verdict::Accepted(by)
+}
+
+// The check of a setting: refused 7, 8 or 9, or accepted.
+pub fn check(n: u32, m: u32, f: u32) -> Verdict
+    ensures { λ r. ⌜ (r ≡ verdict n m f) × Demand3 n m f r ⌝ }
+{
+    if !in_range(n, m, f) {
+        return Verdict::OutOfRange;
+    }
+    judge(n, m, f)
+}
+
+fn try_of(k: u16) -> Event
+    ensures { λ r. ⌜ r ≡ Try (client k) ⌝ }
+{
+    let c = ClientId(k);
+    Event::Try(c)
+}
+
+fn take_of(i: u32) -> Event
+    ensures { λ r. ⌜ r ≡ takes i ⌝ }
+{
+    let x = MessageNumber(i);
+    Event::Take(x)
+}
+
+// Client 1 enters.
+fn first_entry(n: u32, m: u32, i: u32) -> Event
+    requires { ⌜ (n ≤ 31) × (m ≤ 31) × (i ≤ 255) ⌝ }
+    ensures { λ r. ⌜ r ≡ firstEntry n m i ⌝ }
+{
+    if i <= 1 {
+        return try_of(1);
+    }
+    if i <= 1 + m {
+        return take_of(i - 1);
+    }
+    take_of(n + (i - (1 + m)))
+}
+
+// The first `lost` servers go down in order, then up in order.
+fn restart(lost: u32, i: u32) -> Event
+    requires { ⌜ i ≤ 255 ⌝ }
+    ensures { λ r. ⌜ r ≡ restartAt lost i ⌝ }
+{
+    if i <= lost {
+        let j = ServerId(i as u16);
+        return Event::Down(j);
+    }
+    let j = ServerId((i - lost) as u16);
+    Event::Up(j)
+}
+
+// Client 2 enters by those and by the servers from m + 1 up.
+fn second_entry(n: u32, m: u32, lost: u32, i: u32) -> Event
+    requires { ⌜ (n ≤ 31) × (m ≤ 31) × (lost ≤ 31) × (i ≤ 255) ⌝ }
+    ensures { λ r. ⌜ r ≡ secondEntry n m lost i ⌝ }
+{
+    if i <= 1 {
+        return try_of(2);
+    }
+    if i <= 1 + lost {
+        return take_of(n + m + (i - 1));
+    }
+    if i <= 1 + m {
+        return take_of(n + m + (m + (i - (1 + lost))));
+    }
+    take_of(n + m + n + (i - (1 + m)))
+}
+
+fn event_at(n: u32, m: u32, i: u32) -> Event
+    requires { ⌜ (n ≤ 31) × (m ≤ n) × (i ≤ 255) ⌝ }
+    ensures { λ r. ⌜ r ≡ eventAt n m i ⌝ }
+{
+    let first = 1 + 2 * m;
+    if i <= first {
+        return first_entry(n, m, i);
+    }
+    let lost = restarts(n, m);
+    let second = first + 2 * lost;
+    if i <= second {
+        return restart(lost, i - first);
+    }
+    second_entry(n, m, lost, i - second)
+}
+
+fn listed(n: u32, m: u32, f: u32, i: u32) -> Asked
+    requires { ⌜ (n ≤ 31) × (m ≤ n) × (f ≤ n) ⌝ }
+    ensures { λ r. ⌜ r ≡ listedEvent n m f i ⌝ }
+{
+    if n + f < 2 * m {
+        return Asked::Refused(Refusal::NoSuchParty);
+    }
+    if !ids::within_limit(i, events(n, m)) {
+        return Asked::Refused(Refusal::NoSuchParty);
+    }
+    let e = event_at(n, m, i);
+    Asked::Event(e)
+}
+
+// The event with number i, from 1, of the run that shows an unsafe setting.
+pub fn run_event(n: u32, m: u32, f: u32, i: u32) -> Asked
+    ensures { λ r. ⌜ r ≡ runEvent n m f i ⌝ }
+{
+    if !in_range(n, m, f) {
+        return Asked::Refused(Refusal::ParameterOutOfRange);
+    }
+    listed(n, m, f, i)
+}
+
+// Two thirds of n, rounded up.
+pub fn default_threshold(n: u32) -> Threshold
+    ensures { λ r. ⌜ r ≡ thresholdOf n ⌝ }
+{
+    if !ids::within_limit(n, ids::MAX_SERVERS) {
+        return Threshold::OutOfRange;
+    }
+    Threshold::Default((2 * n + 2) / 3)
+}
