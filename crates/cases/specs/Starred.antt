@@ -1,7 +1,8 @@
--- Document 01, 'Rehearsed cases': the rows marked with a star, as one list, in the table's order. The server is number 1.
+-- Document 01, 'Rehearsed cases': the rows and settings marked with a star, as one list, in its order. The server is number 1.
 use Prim.Native.Nat.{ℕ}
 use mathlib.Core.Path.{_≡_}
 use mathlib.Core.List.{List, [], _∷_}
+use lib.IntN.{pos}
 use Rattle.ids.specs.declared.ClientId.{ClientId}
 use Rattle.ids.specs.declared.ServerId.{ServerId}
 use Rattle.ids.specs.declared.Request.{Request}
@@ -15,8 +16,13 @@ use Rattle.votes.specs.declared.Tag.the-variants.{Request as Asks, Yield as Yie
 use Rattle.votes.specs.Figure1.{State as ServerState, receive}
 use Rattle.client.specs.declared.Section.the-variants.{Trying}
 use Rattle.client.specs.Figure1.{State as ClientState, enough, responds}
+use Rattle.quorum.specs.declared.Verdict.{Verdict}
+use Rattle.quorum.specs.declared.Verdict.the-variants.{Accepted, Unsafe, Stalls}
+use Rattle.quorum.specs.Check.{verdict}
 
 pub data Case : Type 0 where
+  -- a setting n, m, f and what the check says of it
+  ofSetting : ℕ → ℕ → ℕ → Verdict → Case
   -- a server's state, the tag and the sender's request; the state afterwards and the messages sent, in order
   atServer : ServerState → Tag → Request → ServerState → List Message → Case
   -- a client's n, m, number and state, and a RESPONSE by its server and owner; the same afterwards
@@ -62,10 +68,14 @@ starred =
     (YIELD (client 5) (server 1) (record { 0 = 3 }) ∷ YIELD (client 5) (server 2) (record { 0 = 3 }) ∷ INQUIRY (client 5) (server 3) (record { 0 = 3 }) ∷ [])
     ∷ atClient 4 3 (client 5) ownFromTwo (server 3) (Of (pair 9 3)) emptied
     (YIELD (client 5) (server 1) (record { 0 = 3 }) ∷ YIELD (client 5) (server 2) (record { 0 = 3 }) ∷ REQUEST (client 5) (server 3) (record { 0 = 3 }) ∷ [])
+    ∷ ofSetting 4 3 1 (Accepted (pos 1))
+    ∷ ofSetting 3 2 1 (Unsafe (pos 0) 12)
+    ∷ ofSetting 4 4 1 (Stalls (pos 3))
     ∷ []
 
 -- what a case says of the definitions
 abbrev pub Holds : Case → Type 0
+Holds (ofSetting n m f v) = verdict n m f ≡ v
 Holds (atServer q tag r after sent) = receive (server 1) tag r q ≡ record { state = after; sent = sent }
 Holds (atClient n m k c j o after sent) = responds (enough m) n k j o c ≡ record { state = after; sent = sent }
 
