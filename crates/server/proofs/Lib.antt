@@ -4,3 +4,5 @@ pub mod ValidLaws
 pub mod RecordLaws
 pub mod CallLaws
 pub mod KeepsValid
+pub mod OwnResponse
+pub mod QueueFull
