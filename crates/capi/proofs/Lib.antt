@@ -1,1 +1,1 @@
-pub mod WordsLaws
+pub mod CallLaws

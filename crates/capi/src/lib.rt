@@ -7,64 +7,13 @@ ghost use lib.ListN.{length};
 ghost use lib.Seq.{sets};
 ghost use Rattle.wire.specs.Format.{words as wordsOf};
 ghost use Rattle.wire.specs.Calls.{readOf};
-ghost use Rattle.capi.specs.Words.{fits, maxShort, crossing, messageIn};
+ghost use Rattle.words.specs.Messages.{messageIn};
 ghost use Rattle.capi.specs.Calls.{readCode, readWords, writtenCode, writeCode, writeBuffer};
 use ids::Refusal;
 use wire::Fields;
 use wire::Numbers;
 use wire::Written;
-
-// What five words hold.
-pub enum Crossed {
-    Numbers(Fields),
-    TooLarge,
-}
-
-fn fit(kind: u32, client: u32, server: u32, owner: u32) -> bool
-    ensures { λ r. ⌜ r ≡ fits kind client server owner ⌝ }
-{
-    if 65535 < kind {
-        return false;
-    }
-    if 65535 < client {
-        return false;
-    }
-    if 65535 < server {
-        return false;
-    }
-    owner <= 65535
-}
-
-fn fields_of_words(kind: u32, client: u32, server: u32, timestamp: u32, owner: u32) -> Fields
-    requires { ⌜ (kind ≤ maxShort) × (client ≤ maxShort) × (server ≤ maxShort) × (owner ≤ maxShort) ⌝ }
-    ensures { λ r. ⌜ r ≡ record { kind = kind; client = client; server = server; timestamp = timestamp; owner = owner } ⌝ }
-{
-    Fields {
-        kind: kind as u16,
-        client: client as u16,
-        server: server as u16,
-        timestamp,
-        owner: owner as u16,
-    }
-}
-
-// The numbers in five words, none too large for its field.
-pub fn cross(words: &[u32]) -> Crossed
-    ensures { λ r. ⌜ r ≡ crossing (now (words .entry)) ⌝ }
-{
-    if words.len() != 5 {
-        return Crossed::TooLarge;
-    }
-    let kind = words[0];
-    let client = words[1];
-    let server = words[2];
-    let owner = words[4];
-    if !fit(kind, client, server, owner) {
-        return Crossed::TooLarge;
-    }
-    let f = fields_of_words(kind, client, server, words[3], owner);
-    Crossed::Numbers(f)
-}
+use words::Crossed;
 
 // A message's five words and the bytes it took.
 fn put_words(words: &mut [u32], f: Fields, used: u32)
@@ -111,7 +60,7 @@ fn written_code(w: Written) -> u32
 pub extern "C" fn sigma_write(words: &[u32], out: &mut [u8]) -> u32
     ensures { λ r. ⌜ (r ≡ writeCode (messageIn (now (words .entry))) (length (now (out .entry)))) × (now (out .exit) ≡ writeBuffer (messageIn (now (words .entry))) (now (out .entry))) ⌝ }
 {
-    let g = cross(words);
+    let g = words::cross(words);
     match g {
         Crossed::Numbers(f) => written_code(wire::write_fields(f, out)),
         Crossed::TooLarge => ids::code_of(Refusal::NumberOutOfRange),
