@@ -1,1 +1,5 @@
 pub mod CallLaws
+pub mod ServerSent
+pub mod ClientSent
+pub mod StepLaws
+pub mod NewLaws

@@ -171,7 +171,10 @@ module _ (a b c : ℕ) where
   unfolding fitsHead
   head-3 g h = rw (le-leb _ _ g, le-leb _ _ h)
 
-  head-small : fitsHead a b c ≡ true → (a ≤ maxShort) × (b ≤ maxShort) × (c ≤ maxShort)
+  pub head-fits : a ≤ 65535 → b ≤ 65535 → c ≤ 65535 → fitsHead a b c ≡ true
+  head-fits f g h = sym (head-3 f g) ∙ le-leb _ _ h
+
+  pub head-small : fitsHead a b c ≡ true → (a ≤ maxShort) × (b ≤ maxShort) × (c ≤ maxShort)
   unfolding fitsHead
   head-small e =
       let (p, r) = both (leb a maxShort) (leb b maxShort && leb c maxShort) e in

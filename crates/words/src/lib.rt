@@ -99,7 +99,8 @@ pub fn message_in(words: &[u32]) -> Message
     }
 }
 
-fn fits_head(a: u32, b: u32, c: u32) -> bool
+// Whether three numbers fit fields of two bytes.
+pub fn fits_head(a: u32, b: u32, c: u32) -> bool
     ensures { λ r. ⌜ r ≡ fitsHead a b c ⌝ }
 {
     if 65535 < a {
