@@ -1,5 +1,5 @@
--- A client sends at most one message to each of its servers in a step, so that their number and bytes fit a word.
-use Prim.Native.Nat.{ℕ, _≤_}
+-- A client sends at most one message of 12 bytes to each of its servers in a step, so that their number and bytes fit a word.
+use Prim.Native.Nat.{ℕ, _≤_, _*_}
 use native.Mathlib.Omega.{arith}
 use mathlib.Core.Path.{_≡_}
 use mathlib.Core.Bool.{Bool, true, false, not}
@@ -18,16 +18,18 @@ use Rattle.ids.specs.declared.Owner.{Owner}
 use Rattle.ids.specs.declared.Refusal.the-variants.{NumberOutOfRange, InvalidRecord, NotForClient, WrongSection, TimestampsSpent}
 use Rattle.ids.proofs.Choice.{decided, passed}
 use Rattle.wire.specs.Format as format
+use Rattle.wire.specs.Format.{sizeOf, sizeOfAll}
 use Rattle.wire.specs.Step.{Step, stepped}
 use Rattle.wire.specs.declared.Message.{Message}
+use Rattle.wire.proofs.Sequence.{sizeOfAll-one}
 use Rattle.wire.specs.declared.Message.the-variants.{Request, Yield, Release, Inquiry, Response, Check}
-use Rattle.client.specs.Figure1.{State, Quorum, filled, count, isTrying, enough, tries, exits, heard, judge, responds, checked}
+use Rattle.client.specs.Figure1.{State, Quorum, filled, count, isTrying, enough, next, toAll, tries, exits, heard, round, judge, responds, checked}
 use Rattle.client.specs.Record.{valid, view}
 use Rattle.client.specs.Calls.{isRemainder, isCritical, lastTry, forClient, received, messageOutcome, beginOutcome, exitOutcome}
 use Rattle.client.specs.declared.Client.{Client}
 use Rattle.client.proofs.KeepsValid.{heard-length}
-use Rattle.client.proofs.RoundLaws.{length-round}
-use Rattle.client.proofs.SendLaws.{length-toAll}
+use Rattle.client.proofs.RoundLaws.{length-round, size-round}
+use Rattle.client.proofs.SendLaws.{length-toAll, size-toAll, request-plain, release-plain}
 use Rattle.client.proofs.ValidLaws.{valid-known}
 use Rattle.capi.proofs.ServerSent.{never, entered}
 use Rattle.capi.specs.Steps.{clientOutcome}
@@ -42,38 +44,56 @@ count-few : (l : List Owner) → count (map filled l) ≤ length l
 count-few [] = omega arith
 count-few (o ∷ l) = omega (arith, count-few l, one-at-most (filled o))
 
-judge-few : (wins : Quorum) (n : ℕ) (r : Pair) (l : List Owner) → length (judge wins n r l .sent) ≤ length l
+-- at most n messages, of 12 bytes each
+pub record AtMost (n : ℕ) (ms : List Message) : Type 0 where
+  pub few : length ms ≤ n
+  pub small : sizeOfAll ms ≤ 12 * n
+
+nothing : (n : ℕ) → AtMost n []
+unfolding sizeOfAll
+nothing n = record { few = omega arith; small = omega arith }
+
+more : {n m : ℕ} {ms : List Message} → n ≤ m → AtMost n ms → AtMost m ms
+more h a = record { few = omega (arith, a .few); small = omega (arith, a .small) }
+
+judge-few : (wins : Quorum) (n : ℕ) (r : Pair) (l : List Owner) → AtMost (length l) (judge wins n r l .sent)
 unfolding judge
 judge-few wins n r l =
     ⊎-elim
     (λ (a : wins (map filled l) ≡ true).
     ⊎-elim
-    (λ (b : wins (map (isRequest r) l) ≡ true). rw (a, b) (omega arith))
-    (λ (b : wins (map (isRequest r) l) ≡ false). rw (a, b) (omega (arith, length-round r 1 l, count-few l)))
+    (λ (b : wins (map (isRequest r) l) ≡ true). rw (a, b) (nothing (length l)))
+    (λ (b : wins (map (isRequest r) l) ≡ false). rw (a, b) (record { few = omega (arith, length-round r 1 l, count-few l); small = omega (arith, size-round r 1 l, count-few l) }))
     (decided (wins (map (isRequest r) l))))
-    (λ (a : wins (map filled l) ≡ false). rw a (omega arith))
+    (λ (a : wins (map filled l) ≡ false). rw a (nothing (length l)))
     (decided (wins (map filled l)))
 
-responds-few : (wins : Quorum) (n : ℕ) (k : ClientId) (j : ServerId) (o : Owner) (c : State) → length (responds wins n k j o c .sent) ≤ length (c .responses)
+responds-few : (wins : Quorum) (n : ℕ) (k : ClientId) (j : ServerId) (o : Owner) (c : State) → AtMost (length (c .responses)) (responds wins n k j o c .sent)
 unfolding responds
 responds-few wins n k j o c =
     let r : Pair = record { client = k; timestamp = c .timestamp } in
     ⊎-elim
-    (λ (t : isTrying (c .section) ≡ true). rw t (omega (arith, judge-few wins n r (heard r (c .responses) j o), heard-length r (c .responses) j o)))
-    (λ (t : isTrying (c .section) ≡ false). rw t (omega arith))
+    (λ (t : isTrying (c .section) ≡ true). rw t (more (omega (arith, heard-length r (c .responses) j o)) (judge-few wins n r (heard r (c .responses) j o))))
+    (λ (t : isTrying (c .section) ≡ false). rw t (nothing (length (c .responses))))
     (decided (isTrying (c .section)))
 
-checked-few : (k : ClientId) (j : ServerId) (t : Timestamp) (c : State) → length (checked k j t c .sent) ≤ 1
+released : (k : ClientId) (j : ServerId) (t : Timestamp) → AtMost 1 (Release k j t ∷ [])
+released k j t = record { few = omega arith; small = rw sizeOfAll-one (omega (arith, release-plain k t j)) }
+
+checked-few : (k : ClientId) (j : ServerId) (t : Timestamp) (c : State) → AtMost 1 (checked k j t c .sent)
 unfolding checked
 checked-few k j t c =
-    ⊎-elim (λ (e : eqb (t .0) (c .timestamp .0) ≡ true). rw e (omega arith)) (λ (e : eqb (t .0) (c .timestamp .0) ≡ false). rw e (omega arith)) (decided (eqb (t .0) (c .timestamp .0)))
+    ⊎-elim (λ (e : eqb (t .0) (c .timestamp .0) ≡ true). rw e (nothing 1)) (λ (e : eqb (t .0) (c .timestamp .0) ≡ false). rw e (released k j t)) (decided (eqb (t .0) (c .timestamp .0)))
+
+to-all : (f : ServerId → Message) → ((j : ServerId) → sizeOf (f j) ≡ 12) → (n : ℕ) → AtMost n (toAll f n)
+to-all f h n = record { few = omega (arith, length-toAll f n); small = omega (arith, size-toAll f h n) }
 
 module _ (c : Client) (p : Step State) where
   responses-few : length (view c .responses) ≤ c .n
   unfolding view
   responses-few = simp (length-map, length-take) (omega arith)
 
-  received-few : (m : Message) → c .n ≤ 31 → received c m ≡ stepped p → length (p .sent) ≤ 31
+  received-few : (m : Message) → 1 ≤ c .n → received c m ≡ stepped p → AtMost (c .n) (p .sent)
   received-few (Request k j t) h e = absurd (never NotForClient p e)
   received-few (Yield k j t) h e = absurd (never NotForClient p e)
   received-few (Release k j t) h e = absurd (never NotForClient p e)
@@ -81,37 +101,43 @@ module _ (c : Client) (p : Step State) where
   received-few (Response k j o) h e =
       let f = entered (forClient c k j) (never NotForClient p) e in
       let g : responds (enough (c .m)) (c .n) k j o (view c) ≡ p = cc in
-      rw (← g) (omega (arith, responds-few (enough (c .m)) (c .n) k j o (view c), responses-few))
+      rw (← g) (more responses-few (responds-few (enough (c .m)) (c .n) k j o (view c)))
   received-few (Check k j t) h e =
       let f = entered (forClient c k j) (never NotForClient p) e in
       let g : checked k j t (view c) ≡ p = cc in
-      rw (← g) (omega (arith, checked-few k j t (view c)))
+      rw (← g) (more h (checked-few k j t (view c)))
 
-  message-few : (m : Message) → messageOutcome c m ≡ stepped p → length (p .sent) ≤ 31
+  -- what is known of an accepted step: the record was valid, and at most n messages were sent
+  pub record Accepted : Type 0 where
+    pub before : valid c ≡ true
+    pub most : AtMost (c .n) (p .sent)
+
+  message-accepted : (m : Message) → messageOutcome c m ≡ stepped p → Accepted
   unfolding messageOutcome
-  message-few m e =
+  message-accepted m e =
       let (a, h₁) = passed (not (valid c)) (never InvalidRecord p) e in
       let (b, h₂) = passed (not (format.valid m)) (never NumberOutOfRange p) h₁ in
-      received-few m (valid-known c (not-false (valid c) a) .few) h₂
+      let v : valid c ≡ true = not-false (valid c) a in
+      record { before = v; most = received-few m (valid-known c v .some) h₂ }
 
-  begin-few : beginOutcome c ≡ stepped p → length (p .sent) ≤ 31
+  begin-accepted : beginOutcome c ≡ stepped p → Accepted
   unfolding beginOutcome tries
-  begin-few e =
+  begin-accepted e =
       let (a, h₁) = passed (not (valid c)) (never InvalidRecord p) e in
       let (b, h₂) = passed (not (isRemainder (c .section))) (never WrongSection p) h₁ in
       let (d, h₃) = passed (ltb lastTry (c .timestamp .0)) (never TimestampsSpent p) h₂ in
       let g : tries (c .n) (c .id) (view c) ≡ p = cc in
-      rw (← g, length-toAll) (valid-known c (not-false (valid c) a) .few)
+      record { before = not-false (valid c) a; most = rw (← g) (to-all _ (request-plain (c .id) (next (view c .timestamp))) (c .n)) }
 
-  exit-few : exitOutcome c ≡ stepped p → length (p .sent) ≤ 31
+  exit-accepted : exitOutcome c ≡ stepped p → Accepted
   unfolding exitOutcome exits
-  exit-few e =
+  exit-accepted e =
       let (a, h₁) = passed (not (valid c)) (never InvalidRecord p) e in
       let (b, h₂) = passed (not (isCritical (c .section))) (never WrongSection p) h₁ in
       let g : exits (c .n) (c .id) (view c) ≡ p = cc in
-      rw (← g, length-toAll) (valid-known c (not-false (valid c) a) .few)
+      record { before = not-false (valid c) a; most = rw (← g) (to-all _ (release-plain (c .id) (view c .timestamp)) (c .n)) }
 
-pub client-few : (call : ClientCall) (c : Client) (p : Step State) → clientOutcome call c ≡ stepped p → length (p .sent) ≤ 31
-client-few (ClientMessage m) c p e = message-few c p m e
-client-few Begin c p e = begin-few c p e
-client-few Exit c p e = exit-few c p e
+pub accepted : (call : ClientCall) (c : Client) (p : Step State) → clientOutcome call c ≡ stepped p → Accepted c p
+accepted (ClientMessage m) c p e = message-accepted c p m e
+accepted Begin c p e = begin-accepted c p e
+accepted Exit c p e = exit-accepted c p e

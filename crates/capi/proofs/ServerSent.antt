@@ -20,12 +20,11 @@ use Rattle.ids.specs.declared.Owner.the-variants.{Nobody, Of}
 use Rattle.ids.specs.declared.Refusal.{Refusal}
 use Rattle.ids.specs.declared.Refusal.the-variants.{NumberOutOfRange, InvalidRecord, NotForServer, QueueFull, NoOwner}
 use Rattle.ids.proofs.Choice.{both, decided, passed}
-use Rattle.wire.specs.Format.{sizeOfAll, sizeOf, fieldsOf}
+use Rattle.wire.specs.Format.{lengthOf, sizeOf, fieldsOf, sizeOfAll}
 use Rattle.wire.specs.Format as format
 use Rattle.wire.specs.Step.{Step, Outcome, refused, stepped, stay, tell}
 use Rattle.wire.specs.declared.Message.{Message}
 use Rattle.wire.specs.declared.Message.the-variants.{Request, Yield, Release, Inquiry, Response, Check}
-use Rattle.wire.proofs.RoundTrip.{short}
 use Rattle.votes.specs.Figure1.{State, promote, delete, inform, act, compare, receive, suspect, check, insert, candidates, timestampIn}
 use Rattle.votes.specs.Queues.{maxQueue, view}
 use Rattle.votes.specs.declared.Tag.{Tag}
@@ -38,11 +37,15 @@ use Rattle.capi.specs.Steps.{serverOutcome}
 use Rattle.capi.specs.declared.ServerCall.{ServerCall}
 use Rattle.capi.specs.declared.ServerCall.the-variants.{Message as ServerMessage, Suspect, Check as CheckOwner}
 
--- so many messages have so few bytes
-pub size-few : (ms : List Message) → sizeOfAll ms ≤ 65535 * length ms
+-- no message has more than 14 bytes
+lengthOf-few : (kind : ℕ) → lengthOf kind ≤ 14
+unfolding lengthOf
+lengthOf-few kind = ⊎-elim (λ e. rw e (omega arith)) (λ e. rw e (omega arith)) (decided (eqb kind 5))
+
+size-few : (ms : List Message) → sizeOfAll ms ≤ 14 * length ms
 unfolding sizeOfAll sizeOf
 size-few [] = omega arith
-size-few (m ∷ ms) = omega (arith, size-few ms, short (fieldsOf m .kind))
+size-few (m ∷ ms) = omega (arith, size-few ms, lengthOf-few (fieldsOf m .kind))
 
 module _ (j : ServerId) where
   promote-few : (l : List Pair) → length (promote j l .sent) ≤ 1
@@ -133,14 +136,18 @@ module _ (s : Server) (p : Step State) where
     pub before : server.valid s ≡ true
     pub after : server.valid (server-calls.serverAfter s (stepped p)) ≡ true
     pub few : length (p .sent) ≤ 3
+    pub small : sizeOfAll (p .sent) ≤ 42
 
-  pub message-accepted : (m : Message) → server-calls.messageOutcome s m ≡ stepped p → Accepted
+  at-most : server.valid s ≡ true → server.valid (server-calls.serverAfter s (stepped p)) ≡ true → length (p .sent) ≤ 3 → Accepted
+  at-most v w h = record { before = v; after = w; few = h; small = omega (arith, size-few (p .sent)) }
+
+  message-accepted : (m : Message) → server-calls.messageOutcome s m ≡ stepped p → Accepted
   unfolding server-calls.messageOutcome
   message-accepted m e =
       let (a, h₁) = passed (not (server.valid s)) (never InvalidRecord p) e in
       let (b, h₂) = passed (not (format.valid m)) (never NumberOutOfRange p) h₁ in
       let v : server.valid s ≡ true = not-false (server.valid s) a in
-      record { before = v; after = message-keeps-valid s v m p e; few = received-at-most m h₂ }
+      at-most v (message-keeps-valid s v m p e) (received-at-most m h₂)
 
   suspected-few : (o : Owner) → byOwner {B = Outcome State} o (refused NoOwner) (λ x. stepped (suspect (s .id) (view (s .votes)))) ≡ stepped p → length (p .sent) ≤ 3
   unfolding suspect
@@ -149,20 +156,20 @@ module _ (s : Server) (p : Step State) where
       let g : suspect (s .id) (view (s .votes)) ≡ p = cc in
       rw g at (suspect-few (s .id) (s .votes .owner) (view (s .votes)))
 
-  pub suspect-accepted : server-calls.suspectOutcome s ≡ stepped p → Accepted
+  suspect-accepted : server-calls.suspectOutcome s ≡ stepped p → Accepted
   unfolding server-calls.suspectOutcome
   suspect-accepted e =
       let (a, h) = passed (not (server.valid s)) (never InvalidRecord p) e in
       let v : server.valid s ≡ true = not-false (server.valid s) a in
-      record { before = v; after = suspect-keeps-valid s v p e; few = suspected-few (s .votes .owner) h }
+      at-most v (suspect-keeps-valid s v p e) (suspected-few (s .votes .owner) h)
 
-  pub check-accepted : server-calls.checkOutcome s ≡ stepped p → Accepted
+  check-accepted : server-calls.checkOutcome s ≡ stepped p → Accepted
   unfolding server-calls.checkOutcome check
   check-accepted e =
       let (a, h) = passed (not (server.valid s)) (never InvalidRecord p) e in
       let v : server.valid s ≡ true = not-false (server.valid s) a in
       let g : check (s .id) (view (s .votes)) ≡ p = cc in
-      record { before = v; after = check-keeps-valid s v p e; few = rw g at (check-few (s .id) (s .votes .owner) (view (s .votes))) }
+      at-most v (check-keeps-valid s v p e) (rw g at (check-few (s .id) (s .votes .owner) (view (s .votes))))
 
 pub accepted : (call : ServerCall) (s : Server) (p : Step State) → serverOutcome call s ≡ stepped p → Accepted s p
 accepted (ServerMessage m) s p e = message-accepted s p m e

@@ -37,8 +37,9 @@ use Rattle.capi.specs.declared.ServerCall.{ServerCall}
 use Rattle.capi.specs.declared.ServerCall.the-variants.{Message as ServerMessage}
 use Rattle.capi.specs.declared.ClientCall.{ClientCall}
 use Rattle.capi.specs.declared.ClientCall.the-variants.{Message as ClientMessage}
-use Rattle.capi.proofs.ServerSent.{never, size-few, accepted, valid-length}
-use Rattle.capi.proofs.ClientSent.{client-few}
+use Rattle.capi.proofs.ServerSent.{never, accepted, valid-length}
+use Rattle.capi.proofs.ClientSent as client-sent
+use Rattle.client.proofs.ValidLaws.{valid-known}
 
 -- a refused call changes nothing
 pub refused-leaves : (o : Outcome (List ℕ)) (e : Refusal) (r : ℕ) (ws out sent : List ℕ) → o ≡ refused e → r ≡ code e → Leaves (lent out sent o) r ws ws out out sent sent
@@ -92,7 +93,7 @@ module _ {A : Type 0} where
   room-stepped room (refused e) p h = h
   room-stepped room (stepped x) p h = passed (ltb room (sizeOfAll (x .sent))) (never RoomShort p) h .1
 
-  fitting : (x : Outcome A) (len : ℕ) (a : Answer) → a ≡ answerOf x → ((p : Step A) → x ≡ stepped p → (length (p .sent) ≤ 31) × (len ≤ 16)) → Storable a len
+  fitting : (x : Outcome A) (len : ℕ) (a : Answer) → a ≡ answerOf x → ((p : Step A) → x ≡ stepped p → (length (p .sent) ≤ 31) × (sizeOfAll (p .sent) ≤ 372) × (len ≤ 16)) → Storable a len
   fitting (refused e) len a q k =
       record {
         few = λ i n h. let z : _≡_ {A = ℕ} 0 1 = cc in absurd (omega arith);
@@ -100,8 +101,8 @@ module _ {A : Type 0} where
       }
   fitting (stepped p) len a q k =
       record {
-        few = λ i n h. let c₁ : length (p .sent) ≡ i = cc in let c₂ : sizeOfAll (p .sent) ≡ n = cc in (omega (arith, k p refl .0), omega (arith, k p refl .0, size-few (p .sent)));
-        short = λ i n h. k p refl .1;
+        few = λ i n h. let c₁ : length (p .sent) ≡ i = cc in let c₂ : sizeOfAll (p .sent) ≡ n = cc in (omega (arith, k p refl .0), omega (arith, k p refl .1));
+        short = λ i n h. k p refl .2;
       }
 
 -- the server's call, in each way out
@@ -129,7 +130,7 @@ module _ (ws : List ℕ) (b : Bool) (h : b ≡ holdsServer ws) where
             (λ p k.
             let a = accepted call s p (room-stepped (length out) (serverOutcome call s) p k) in
             let z : x .server ≡ server-calls.serverAfter s (stepped p) = rw (e, k) in
-            (omega (arith, a .few), rw z (valid-length (server-calls.serverAfter s (stepped p)) (a .after))))
+            (omega (arith, a .few), omega (arith, a .small), rw z (valid-length (server-calls.serverAfter s (stepped p)) (a .after))))
 
         pub server-done-leaves : (r : ℕ) (ws′ out′ sent′ : List ℕ) → 2 ≤ length sent → out′ ≡ sentInto out (withRoom (length out) (serverOutcome call s))
             → (r ≡ answerCode (x .answer)) × (ws′ ≡ answerRecord (serverWords (x .server)) ws (x .answer)) × (sent′ ≡ answerCounts sent (x .answer))
@@ -160,7 +161,10 @@ module _ (ws : List ℕ) (b : Bool) (h : b ≡ holdsClient ws) where
         pub client-storable : Storable (x .answer) 0
         client-storable =
             fitting (withRoom (length out) (clientOutcome call s)) 0 (x .answer) (rw e)
-            (λ p k. (client-few call s p (room-stepped (length out) (clientOutcome call s) p k), omega arith))
+            (λ p k.
+            let a = client-sent.accepted call s p (room-stepped (length out) (clientOutcome call s) p k) in
+            let f : s .n ≤ 31 = valid-known s (a .before) .few in
+            (omega (arith, a .most .few), omega (arith, a .most .small), omega arith))
 
         pub client-done-leaves : (r : ℕ) (ws′ out′ sent′ : List ℕ) → 2 ≤ length sent → out′ ≡ sentInto out (withRoom (length out) (clientOutcome call s))
             → (r ≡ answerCode (x .answer)) × (ws′ ≡ answerRecord (clientWords (x .client)) ws (x .answer)) × (sent′ ≡ answerCounts sent (x .answer))
