@@ -328,12 +328,14 @@ pub fn store_server(words: &mut [u32], s: Server)
     let q = v.queue;
     votes::sized(q);
     let owner = v.owner;
+    let holder = owner_client(owner);
+    let since = owner_timestamp(owner);
     put_five(
         words,
         s.n as u32,
         s.id.0 as u32,
-        owner_client(owner),
-        owner_timestamp(owner),
+        holder,
+        since,
         q.len as u32,
     );
     let places = q.places;
