@@ -40,7 +40,7 @@ uint32_t sigma_write(const uint32_t *words, size_t words_len, uint8_t *out, size
  *   server: n, its number, owner, owner's timestamp, queue length, then client and timestamp of 16 places
  *   client: n, m, its number, section, timestamp, then owner and timestamp of the answers of servers 1 to 31
  * The messages that a step sends stand one after another at the start of `out`, and the bytes behind them stay;
- * `sent` takes their number and their bytes. A server sends at most 28 bytes in a step, a client 12 times n. */
+ * `sent` takes their number and their bytes. A server sends at most 42 bytes in a step, a client 12 times n. */
 enum {
     SIGMA_REMAINDER = 0,
     SIGMA_TRYING = 1,

@@ -1,2 +1,3 @@
 pub mod MessagesLaws
 pub mod RecordsLaws
+pub mod RoundTrip
