@@ -3,3 +3,4 @@ pub mod ServerSent
 pub mod ClientSent
 pub mod StepLaws
 pub mod NewLaws
+pub mod StaysValid
