@@ -1,13 +1,13 @@
 -- What an accepted step call leaves in the host's words is a valid record again, so that the next call on it is not refused 21.
 use Prim.Native.Nat.{ℕ, _+_}
 use native.Mathlib.Omega.{arith}
-use mathlib.Core.Path.{_≡_, refl, sym, ap, _∙_}
+use mathlib.Core.Path.{_≡_, refl, sym, _∙_}
 use mathlib.Core.Bool.{true, false}
 use mathlib.Core.List.{List, append-nil}
 use mathlib.Core.Logic.{⊎-elim}
-use mathlib.Core.Option.{Option, some}
+use mathlib.Core.Option.{some}
 use lib.Dec.{ltb}
-use lib.ListN.{length, length-append, length-replicate, length-map}
+use lib.ListN.{length, drop, length-append, length-replicate, length-map, length-drop}
 use lib.Seq.{sets, sets-eq, drop-length}
 use Rattle.ids.specs.declared.Refusal.the-variants.{InvalidRecord, RoomShort}
 use Rattle.ids.proofs.Choice.{decided, passed}
@@ -21,11 +21,10 @@ use Rattle.client.specs.Figure1 as client-state
 use Rattle.client.specs.Record as client
 use Rattle.client.specs.declared.Client.{Client}
 use Rattle.client.proofs.KeepsValid.{begin-valid, exit-valid, message-valid}
-use Rattle.client.proofs.ValidLaws.{valid-known}
 use Rattle.words.specs.Messages.{messageIn, messageOr}
-use Rattle.words.specs.Records.{holdsServer, serverFrom, serverIn, holdsClient, clientFrom, clientIn, requestsIn}
-use Rattle.words.proofs.RecordsLaws.{server-held}
-use Rattle.words.proofs.RoundTrip.{server-read-back}
+use Rattle.words.specs.Records.{holdsServer, serverFrom, serverIn, holdsClient, clientFrom, clientIn}
+use Rattle.words.proofs.RecordsLaws.{server-held, client-held, length-requests}
+use Rattle.words.proofs.RoundTrip.{server-read-back, client-read-back}
 use Rattle.capi.specs.Steps.{inWords, lent, withCounts, onServer, serverWith, serverOutcome, serverMessage, serverSuspect, serverCheck, onClient, clientWith, clientOutcome, clientMessage, clientBegin, clientExit, recordInto}
 use Rattle.capi.specs.declared.ServerCall.{ServerCall}
 use Rattle.capi.specs.declared.ServerCall.the-variants.{Message as ServerMessage, Suspect, Check}
@@ -33,7 +32,7 @@ use Rattle.capi.specs.declared.ClientCall.{ClientCall}
 use Rattle.capi.specs.declared.ClientCall.the-variants.{Message as ClientMessage, Begin, Exit}
 use Rattle.capi.proofs.ClientSent as client-sent
 use Rattle.capi.proofs.ServerSent.{never, accepted, valid-length}
-use Rattle.capi.proofs.StepLaws.{room-stepped, server-takes-words}
+use Rattle.capi.proofs.StepLaws.{room-stepped, server-takes-words, client-takes-words}
 
 -- a whole record is written over a whole record
 whole : (ws vs : List ℕ) → length vs ≡ length ws → sets ws 0 vs ≡ vs
@@ -109,3 +108,53 @@ kept : (call : ClientCall) (c : Client) (q : Step client-state.State) → length
 kept (ClientMessage m) c q l e = message-valid c q (client-sent.accepted (ClientMessage m) c q e .before) l m e
 kept Begin c q l e = begin-valid c q (client-sent.accepted Begin c q e .before) e
 kept Exit c q l e = exit-valid c q (client-sent.accepted Exit c q e .before) e
+
+module _ (ws : List ℕ) (call : ClientCall) where
+  next-client : (c : Client) (q : Step client-state.State) → length (c .places) ≡ 31 → clientOutcome call c ≡ stepped q → ValidClient (clientWith c (q .state))
+  unfolding client.store
+  next-client c q l e =
+      let v = kept call c q l e in
+      let n = client-sent.accepted call c q e .long in
+      record {
+        held = client.store (c .n) (c .m) (c .id) (q .state);
+        read = client-read-back (client.store (c .n) (c .m) (c .id) (q .state)) v (simp (length-append, length-map, length-replicate) (omega arith));
+        valid = v;
+      }
+
+  from-client-outcome : (c : Client) (p : Step (List ℕ)) → length (c .places) ≡ 31 → (o : Outcome client-state.State) → clientOutcome call c ≡ o → inWords (clientWith c) o ≡ stepped p → ValidClient (p .state)
+  from-client-outcome c p l (refused e) h g = absurd (never e p g)
+  from-client-outcome c p l (stepped q) h g =
+      let z : record { state = clientWith c (q .state); sent = q .sent } ≡ p = cc in
+      rw (← z) (next-client c q l h)
+
+  client-size : (vs : List ℕ) → ValidClient vs → length vs ≡ 67
+  client-size vs W =
+      ⊎-elim
+      (λ (t : holdsClient vs ≡ true). client-held vs t .fitting .size)
+      (λ (t : holdsClient vs ≡ false). let h = rw t at (W .read) in let z : _≡_ {A = ℕ} 0 1 = cc in absurd (omega arith))
+      (decided (holdsClient vs))
+
+  places-read : holdsClient ws ≡ true → length (clientFrom ws .places) ≡ 31
+  unfolding clientFrom
+  places-read t = length-requests (drop 5 ws) 31 (simp length-drop (omega (arith, client-held ws t .fitting .size)))
+
+  client-stays : (p : Step (List ℕ)) → onClient ws (clientOutcome call) ≡ stepped p → ValidClient (recordInto ws (stepped p))
+  unfolding onClient
+  client-stays p e =
+      ⊎-elim
+      (λ (t : holdsClient ws ≡ true).
+      let W = from-client-outcome (clientFrom ws) p (places-read t) (clientOutcome call (clientFrom ws)) refl (rw t at e) in
+      rw (whole ws (p .state) (client-size (p .state) W ∙ sym (client-held ws t .fitting .size))) W)
+      (λ (t : holdsClient ws ≡ false). absurd (never InvalidRecord p (rw t at e)))
+      (decided (holdsClient ws))
+
+module _ (ws out sent : List ℕ) (p : Step (List ℕ)) where
+  pub client-message-stays-valid : (ms : List ℕ) → lent out sent (clientMessage ws ms) ≡ stepped p → ValidClient (recordInto ws (stepped p))
+  client-message-stays-valid ms e =
+      client-stays ws (ClientMessage (messageOr (messageIn ms))) p (client-takes-words ws (messageIn ms) (messageOr (messageIn ms)) refl ∙ lent-stepped out sent (clientMessage ws ms) p e)
+
+  pub client-begin-stays-valid : lent out sent (clientBegin ws) ≡ stepped p → ValidClient (recordInto ws (stepped p))
+  client-begin-stays-valid e = client-stays ws Begin p (lent-stepped out sent (clientBegin ws) p e)
+
+  pub client-exit-stays-valid : lent out sent (clientExit ws) ≡ stepped p → ValidClient (recordInto ws (stepped p))
+  client-exit-stays-valid e = client-stays ws Exit p (lent-stepped out sent (clientExit ws) p e)

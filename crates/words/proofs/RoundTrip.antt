@@ -1,15 +1,15 @@
 -- The words of a valid record are read back as that record, and a record that was read is written back as its words.
-use Prim.Native.Nat.{ℕ, zero, suc, _+_, _*_, _≤_}
+use Prim.Native.Nat.{ℕ, zero, suc, _*_, _≤_}
 use native.Mathlib.Omega.{arith}
-use mathlib.Core.Path.{_≡_, refl, sym, ap, _∙_}
+use mathlib.Core.Path.{_≡_, refl, ap}
 use mathlib.Core.Bool.{Bool, true, false, _&&_}
 use mathlib.Core.List.{List, [], _∷_, _++_, map}
 use mathlib.Core.Logic.{⊎-elim}
-use mathlib.Core.Option.{Option, some}
+use mathlib.Core.Option.{some}
 use lib.Dec.{leb}
 use lib.ListN.{length, take, drop, take-append-drop}
 use borrow.Author.Tests.{le-leb}
-use Rattle.ids.specs.Limits.{within, maxServers, validClient, validTimestamp, validRequest, validOwner}
+use Rattle.ids.specs.Limits.{within, maxServers, validRequest, validOwner}
 use Rattle.ids.specs.Requests.{same, noRequest}
 use Rattle.ids.specs.declared.Request.{Request}
 use Rattle.ids.specs.declared.Owner.{Owner}
@@ -17,7 +17,7 @@ use Rattle.ids.specs.declared.Owner.the-variants.{Nobody, Of}
 use Rattle.ids.proofs.Choice.{both, decided}
 use Rattle.ids.proofs.LimitsLaws.{within-range, client-range, request-range}
 use Rattle.ids.proofs.RequestLaws.{same-true}
-use Rattle.wire.specs.Format.{ownerOf, ownerClient, ownerTimestamp}
+use Rattle.wire.specs.Format.{ownerClient}
 use Rattle.wire.proofs.NumbersLaws.{owner-again}
 use Rattle.votes.specs.Queues.{maxQueue, view}
 use Rattle.server.specs.Record as server
