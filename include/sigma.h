@@ -35,6 +35,56 @@ uint32_t sigma_read(const uint8_t *bytes, size_t bytes_len, uint32_t *words, siz
  * Refusals: 5 not five words, or a number out of range, 6 room short. */
 uint32_t sigma_write(const uint32_t *words, size_t words_len, uint8_t *out, size_t out_len);
 
+/* A record is words that stay where the host put them; an accepted call writes the new record over the old.
+ * 0 is none. A record slice of another length, or one that holds no valid record, is refused 21.
+ *   server: n, its number, owner, owner's timestamp, queue length, then client and timestamp of 16 places
+ *   client: n, m, its number, section, timestamp, then owner and timestamp of the answers of servers 1 to 31
+ * The messages that a step sends stand one after another at the start of `out`, and the bytes behind them stay;
+ * `sent` takes their number and their bytes. A server sends at most 42 bytes in a step, a client 12 times n. */
+enum {
+    SIGMA_REMAINDER = 0,
+    SIGMA_TRYING = 1,
+    SIGMA_CRITICAL = 2,
+    SIGMA_SERVER_WORDS = 37,
+    SIGMA_CLIENT_WORDS = 67,
+    SIGMA_SENT_WORDS = 2
+};
+
+/* Writes the record of server `id` of 1 to n, without an owner, in the first 37 words.
+ * Refusal: 7 a number out of range, or fewer words lent. */
+uint32_t sigma_server_new(uint32_t n, uint32_t id, uint32_t *record, size_t record_len);
+
+/* The server takes a REQUEST, YIELD, RELEASE or INQUIRY.
+ * Refusals: 21, 5 not five words, or a number out of range, 13 wrong kind or server, 14 queue full,
+ * 6 fewer than two words in `sent`, or room short for all that is sent. */
+uint32_t sigma_server_message(uint32_t *record, size_t record_len, const uint32_t *message, size_t message_len,
+                              uint8_t *out, size_t out_len, uint32_t *sent, size_t sent_len);
+
+/* The owner is suspected to have crashed, and removed. Refusals: 21, 15 no owner, 6 as above. */
+uint32_t sigma_server_suspect(uint32_t *record, size_t record_len, uint8_t *out, size_t out_len,
+                              uint32_t *sent, size_t sent_len);
+
+/* CHECK to the owner, if there is one. Refusals: 21, 6 as above. */
+uint32_t sigma_server_check(uint32_t *record, size_t record_len, uint8_t *out, size_t out_len,
+                            uint32_t *sent, size_t sent_len);
+
+/* Writes the record of client `id` with n servers and threshold m, which has never tried, in the first 67 words.
+ * Refusal: 7 a number out of range, or fewer words lent. */
+uint32_t sigma_client_new(uint32_t n, uint32_t m, uint32_t id, uint32_t *record, size_t record_len);
+
+/* The client, in its remainder section, starts trying. Refusals: 21, 10 another section, 11 timestamps spent, 6. */
+uint32_t sigma_client_begin(uint32_t *record, size_t record_len, uint8_t *out, size_t out_len,
+                            uint32_t *sent, size_t sent_len);
+
+/* The client leaves its critical section. Refusals: 21, 10 another section, 6. */
+uint32_t sigma_client_exit(uint32_t *record, size_t record_len, uint8_t *out, size_t out_len,
+                           uint32_t *sent, size_t sent_len);
+
+/* The client takes a RESPONSE or CHECK.
+ * Refusals: 21, 5 not five words, or a number out of range, 12 wrong kind, client or server, 6. */
+uint32_t sigma_client_message(uint32_t *record, size_t record_len, const uint32_t *message, size_t message_len,
+                              uint8_t *out, size_t out_len, uint32_t *sent, size_t sent_len);
+
 #ifdef __cplusplus
 }
 #endif

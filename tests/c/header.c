@@ -1,4 +1,5 @@
-/* Shows that include/sigma.h is right: both examples of document 01 through the functions as it declares them. */
+/* Shows that include/sigma.h is right: both examples of document 01, and one client's way into its critical section
+ * and out of it, through the functions as it declares them. */
 #include "sigma.h"
 
 #include <stdio.h>
@@ -31,6 +32,43 @@ static void round_trip(const uint8_t *bytes, size_t length, const uint32_t *mess
     expect(sigma_read(bytes, length, words, SIGMA_READ_WORDS - 1) == 6, "five words lent");
 }
 
+/* Client 5 and the only server. */
+static void enter_and_leave(void)
+{
+    uint32_t client[SIGMA_CLIENT_WORDS], server[SIGMA_SERVER_WORDS], sent[SIGMA_SENT_WORDS], words[SIGMA_READ_WORDS];
+    uint8_t out[28];
+    expect(sigma_client_new(1, 1, 5, client, SIGMA_CLIENT_WORDS - 1) == 7, "66 words lent");
+    expect(sigma_client_new(1, 1, 5, client, SIGMA_CLIENT_WORDS) == 0, "a new client");
+    expect(sigma_server_new(1, 2, server, SIGMA_SERVER_WORDS) == 7, "server 2 of 1");
+    expect(sigma_server_new(1, 1, server, SIGMA_SERVER_WORDS) == 0, "a new server");
+    expect(sigma_server_suspect(server, SIGMA_SERVER_WORDS, out, sizeof out, sent, SIGMA_SENT_WORDS) == 15, "no owner");
+
+    expect(sigma_client_begin(client, SIGMA_CLIENT_WORDS, out, 11, sent, SIGMA_SENT_WORDS) == 6, "room short");
+    expect(sigma_client_begin(client, SIGMA_CLIENT_WORDS, out, 12, sent, SIGMA_SENT_WORDS) == 0, "begin");
+    expect(sent[0] == 1 && sent[1] == 12 && client[3] == SIGMA_TRYING && client[4] == 1, "one REQUEST");
+    expect(sigma_read(out, sent[1], words, SIGMA_READ_WORDS) == 0 && words[0] == SIGMA_REQUEST, "it can be read");
+    expect(sigma_server_message(server, SIGMA_SERVER_WORDS, words, SIGMA_MESSAGE_WORDS, out, sizeof out, sent,
+                                SIGMA_SENT_WORDS) == 0, "the server takes it");
+    expect(server[2] == 5 && server[3] == 1 && server[4] == 0, "client 5 is owner");
+    expect(sigma_read(out, sent[1], words, SIGMA_READ_WORDS) == 0 && words[0] == SIGMA_RESPONSE, "its answer");
+    expect(sigma_client_message(client, SIGMA_CLIENT_WORDS, words, SIGMA_MESSAGE_WORDS, out, 0, sent,
+                                SIGMA_SENT_WORDS) == 0, "the client takes it");
+    expect(sent[0] == 0 && sent[1] == 0 && client[3] == SIGMA_CRITICAL, "client 5 is in");
+
+    expect(sigma_client_exit(client, SIGMA_CLIENT_WORDS, out, sizeof out, sent, SIGMA_SENT_WORDS) == 0, "exit");
+    expect(client[3] == SIGMA_REMAINDER && client[4] == 2, "client 5 is out");
+    expect(sigma_server_check(server, SIGMA_SERVER_WORDS, out, sizeof out, sent, SIGMA_SENT_WORDS) == 0, "check");
+    expect(sigma_read(out, sent[1], words, SIGMA_READ_WORDS) == 0 && words[0] == SIGMA_CHECK, "a CHECK");
+    expect(sigma_client_message(client, SIGMA_CLIENT_WORDS, words, SIGMA_MESSAGE_WORDS, out, sizeof out, sent,
+                                SIGMA_SENT_WORDS) == 0, "the client takes the CHECK");
+    expect(sigma_read(out, sent[1], words, SIGMA_READ_WORDS) == 0 && words[0] == SIGMA_RELEASE, "a RELEASE");
+    expect(sigma_server_message(server, SIGMA_SERVER_WORDS, words, SIGMA_MESSAGE_WORDS, out, sizeof out, sent,
+                                SIGMA_SENT_WORDS) == 0, "the server takes the RELEASE");
+    expect(server[2] == 0 && server[3] == 0, "no owner");
+    server[4] = 1;
+    expect(sigma_server_check(server, SIGMA_SERVER_WORDS, out, sizeof out, sent, SIGMA_SENT_WORDS) == 21, "broken");
+}
+
 int main(void)
 {
     static const uint8_t request[] = {0x0C, 0, 1, 0, 5, 0, 1, 0, 3, 0, 0, 0};
@@ -39,6 +77,7 @@ int main(void)
     static const uint32_t response_words[] = {SIGMA_RESPONSE, 5, 1, 3, 2};
     round_trip(request, sizeof request, request_words);
     round_trip(response, sizeof response, response_words);
+    enter_and_leave();
     puts(failures == 0 ? "header ok" : "header wrong");
     return failures != 0;
 }

@@ -150,7 +150,7 @@ module _ (n m : ℕ) (k : ClientId) (R : InRange n m k) (t : Timestamp) where
   remainder-fits = without-fits Remainder refl (rw none-filled refl)
 
 -- one response more
-heard-length : (r : Request) (l : List Owner) (j : ServerId) (o : Owner) → length (heard r l j o) ≡ length l
+pub heard-length : (r : Request) (l : List Owner) (j : ServerId) (o : Owner) → length (heard r l j o) ≡ length l
 unfolding heard
 heard-length r l j o = by-test (not (isRequest r (getD l (j .0 - 1) Nobody)) && current r o) where
   by-test : (b : Bool) → length (if b then set l (j .0 - 1) o else l) ≡ length l

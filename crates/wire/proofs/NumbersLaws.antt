@@ -68,7 +68,7 @@ valid-sound (Response k j o) v = response-sound k j o v
 valid-sound (Check k j t) v = plain-sound 6 k j t refl v
 
 -- the numbers of a valid message make the message again
-owner-again : (o : Owner) → validOwner o ≡ true → ownerOf (ownerClient o) (ownerTimestamp o) ≡ o
+pub owner-again : (o : Owner) → validOwner o ≡ true → ownerOf (ownerClient o) (ownerTimestamp o) ≡ o
 unfolding validOwner
 owner-again Nobody v = refl
 owner-again (Of q) v =

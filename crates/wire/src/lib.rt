@@ -156,7 +156,8 @@ pub fn fields_of(m: Message) -> Fields
     }
 }
 
-fn owner_of(client: u16, timestamp: u32) -> Owner
+// The owner with these numbers: nobody for 0 and 0.
+pub fn owner_of(client: u16, timestamp: u32) -> Owner
     ensures { λ r. ⌜ r ≡ ownerOf client timestamp ⌝ }
 {
     if client == 0 {

@@ -1,7 +1,7 @@
 -- `capi::sigma_read` meets its contract: each arm is given which numbers `wire::read_fields` answered.
 use mathlib.Core.List.{[]}
 use native.Mathlib.Omega.{arith}
-use Rattle.capi.proofs.WordsLaws.{used-small, read-room, read-done, read-refused}
+use Rattle.capi.proofs.CallLaws.{used-small, read-room, read-done, read-refused}
 use borrow.Author.Needs.{needs}
 use Rattle.capi.proofs.sigma_read.Statement.{statement}
 use Rattle.capi.proofs.sigma_read.Tie as tie

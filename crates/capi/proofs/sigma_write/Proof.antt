@@ -1,5 +1,5 @@
 -- `capi::sigma_write` meets its contract: each arm is given which numbers crossed.
-use Rattle.capi.proofs.WordsLaws.{write-large, write-numbers}
+use Rattle.capi.proofs.CallLaws.{write-large, write-numbers}
 use borrow.Author.Needs.{needs}
 use Rattle.capi.proofs.sigma_write.Statement.{statement}
 use Rattle.capi.proofs.sigma_write.Tie as tie

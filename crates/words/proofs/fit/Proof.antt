@@ -1,7 +1,7 @@
 -- `capi::fit` meets its contract: each test is one part of `fits`.
-use Rattle.capi.proofs.WordsLaws.{fit-kind, fit-client, fit-server, fit-owner}
-use Rattle.capi.proofs.fit.Statement.{statement}
-use Rattle.capi.proofs.fit.Tie as tie
+use Rattle.words.proofs.MessagesLaws.{fit-kind, fit-client, fit-server, fit-owner}
+use Rattle.words.proofs.fit.Statement.{statement}
+use Rattle.words.proofs.fit.Tie as tie
 
 returns : tie.Need-returns
 returns c = search fit-kind

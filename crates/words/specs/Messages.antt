@@ -9,8 +9,9 @@ use Rattle.ids.specs.Choice.{if_then_else_}
 use Rattle.wire.specs.Format.{validFields, messageOf}
 use Rattle.wire.specs.declared.Fields.{Fields}
 use Rattle.wire.specs.declared.Message.{Message}
-use Rattle.capi.specs.declared.Crossed.{Crossed}
-use Rattle.capi.specs.declared.Crossed.the-variants.{Numbers, TooLarge}
+use Rattle.wire.specs.declared.Message.the-variants.{Request}
+use Rattle.words.specs.declared.Crossed.{Crossed}
+use Rattle.words.specs.declared.Crossed.the-variants.{Numbers, TooLarge}
 
 -- the largest number of a field of two bytes
 abbrev pub maxShort : ℕ
@@ -38,3 +39,11 @@ asMessage (Numbers f) = if validFields f then some (messageOf f) else none
 -- the message that these words are, if they are one
 abbrev pub messageIn : List ℕ → Option Message
 messageIn ws = asMessage (crossing ws)
+
+-- what stands for words that are no message: a message that every call refuses 5
+abbrev pub noMessage : Message
+noMessage = Request (record { 0 = 0 }) (record { 0 = 0 }) (record { 0 = 0 })
+
+abbrev pub messageOr : Option Message → Message
+messageOr none = noMessage
+messageOr (some m) = m

@@ -1,18 +1,17 @@
--- Words and messages: when five words cross, and what the two calls return and leave in each case.
+-- What reading and writing a message return and leave, in each case.
 use Prim.Native.Nat.{ℕ, _<_, _≤_}
 use native.Mathlib.Omega.{arith}
-use mathlib.Core.Path.{_≡_, refl, sym, _∙_}
-use mathlib.Core.Bool.{Bool, true, false, not, _&&_}
+use mathlib.Core.Path.{_≡_, refl}
+use mathlib.Core.Bool.{true, false}
 use mathlib.Core.List.{List, [], _∷_, _++_}
 use mathlib.Core.Logic.{⊎-elim}
-use lib.Dec.{leb}
-use lib.ListN.{length, getD}
+use lib.ListN.{length}
 use lib.Seq.{sets}
-use borrow.Author.Tests.{le-leb, lt-leb, ne-eqb, leb-true, not-true, not-false, lt-ltb, le-ltb}
+use borrow.Author.Tests.{lt-ltb, le-ltb}
 use Rattle.ids.specs.Refusals.{code}
 use Rattle.ids.specs.declared.Refusal.{Refusal}
 use Rattle.ids.specs.declared.Refusal.the-variants.{NumberOutOfRange, RoomShort}
-use Rattle.ids.proofs.Choice.{both, decided}
+use Rattle.ids.proofs.Choice.{decided}
 use Rattle.wire.specs.Format.{words, fieldsOf, kindIn, validFields}
 use Rattle.wire.specs.Calls.{readOf, numbersOf, writeNumbers, numbersAfter}
 use Rattle.wire.specs.declared.Fields.{Fields}
@@ -24,51 +23,10 @@ use Rattle.wire.specs.declared.Numbers.the-variants.{Fitting, Refused as NoNumb
 use Rattle.wire.specs.declared.Written.{Written}
 use Rattle.wire.proofs.RoundTrip.{took, short}
 use Rattle.wire.proofs.CallLaws.{written-as-message, buffer-as-message}
-use Rattle.capi.specs.Words.{maxShort, fits, fieldsFrom, crossing, messageIn}
+use Rattle.words.specs.Messages.{crossing, messageIn}
 use Rattle.capi.specs.Calls.{readCode, readWords, writtenCode, writeCode, writeBuffer}
-use Rattle.capi.specs.declared.Crossed.{Crossed}
-use Rattle.capi.specs.declared.Crossed.the-variants.{Numbers, TooLarge}
-
-module _ (kind client server owner : ℕ) where
-  pub fit-kind : 65535 < kind → false ≡ fits kind client server owner
-  unfolding fits
-  fit-kind h = rw (lt-leb _ _ h)
-
-  pub fit-client : kind ≤ 65535 → 65535 < client → false ≡ fits kind client server owner
-  unfolding fits
-  fit-client a h = rw (le-leb _ _ a, lt-leb _ _ h)
-
-  pub fit-server : kind ≤ 65535 → client ≤ 65535 → 65535 < server → false ≡ fits kind client server owner
-  unfolding fits
-  fit-server a b h = rw (le-leb _ _ a, le-leb _ _ b, lt-leb _ _ h)
-
-  pub fit-owner : kind ≤ 65535 → client ≤ 65535 → server ≤ 65535 → leb owner 65535 ≡ fits kind client server owner
-  unfolding fits
-  fit-owner a b c = rw (le-leb _ _ a, le-leb _ _ b, le-leb _ _ c)
-
-module _ (ws : List ℕ) where
-  pub cross-length : (length ws ≡ 5 → ⊥) → TooLarge ≡ crossing ws
-  unfolding crossing
-  cross-length n = rw (ne-eqb (length ws) 5 n)
-
-  module _ (l : length ws ≡ 5) (x : Bool) (f : x ≡ fits (getD ws 0 0) (getD ws 1 0) (getD ws 2 0) (getD ws 4 0)) where
-    pub cross-large : not x ≡ true → TooLarge ≡ crossing ws
-    unfolding crossing
-    cross-large n = let u : x ≡ false = not-true x n in rw (l, ← f, u)
-
-    module _ (n : not x ≡ false) where
-      pub cross-small : (getD ws 0 0 ≤ maxShort) × (getD ws 1 0 ≤ maxShort) × (getD ws 2 0 ≤ maxShort) × (getD ws 4 0 ≤ maxShort)
-      unfolding fits
-      cross-small =
-          let t : x ≡ true = not-false x n in
-          let (k, r₁) = both (leb (getD ws 0 0) maxShort) (leb (getD ws 1 0) maxShort && (leb (getD ws 2 0) maxShort && leb (getD ws 4 0) maxShort)) (sym f ∙ t) in
-          let (a, r₂) = both (leb (getD ws 1 0) maxShort) (leb (getD ws 2 0) maxShort && leb (getD ws 4 0) maxShort) r₁ in
-          let (b, c) = both (leb (getD ws 2 0) maxShort) (leb (getD ws 4 0) maxShort) r₂ in
-          (leb-true _ _ k, leb-true _ _ a, leb-true _ _ b, leb-true _ _ c)
-
-      pub cross-numbers : (g : Fields) → g ≡ fieldsFrom ws → Numbers g ≡ crossing ws
-      unfolding crossing
-      cross-numbers g e = let t : x ≡ true = not-false x n in rw (e, l, ← f, t)
+use Rattle.words.specs.declared.Crossed.{Crossed}
+use Rattle.words.specs.declared.Crossed.the-variants.{Numbers, TooLarge}
 
 -- what `sigma_read` returns and leaves, from the numbers that were read
 module _ (s ws : List ℕ) (p : Read) (e : p ≡ numbersOf (readOf s)) where

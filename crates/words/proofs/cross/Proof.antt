@@ -1,9 +1,9 @@
 -- `capi::cross` meets its contract: the words are tested as `crossing` tests them.
 use denote.Ref.{now}
-use Rattle.capi.proofs.WordsLaws.{cross-length, cross-large, cross-small, cross-numbers}
+use Rattle.words.proofs.MessagesLaws.{cross-length, cross-large, cross-small, cross-numbers}
 use borrow.Author.Needs.{needs}
-use Rattle.capi.proofs.cross.Statement.{statement}
-use Rattle.capi.proofs.cross.Tie as tie
+use Rattle.words.proofs.cross.Statement.{statement}
+use Rattle.words.proofs.cross.Tie as tie
 
 returns : tie.Need-returns
 returns c = search cross-length

@@ -1,0 +1,3 @@
+pub mod MessagesLaws
+pub mod RecordsLaws
+pub mod RoundTrip

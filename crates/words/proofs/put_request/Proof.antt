@@ -1,0 +1,46 @@
+-- `words::put_request` meets its contract: two stores.
+use native.Mathlib.Numerals.{add-one}
+use native.Mathlib.Omega.{arith}
+use lib.ListN.{length-set}
+use borrow.Author.Needs.{needs}
+use Rattle.words.proofs.put_request.Statement.{statement}
+use Rattle.words.proofs.put_request.Tie as tie
+use Rattle.words.proofs.put_request.Reads as reads
+use Rattle.words.proofs.put_request.Lts as lts
+
+cast-words : tie.Need-cast-words
+cast-words c = search needs
+
+mul-words : tie.Need-mul-words
+mul-words c = search needs
+
+slice-write-words : tie.Need-slice-write-words
+slice-write-words c = search needs
+
+add-words : tie.Need-add-words
+add-words c = search needs
+
+mul-words-2 : tie.Need-mul-words-2
+mul-words-2 c = search needs
+
+slice-write-words-2 : tie.Need-slice-write-words-2
+slice-write-words-2 c = simp length-set (omega arith)
+
+same-length : tie.Need-same-length
+same-length c = search needs
+
+returns : tie.Need-returns
+returns c = rw add-one
+
+pub put-request-spec : {M : Type 1} → statement M
+put-request-spec =
+    tie.close
+    (tie.spec
+    cast-words
+    mul-words
+    slice-write-words
+    add-words
+    mul-words-2
+    slice-write-words-2
+    same-length
+    returns)
