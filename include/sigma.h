@@ -3,6 +3,8 @@
  * Every call returns 0, or the number of the refusal (docs/DECISIONS.md lists them); a refused call changes
  * nothing it was lent. A slice is a pointer, then its length in elements: the pointer is aligned and not null
  * even where the length is 0, and a slice that a call may write overlaps no other.
+ *
+ * libcapi.a has the calls on messages and records, libcapi_quorum.a those on settings (the last three).
  */
 #ifndef SIGMA_H
 #define SIGMA_H
@@ -84,6 +86,35 @@ uint32_t sigma_client_exit(uint32_t *record, size_t record_len, uint8_t *out, si
  * Refusals: 21, 5 not five words, or a number out of range, 12 wrong kind, client or server, 6. */
 uint32_t sigma_client_message(uint32_t *record, size_t record_len, const uint32_t *message, size_t message_len,
                               uint8_t *out, size_t out_len, uint32_t *sent, size_t sent_len);
+
+/* A setting is n servers, 1 to 31, threshold m, 1 to n, and faults f, 0 to n. An event is two words: its kind, and the
+ * number of the client (try, exit, fall), server (down, up, miss, check) or message (take, drop). */
+enum {
+    SIGMA_EVENT_TRY = 1,
+    SIGMA_EVENT_EXIT = 2,
+    SIGMA_EVENT_FALL = 3,
+    SIGMA_EVENT_DOWN = 4,
+    SIGMA_EVENT_UP = 5,
+    SIGMA_EVENT_TAKE = 6,
+    SIGMA_EVENT_DROP = 7,
+    SIGMA_EVENT_MISS = 8,
+    SIGMA_EVENT_CHECK = 9,
+    SIGMA_SETTING_WORDS = 2,
+    SIGMA_EVENT_WORDS = 2
+};
+
+/* Judges a setting: 0 accepted, 8 unsafe (margin 0 or less), 9 stalls (m above n - f). All three write the first two words:
+ * the margin, 2m - n - f, as a signed number in two's complement, and the events of the run that ends with two clients
+ * in their critical sections, which is 0 unless 8. Refusals that write nothing: 7 out of range, 6 fewer than two words. */
+uint32_t sigma_setting(uint32_t n, uint32_t m, uint32_t f, uint32_t *words, size_t words_len);
+
+/* Event i, from 1, of the run that an unsafe setting is refused with, in the first two words.
+ * Refusals: 7 out of range, 17 the run has no such event, or the setting is not refused 8, 6 fewer than two words. */
+uint32_t sigma_run_event(uint32_t n, uint32_t m, uint32_t f, uint32_t i, uint32_t *words, size_t words_len);
+
+/* The default threshold for n servers, two thirds of n rounded up, in the first word.
+ * Refusals: 7 n out of range, 6 no word lent. */
+uint32_t sigma_default_threshold(uint32_t n, uint32_t *words, size_t words_len);
 
 #ifdef __cplusplus
 }

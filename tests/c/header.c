@@ -69,6 +69,21 @@ static void enter_and_leave(void)
     expect(sigma_server_check(server, SIGMA_SERVER_WORDS, out, sizeof out, sent, SIGMA_SENT_WORDS) == 21, "broken");
 }
 
+/* Document 01's setting 3,2,1: unsafe, margin 0, a run of 12 events that begins with client 1's try. */
+static void settings(void)
+{
+    uint32_t words[2] = {7, 7};
+    expect(sigma_setting(32, 2, 1, words, SIGMA_SETTING_WORDS) == 7 && words[0] == 7, "out of range");
+    expect(sigma_setting(3, 2, 1, words, 1) == 6 && words[0] == 7, "one word lent");
+    expect(sigma_setting(3, 2, 1, words, SIGMA_SETTING_WORDS) == 8 && words[0] == 0 && words[1] == 12, "unsafe");
+    expect(sigma_setting(3, 1, 3, words, SIGMA_SETTING_WORDS) == 8 && (int32_t)words[0] == -4, "a margin below 0");
+    expect(sigma_setting(4, 4, 1, words, SIGMA_SETTING_WORDS) == 9 && words[0] == 3 && words[1] == 0, "stalls");
+    expect(sigma_setting(4, 3, 1, words, SIGMA_SETTING_WORDS) == 0 && words[0] == 1 && words[1] == 0, "accepted");
+    expect(sigma_run_event(3, 2, 1, 1, words, SIGMA_EVENT_WORDS) == 0 && words[0] == SIGMA_EVENT_TRY && words[1] == 1, "try 1");
+    expect(sigma_run_event(3, 2, 1, 13, words, SIGMA_EVENT_WORDS) == 17, "behind the run");
+    expect(sigma_default_threshold(7, words, 1) == 0 && words[0] == 5, "two thirds of 7");
+}
+
 int main(void)
 {
     static const uint8_t request[] = {0x0C, 0, 1, 0, 5, 0, 1, 0, 3, 0, 0, 0};
@@ -78,6 +93,7 @@ int main(void)
     round_trip(request, sizeof request, request_words);
     round_trip(response, sizeof response, response_words);
     enter_and_leave();
+    settings();
     puts(failures == 0 ? "header ok" : "header wrong");
     return failures != 0;
 }

@@ -1,0 +1,58 @@
+-- `capi_quorum::sigma_run_event` meets its contract: each return is one case of the definition.
+use Rattle.capi_quorum.proofs.CallLaws.{event-given, event-refused}
+use denote.Ref.{now}
+use mathlib.Core.List.{[]}
+use borrow.Author.Needs.{needs}
+use Rattle.capi_quorum.proofs.sigma_run_event.Statement.{statement}
+use Rattle.capi_quorum.proofs.sigma_run_event.Tie as tie
+
+run-event-requires : tie.Need-run-event-requires
+run-event-requires c κs = search needs
+
+enum-known-a : tie.Need-enum-known-a
+enum-known-a c = search needs
+
+kind-of-requires : tie.Need-kind-of-requires
+kind-of-requires c κs = search needs
+
+number-of-requires : tie.Need-number-of-requires
+number-of-requires c κs = search needs
+
+put-two-requires : tie.Need-put-two-requires
+put-two-requires c κs = search needs
+
+enum-known-a-2 : tie.Need-enum-known-a-2
+enum-known-a-2 c = search needs
+
+code-of-requires : tie.Need-code-of-requires
+code-of-requires c κs = search needs
+
+same-length : tie.Need-same-length
+same-length c = search needs
+
+returns : tie.Need-returns
+returns c =
+    let d = c .before .before .before .before .before .before .before .before .before in
+    let a = d .before .before .args in
+    event-given (a .n) (a .m) (a .f) (a .i) (now (a .words)) _ _ _ (d .run-event .ensures) _ _ _ (c .before .before .before .before .before .before .before .a .given .1) (c .before .before .before .before .kind-of .ensures) (c .before .before .before .number-of .ensures) (c .before .before .put-two .ensures)
+
+returns-2 : tie.Need-returns-2
+returns-2 c =
+    let d = c .before .before .before .before in
+    let a = d .before .before .args in
+    event-refused (a .n) (a .m) (a .f) (a .i) (now (a .words)) [] _ _ (d .run-event .ensures) _ (c .before .before .a2 .given .1) (c .code-of .ensures)
+
+pub sigma-run-event-spec : {M : Type 1} → statement M
+sigma-run-event-spec =
+    tie.close
+    (tie.spec
+    run-event-requires
+    enum-known-a
+    kind-of-requires
+    number-of-requires
+    put-two-requires
+    enum-known-a-2
+    code-of-requires
+    same-length
+    returns
+    returns-2)
