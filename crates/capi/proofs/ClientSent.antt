@@ -33,7 +33,7 @@ use Rattle.client.proofs.RoundLaws.{length-round, size-round}
 use Rattle.client.proofs.SendLaws.{length-toAll, size-toAll, request-plain, release-plain}
 use Rattle.client.proofs.ValidLaws.{valid-known}
 use Rattle.capi.proofs.ServerSent.{never, entered}
-use Rattle.capi.specs.Steps.{clientOutcome}
+use Rattle.capi.specs.Parts.{clientOutcome}
 use Rattle.capi.specs.declared.ClientCall.{ClientCall}
 use Rattle.capi.specs.declared.ClientCall.the-variants.{Message as ClientMessage, Begin, Exit}
 

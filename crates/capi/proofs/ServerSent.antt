@@ -33,7 +33,7 @@ use Rattle.server.specs.Record as server
 use Rattle.server.specs.Calls as server-calls
 use Rattle.server.specs.declared.Server.{Server}
 use Rattle.server.proofs.KeepsValid.{message-keeps-valid, suspect-keeps-valid, check-keeps-valid}
-use Rattle.capi.specs.Steps.{serverOutcome}
+use Rattle.capi.specs.Parts.{serverOutcome}
 use Rattle.capi.specs.declared.ServerCall.{ServerCall}
 use Rattle.capi.specs.declared.ServerCall.the-variants.{Message as ServerMessage, Suspect, Check as CheckOwner}
 

@@ -31,8 +31,8 @@ use Rattle.server.specs.declared.Stepped.{Stepped as ServerStepped}
 use Rattle.client.specs.declared.Stepped.{Stepped as ClientStepped}
 use Rattle.words.specs.Messages.{messageOr}
 use Rattle.words.specs.Records.{holdsServer, serverFrom, serverWords, holdsClient, clientFrom, clientWords}
-use Rattle.capi.specs.Steps.{inWords, lent, Leaves, onServer, onClient, serverWith, clientWith, serverTakes, clientTakes, serverOutcome, clientOutcome}
-use Rattle.capi.specs.Parts.{answerCode, answerRecord, answerCounts, shortCode, shortAnswer, Storable}
+use Rattle.capi.specs.Steps.{inWords, lent, Leaves, onServer, onClient, serverWith, clientWith, serverTakes, clientTakes}
+use Rattle.capi.specs.Parts.{answerCode, answerRecord, answerCounts, shortCode, shortAnswer, Storable, serverOutcome, clientOutcome}
 use Rattle.capi.specs.declared.ServerCall.{ServerCall}
 use Rattle.capi.specs.declared.ServerCall.the-variants.{Message as ServerMessage}
 use Rattle.capi.specs.declared.ClientCall.{ClientCall}

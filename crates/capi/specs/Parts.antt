@@ -1,4 +1,4 @@
--- What the private functions of the step calls compute from a step's answer. No exported call cites these.
+-- What the private functions of the step calls are, and what they compute from a step's answer. No exported call cites these.
 use Prim.Native.Nat.{ℕ, _<_, _≤_}
 use mathlib.Core.Path.{_≡_}
 use mathlib.Core.List.{List, [], _∷_}
@@ -8,6 +8,16 @@ use Rattle.ids.specs.declared.Refusal.the-variants.{RoomShort}
 use Rattle.wire.specs.Step.{Outcome, refused, stepped}
 use Rattle.wire.specs.declared.Answer.{Answer}
 use Rattle.wire.specs.declared.Answer.the-variants.{Sent, Refused}
+use Rattle.votes.specs.Figure1 as votes
+use Rattle.server.specs.Calls as server-calls
+use Rattle.server.specs.declared.Server.{Server}
+use Rattle.client.specs.Figure1 as client-state
+use Rattle.client.specs.Calls as client-calls
+use Rattle.client.specs.declared.Client.{Client}
+use Rattle.capi.specs.declared.ServerCall.{ServerCall}
+use Rattle.capi.specs.declared.ServerCall.the-variants.{Message as ServerMessage, Suspect, Check}
+use Rattle.capi.specs.declared.ClientCall.{ClientCall}
+use Rattle.capi.specs.declared.ClientCall.the-variants.{Message as ClientMessage, Begin, Exit}
 
 abbrev pub answerCode : Answer → ℕ
 answerCode (Refused e) = code e
@@ -35,3 +45,14 @@ shortAnswer (Sent k n) = code RoomShort
 pub record Storable (a : Answer) (len : ℕ) : Type 0 where
   pub few : (k n : ℕ) → a ≡ Sent k n → (k < 4294967296) × (n < 4294967296)
   pub short : (k n : ℕ) → a ≡ Sent k n → len ≤ 16
+
+-- the code's own names for the steps of a record
+abbrev pub serverOutcome : ServerCall → Server → Outcome votes.State
+serverOutcome (ServerMessage m) s = server-calls.messageOutcome s m
+serverOutcome Suspect s = server-calls.suspectOutcome s
+serverOutcome Check s = server-calls.checkOutcome s
+
+abbrev pub clientOutcome : ClientCall → Client → Outcome client-state.State
+clientOutcome (ClientMessage m) c = client-calls.messageOutcome c m
+clientOutcome Begin c = client-calls.beginOutcome c
+clientOutcome Exit c = client-calls.exitOutcome c

@@ -26,10 +26,6 @@ use Rattle.client.specs.Calls as client-calls
 use Rattle.client.specs.declared.Client.{Client}
 use Rattle.words.specs.Messages.{messageIn}
 use Rattle.words.specs.Records.{serverIn, serverSize, serverWords, clientIn, clientSize, clientWords}
-use Rattle.capi.specs.declared.ServerCall.{ServerCall}
-use Rattle.capi.specs.declared.ServerCall.the-variants.{Message as ServerMessage, Suspect, Check}
-use Rattle.capi.specs.declared.ClientCall.{ClientCall}
-use Rattle.capi.specs.declared.ClientCall.the-variants.{Message as ClientMessage, Begin, Exit}
 
 module _ {A : Type 0} where
   -- an outcome with the new state as the words of its record
@@ -121,14 +117,3 @@ clientNew n m k room =
     if leb clientSize room && (client.validSizes n m && validClient (record { 0 = k })) then
     stepped (stay (clientWords (client.store n m (record { 0 = k }) (client-state.fresh n))))
     else refused ParameterOutOfRange
-
--- the code's own names for the steps of a record
-abbrev pub serverOutcome : ServerCall → Server → Outcome votes.State
-serverOutcome (ServerMessage m) s = server-calls.messageOutcome s m
-serverOutcome Suspect s = server-calls.suspectOutcome s
-serverOutcome Check s = server-calls.checkOutcome s
-
-abbrev pub clientOutcome : ClientCall → Client → Outcome client-state.State
-clientOutcome (ClientMessage m) c = client-calls.messageOutcome c m
-clientOutcome Begin c = client-calls.beginOutcome c
-clientOutcome Exit c = client-calls.exitOutcome c

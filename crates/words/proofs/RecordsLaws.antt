@@ -20,7 +20,8 @@ use Rattle.server.specs.declared.Server.{Server}
 use Rattle.client.specs.declared.Client.{Client}
 use Rattle.client.specs.declared.Section.{Section}
 use Rattle.words.specs.Messages.{maxShort}
-use Rattle.words.specs.Records.{requestWords, requestsIn, fitsPlace, fitsHead, fitsRecord, holdsServer, holdsClient, Fitting, serverFrom, serverWords, clientFrom, clientWords, sectionOf, sectionWord}
+use Rattle.words.specs.Records.{requestWords, requestsIn, fitsPlace, fitsHead, fitsRecord, holdsServer, holdsClient, serverFrom, serverWords, clientFrom, clientWords, sectionOf, sectionWord}
+use Rattle.words.specs.Parts.{Fitting}
 
 -- the place whose words stand from `at` on
 abbrev pub placeAt : List ℕ → ℕ → Request
@@ -124,6 +125,10 @@ module _ (ws : List ℕ) (n : ℕ) (F : Fitting ws n) where
         let z : i ≡ n = omega (arith, S .within) in
         let e : take n l ≡ take n (requestsIn (drop 5 ws)) = rw z at (S .done) in
         sym (take-all n l (omega (arith, S .size))) ∙ e ∙ take-all n (requestsIn (drop 5 ws)) (omega (arith, length-in))
+
+-- a place's two words, one after the other
+pub put-two : (ws : List ℕ) (at k t : ℕ) → set (set ws at k) (at + 1) t ≡ sets ws at (k ∷ (t ∷ []))
+put-two ws at k t = rw add-one
 
 -- what a loop that writes n places knows before place i: those before it stand in l, which was o
 pub record Storing (P : List Request) (n : ℕ) (o l : List ℕ) (i : ℕ) : Type 0 where

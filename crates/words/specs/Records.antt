@@ -1,7 +1,6 @@
 -- How a record crosses to C: 32-bit words in a fixed order, 0 for none.
-use Prim.Native.Nat.{ℕ, _+_, _*_}
-use mathlib.Core.Path.{_≡_}
-use mathlib.Core.Bool.{Bool, true, _&&_}
+use Prim.Native.Nat.{ℕ}
+use mathlib.Core.Bool.{Bool, _&&_}
 use mathlib.Core.List.{List, [], _∷_}
 use mathlib.Core.Option.{Option, none, some}
 use lib.Dec.{eqb, leb}
@@ -97,8 +96,3 @@ serverIn ws = if holdsServer ws then some (serverFrom ws) else none
 
 abbrev pub clientIn : List ℕ → Option Client
 clientIn ws = if holdsClient ws then some (clientFrom ws) else none
-
--- words with a number of places whose clients fit: for the code's loops
-pub record Fitting (ws : List ℕ) (places : ℕ) : Type 0 where
-  pub size : length ws ≡ 5 + 2 * places
-  pub small : every fitsPlace (requestsIn (drop 5 ws)) ≡ true

@@ -6,14 +6,6 @@ use Rattle.capi.proofs.StepLaws.{refused-leaves, is-client, no-client, 
 use borrow.Author.Needs.{needs}
 use Rattle.capi.proofs.client_call.Statement.{statement}
 use Rattle.capi.proofs.client_call.Tie as tie
-use Rattle.capi.proofs.client_call.Reads as reads
-use Rattle.capi.proofs.client_call.Lts as lts
-use Rattle.capi.proofs.client_finish.Reads as client-finish-reads
-use Rattle.capi.proofs.client_short.Reads as client-short-reads
-use Rattle.capi.proofs.client_step.Reads as client-step-reads
-use Rattle.ids.proofs.code_of.Reads as code-of-reads
-use Rattle.words.proofs.holds_client.Reads as holds-client-reads
-use Rattle.words.proofs.load_client.Reads as load-client-reads
 
 holds-client-requires : tie.Need-holds-client-requires
 holds-client-requires c κs = search needs

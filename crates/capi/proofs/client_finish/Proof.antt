@@ -2,11 +2,6 @@
 use borrow.Author.Needs.{needs}
 use Rattle.capi.proofs.client_finish.Statement.{statement}
 use Rattle.capi.proofs.client_finish.Tie as tie
-use Rattle.capi.proofs.client_finish.Reads as reads
-use Rattle.capi.proofs.client_finish.Lts as lts
-use Rattle.capi.proofs.put_counts.Reads as put-counts-reads
-use Rattle.ids.proofs.code_of.Reads as code-of-reads
-use Rattle.words.proofs.store_client.Reads as store-client-reads
 
 enum-known-answer : tie.Need-enum-known-answer
 enum-known-answer c = search needs

@@ -3,10 +3,6 @@ use Rattle.capi.proofs.StepLaws.{client-short-answers}
 use borrow.Author.Needs.{needs}
 use Rattle.capi.proofs.client_short.Statement.{statement}
 use Rattle.capi.proofs.client_short.Tie as tie
-use Rattle.capi.proofs.client_short.Reads as reads
-use Rattle.capi.proofs.client_short.Lts as lts
-use Rattle.capi.proofs.client_step.Reads as client-step-reads
-use Rattle.capi.proofs.short_answer.Reads as short-answer-reads
 
 slice-aggregate-client-step : tie.Need-slice-aggregate-client-step
 slice-aggregate-client-step c = search needs

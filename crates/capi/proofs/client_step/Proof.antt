@@ -2,11 +2,6 @@
 use borrow.Author.Needs.{needs}
 use Rattle.capi.proofs.client_step.Statement.{statement}
 use Rattle.capi.proofs.client_step.Tie as tie
-use Rattle.capi.proofs.client_step.Reads as reads
-use Rattle.capi.proofs.client_step.Lts as lts
-use Rattle.client.proofs.begin.Reads as begin-reads
-use Rattle.client.proofs.exit.Reads as exit-reads
-use Rattle.client.proofs.message.Reads as message-reads
 
 enum-known-call : tie.Need-enum-known-call
 enum-known-call c = search needs

@@ -6,14 +6,6 @@ use Rattle.capi.proofs.StepLaws.{refused-leaves, is-server, no-server, 
 use borrow.Author.Needs.{needs}
 use Rattle.capi.proofs.server_call.Statement.{statement}
 use Rattle.capi.proofs.server_call.Tie as tie
-use Rattle.capi.proofs.server_call.Reads as reads
-use Rattle.capi.proofs.server_call.Lts as lts
-use Rattle.capi.proofs.server_finish.Reads as server-finish-reads
-use Rattle.capi.proofs.server_short.Reads as server-short-reads
-use Rattle.capi.proofs.server_step.Reads as server-step-reads
-use Rattle.ids.proofs.code_of.Reads as code-of-reads
-use Rattle.words.proofs.holds_server.Reads as holds-server-reads
-use Rattle.words.proofs.load_server.Reads as load-server-reads
 
 holds-server-requires : tie.Need-holds-server-requires
 holds-server-requires c κs = search needs

@@ -3,10 +3,6 @@ use Rattle.capi.proofs.StepLaws.{server-short-answers}
 use borrow.Author.Needs.{needs}
 use Rattle.capi.proofs.server_short.Statement.{statement}
 use Rattle.capi.proofs.server_short.Tie as tie
-use Rattle.capi.proofs.server_short.Reads as reads
-use Rattle.capi.proofs.server_short.Lts as lts
-use Rattle.capi.proofs.server_step.Reads as server-step-reads
-use Rattle.capi.proofs.short_answer.Reads as short-answer-reads
 
 slice-aggregate-server-step : tie.Need-slice-aggregate-server-step
 slice-aggregate-server-step c = search needs

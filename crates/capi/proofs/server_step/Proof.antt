@@ -2,11 +2,6 @@
 use borrow.Author.Needs.{needs}
 use Rattle.capi.proofs.server_step.Statement.{statement}
 use Rattle.capi.proofs.server_step.Tie as tie
-use Rattle.capi.proofs.server_step.Reads as reads
-use Rattle.capi.proofs.server_step.Lts as lts
-use Rattle.server.proofs.check.Reads as check-reads
-use Rattle.server.proofs.message.Reads as message-reads
-use Rattle.server.proofs.suspect.Reads as suspect-reads
 
 enum-known-call : tie.Need-enum-known-call
 enum-known-call c = search needs

@@ -2,9 +2,6 @@
 use borrow.Author.Needs.{needs}
 use Rattle.capi.proofs.short_answer.Statement.{statement}
 use Rattle.capi.proofs.short_answer.Tie as tie
-use Rattle.capi.proofs.short_answer.Reads as reads
-use Rattle.capi.proofs.short_answer.Lts as lts
-use Rattle.ids.proofs.code_of.Reads as code-of-reads
 
 enum-told : tie.Need-enum-told
 enum-told c = search needs

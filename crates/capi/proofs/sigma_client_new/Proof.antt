@@ -8,12 +8,6 @@ use native.Mathlib.Omega.{arith}
 use borrow.Author.Needs.{needs}
 use Rattle.capi.proofs.sigma_client_new.Statement.{statement}
 use Rattle.capi.proofs.sigma_client_new.Tie as tie
-use Rattle.capi.proofs.sigma_client_new.Reads as reads
-use Rattle.capi.proofs.sigma_client_new.Lts as lts
-use Rattle.capi.proofs.client_finish.Reads as client-finish-reads
-use Rattle.client.proofs.new.Reads as new-reads
-use Rattle.ids.proofs.code_of.Reads as code-of-reads
-use Rattle.words.proofs.fits_head.Reads as fits-head-reads
 
 code-of-requires : tie.Need-code-of-requires
 code-of-requires c κs = search needs

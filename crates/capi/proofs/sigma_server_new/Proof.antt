@@ -8,12 +8,6 @@ use native.Mathlib.Omega.{arith}
 use borrow.Author.Needs.{needs}
 use Rattle.capi.proofs.sigma_server_new.Statement.{statement}
 use Rattle.capi.proofs.sigma_server_new.Tie as tie
-use Rattle.capi.proofs.sigma_server_new.Reads as reads
-use Rattle.capi.proofs.sigma_server_new.Lts as lts
-use Rattle.capi.proofs.server_finish.Reads as server-finish-reads
-use Rattle.ids.proofs.code_of.Reads as code-of-reads
-use Rattle.server.proofs.new.Reads as new-reads
-use Rattle.words.proofs.fits_head.Reads as fits-head-reads
 
 code-of-requires : tie.Need-code-of-requires
 code-of-requires c κs = search needs

@@ -5,8 +5,6 @@ use Rattle.words.proofs.RecordsLaws.{Passing, passing-none, passing-fai
 use borrow.Author.Needs.{needs}
 use Rattle.words.proofs.clients_fit.Statement.{statement}
 use Rattle.words.proofs.clients_fit.Tie as tie
-use Rattle.words.proofs.clients_fit.Reads as reads
-use Rattle.words.proofs.clients_fit.Lts as lts
 
 abbrev Inv-loop : tie.InvT-loop
 Inv-loop words places i₀ i = Passing words places i

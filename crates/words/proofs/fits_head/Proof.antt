@@ -2,8 +2,6 @@
 use Rattle.words.proofs.RecordsLaws.{head-1, head-2, head-3}
 use Rattle.words.proofs.fits_head.Statement.{statement}
 use Rattle.words.proofs.fits_head.Tie as tie
-use Rattle.words.proofs.fits_head.Reads as reads
-use Rattle.words.proofs.fits_head.Lts as lts
 
 returns : tie.Need-returns
 returns c = search head-1

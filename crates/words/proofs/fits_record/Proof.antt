@@ -3,10 +3,6 @@ use Rattle.words.proofs.RecordsLaws.{record-wide, record-fits}
 use borrow.Author.Needs.{needs}
 use Rattle.words.proofs.fits_record.Statement.{statement}
 use Rattle.words.proofs.fits_record.Tie as tie
-use Rattle.words.proofs.fits_record.Reads as reads
-use Rattle.words.proofs.fits_record.Lts as lts
-use Rattle.words.proofs.clients_fit.Reads as clients-fit-reads
-use Rattle.words.proofs.fits_head.Reads as fits-head-reads
 
 shared-slice-read-fits-head : tie.Need-shared-slice-read-fits-head
 shared-slice-read-fits-head c = search needs

@@ -4,9 +4,6 @@ use Rattle.words.proofs.RecordsLaws.{client-length, client-section, cli
 use borrow.Author.Needs.{needs}
 use Rattle.words.proofs.holds_client.Statement.{statement}
 use Rattle.words.proofs.holds_client.Tie as tie
-use Rattle.words.proofs.holds_client.Reads as reads
-use Rattle.words.proofs.holds_client.Lts as lts
-use Rattle.words.proofs.fits_record.Reads as fits-record-reads
 
 returns : tie.Need-returns
 returns c = client-length (now (c .before .before .args .words)) (c .if1 .taken)

@@ -4,9 +4,6 @@ use Rattle.words.proofs.RecordsLaws.{server-length, server-fits}
 use borrow.Author.Needs.{needs}
 use Rattle.words.proofs.holds_server.Statement.{statement}
 use Rattle.words.proofs.holds_server.Tie as tie
-use Rattle.words.proofs.holds_server.Reads as reads
-use Rattle.words.proofs.holds_server.Lts as lts
-use Rattle.words.proofs.fits_record.Reads as fits-record-reads
 
 returns : tie.Need-returns
 returns c = server-length (now (c .before .before .args .words)) (c .if1 .taken)

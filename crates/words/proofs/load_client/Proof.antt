@@ -5,10 +5,6 @@ use Rattle.words.proofs.RecordsLaws.{client-held, client-loaded}
 use borrow.Author.Needs.{needs}
 use Rattle.words.proofs.load_client.Statement.{statement}
 use Rattle.words.proofs.load_client.Tie as tie
-use Rattle.words.proofs.load_client.Reads as reads
-use Rattle.words.proofs.load_client.Lts as lts
-use Rattle.words.proofs.response_places.Reads as response-places-reads
-use Rattle.words.proofs.section_of.Reads as section-of-reads
 
 response-places-requires : tie.Need-response-places-requires
 response-places-requires c κs = let h = client-held (now (c .before .args .words)) (c .before .pre) in h .fitting

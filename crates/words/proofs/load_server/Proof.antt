@@ -5,10 +5,6 @@ use Rattle.words.proofs.RecordsLaws.{server-held, server-loaded}
 use borrow.Author.Needs.{needs}
 use Rattle.words.proofs.load_server.Statement.{statement}
 use Rattle.words.proofs.load_server.Tie as tie
-use Rattle.words.proofs.load_server.Reads as reads
-use Rattle.words.proofs.load_server.Lts as lts
-use Rattle.wire.proofs.owner_of.Reads as owner-of-reads
-use Rattle.words.proofs.queue_places.Reads as queue-places-reads
 
 queue-places-requires : tie.Need-queue-places-requires
 queue-places-requires c κs = let h = server-held (now (c .before .args .words)) (c .before .pre) in h .fitting

@@ -3,12 +3,6 @@ use Rattle.words.proofs.MessagesLaws.{in-large, in-invalid, in-valid}
 use borrow.Author.Needs.{needs}
 use Rattle.words.proofs.message_in.Statement.{statement}
 use Rattle.words.proofs.message_in.Tie as tie
-use Rattle.words.proofs.message_in.Reads as reads
-use Rattle.words.proofs.message_in.Lts as lts
-use Rattle.wire.proofs.message_of.Reads as message-of-reads
-use Rattle.wire.proofs.valid_fields.Reads as valid-fields-reads
-use Rattle.words.proofs.cross.Reads as cross-reads
-use Rattle.words.proofs.no_message.Reads as no-message-reads
 
 cross-requires : tie.Need-cross-requires
 cross-requires c κs = search needs

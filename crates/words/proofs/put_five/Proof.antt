@@ -4,8 +4,6 @@ use lib.ListN.{length-set}
 use borrow.Author.Needs.{needs}
 use Rattle.words.proofs.put_five.Statement.{statement}
 use Rattle.words.proofs.put_five.Tie as tie
-use Rattle.words.proofs.put_five.Reads as reads
-use Rattle.words.proofs.put_five.Lts as lts
 
 slice-write-words : tie.Need-slice-write-words
 slice-write-words c = search needs

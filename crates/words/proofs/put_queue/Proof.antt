@@ -5,9 +5,6 @@ use Rattle.words.proofs.RecordsLaws.{Storing, storing-none, storing-mor
 use borrow.Author.Needs.{needs}
 use Rattle.words.proofs.put_queue.Statement.{statement}
 use Rattle.words.proofs.put_queue.Tie as tie
-use Rattle.words.proofs.put_queue.Reads as reads
-use Rattle.words.proofs.put_queue.Lts as lts
-use Rattle.words.proofs.put_request.Reads as put-request-reads
 
 abbrev Inv-loop : tie.InvT-loop
 Inv-loop words₀ places i₀ words i = Storing places 16 words₀ words i

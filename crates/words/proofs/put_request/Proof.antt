@@ -1,12 +1,11 @@
 -- `words::put_request` meets its contract: two stores.
-use native.Mathlib.Numerals.{add-one}
+use denote.Ref.{now}
 use native.Mathlib.Omega.{arith}
 use lib.ListN.{length-set}
 use borrow.Author.Needs.{needs}
+use Rattle.words.proofs.RecordsLaws.{put-two}
 use Rattle.words.proofs.put_request.Statement.{statement}
 use Rattle.words.proofs.put_request.Tie as tie
-use Rattle.words.proofs.put_request.Reads as reads
-use Rattle.words.proofs.put_request.Lts as lts
 
 cast-words : tie.Need-cast-words
 cast-words c = search needs
@@ -30,7 +29,7 @@ same-length : tie.Need-same-length
 same-length c = search needs
 
 returns : tie.Need-returns
-returns c = rw add-one
+returns c = put-two (now (c .before .args .words)) (c .before .args .at) (c .before .args .q .client .0) (c .before .args .q .timestamp .0)
 
 pub put-request-spec : {M : Type 1} → statement M
 put-request-spec =

@@ -2,8 +2,6 @@
 use borrow.Author.Tests.{ne-eqb}
 use Rattle.words.proofs.section_of.Statement.{statement}
 use Rattle.words.proofs.section_of.Tie as tie
-use Rattle.words.proofs.section_of.Reads as reads
-use Rattle.words.proofs.section_of.Lts as lts
 
 returns : tie.Need-returns
 returns c = rw (c .if1 .taken)

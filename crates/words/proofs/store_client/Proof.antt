@@ -4,12 +4,6 @@ use Rattle.words.proofs.RecordsLaws.{client-stored}
 use borrow.Author.Needs.{needs}
 use Rattle.words.proofs.store_client.Statement.{statement}
 use Rattle.words.proofs.store_client.Tie as tie
-use Rattle.words.proofs.store_client.Reads as reads
-use Rattle.words.proofs.store_client.Lts as lts
-use Rattle.client.proofs.sized.Reads as sized-reads
-use Rattle.words.proofs.put_five.Reads as put-five-reads
-use Rattle.words.proofs.put_responses.Reads as put-responses-reads
-use Rattle.words.proofs.section_word.Reads as section-word-reads
 
 sized-requires : tie.Need-sized-requires
 sized-requires c κs = search needs

@@ -4,13 +4,6 @@ use Rattle.words.proofs.RecordsLaws.{server-stored}
 use borrow.Author.Needs.{needs}
 use Rattle.words.proofs.store_server.Statement.{statement}
 use Rattle.words.proofs.store_server.Tie as tie
-use Rattle.words.proofs.store_server.Reads as reads
-use Rattle.words.proofs.store_server.Lts as lts
-use Rattle.votes.proofs.sized.Reads as sized-reads
-use Rattle.words.proofs.owner_client.Reads as owner-client-reads
-use Rattle.words.proofs.owner_timestamp.Reads as owner-timestamp-reads
-use Rattle.words.proofs.put_five.Reads as put-five-reads
-use Rattle.words.proofs.put_queue.Reads as put-queue-reads
 
 sized-requires : tie.Need-sized-requires
 sized-requires c κs = search needs
