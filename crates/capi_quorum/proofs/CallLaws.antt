@@ -21,8 +21,7 @@ use Rattle.quorum.specs.declared.Threshold.{Threshold}
 use Rattle.quorum.specs.declared.Threshold.the-variants.{Default, OutOfRange as Outside}
 use Rattle.quorum.specs.Check.{inRange, margin, isUnsafe, isStalling, judged, verdict, Demand3}
 use Rattle.quorum.proofs.CheckLaws.{range, margin-kept}
-use Rattle.system.proofs.Branch.{Test}
-use Rattle.ids.proofs.Choice.{decided}
+use Rattle.ids.proofs.Choice.{Test, decided}
 use Rattle.quorum.specs.Run.{runEvent}
 use Rattle.quorum.specs.Threshold.{thresholdOf}
 use Rattle.capi_quorum.specs.Calls.{signedWord, withWords, given, settingCode, settingWords, eventKind, eventNumber, eventCode, eventWords, thresholdCode, thresholdWords}

@@ -29,7 +29,8 @@ use Rattle.client.specs.declared.Client.{Client}
 use Rattle.client.specs.declared.Section.{Section}
 use Rattle.client.specs.declared.Section.the-variants.{Remainder, Trying, Critical}
 use Rattle.client.specs.Figure1.{State, fresh, next, filled, count, enough, tries, exits, current, heard, judge, responds, checked}
-use Rattle.client.specs.Record.{shown, place, view, store, validSizes, every, ownIsCurrent, fitsSection, fitsTimestamp, valid}
+use Rattle.ids.specs.Lists.{every}
+use Rattle.client.specs.Record.{shown, place, view, store, validSizes, ownIsCurrent, fitsSection, fitsTimestamp, valid}
 use Rattle.client.specs.Calls.{isRemainder, isCritical, lastTry, beginOutcome, exitOutcome, messageOutcome, received, forClient}
 use Rattle.client.specs.Steps.{validPlaces, without}
 use Rattle.client.proofs.Places.{length-showing}

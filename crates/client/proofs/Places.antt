@@ -18,7 +18,8 @@ use Rattle.ids.specs.declared.Request.{Request}
 use Rattle.ids.specs.declared.Owner.{Owner}
 use Rattle.ids.proofs.Choice.{decided}
 use Rattle.client.specs.Figure1.{filled, count}
-use Rattle.client.specs.Record.{shown, every, ownIsCurrent}
+use Rattle.ids.specs.Lists.{every}
+use Rattle.client.specs.Record.{shown, ownIsCurrent}
 
 -- the responses that the first n places show
 abbrev pub showing : ℕ → List Request → List Owner

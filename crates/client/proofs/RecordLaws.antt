@@ -17,7 +17,8 @@ use Rattle.ids.specs.declared.Owner.the-variants.{Nobody, Of}
 use Rattle.ids.proofs.Choice.{both}
 use Rattle.client.specs.declared.Client.{Client}
 use Rattle.client.specs.declared.Section.{Section}
-use Rattle.client.specs.Record.{shown, place, every, view, store}
+use Rattle.ids.specs.Lists.{every}
+use Rattle.client.specs.Record.{shown, place, view, store}
 use Rattle.client.specs.Steps.{without}
 use Rattle.client.proofs.Places.{showing, length-showing, same-turned}
 

@@ -17,7 +17,7 @@ use Rattle.ids.specs.declared.Request.{Request}
 use Rattle.ids.specs.declared.Owner.{Owner}
 use Rattle.ids.specs.declared.Refusal.{Refusal}
 use Rattle.ids.specs.declared.Refusal.the-variants.{WrongSection, TimestampsSpent, RoomShort, NotForClient, NumberOutOfRange, InvalidRecord}
-use Rattle.ids.proofs.Choice.{both}
+use Rattle.ids.proofs.Choice.{both, fails, holds}
 use Rattle.ids.proofs.LimitsLaws.{server-range}
 use Rattle.wire.specs.Format as format
 use Rattle.wire.specs.Format.{sizeOf, bytesOf, bytesOfAll, sizeOfAll, validResponse}
@@ -31,11 +31,12 @@ use Rattle.client.specs.declared.Stepped.{Stepped}
 use Rattle.client.specs.declared.Section.{Section}
 use Rattle.client.specs.declared.Section.the-variants.{Remainder, Trying, Critical}
 use Rattle.client.specs.Figure1.{State, fresh, next, filled, count, enough, isTrying, toAll, tries, exits, round, judge, responds, checked}
-use Rattle.client.specs.Record.{validSizes, valid, every, view, store}
+use Rattle.ids.specs.Lists.{every}
+use Rattle.client.specs.Record.{validSizes, valid, view, store}
 use Rattle.client.specs.Calls.{isRemainder, isCritical, lastTry, newResult, beginOutcome, exitOutcome, messageOutcome, forClient, received, result}
 use Rattle.client.specs.Steps.{request, without, requests, releases, refusedNew, heardPlaces, yields, Answers}
 use Rattle.client.proofs.Places.{showing}
-use Rattle.client.proofs.ValidLaws.{fails, holds, Known, valid-known, critical-below}
+use Rattle.client.proofs.ValidLaws.{Known, valid-known, critical-below}
 use Rattle.client.proofs.RecordLaws.{stored-without, places-again, store-view}
 use Rattle.client.proofs.SendLaws.{request-plain, release-plain, length-toAll, size-toAll}
 use Rattle.client.proofs.RoundLaws.{size-round, length-round}

@@ -11,23 +11,17 @@ use Rattle.ids.specs.Requests.{same, isRequest, noRequest}
 use Rattle.ids.specs.declared.Timestamp.{Timestamp}
 use Rattle.ids.specs.declared.Request.{Request}
 use Rattle.ids.specs.declared.Owner.{Owner}
-use Rattle.ids.proofs.Choice.{both}
+use Rattle.ids.proofs.Choice.{fails, holds, both}
 use Rattle.ids.proofs.LimitsLaws.{within-range}
 use Rattle.client.specs.declared.Client.{Client}
 use Rattle.client.specs.declared.Section.{Section}
 use Rattle.client.specs.declared.Section.the-variants.{Remainder, Trying, Critical}
 use Rattle.client.specs.Calls.{isCritical}
 use Rattle.client.specs.Figure1.{filled, count}
-use Rattle.client.specs.Record.{view, every, ownIsCurrent, validSizes, fitsSection, fitsTimestamp, valid}
+use Rattle.ids.specs.Lists.{every}
+use Rattle.client.specs.Record.{view, ownIsCurrent, validSizes, fitsSection, fitsTimestamp, valid}
 use Rattle.client.specs.Steps.{request, validPlaces}
 use Rattle.client.proofs.Places.{showing}
-
--- what `if !x` says of the test that x stands for
-pub fails : (x a : Bool) → x ≡ a → not x ≡ true → a ≡ false
-fails x a p t = let e : x ≡ false = not-true x t in cc
-
-pub holds : (x a : Bool) → x ≡ a → not x ≡ false → a ≡ true
-holds x a p t = let e : x ≡ true = not-false x t in cc
 
 -- in the critical section
 module _ (m : ℕ) (r : Request) (l : List Owner) (found : ℕ) (f : found ≡ count (map filled l)) where

@@ -4,6 +4,7 @@ use mathlib.Core.Bool.{Bool, true, _&&_, _||_, not}
 use mathlib.Core.List.{List, [], _∷_, _++_, map}
 use lib.Dec.{eqb, leb, ltb}
 use lib.ListN.{length, replicate, take, drop}
+use Rattle.ids.specs.Lists.{every}
 use Rattle.ids.specs.Choice.{if_then_else_}
 use Rattle.ids.specs.Limits.{within, maxServers, maxTimestamp, validClient, validOwner}
 use Rattle.ids.specs.Requests.{same, isRequest, isClient, noRequest}
@@ -44,10 +45,6 @@ store n m k c =
 -- n servers and a threshold m of them
 abbrev pub validSizes : ℕ → ℕ → Bool
 validSizes n m = within n maxServers && within m n
-
-abbrev pub every : {A : Type 0} → (A → Bool) → List A → Bool
-every f [] = true
-every f (x ∷ l) = f x && every f l
 
 -- an own response carries the current timestamp
 abbrev pub ownIsCurrent : Request → Owner → Bool

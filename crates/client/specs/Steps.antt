@@ -23,7 +23,8 @@ use Rattle.client.specs.declared.Stepped.{Stepped}
 use Rattle.client.specs.declared.Section.{Section}
 use Rattle.client.specs.declared.Section.the-variants.{Trying}
 use Rattle.client.specs.Figure1.{State, current, round}
-use Rattle.client.specs.Record.{shown, place, view, every, ownIsCurrent, fitsSection}
+use Rattle.ids.specs.Lists.{every}
+use Rattle.client.specs.Record.{shown, place, view, ownIsCurrent, fitsSection}
 use Rattle.client.specs.Calls.{blank, result}
 
 -- the client with its timestamp

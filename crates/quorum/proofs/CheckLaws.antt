@@ -12,8 +12,7 @@ use mir.Val.{SFits, toZ, ofZ}
 use mir.Facts.{toZ-ofZ}
 use borrow.Author.Tests.{lt-ltb, le-ltb, le-leb, lt-leb, leb-true, leb-false, ltb-true, ltb-false}
 use Rattle.ids.specs.Limits.{within}
-use Rattle.ids.proofs.Choice.{decided, both}
-use Rattle.system.proofs.Branch.{Test}
+use Rattle.ids.proofs.Choice.{decided, both, Test}
 use Rattle.quorum.specs.Check.{inRange, margin, isUnsafe}
 
 -- a setting in range

@@ -12,13 +12,11 @@ use mir.Syntax.{w32}
 use mir.Val.{toZ, ofZ}
 use Rattle.ids.specs.Limits.{within}
 use Rattle.ids.specs.declared.Refusal.the-variants.{ParameterOutOfRange, NoSuchParty}
-use Rattle.ids.proofs.Choice.{decided, both}
-use Rattle.client.proofs.ValidLaws.{holds, fails}
+use Rattle.ids.proofs.Choice.{decided, both, holds, fails, Test, clash}
 use Rattle.system.specs.declared.Event.{Event as Happening}
 use Rattle.system.specs.declared.Event.the-variants.{Try, Down, Up}
 use Rattle.system.specs.Setting as setting
 use Rattle.system.specs.Setting.{client, server, takes, lost, unsafeRun}
-use Rattle.system.proofs.Branch.{Test, clash}
 use Rattle.system.proofs.Settings.{shows-unsafe, unsafe-iff, stalls-iff}
 use Rattle.quorum.specs.declared.Verdict.{Verdict}
 use Rattle.quorum.specs.declared.Verdict.the-variants.{Accepted, Unsafe, Stalls, OutOfRange}

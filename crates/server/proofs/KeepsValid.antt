@@ -22,7 +22,7 @@ use Rattle.ids.specs.declared.Request.{Request as Pair}
 use Rattle.ids.specs.declared.Timestamp.{Timestamp}
 use Rattle.ids.specs.declared.Owner.{Owner}
 use Rattle.ids.specs.declared.Owner.the-variants.{Nobody, Of}
-use Rattle.ids.proofs.Choice.{both, decided}
+use Rattle.ids.proofs.Choice.{clash, both, decided}
 use Rattle.ids.proofs.OrderLaws.{before-order}
 use Rattle.ids.proofs.RequestLaws.{same-true}
 use Rattle.wire.specs.Step.{Step, Outcome, refused, stepped, stay, tell, _then_}
@@ -34,13 +34,11 @@ use Rattle.votes.specs.declared.Tag.the-variants.{Request as REQUEST, Yield as 
 use Rattle.votes.specs.Figure1.{State, candidates, timestampIn, insert, enqueue, without, promote, delete, inform, act, compare, receive, suspect, check}
 use Rattle.votes.proofs.ActLaws.{informed-state, length-promoted}
 use Rattle.votes.proofs.ListLaws.{length-without}
-use Rattle.server.specs.Record.{every, ordered, once, behindOwner, validState, validQueue, validSizes, valid}
+use Rattle.ids.specs.Lists.{every}
+use Rattle.server.specs.Record.{ordered, once, behindOwner, validState, validQueue, validSizes, valid}
 use Rattle.server.specs.Calls.{held, taken, received, messageOutcome, suspectOutcome, checkOutcome, serverAfter}
 use Rattle.server.specs.declared.Server.{Server}
 use Rattle.votes.specs.Queues.{maxQueue, listOf, queueOf, view, store}
-
-clash : {A : Type 0} (b : Bool) → b ≡ true → b ≡ false → A
-clash b p q = let z : true ≡ false = sym p ∙ q in let y : _≡_ {A = ℕ} 0 1 = cc in absurd (omega arith)
 
 -- x stands before the head of l
 abbrev Above : Pair → List Pair → Type 0

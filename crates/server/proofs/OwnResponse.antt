@@ -17,7 +17,7 @@ use Rattle.ids.specs.declared.Timestamp.{Timestamp}
 use Rattle.ids.specs.declared.Request.{Request as Pair}
 use Rattle.ids.specs.declared.Owner.{Owner}
 use Rattle.ids.specs.declared.Owner.the-variants.{Nobody, Of}
-use Rattle.ids.proofs.Choice.{both, decided}
+use Rattle.ids.proofs.Choice.{clash, both, decided}
 use Rattle.ids.proofs.RequestLaws.{same-true, same-refl}
 use Rattle.wire.specs.Step.{Step, stay, tell, _then_}
 use Rattle.wire.specs.declared.Message.{Message}
@@ -28,9 +28,6 @@ use Rattle.votes.specs.Figure1.{State, candidates, timestampIn, insert, promote
 use Rattle.server.specs.Told.{own, isYield, givesBack, becomes}
 use Rattle.server.proofs.KeepsValid.{Single, Good, valid-good, delete-good}
 use Rattle.server.specs.Record.{validState}
-
-clash : {A : Type 0} (b : Bool) → b ≡ true → b ≡ false → A
-clash b p q = let z : true ≡ false = sym p ∙ q in let y : _≡_ {A = ℕ} 0 1 = cc in absurd (omega arith)
 
 abbrev bit : Bool → ℕ
 bit b = if b then 1 else 0

@@ -23,7 +23,8 @@ use Rattle.server.specs.declared.Server.{Server}
 use Rattle.votes.specs.declared.Wanted.the-variants.{Client}
 use Rattle.votes.specs.Figure1.{candidates}
 use Rattle.votes.specs.Queues.{maxQueue, listOf, view}
-use Rattle.server.specs.Record.{every, ordered, once, validState, validQueue, validSizes, valid}
+use Rattle.ids.specs.Lists.{every}
+use Rattle.server.specs.Record.{ordered, once, validState, validQueue, validSizes, valid}
 use Rattle.votes.specs.Places.{first, matching, Padded}
 use Rattle.server.specs.Parts.{repeats, fitsOwner}
 use Rattle.votes.proofs.ListLaws.{timestamp-first, timestamp-none, first-within}

@@ -18,7 +18,8 @@ use Rattle.ids.specs.Requests.{noRequest}
 use Rattle.ids.specs.declared.Request.{Request}
 use Rattle.ids.specs.declared.Timestamp.{Timestamp}
 use Rattle.votes.specs.Figure1.{timestampIn}
-use Rattle.server.specs.Record.{every, ordered, once}
+use Rattle.ids.specs.Lists.{every}
+use Rattle.server.specs.Record.{ordered, once}
 use Rattle.votes.specs.Places.{first, matching}
 use Rattle.server.specs.Parts.{repeats}
 use Rattle.votes.specs.declared.Wanted.the-variants.{Client}

@@ -4,6 +4,7 @@ use mathlib.Core.Bool.{Bool, true, false, _&&_}
 use mathlib.Core.List.{List, [], _∷_}
 use lib.Dec.{eqb, leb}
 use lib.ListN.{length, drop}
+use Rattle.ids.specs.Lists.{every}
 use Rattle.ids.specs.Choice.{maybe}
 use Rattle.ids.specs.Limits.{within, maxServers, validRequest, validOwner}
 use Rattle.ids.specs.Order.{before}
@@ -18,10 +19,6 @@ use Rattle.votes.specs.Figure1.{State, timestampIn, candidates}
 -- server id of n
 abbrev pub validSizes : ℕ → ServerId → Bool
 validSizes n j = within n maxServers && within (j .0) n
-
-abbrev pub every : {A : Type 0} → (A → Bool) → List A → Bool
-every f [] = true
-every f (x ∷ l) = f x && every f l
 
 -- strictly in order: each before the next
 unfoldable pub ordered : List Request → Bool

@@ -20,7 +20,7 @@ use Rattle.ids.specs.declared.Timestamp.{Timestamp}
 use Rattle.ids.specs.declared.Request.{Request}
 use Rattle.ids.specs.declared.Owner.{Owner}
 use Rattle.ids.specs.declared.Owner.the-variants.{Nobody, Of}
-use Rattle.ids.proofs.Choice.{decided}
+use Rattle.ids.proofs.Choice.{decided, Test}
 use Rattle.wire.specs.Step.{Step, stay}
 use Rattle.wire.specs.declared.Message.{Message}
 use Rattle.wire.specs.declared.Message.the-variants.{Request as REQUEST, Yield as YIELD, Release as RELEASE, Inquiry as INQUIRY, Response as RESPONSE, Check as CHECK}
@@ -31,7 +31,7 @@ use Rattle.client.specs.declared.Section.the-variants.{Remainder, Trying, Criti
 use Rattle.client.specs.Figure1.{State as ClientState, next, Quorum, filled, isTrying, toAll, responseOf, withResponse, current, heard, reply, round, judge, responds, checked}
 use Rattle.client.specs.Calls.{isRemainder, isCritical}
 use Rattle.system.specs.Numbered.{at}
-use Rattle.system.proofs.Branch.{branch, Test, bit, bit-one, if-zero, differ}
+use Rattle.system.proofs.Branch.{branch, bit, bit-one, if-zero, differ}
 use Rattle.system.proofs.Tokens.{age, worth, token, serverOf, sum, sum-append, All, empty, more, all-head, all-tail, all-append, all-set}
 
 -- the request of client k with its last timestamp

@@ -30,7 +30,7 @@ use Rattle.system.specs.Places.{ClientPlace, ServerPlace, System, noClie
 use Rattle.system.specs.Events.{clientMoves, serverMoves, tried, asked, deliver, event}
 use Rattle.system.specs.Runs.{after, next}
 use Rattle.system.specs.Setting.{client, server, takes, enters, Different, no-more, another}
-use Rattle.system.proofs.Branch.{clash}
+use Rattle.ids.proofs.Choice.{clash}
 use Rattle.system.proofs.Tokens.{All, empty, more, length-put}
 use Rattle.system.proofs.PlaceLaws.{Changes, each, at-other, at-replicate, flagged-in, put-flagged, mem-cons, mem-head, mem-tail}
 use Rattle.system.proofs.Tally.{UpTo, Tally, all-replaced, tally-event}

@@ -29,7 +29,8 @@ use Rattle.system.specs.Places.{ClientPlace, ServerPlace, System, noClie
 use Rattle.system.specs.Events.{Result, clientMoves, event}
 use Rattle.system.specs.Runs.{runBy, after, start, next, runFrom, run}
 use Rattle.system.proofs.Effects.{Effect, refuses, begins, leaves, dies, sinks, rises, serverTakes, clientTakes, clientChecked, loses, suspects, asks, effect}
-use Rattle.system.proofs.Branch.{differ, clash}
+use Rattle.ids.proofs.Choice.{clash}
+use Rattle.system.proofs.Branch.{differ}
 use Rattle.system.proofs.Tokens.{message, worth, token, empty}
 use Rattle.system.proofs.ServerSteps.{Holds, Spares, fair-stay, fair-receive, fair-suspect, fair-check}
 use Rattle.system.proofs.ClientSteps.{request, next-greater, InTime, Fine, Calm, by-all, requests-none, shows-none, mine-none, calm-respond, calm-checked}

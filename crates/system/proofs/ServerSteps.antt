@@ -17,7 +17,7 @@ use Rattle.ids.specs.declared.ServerId.{ServerId}
 use Rattle.ids.specs.declared.Request.{Request}
 use Rattle.ids.specs.declared.Owner.{Owner}
 use Rattle.ids.specs.declared.Owner.the-variants.{Nobody, Of}
-use Rattle.ids.proofs.Choice.{decided}
+use Rattle.ids.proofs.Choice.{decided, Test}
 use Rattle.ids.proofs.RequestLaws.{same-true}
 use Rattle.wire.specs.Step.{Step, stay, tell, _then_}
 use Rattle.wire.specs.declared.Message.{Message}
@@ -25,7 +25,7 @@ use Rattle.wire.specs.declared.Message.the-variants.{Request as REQUEST, Yield 
 use Rattle.votes.specs.declared.Tag.{Tag}
 use Rattle.votes.specs.declared.Tag.the-variants.{Request as Asks, Yield as Yields, Release as Releases, Inquiry as Inquires}
 use Rattle.votes.specs.Figure1.{State as ServerState, timestampIn, candidates, insert, enqueue, without, promote, delete, inform, admit, act, receive, suspect, check}
-use Rattle.system.proofs.Branch.{branch, perhaps, owned, Test, bit, bit-and, differ, owner-request}
+use Rattle.system.proofs.Branch.{branch, perhaps, owned, bit, bit-and, differ, owner-request}
 use Rattle.system.proofs.Tokens.{message, age, worth, sum, sum-append, All, empty, more, all-append}
 
 module _ (P : Request → Type 0) where

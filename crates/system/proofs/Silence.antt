@@ -26,7 +26,7 @@ use Rattle.system.specs.Places.{System, noClient, noServer, clientAt, se
 use Rattle.system.specs.Events.{Result, clientMoves, serverMoves, event}
 use Rattle.system.specs.Runs.{runBy, after, runFrom}
 use Rattle.system.proofs.Effects.{Effect, refuses, begins, leaves, dies, sinks, rises, serverTakes, clientTakes, clientChecked, loses, suspects, asks, effect}
-use Rattle.system.proofs.Branch.{clash}
+use Rattle.ids.proofs.Choice.{clash}
 use Rattle.system.proofs.Tokens.{All, empty, more, all-map}
 use Rattle.system.proofs.ServerSteps.{Named, Holds, From, fair-receive, fair-suspect, fair-check}
 use Rattle.system.proofs.ClientSteps.{request, next-greater, shows, By, Calm, by-all, shows-none, calm-respond, calm-checked}

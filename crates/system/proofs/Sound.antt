@@ -25,7 +25,8 @@ use Rattle.client.specs.Figure1.{State as ClientState, Quorum}
 use Rattle.system.specs.Numbered.{at, member, added}
 use Rattle.system.specs.Transit.{InTransit, again}
 use Rattle.system.specs.Places.{ClientPlace, ServerPlace, inEpoch}
-use Rattle.system.proofs.Branch.{bit, differ, if-zero, clash}
+use Rattle.ids.proofs.Choice.{clash}
+use Rattle.system.proofs.Branch.{bit, differ, if-zero}
 use Rattle.system.proofs.Tokens.{worth, token, serverOf, sum, All, empty, more, all-map}
 use Rattle.system.proofs.ServerSteps.{Named, Holds, From, Fair}
 use Rattle.system.proofs.ClientSteps.{request, shows, InTime, By, Fine, Calm, by-other}

@@ -85,7 +85,8 @@ fn matches(wanted: Wanted, r: Request, x: Request) -> bool
     }
 }
 
-// The first place from `from` on whose request is wanted, or the length.
+// The first place from `from` on whose request is wanted, or the length. For this crate, and for the server's test of its record,
+// which knows the length.
 pub fn search(q: Queue, wanted: Wanted, r: Request, from: usize) -> usize
     requires { ⌜ (from ≤ q .len) × (q .len ≤ 16) ⌝ }
     ensures { λ i. ⌜ i ≡ from + first (matching wanted r) (drop from (listOf q)) ⌝ }
@@ -282,7 +283,7 @@ fn rotate(j: ServerId, r: Request, q: Queue) -> Moved
     lead(j, head, insert_request(remove_at(q, 0), r))
 }
 
-// Lines 50 to 56.
+// Lines 50 to 56. For the server's calls, which have tested the record.
 pub fn delete(j: ServerId, r: Request, v: Votes) -> Moved
     requires { ⌜ Padded (v .queue) ⌝ }
     ensures { λ m. ⌜ MovesOne m (deleteOf j r (view v)) ⌝ }
@@ -451,7 +452,7 @@ fn compare(j: ServerId, tag: Tag, r: Request, v: Votes, t: Timestamp) -> Moved
     act(j, tag, r, v)
 }
 
-// Lines 26 to 45.
+// Lines 26 to 45. For the server's calls, which have tested the record.
 pub fn receive(j: ServerId, tag: Tag, r: Request, v: Votes) -> Moved
     requires { ⌜ Padded (v .queue) ⌝ }
     ensures { λ m. ⌜ Moves m (receiveOf j tag r (view v)) ⌝ }

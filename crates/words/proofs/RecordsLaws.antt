@@ -15,7 +15,7 @@ use Rattle.ids.specs.declared.Request.{Request}
 use Rattle.ids.proofs.Choice.{both}
 use Rattle.wire.specs.Format.{ownerOf, ownerClient, ownerTimestamp}
 use Rattle.wire.proofs.BytesLaws.{stored-on}
-use Rattle.server.specs.Record.{every}
+use Rattle.ids.specs.Lists.{every}
 use Rattle.server.specs.declared.Server.{Server}
 use Rattle.client.specs.declared.Client.{Client}
 use Rattle.client.specs.declared.Section.{Section}

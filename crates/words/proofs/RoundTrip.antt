@@ -21,7 +21,7 @@ use Rattle.wire.specs.Format.{ownerClient}
 use Rattle.wire.proofs.NumbersLaws.{owner-again}
 use Rattle.votes.specs.Queues.{maxQueue, view}
 use Rattle.server.specs.Record as server
-use Rattle.server.specs.Record.{every}
+use Rattle.ids.specs.Lists.{every}
 use Rattle.server.specs.declared.Server.{Server}
 use Rattle.server.proofs.KeepsValid.{view-good}
 use Rattle.client.specs.Record as client

@@ -4,7 +4,7 @@ use mathlib.Core.Path.{_≡_}
 use mathlib.Core.Bool.{true}
 use mathlib.Core.List.{List}
 use lib.ListN.{length, drop}
-use Rattle.server.specs.Record.{every}
+use Rattle.ids.specs.Lists.{every}
 use Rattle.words.specs.Records.{requestsIn, fitsPlace}
 
 -- words of five numbers and so many places, whose clients fit

@@ -8,7 +8,7 @@ use lib.ListN.{length, getD, drop}
 use Rattle.ids.specs.Choice.{if_then_else_}
 use Rattle.ids.specs.declared.Request.{Request}
 use Rattle.wire.specs.Format.{ownerOf, ownerClient, ownerTimestamp}
-use Rattle.server.specs.Record.{every}
+use Rattle.ids.specs.Lists.{every}
 use Rattle.server.specs.declared.Server.{Server}
 use Rattle.client.specs.declared.Client.{Client}
 use Rattle.client.specs.declared.Section.{Section}

@@ -5,7 +5,7 @@ ghost use mathlib.Core.List.{[], _∷_};
 ghost use Prim.Native.Nat.{_≤_, _+_, _*_};
 ghost use lib.ListN.{length, getD, drop};
 ghost use lib.Seq.{sets};
-ghost use Rattle.server.specs.Record.{every};
+ghost use Rattle.ids.specs.Lists.{every};
 ghost use Rattle.wire.specs.Format.{ownerClient, ownerTimestamp};
 ghost use Rattle.words.specs.Messages.{fits, maxShort, crossing, messageIn, messageOr, noMessage};
 ghost use Rattle.words.specs.Records.{requestsIn, requestWords, fitsPlace, fitsHead, fitsRecord, sectionOf, sectionWord, holdsServer, serverFrom, serverWords, holdsClient, clientFrom, clientWords};

@@ -1,5 +1,5 @@
 -- `client::message` meets its contract: each return is one case of the outcome, by the tests in their order.
-use Rattle.client.proofs.ValidLaws.{holds}
+use Rattle.ids.proofs.Choice.{holds}
 use Rattle.client.proofs.StepLaws.{answers-refused, message-invalid, message-bad, message-received}
 use borrow.Author.Needs.{needs}
 use Rattle.client.proofs.message.Statement.{statement}

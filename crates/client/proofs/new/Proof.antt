@@ -1,5 +1,6 @@
 -- `client::new` meets its contract: each return is one case of the definition.
-use Rattle.client.proofs.ValidLaws.{holds, sizes-range}
+use Rattle.ids.proofs.Choice.{holds}
+use Rattle.client.proofs.ValidLaws.{sizes-range}
 use Rattle.client.proofs.StepLaws.{new-sizes, new-id, new-done}
 use borrow.Author.Needs.{needs}
 use Rattle.client.proofs.new.Statement.{statement}

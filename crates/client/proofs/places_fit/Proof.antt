@@ -1,5 +1,6 @@
 -- `client::places_fit` meets its contract. The invariant: what is asked of all the places is what is asked of those from place i on.
-use Rattle.client.specs.Record.{every, ownIsCurrent}
+use Rattle.ids.specs.Lists.{every}
+use Rattle.client.specs.Record.{ownIsCurrent}
 use Rattle.ids.specs.Limits.{validOwner}
 use lib.ListN.{length}
 use mathlib.Core.Bool.{_&&_}

@@ -1,5 +1,5 @@
 -- `client::rest_empty` meets its contract. The invariant: what is asked of the places from n on is what is asked of those from place i on.
-use Rattle.client.specs.Record.{every}
+use Rattle.ids.specs.Lists.{every}
 use Rattle.ids.specs.Requests.{same, noRequest}
 use lib.ListN.{length, drop}
 use mathlib.Core.Path.{_≡_}

@@ -1,5 +1,6 @@
 -- `client::valid_client` meets its contract: the tests in the definition's order.
-use Rattle.client.proofs.ValidLaws.{holds, sizes-fail, id-fails, timestamp-fails, places-decide, sizes-range}
+use Rattle.ids.proofs.Choice.{holds}
+use Rattle.client.proofs.ValidLaws.{sizes-fail, id-fails, timestamp-fails, places-decide, sizes-range}
 use borrow.Author.Needs.{needs}
 use Rattle.client.proofs.valid_client.Statement.{statement}
 use Rattle.client.proofs.valid_client.Tie as tie

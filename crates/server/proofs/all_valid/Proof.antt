@@ -3,7 +3,7 @@ use Prim.Native.Nat.{_≤_, _-_, _+_}
 use mathlib.Core.Path.{_≡_}
 use lib.ListN.{length, take}
 use Rattle.ids.specs.Limits.{validRequest}
-use Rattle.server.specs.Record.{every}
+use Rattle.ids.specs.Lists.{every}
 use Rattle.server.proofs.ValidLaws.{Passing, places-start, valid-on, valid-stops, valid-ends}
 use borrow.Author.Needs.{needs}
 use Rattle.server.proofs.all_valid.Statement.{statement}

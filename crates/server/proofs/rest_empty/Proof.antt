@@ -4,7 +4,7 @@ use Prim.Native.Nat.{_≤_, _-_, _+_}
 use mathlib.Core.Path.{_≡_}
 use lib.ListN.{length, take}
 use Rattle.ids.specs.Requests.{same, noRequest}
-use Rattle.server.specs.Record.{every}
+use Rattle.ids.specs.Lists.{every}
 use Rattle.server.proofs.ValidLaws.{Passing, rest-start, rest-on, rest-stops, rest-ends}
 use borrow.Author.Needs.{needs}
 use Rattle.server.proofs.rest_empty.Statement.{statement}
