@@ -1,0 +1,4 @@
+pub mod ReadLaws
+pub mod WordLaws
+pub mod LineLaws
+pub mod FirstLaws

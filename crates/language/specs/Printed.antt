@@ -1,0 +1,45 @@
+-- The lines that a run prints, each with its newline, and an event's line without it.
+use Prim.Native.Nat.{ℕ}
+use mathlib.Core.List.{List, [], _∷_, _++_}
+use Rattle.ids.specs.Refusals.{code}
+use Rattle.ids.specs.declared.Refusal.{Refusal}
+use Rattle.system.specs.declared.Event.{Event}
+use Rattle.system.specs.declared.Event.the-variants.{Try, Exit, Fall, Down, Up, Take, Drop, Miss, Check}
+use Rattle.language.specs.Decimals.{decimal}
+use Rattle.language.specs.Words.{text, newline, spaced}
+use Rattle.language.specs.declared.Setting.{Setting}
+
+abbrev pub printed : List (List ℕ) → List ℕ
+printed ws = spaced ws ++ (newline ∷ [])
+
+-- the header is the setting
+unfoldable pub headerLine : Setting → List ℕ
+headerLine s = printed (text "gallery" ∷ decimal (s .n) ∷ decimal (s .m) ∷ decimal (s .f) ∷ decimal (s .clients) ∷ [])
+
+-- event number i was accepted: the messages sent, the living holders
+unfoldable pub okLine : ℕ → ℕ → ℕ → List ℕ
+okLine i sent holders = printed (decimal i ∷ text "ok" ∷ decimal sent ∷ decimal holders ∷ [])
+
+-- event number i was refused
+unfoldable pub noLine : ℕ → Refusal → List ℕ
+noLine i e = printed (decimal i ∷ text "no" ∷ decimal (code e) ∷ [])
+
+-- accepted events, most living holders at once, most servers ever down within one epoch
+unfoldable pub endLine : ℕ → ℕ → ℕ → List ℕ
+endLine accepted holders downs = printed (text "end" ∷ decimal accepted ∷ decimal holders ∷ decimal downs ∷ [])
+
+-- the first line was refused
+unfoldable pub refusedLine : Refusal → List ℕ
+refusedLine e = printed (text "no" ∷ decimal (code e) ∷ [])
+
+-- an event as a line of a script
+unfoldable pub eventLine : Event → List ℕ
+eventLine (Try k) = spaced (text "try" ∷ decimal (k .0) ∷ [])
+eventLine (Exit k) = spaced (text "exit" ∷ decimal (k .0) ∷ [])
+eventLine (Fall k) = spaced (text "fall" ∷ decimal (k .0) ∷ [])
+eventLine (Down j) = spaced (text "down" ∷ decimal (j .0) ∷ [])
+eventLine (Up j) = spaced (text "up" ∷ decimal (j .0) ∷ [])
+eventLine (Take i) = spaced (text "take" ∷ decimal (i .0) ∷ [])
+eventLine (Drop i) = spaced (text "drop" ∷ decimal (i .0) ∷ [])
+eventLine (Miss j) = spaced (text "miss" ∷ decimal (j .0) ∷ [])
+eventLine (Check j) = spaced (text "check" ∷ decimal (j .0) ∷ [])
