@@ -32,14 +32,28 @@ endLine accepted holders downs = printed (text "end" ∷ decimal accepted ∷ de
 unfoldable pub refusedLine : Refusal → List ℕ
 refusedLine e = printed (text "no" ∷ decimal (code e) ∷ [])
 
--- an event as a line of a script
+-- an event as a line of a script: its command and its number
+abbrev pub wordOf : Event → List ℕ
+wordOf (Try k) = text "try"
+wordOf (Exit k) = text "exit"
+wordOf (Fall k) = text "fall"
+wordOf (Down j) = text "down"
+wordOf (Up j) = text "up"
+wordOf (Take i) = text "take"
+wordOf (Drop i) = text "drop"
+wordOf (Miss j) = text "miss"
+wordOf (Check j) = text "check"
+
+abbrev pub numberOf : Event → ℕ
+numberOf (Try k) = k .0
+numberOf (Exit k) = k .0
+numberOf (Fall k) = k .0
+numberOf (Down j) = j .0
+numberOf (Up j) = j .0
+numberOf (Take i) = i .0
+numberOf (Drop i) = i .0
+numberOf (Miss j) = j .0
+numberOf (Check j) = j .0
+
 unfoldable pub eventLine : Event → List ℕ
-eventLine (Try k) = spaced (text "try" ∷ decimal (k .0) ∷ [])
-eventLine (Exit k) = spaced (text "exit" ∷ decimal (k .0) ∷ [])
-eventLine (Fall k) = spaced (text "fall" ∷ decimal (k .0) ∷ [])
-eventLine (Down j) = spaced (text "down" ∷ decimal (j .0) ∷ [])
-eventLine (Up j) = spaced (text "up" ∷ decimal (j .0) ∷ [])
-eventLine (Take i) = spaced (text "take" ∷ decimal (i .0) ∷ [])
-eventLine (Drop i) = spaced (text "drop" ∷ decimal (i .0) ∷ [])
-eventLine (Miss j) = spaced (text "miss" ∷ decimal (j .0) ∷ [])
-eventLine (Check j) = spaced (text "check" ∷ decimal (j .0) ∷ [])
+eventLine e = spaced (wordOf e ∷ decimal (numberOf e) ∷ [])

@@ -5,7 +5,7 @@ ghost use mathlib.Core.List.{[], _∷_, _++_};
 ghost use lib.ListN.{length, drop};
 ghost use lib.Seq.{sets};
 ghost use Rattle.language.specs.Decimals.{digit, digits, number, decimal};
-ghost use Rattle.language.specs.Words.{same, word};
+ghost use Rattle.language.specs.Words.{same, word, spaced};
 ghost use Rattle.language.specs.Lines.{commandIn, eventOf, eventIn, lineOf, fourIn, settingIn, firstOf};
 ghost use Rattle.language.specs.Printed.{headerLine, okLine, noLine, endLine, refusedLine, eventLine};
 ghost use Rattle.language.specs.Answers.{readingOf, fieldAt};
@@ -327,4 +327,142 @@ pub fn parse_setting(line: &[u8]) -> First
         return First::Bad;
     }
     four_from(line, p + 1)
+}
+
+// The byte of a digit.
+fn digit_byte(d: u32) -> u8
+    requires { ⌜ d < 10 ⌝ }
+    ensures { λ r. ⌜ r ≡ 48 + d ⌝ }
+{
+    48 + d as u8
+}
+
+// What follows writes from place `at` on and returns the place behind what it wrote. It is for programs that print a run or
+// a script, once they have seen that there is room: 52 bytes are enough for any line.
+
+// A number.
+pub fn put_decimal(out: &mut [u8], at: usize, x: u32) -> usize
+    requires { ⌜ at + length (decimal x) ≤ length (now out) ⌝ }
+    ensures { λ r. ⌜ (r ≡ at + length (decimal x)) × (now (out .exit) ≡ sets (now (out .entry)) at (decimal x)) ⌝ }
+{
+    if x < 10 {
+        out[at] = digit_byte(x);
+        return at + 1;
+    }
+    let p = put_decimal(out, at, x / 10);
+    out[p] = digit_byte(x % 10);
+    p + 1
+}
+
+// A number and the byte that ends it.
+fn put_number(out: &mut [u8], at: usize, x: u32, end: u8) -> usize
+    requires { ⌜ at + length (decimal x) + 1 ≤ length (now out) ⌝ }
+    ensures { λ r. ⌜ (r ≡ at + length (decimal x) + 1) × (now (out .exit) ≡ sets (now (out .entry)) at (decimal x ++ (end ∷ []))) ⌝ }
+{
+    let p = put_decimal(out, at, x);
+    out[p] = end;
+    p + 1
+}
+
+// A word.
+fn put_bytes(out: &mut [u8], at: usize, w: &[u8]) -> usize
+    requires { ⌜ at + length (now w) ≤ length (now out) ⌝ }
+    ensures { λ r. ⌜ (r ≡ at + length (now (w .entry))) × (now (out .exit) ≡ sets (now (out .entry)) at (now (w .entry))) ⌝ }
+{
+    let mut i: usize = 0;
+    while i < w.len() {
+        out[at + i] = w[i];
+        i += 1;
+    }
+    at + i
+}
+
+// A word and a space.
+fn put_word(out: &mut [u8], at: usize, w: &[u8]) -> usize
+    requires { ⌜ at + length (now w) + 1 ≤ length (now out) ⌝ }
+    ensures { λ r. ⌜ (r ≡ at + length (now (w .entry)) + 1) × (now (out .exit) ≡ sets (now (out .entry)) at (now (w .entry) ++ (32 ∷ []))) ⌝ }
+{
+    let p = put_bytes(out, at, w);
+    out[p] = 32;
+    p + 1
+}
+
+// The header of a run.
+pub fn put_header(out: &mut [u8], at: usize, s: Setting) -> usize
+    requires { ⌜ at + length (headerLine s) ≤ length (now out) ⌝ }
+    ensures { λ r. ⌜ (r ≡ at + length (headerLine s)) × (now (out .exit) ≡ sets (now (out .entry)) at (headerLine s)) ⌝ }
+{
+    let p = put_word(out, at, b"gallery");
+    let q = put_number(out, p, s.n, 32);
+    let t = put_number(out, q, s.m, 32);
+    let u = put_number(out, t, s.f, 32);
+    put_number(out, u, s.clients, 10)
+}
+
+// The line of an accepted event.
+pub fn put_ok(out: &mut [u8], at: usize, number: u32, sent: u32, holders: u32) -> usize
+    requires { ⌜ at + length (okLine number sent holders) ≤ length (now out) ⌝ }
+    ensures { λ r. ⌜ (r ≡ at + length (okLine number sent holders)) × (now (out .exit) ≡ sets (now (out .entry)) at (okLine number sent holders)) ⌝ }
+{
+    let p = put_number(out, at, number, 32);
+    let q = put_word(out, p, b"ok");
+    let t = put_number(out, q, sent, 32);
+    put_number(out, t, holders, 10)
+}
+
+// The line of a refused event.
+pub fn put_no(out: &mut [u8], at: usize, number: u32, refusal: Refusal) -> usize
+    requires { ⌜ at + length (noLine number refusal) ≤ length (now out) ⌝ }
+    ensures { λ r. ⌜ (r ≡ at + length (noLine number refusal)) × (now (out .exit) ≡ sets (now (out .entry)) at (noLine number refusal)) ⌝ }
+{
+    let p = put_number(out, at, number, 32);
+    let q = put_word(out, p, b"no");
+    put_number(out, q, ids::code_of(refusal), 10)
+}
+
+// The last line of a run.
+pub fn put_end(out: &mut [u8], at: usize, accepted: u32, holders: u32, downs: u32) -> usize
+    requires { ⌜ at + length (endLine accepted holders downs) ≤ length (now out) ⌝ }
+    ensures { λ r. ⌜ (r ≡ at + length (endLine accepted holders downs)) × (now (out .exit) ≡ sets (now (out .entry)) at (endLine accepted holders downs)) ⌝ }
+{
+    let p = put_word(out, at, b"end");
+    let q = put_number(out, p, accepted, 32);
+    let t = put_number(out, q, holders, 32);
+    put_number(out, t, downs, 10)
+}
+
+// The only line where the first line was refused.
+pub fn put_refused(out: &mut [u8], at: usize, refusal: Refusal) -> usize
+    requires { ⌜ at + length (refusedLine refusal) ≤ length (now out) ⌝ }
+    ensures { λ r. ⌜ (r ≡ at + length (refusedLine refusal)) × (now (out .exit) ≡ sets (now (out .entry)) at (refusedLine refusal)) ⌝ }
+{
+    let p = put_word(out, at, b"no");
+    put_number(out, p, ids::code_of(refusal), 10)
+}
+
+// A command and its number.
+fn put_command(out: &mut [u8], at: usize, w: &[u8], x: u32) -> usize
+    requires { ⌜ at + length (now w) + 1 + length (decimal x) ≤ length (now out) ⌝ }
+    ensures { λ r. ⌜ (r ≡ at + length (now (w .entry)) + 1 + length (decimal x)) × (now (out .exit) ≡ sets (now (out .entry)) at (spaced (now (w .entry) ∷ decimal x ∷ []))) ⌝ }
+{
+    let p = put_word(out, at, w);
+    put_decimal(out, p, x)
+}
+
+// An event as a line of a script, without a newline.
+pub fn put_event(out: &mut [u8], at: usize, e: Event) -> usize
+    requires { ⌜ at + length (eventLine e) ≤ length (now out) ⌝ }
+    ensures { λ r. ⌜ (r ≡ at + length (eventLine e)) × (now (out .exit) ≡ sets (now (out .entry)) at (eventLine e)) ⌝ }
+{
+    match e {
+        Event::Try(k) => put_command(out, at, b"try", k.0 as u32),
+        Event::Exit(k) => put_command(out, at, b"exit", k.0 as u32),
+        Event::Fall(k) => put_command(out, at, b"fall", k.0 as u32),
+        Event::Down(j) => put_command(out, at, b"down", j.0 as u32),
+        Event::Up(j) => put_command(out, at, b"up", j.0 as u32),
+        Event::Take(i) => put_command(out, at, b"take", i.0),
+        Event::Drop(i) => put_command(out, at, b"drop", i.0),
+        Event::Miss(j) => put_command(out, at, b"miss", j.0 as u32),
+        Event::Check(j) => put_command(out, at, b"check", j.0 as u32),
+    }
 }
