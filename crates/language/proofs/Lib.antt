@@ -5,3 +5,5 @@ pub mod FirstLaws
 pub mod DecimalLaws
 pub mod PutLaws
 pub mod PrintedLaws
+pub mod NumberTrip
+pub mod EventTrip

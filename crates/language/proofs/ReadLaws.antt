@@ -93,7 +93,10 @@ number-single [] r h e = absurd (omega arith)
 number-single (b ∷ []) r h e = ⊎-elim (λ (t : eqb b 48 ≡ true). rw t e) (λ (t : eqb b 48 ≡ false). rw t e) (decided (eqb b 48))
 number-single (b ∷ c ∷ l) r h e = absurd (omega arith)
 
-pub number-several : (s : List ℕ) (r : Reading) → (length s ≡ 0 → ⊥) → (getD s 0 0 ≡ 48 → ⊥) → r ≡ readingOf (digits 0 s) → r ≡ readingOf (number s)
+pub number-digits : (s : List ℕ) → (length s ≡ 0 → ⊥) → (getD s 0 0 ≡ 48 → ⊥) → number s ≡ digits 0 s
 unfolding number
-number-several [] r n h e = absurd (n refl)
-number-several (b ∷ l) r n h e = simp (ne-eqb b 48 h) e
+number-digits [] n h = absurd (n refl)
+number-digits (b ∷ l) n h = simp (ne-eqb b 48 h)
+
+pub number-several : (s : List ℕ) (r : Reading) → (length s ≡ 0 → ⊥) → (getD s 0 0 ≡ 48 → ⊥) → r ≡ readingOf (digits 0 s) → r ≡ readingOf (number s)
+number-several s r n h e = rw (number-digits s n h) e
