@@ -96,16 +96,19 @@ module _ (s : List ℕ) (at : ℕ) where
   missing f r told e = missing-by f (number (word (drop at s))) (rest (drop at s)) refl refl (sym told ∙ e)
 
 -- four numbers from place `at` on, or which of them is missing
-abbrev fourth : ℕ → ℕ → ℕ → List ℕ → Option Setting
+abbrev pub fourth : ℕ → ℕ → ℕ → List ℕ → Option Setting
 fourth n m f l = maybe (number l) none (λ k. some (record { n = n; m = m; f = f; clients = k }))
 
-abbrev third : ℕ → ℕ → List ℕ → Option Setting
-third n m l = next l (λ f l₃. fourth n m f l₃)
+abbrev pub third : ℕ → ℕ → List ℕ → Option Setting
+third n m l = next l (fourth n m)
+
+abbrev pub second : ℕ → List ℕ → Option Setting
+second n l = next l (third n)
 
 module _ (s : List ℕ) (at : ℕ) where
   pub no-first : (r : Field) → r ≡ fieldAt s at → r ≡ NoField → NotOpening ≡ firstOf (fourIn (drop at s))
   unfolding fourIn
-  no-first r told e = rw (missing s at _ r told e)
+  no-first r told e = rw (missing s at second r told e)
 
   module _ (n a : ℕ) (g₁ : Found s at n a) where
     pub no-second : (r : Field) → r ≡ fieldAt s a → r ≡ NoField → NotOpening ≡ firstOf (fourIn (drop at s))

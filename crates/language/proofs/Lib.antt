@@ -7,3 +7,4 @@ pub mod PutLaws
 pub mod PrintedLaws
 pub mod NumberTrip
 pub mod EventTrip
+pub mod SettingTrip

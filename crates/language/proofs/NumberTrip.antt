@@ -141,6 +141,9 @@ digit-read x b y e =
     let z : _≡_ {A = ℕ} 0 1 = cc in absurd (omega arith))
     (decided test)
 
+pub digit-low : (x b y : ℕ) → digit x b ≡ some y → 48 ≤ b
+digit-low x b y e = digit-read x b y e .low
+
 digits-printed : (l : List ℕ) (y x : ℕ) → 0 < y → digits y l ≡ some x → decimal x ≡ decimal y ++ l
 unfolding digits
 digits-printed [] y x p e = let z : y ≡ x = cc in rw z (sym (append-nil (decimal x)))

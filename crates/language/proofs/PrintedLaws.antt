@@ -11,7 +11,7 @@ use Rattle.system.specs.declared.Event.{Event}
 use Rattle.wire.proofs.BytesLaws.{stored-on}
 use Rattle.language.specs.Decimals.{decimal}
 use Rattle.language.specs.Words.{text, spaced}
-use Rattle.language.specs.Printed.{printed, headerLine, okLine, noLine, endLine, refusedLine, wordOf, numberOf, eventLine}
+use Rattle.language.specs.Printed.{printed, headerLine, okLine, noLine, endLine, refusedLine, wordOf, numberOf, eventLine, settingLine}
 use Rattle.language.specs.declared.Setting.{Setting}
 use Rattle.language.proofs.DecimalLaws.{decimal-short}
 
@@ -25,11 +25,14 @@ unfolding ended
 ended-more [] w = refl
 ended-more (v ∷ ws) w = rw (ended-more ws w, append-assoc)
 
-ended-last : (ws : List (List ℕ)) (w : List ℕ) → printed (ws ++ (w ∷ [])) ≡ ended ws ++ (w ++ (10 ∷ []))
+ended-spaced : (ws : List (List ℕ)) (w : List ℕ) → spaced (ws ++ (w ∷ [])) ≡ ended ws ++ w
 unfolding ended spaced
-ended-last [] w = refl
-ended-last (v ∷ []) w = simp append-assoc
-ended-last (v ∷ u ∷ ws) w = simp append-assoc (rw (ended-last (u ∷ ws) w) (simp append-assoc))
+ended-spaced [] w = refl
+ended-spaced (v ∷ []) w = simp append-assoc
+ended-spaced (v ∷ u ∷ ws) w = rw (ended-spaced (u ∷ ws) w) (simp append-assoc)
+
+ended-last : (ws : List (List ℕ)) (w : List ℕ) → printed (ws ++ (w ∷ [])) ≡ ended ws ++ (w ++ (10 ∷ []))
+ended-last ws w = rw (ended-spaced ws w, append-assoc)
 
 -- the words and the bytes behind them
 abbrev total : List (List ℕ) → ℕ
@@ -66,6 +69,12 @@ module _ {o l l′ : List ℕ} {at p q : ℕ} {ws : List (List ℕ)} (e : Puts o
     stored-on o l l′ (ended ws) (w ++ (10 ∷ [])) at p (e .bytes) (d .1) (e .place),
   )
 
+  pub puts-end : (q ≡ p + length w) × (l′ ≡ sets l p w) → (q ≡ at + length (spaced (ws ++ (w ∷ [])))) × (l′ ≡ sets o at (spaced (ws ++ (w ∷ []))))
+  puts-end d = rw (ended-spaced ws w) (
+    omega (arith, e .place, d .0, length-append (ended ws) w),
+    stored-on o l l′ (ended ws) w at p (e .bytes) (d .1) (e .place),
+  )
+
 -- each line's length, and the most that it can be
 module _ (s : Setting) where
   pub length-header : length (headerLine s) ≡ length (decimal (s .n)) + length (decimal (s .m)) + length (decimal (s .f)) + length (decimal (s .clients)) + 12
@@ -74,6 +83,12 @@ module _ (s : Setting) where
 
   pub header-short : length (headerLine s) ≤ 52
   header-short = omega (arith, length-header, decimal-short (s .n), decimal-short (s .m), decimal-short (s .f), decimal-short (s .clients))
+
+  pub length-setting : length (settingLine s) ≡ length (decimal (s .n)) + length (decimal (s .m)) + length (decimal (s .f)) + length (decimal (s .clients)) + 11
+  unfolding settingLine
+  length-setting =
+      let ws : List (List ℕ) = decimal (s .n) ∷ decimal (s .m) ∷ decimal (s .f) ∷ decimal (s .clients) ∷ [] in
+      omega (arith, length-printed (text "setting") ws, length-append (spaced (text "setting" ∷ ws)) (10 ∷ []))
 
 module _ (i sent holders : ℕ) where
   pub length-ok : length (okLine i sent holders) ≡ length (decimal i) + length (decimal sent) + length (decimal holders) + 6

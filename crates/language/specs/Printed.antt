@@ -1,4 +1,4 @@
--- The lines that a run prints, each with its newline, and an event's line without it.
+-- The lines that a run prints, each with its newline, and the lines of a script, without it.
 use Prim.Native.Nat.{ℕ}
 use mathlib.Core.List.{List, [], _∷_, _++_}
 use Rattle.ids.specs.Refusals.{code}
@@ -57,3 +57,7 @@ numberOf (Check j) = j .0
 
 unfoldable pub eventLine : Event → List ℕ
 eventLine e = spaced (wordOf e ∷ decimal (numberOf e) ∷ [])
+
+-- a setting as the first line of a script
+unfoldable pub settingLine : Setting → List ℕ
+settingLine s = spaced (text "setting" ∷ decimal (s .n) ∷ decimal (s .m) ∷ decimal (s .f) ∷ decimal (s .clients) ∷ [])

@@ -7,7 +7,7 @@ ghost use lib.Seq.{sets};
 ghost use Rattle.language.specs.Decimals.{digit, digits, number, decimal};
 ghost use Rattle.language.specs.Words.{same, word, spaced};
 ghost use Rattle.language.specs.Lines.{commandIn, eventOf, eventIn, lineOf, fourIn, settingIn, firstOf};
-ghost use Rattle.language.specs.Printed.{headerLine, okLine, noLine, endLine, refusedLine, eventLine};
+ghost use Rattle.language.specs.Printed.{headerLine, okLine, noLine, endLine, refusedLine, eventLine, settingLine};
 ghost use Rattle.language.specs.Answers.{readingOf, fieldAt};
 use ids::ClientId;
 use ids::Refusal;
@@ -465,4 +465,16 @@ pub fn put_event(out: &mut [u8], at: usize, e: Event) -> usize
         Event::Miss(j) => put_command(out, at, b"miss", j.0 as u32),
         Event::Check(j) => put_command(out, at, b"check", j.0 as u32),
     }
+}
+
+// A setting as the first line of a script, without a newline.
+pub fn put_setting(out: &mut [u8], at: usize, s: Setting) -> usize
+    requires { ⌜ at + length (settingLine s) ≤ length (now out) ⌝ }
+    ensures { λ r. ⌜ (r ≡ at + length (settingLine s)) × (now (out .exit) ≡ sets (now (out .entry)) at (settingLine s)) ⌝ }
+{
+    let p = put_word(out, at, b"setting");
+    let q = put_number(out, p, s.n, 32);
+    let t = put_number(out, q, s.m, 32);
+    let u = put_number(out, t, s.f, 32);
+    put_decimal(out, u, s.clients)
 }
