@@ -15,7 +15,7 @@ use ids::ServerId;
 use system::Event;
 use system::MessageNumber;
 
-// The word that an event line begins with.
+// The word that an event line begins with; `Other` is any word that is no command.
 pub enum Command {
     Try,
     Exit,
@@ -67,20 +67,20 @@ pub enum Field {
 fn add_digit(x: u32, b: u8) -> Reading
     ensures { λ r. ⌜ r ≡ readingOf (digit x b) ⌝ }
 {
-    if b < 48 {
+    if b < b'0' {
         return Reading::Nothing;
     }
-    if b > 57 {
+    if b > b'9' {
         return Reading::Nothing;
     }
-    let y = 10 * (x as u64) + ((b - 48) as u64);
+    let y = 10 * (x as u64) + ((b - b'0') as u64);
     if y > 4294967295 {
         return Reading::Nothing;
     }
-    let z = y as u32;
-    Reading::Number(z)
+    Reading::Number(y as u32)
 }
 
+// The bytes as digits, the first of which may be 0.
 fn read_digits(s: &[u8]) -> Reading
     ensures { λ r. ⌜ r ≡ readingOf (digits 0 (now (s .entry))) ⌝ }
 {
@@ -96,7 +96,7 @@ fn read_digits(s: &[u8]) -> Reading
     Reading::Number(x)
 }
 
-// The bytes as a number.
+// The bytes as a number: one or more digits without a leading zero, up to 4,294,967,295.
 pub fn read_number(s: &[u8]) -> Reading
     ensures { λ r. ⌜ r ≡ readingOf (number (now (s .entry))) ⌝ }
 {
@@ -106,7 +106,7 @@ pub fn read_number(s: &[u8]) -> Reading
     if s.len() == 1 {
         return read_digits(s);
     }
-    if s[0] == 48 {
+    if s[0] == b'0' {
         return Reading::Nothing;
     }
     read_digits(s)
@@ -136,7 +136,7 @@ fn word_end(line: &[u8], at: usize) -> usize
 {
     let mut i = at;
     while i < line.len() {
-        if line[i] == 32 {
+        if line[i] == b' ' {
             return i;
         }
         i += 1;
@@ -248,6 +248,7 @@ fn line_of_32(c: Command, x: u32) -> Line
     }
 }
 
+// The line of this command and this number.
 fn line_of(c: Command, x: u32) -> Line
     ensures { λ r. ⌜ r ≡ lineOf (eventOf c x) ⌝ }
 {
@@ -291,6 +292,7 @@ fn read_field(line: &[u8], at: usize) -> Field
     }
 }
 
+// Four numbers from `at` to the line's end.
 fn four_from(line: &[u8], at: usize) -> First
     requires { ⌜ at ≤ length (now line) ⌝ }
     ensures { λ r. ⌜ r ≡ firstOf (fourIn (drop at (now (line .entry)))) ⌝ }
@@ -334,7 +336,7 @@ fn digit_byte(d: u32) -> u8
     requires { ⌜ d < 10 ⌝ }
     ensures { λ r. ⌜ r ≡ 48 + d ⌝ }
 {
-    48 + d as u8
+    b'0' + d as u8
 }
 
 // What follows writes from place `at` on and returns the place behind what it wrote. It is for programs that print a run or
@@ -383,7 +385,7 @@ fn put_word(out: &mut [u8], at: usize, w: &[u8]) -> usize
     ensures { λ r. ⌜ (r ≡ at + length (now (w .entry)) + 1) × (now (out .exit) ≡ sets (now (out .entry)) at (now (w .entry) ++ (32 ∷ []))) ⌝ }
 {
     let p = put_bytes(out, at, w);
-    out[p] = 32;
+    out[p] = b' ';
     p + 1
 }
 
@@ -393,10 +395,10 @@ pub fn put_header(out: &mut [u8], at: usize, s: Setting) -> usize
     ensures { λ r. ⌜ (r ≡ at + length (headerLine s)) × (now (out .exit) ≡ sets (now (out .entry)) at (headerLine s)) ⌝ }
 {
     let p = put_word(out, at, b"gallery");
-    let q = put_number(out, p, s.n, 32);
-    let t = put_number(out, q, s.m, 32);
-    let u = put_number(out, t, s.f, 32);
-    put_number(out, u, s.clients, 10)
+    let q = put_number(out, p, s.n, b' ');
+    let t = put_number(out, q, s.m, b' ');
+    let u = put_number(out, t, s.f, b' ');
+    put_number(out, u, s.clients, b'\n')
 }
 
 // The line of an accepted event.
@@ -404,10 +406,10 @@ pub fn put_ok(out: &mut [u8], at: usize, number: u32, sent: u32, holders: u32) -
     requires { ⌜ at + length (okLine number sent holders) ≤ length (now out) ⌝ }
     ensures { λ r. ⌜ (r ≡ at + length (okLine number sent holders)) × (now (out .exit) ≡ sets (now (out .entry)) at (okLine number sent holders)) ⌝ }
 {
-    let p = put_number(out, at, number, 32);
+    let p = put_number(out, at, number, b' ');
     let q = put_word(out, p, b"ok");
-    let t = put_number(out, q, sent, 32);
-    put_number(out, t, holders, 10)
+    let t = put_number(out, q, sent, b' ');
+    put_number(out, t, holders, b'\n')
 }
 
 // The line of a refused event.
@@ -415,9 +417,9 @@ pub fn put_no(out: &mut [u8], at: usize, number: u32, refusal: Refusal) -> usize
     requires { ⌜ at + length (noLine number refusal) ≤ length (now out) ⌝ }
     ensures { λ r. ⌜ (r ≡ at + length (noLine number refusal)) × (now (out .exit) ≡ sets (now (out .entry)) at (noLine number refusal)) ⌝ }
 {
-    let p = put_number(out, at, number, 32);
+    let p = put_number(out, at, number, b' ');
     let q = put_word(out, p, b"no");
-    put_number(out, q, ids::code_of(refusal), 10)
+    put_number(out, q, ids::code_of(refusal), b'\n')
 }
 
 // The last line of a run.
@@ -426,9 +428,9 @@ pub fn put_end(out: &mut [u8], at: usize, accepted: u32, holders: u32, downs: u3
     ensures { λ r. ⌜ (r ≡ at + length (endLine accepted holders downs)) × (now (out .exit) ≡ sets (now (out .entry)) at (endLine accepted holders downs)) ⌝ }
 {
     let p = put_word(out, at, b"end");
-    let q = put_number(out, p, accepted, 32);
-    let t = put_number(out, q, holders, 32);
-    put_number(out, t, downs, 10)
+    let q = put_number(out, p, accepted, b' ');
+    let t = put_number(out, q, holders, b' ');
+    put_number(out, t, downs, b'\n')
 }
 
 // The only line where the first line was refused.
@@ -437,7 +439,7 @@ pub fn put_refused(out: &mut [u8], at: usize, refusal: Refusal) -> usize
     ensures { λ r. ⌜ (r ≡ at + length (refusedLine refusal)) × (now (out .exit) ≡ sets (now (out .entry)) at (refusedLine refusal)) ⌝ }
 {
     let p = put_word(out, at, b"no");
-    put_number(out, p, ids::code_of(refusal), 10)
+    put_number(out, p, ids::code_of(refusal), b'\n')
 }
 
 // A command and its number.
@@ -473,8 +475,8 @@ pub fn put_setting(out: &mut [u8], at: usize, s: Setting) -> usize
     ensures { λ r. ⌜ (r ≡ at + length (settingLine s)) × (now (out .exit) ≡ sets (now (out .entry)) at (settingLine s)) ⌝ }
 {
     let p = put_word(out, at, b"setting");
-    let q = put_number(out, p, s.n, 32);
-    let t = put_number(out, q, s.m, 32);
-    let u = put_number(out, t, s.f, 32);
+    let q = put_number(out, p, s.n, b' ');
+    let t = put_number(out, q, s.m, b' ');
+    let u = put_number(out, t, s.f, b' ');
     put_decimal(out, u, s.clients)
 }

@@ -22,12 +22,12 @@ add-y c = search needs
 returns-3 : tie.Need-returns-3
 returns-3 c = search digit-large
 
-cast-z : tie.Need-cast-z
-cast-z c = search needs
+cast-t9 : tie.Need-cast-t9
+cast-t9 c = search needs
 
 returns-4 : tie.Need-returns-4
 returns-4 c = search digit-fits
 
 pub add-digit-spec : {M : Type 1} → statement M
 add-digit-spec =
-    tie.close (tie.spec returns returns-2 mul-y cast-y add-y returns-3 cast-z returns-4)
+    tie.close (tie.spec returns returns-2 mul-y cast-y add-y returns-3 cast-t9 returns-4)

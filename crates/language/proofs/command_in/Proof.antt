@@ -23,7 +23,9 @@ equal-requires-2 c κs = search needs
 
 returns-2 : tie.Need-returns-2
 unfolding commandIn
-returns-2 c = simp (no (c .before .before .before .before .equal .ensures) (c .before .before .before .if1 .left), yes (c .before .equal2 .ensures) (c .if2 .taken))
+returns-2 c =
+    let d₁ = c .before .before .before in
+    simp (no (d₁ .before .equal .ensures) (d₁ .if1 .left), yes (c .before .equal2 .ensures) (c .if2 .taken))
 
 slice-aggregate-equal-3 : tie.Need-slice-aggregate-equal-3
 slice-aggregate-equal-3 c = search needs
@@ -33,7 +35,10 @@ equal-requires-3 c κs = search needs
 
 returns-3 : tie.Need-returns-3
 unfolding commandIn
-returns-3 c = simp (no (c .before .before .before .before .before .before .before .equal .ensures) (c .before .before .before .before .before .before .if1 .left), no (c .before .before .before .before .equal2 .ensures) (c .before .before .before .if2 .left), yes (c .before .equal3 .ensures) (c .if3 .taken))
+returns-3 c =
+    let d₂ = c .before .before .before in
+    let d₁ = d₂ .before .before .before in
+    simp (no (d₁ .before .equal .ensures) (d₁ .if1 .left), no (d₂ .before .equal2 .ensures) (d₂ .if2 .left), yes (c .before .equal3 .ensures) (c .if3 .taken))
 
 slice-aggregate-equal-4 : tie.Need-slice-aggregate-equal-4
 slice-aggregate-equal-4 c = search needs
@@ -43,7 +48,11 @@ equal-requires-4 c κs = search needs
 
 returns-4 : tie.Need-returns-4
 unfolding commandIn
-returns-4 c = simp (no (c .before .before .before .before .before .before .before .before .before .before .equal .ensures) (c .before .before .before .before .before .before .before .before .before .if1 .left), no (c .before .before .before .before .before .before .before .equal2 .ensures) (c .before .before .before .before .before .before .if2 .left), no (c .before .before .before .before .equal3 .ensures) (c .before .before .before .if3 .left), yes (c .before .equal4 .ensures) (c .if4 .taken))
+returns-4 c =
+    let d₃ = c .before .before .before in
+    let d₂ = d₃ .before .before .before in
+    let d₁ = d₂ .before .before .before in
+    simp (no (d₁ .before .equal .ensures) (d₁ .if1 .left), no (d₂ .before .equal2 .ensures) (d₂ .if2 .left), no (d₃ .before .equal3 .ensures) (d₃ .if3 .left), yes (c .before .equal4 .ensures) (c .if4 .taken))
 
 slice-aggregate-equal-5 : tie.Need-slice-aggregate-equal-5
 slice-aggregate-equal-5 c = search needs
@@ -53,7 +62,12 @@ equal-requires-5 c κs = search needs
 
 returns-5 : tie.Need-returns-5
 unfolding commandIn
-returns-5 c = simp (no (c .before .before .before .before .before .before .before .before .before .before .before .before .before .equal .ensures) (c .before .before .before .before .before .before .before .before .before .before .before .before .if1 .left), no (c .before .before .before .before .before .before .before .before .before .before .equal2 .ensures) (c .before .before .before .before .before .before .before .before .before .if2 .left), no (c .before .before .before .before .before .before .before .equal3 .ensures) (c .before .before .before .before .before .before .if3 .left), no (c .before .before .before .before .equal4 .ensures) (c .before .before .before .if4 .left), yes (c .before .equal5 .ensures) (c .if5 .taken))
+returns-5 c =
+    let d₄ = c .before .before .before in
+    let d₃ = d₄ .before .before .before in
+    let d₂ = d₃ .before .before .before in
+    let d₁ = d₂ .before .before .before in
+    simp (no (d₁ .before .equal .ensures) (d₁ .if1 .left), no (d₂ .before .equal2 .ensures) (d₂ .if2 .left), no (d₃ .before .equal3 .ensures) (d₃ .if3 .left), no (d₄ .before .equal4 .ensures) (d₄ .if4 .left), yes (c .before .equal5 .ensures) (c .if5 .taken))
 
 slice-aggregate-equal-6 : tie.Need-slice-aggregate-equal-6
 slice-aggregate-equal-6 c = search needs
@@ -63,7 +77,13 @@ equal-requires-6 c κs = search needs
 
 returns-6 : tie.Need-returns-6
 unfolding commandIn
-returns-6 c = simp (no (c .before .before .before .before .before .before .before .before .before .before .before .before .before .before .before .before .equal .ensures) (c .before .before .before .before .before .before .before .before .before .before .before .before .before .before .before .if1 .left), no (c .before .before .before .before .before .before .before .before .before .before .before .before .before .equal2 .ensures) (c .before .before .before .before .before .before .before .before .before .before .before .before .if2 .left), no (c .before .before .before .before .before .before .before .before .before .before .equal3 .ensures) (c .before .before .before .before .before .before .before .before .before .if3 .left), no (c .before .before .before .before .before .before .before .equal4 .ensures) (c .before .before .before .before .before .before .if4 .left), no (c .before .before .before .before .equal5 .ensures) (c .before .before .before .if5 .left), yes (c .before .equal6 .ensures) (c .if6 .taken))
+returns-6 c =
+    let d₅ = c .before .before .before in
+    let d₄ = d₅ .before .before .before in
+    let d₃ = d₄ .before .before .before in
+    let d₂ = d₃ .before .before .before in
+    let d₁ = d₂ .before .before .before in
+    simp (no (d₁ .before .equal .ensures) (d₁ .if1 .left), no (d₂ .before .equal2 .ensures) (d₂ .if2 .left), no (d₃ .before .equal3 .ensures) (d₃ .if3 .left), no (d₄ .before .equal4 .ensures) (d₄ .if4 .left), no (d₅ .before .equal5 .ensures) (d₅ .if5 .left), yes (c .before .equal6 .ensures) (c .if6 .taken))
 
 slice-aggregate-equal-7 : tie.Need-slice-aggregate-equal-7
 slice-aggregate-equal-7 c = search needs
@@ -73,7 +93,14 @@ equal-requires-7 c κs = search needs
 
 returns-7 : tie.Need-returns-7
 unfolding commandIn
-returns-7 c = simp (no (c .before .before .before .before .before .before .before .before .before .before .before .before .before .before .before .before .before .before .before .equal .ensures) (c .before .before .before .before .before .before .before .before .before .before .before .before .before .before .before .before .before .before .if1 .left), no (c .before .before .before .before .before .before .before .before .before .before .before .before .before .before .before .before .equal2 .ensures) (c .before .before .before .before .before .before .before .before .before .before .before .before .before .before .before .if2 .left), no (c .before .before .before .before .before .before .before .before .before .before .before .before .before .equal3 .ensures) (c .before .before .before .before .before .before .before .before .before .before .before .before .if3 .left), no (c .before .before .before .before .before .before .before .before .before .before .equal4 .ensures) (c .before .before .before .before .before .before .before .before .before .if4 .left), no (c .before .before .before .before .before .before .before .equal5 .ensures) (c .before .before .before .before .before .before .if5 .left), no (c .before .before .before .before .equal6 .ensures) (c .before .before .before .if6 .left), yes (c .before .equal7 .ensures) (c .if7 .taken))
+returns-7 c =
+    let d₆ = c .before .before .before in
+    let d₅ = d₆ .before .before .before in
+    let d₄ = d₅ .before .before .before in
+    let d₃ = d₄ .before .before .before in
+    let d₂ = d₃ .before .before .before in
+    let d₁ = d₂ .before .before .before in
+    simp (no (d₁ .before .equal .ensures) (d₁ .if1 .left), no (d₂ .before .equal2 .ensures) (d₂ .if2 .left), no (d₃ .before .equal3 .ensures) (d₃ .if3 .left), no (d₄ .before .equal4 .ensures) (d₄ .if4 .left), no (d₅ .before .equal5 .ensures) (d₅ .if5 .left), no (d₆ .before .equal6 .ensures) (d₆ .if6 .left), yes (c .before .equal7 .ensures) (c .if7 .taken))
 
 slice-aggregate-equal-8 : tie.Need-slice-aggregate-equal-8
 slice-aggregate-equal-8 c = search needs
@@ -83,7 +110,15 @@ equal-requires-8 c κs = search needs
 
 returns-8 : tie.Need-returns-8
 unfolding commandIn
-returns-8 c = simp (no (c .before .before .before .before .before .before .before .before .before .before .before .before .before .before .before .before .before .before .before .before .before .before .equal .ensures) (c .before .before .before .before .before .before .before .before .before .before .before .before .before .before .before .before .before .before .before .before .before .if1 .left), no (c .before .before .before .before .before .before .before .before .before .before .before .before .before .before .before .before .before .before .before .equal2 .ensures) (c .before .before .before .before .before .before .before .before .before .before .before .before .before .before .before .before .before .before .if2 .left), no (c .before .before .before .before .before .before .before .before .before .before .before .before .before .before .before .before .equal3 .ensures) (c .before .before .before .before .before .before .before .before .before .before .before .before .before .before .before .if3 .left), no (c .before .before .before .before .before .before .before .before .before .before .before .before .before .equal4 .ensures) (c .before .before .before .before .before .before .before .before .before .before .before .before .if4 .left), no (c .before .before .before .before .before .before .before .before .before .before .equal5 .ensures) (c .before .before .before .before .before .before .before .before .before .if5 .left), no (c .before .before .before .before .before .before .before .equal6 .ensures) (c .before .before .before .before .before .before .if6 .left), no (c .before .before .before .before .equal7 .ensures) (c .before .before .before .if7 .left), yes (c .before .equal8 .ensures) (c .if8 .taken))
+returns-8 c =
+    let d₇ = c .before .before .before in
+    let d₆ = d₇ .before .before .before in
+    let d₅ = d₆ .before .before .before in
+    let d₄ = d₅ .before .before .before in
+    let d₃ = d₄ .before .before .before in
+    let d₂ = d₃ .before .before .before in
+    let d₁ = d₂ .before .before .before in
+    simp (no (d₁ .before .equal .ensures) (d₁ .if1 .left), no (d₂ .before .equal2 .ensures) (d₂ .if2 .left), no (d₃ .before .equal3 .ensures) (d₃ .if3 .left), no (d₄ .before .equal4 .ensures) (d₄ .if4 .left), no (d₅ .before .equal5 .ensures) (d₅ .if5 .left), no (d₆ .before .equal6 .ensures) (d₆ .if6 .left), no (d₇ .before .equal7 .ensures) (d₇ .if7 .left), yes (c .before .equal8 .ensures) (c .if8 .taken))
 
 slice-aggregate-equal-9 : tie.Need-slice-aggregate-equal-9
 slice-aggregate-equal-9 c = search needs
@@ -93,11 +128,29 @@ equal-requires-9 c κs = search needs
 
 returns-9 : tie.Need-returns-9
 unfolding commandIn
-returns-9 c = simp (no (c .before .before .before .before .before .before .before .before .before .before .before .before .before .before .before .before .before .before .before .before .before .before .before .before .before .equal .ensures) (c .before .before .before .before .before .before .before .before .before .before .before .before .before .before .before .before .before .before .before .before .before .before .before .before .if1 .left), no (c .before .before .before .before .before .before .before .before .before .before .before .before .before .before .before .before .before .before .before .before .before .before .equal2 .ensures) (c .before .before .before .before .before .before .before .before .before .before .before .before .before .before .before .before .before .before .before .before .before .if2 .left), no (c .before .before .before .before .before .before .before .before .before .before .before .before .before .before .before .before .before .before .before .equal3 .ensures) (c .before .before .before .before .before .before .before .before .before .before .before .before .before .before .before .before .before .before .if3 .left), no (c .before .before .before .before .before .before .before .before .before .before .before .before .before .before .before .before .equal4 .ensures) (c .before .before .before .before .before .before .before .before .before .before .before .before .before .before .before .if4 .left), no (c .before .before .before .before .before .before .before .before .before .before .before .before .before .equal5 .ensures) (c .before .before .before .before .before .before .before .before .before .before .before .before .if5 .left), no (c .before .before .before .before .before .before .before .before .before .before .equal6 .ensures) (c .before .before .before .before .before .before .before .before .before .if6 .left), no (c .before .before .before .before .before .before .before .equal7 .ensures) (c .before .before .before .before .before .before .if7 .left), no (c .before .before .before .before .equal8 .ensures) (c .before .before .before .if8 .left), yes (c .before .equal9 .ensures) (c .if9 .taken))
+returns-9 c =
+    let d₈ = c .before .before .before in
+    let d₇ = d₈ .before .before .before in
+    let d₆ = d₇ .before .before .before in
+    let d₅ = d₆ .before .before .before in
+    let d₄ = d₅ .before .before .before in
+    let d₃ = d₄ .before .before .before in
+    let d₂ = d₃ .before .before .before in
+    let d₁ = d₂ .before .before .before in
+    simp (no (d₁ .before .equal .ensures) (d₁ .if1 .left), no (d₂ .before .equal2 .ensures) (d₂ .if2 .left), no (d₃ .before .equal3 .ensures) (d₃ .if3 .left), no (d₄ .before .equal4 .ensures) (d₄ .if4 .left), no (d₅ .before .equal5 .ensures) (d₅ .if5 .left), no (d₆ .before .equal6 .ensures) (d₆ .if6 .left), no (d₇ .before .equal7 .ensures) (d₇ .if7 .left), no (d₈ .before .equal8 .ensures) (d₈ .if8 .left), yes (c .before .equal9 .ensures) (c .if9 .taken))
 
 returns-10 : tie.Need-returns-10
 unfolding commandIn
-returns-10 c = simp (no (c .before .before .before .before .before .before .before .before .before .before .before .before .before .before .before .before .before .before .before .before .before .before .before .before .before .equal .ensures) (c .before .before .before .before .before .before .before .before .before .before .before .before .before .before .before .before .before .before .before .before .before .before .before .before .if1 .left), no (c .before .before .before .before .before .before .before .before .before .before .before .before .before .before .before .before .before .before .before .before .before .before .equal2 .ensures) (c .before .before .before .before .before .before .before .before .before .before .before .before .before .before .before .before .before .before .before .before .before .if2 .left), no (c .before .before .before .before .before .before .before .before .before .before .before .before .before .before .before .before .before .before .before .equal3 .ensures) (c .before .before .before .before .before .before .before .before .before .before .before .before .before .before .before .before .before .before .if3 .left), no (c .before .before .before .before .before .before .before .before .before .before .before .before .before .before .before .before .equal4 .ensures) (c .before .before .before .before .before .before .before .before .before .before .before .before .before .before .before .if4 .left), no (c .before .before .before .before .before .before .before .before .before .before .before .before .before .equal5 .ensures) (c .before .before .before .before .before .before .before .before .before .before .before .before .if5 .left), no (c .before .before .before .before .before .before .before .before .before .before .equal6 .ensures) (c .before .before .before .before .before .before .before .before .before .if6 .left), no (c .before .before .before .before .before .before .before .equal7 .ensures) (c .before .before .before .before .before .before .if7 .left), no (c .before .before .before .before .equal8 .ensures) (c .before .before .before .if8 .left), no (c .before .equal9 .ensures) (c .if9 .left))
+returns-10 c =
+    let d₈ = c .before .before .before in
+    let d₇ = d₈ .before .before .before in
+    let d₆ = d₇ .before .before .before in
+    let d₅ = d₆ .before .before .before in
+    let d₄ = d₅ .before .before .before in
+    let d₃ = d₄ .before .before .before in
+    let d₂ = d₃ .before .before .before in
+    let d₁ = d₂ .before .before .before in
+    simp (no (d₁ .before .equal .ensures) (d₁ .if1 .left), no (d₂ .before .equal2 .ensures) (d₂ .if2 .left), no (d₃ .before .equal3 .ensures) (d₃ .if3 .left), no (d₄ .before .equal4 .ensures) (d₄ .if4 .left), no (d₅ .before .equal5 .ensures) (d₅ .if5 .left), no (d₆ .before .equal6 .ensures) (d₆ .if6 .left), no (d₇ .before .equal7 .ensures) (d₇ .if7 .left), no (d₈ .before .equal8 .ensures) (d₈ .if8 .left), no (c .before .equal9 .ensures) (c .if9 .left))
 
 pub command-in-spec : {M : Type 1} → statement M
 command-in-spec =

@@ -50,10 +50,15 @@ enum-told : tie.Need-enum-told
 enum-told c = search needs
 
 returns-3 : tie.Need-returns-3
-returns-3 c = event-command _ _ (c .before .before .before .before .before .before .before .before .before .before .if1 .left) (c .before .before .before .before .before .before .before .before .before .word-end .ensures) (c .before .before .before .before .before .before .before .before .if2 .left) _ (c .before .before .before .before .before .before .read-number .ensures) _ _ _ (c .before .before .before .before .x .given .1) (c .before .command-in .ensures) (c .line-of .ensures)
+returns-3 c =
+    let d = c .before .before .before .before in
+    let b = d .before .before .before .before in
+    event-command _ _ (b .before .before .if1 .left) (b .before .word-end .ensures) (b .if2 .left) _ (d .before .before .read-number .ensures) _ _ _ (d .x .given .1) (c .before .command-in .ensures) (c .line-of .ensures)
 
 returns-4 : tie.Need-returns-4
-returns-4 c = event-no-number _ _ (c .before .before .before .before .before .before .if1 .left) (c .before .before .before .before .before .word-end .ensures) (c .before .before .before .before .if2 .left) _ (c .before .before .read-number .ensures) (c .enum-told .given .1)
+returns-4 c =
+    let b = c .before .before .before .before in
+    event-no-number _ _ (b .before .before .if1 .left) (b .before .word-end .ensures) (b .if2 .left) _ (c .before .before .read-number .ensures) (c .enum-told .given .1)
 
 pub parse-event-spec : {M : Type 1} → statement M
 parse-event-spec =

@@ -29,7 +29,9 @@ equal-requires : tie.Need-equal-requires
 equal-requires c κs = search needs
 
 returns-3 : tie.Need-returns-3
-returns-3 c = setting-other _ _ (c .before .before .before .before .before .before .if1 .left) (c .before .before .before .before .before .word-end .ensures) (c .before .before .before .before .if2 .left) _ (c .before .equal .ensures) (c .if3 .taken)
+returns-3 c =
+    let b = c .before .before .before .before in
+    setting-other _ _ (b .before .before .if1 .left) (b .before .word-end .ensures) (b .if2 .left) _ (c .before .equal .ensures) (c .if3 .taken)
 
 add-four-from : tie.Need-add-four-from
 add-four-from c = search needs
@@ -38,7 +40,9 @@ four-from-requires : tie.Need-four-from-requires
 four-from-requires c κs = search needs
 
 returns-4 : tie.Need-returns-4
-returns-4 c = setting-numbers _ _ (c .before .before .before .before .before .before .before .if1 .left) (c .before .before .before .before .before .before .word-end .ensures) (c .before .before .before .before .before .if2 .left) _ (c .before .before .equal .ensures) _ (c .before .if3 .left) (c .four-from .ensures)
+returns-4 c =
+    let b = c .before .before .before .before .before in
+    setting-numbers _ _ (b .before .before .if1 .left) (b .before .word-end .ensures) (b .if2 .left) _ (c .before .before .equal .ensures) _ (c .before .if3 .left) (c .four-from .ensures)
 
 pub parse-setting-spec : {M : Type 1} → statement M
 parse-setting-spec =

@@ -13,16 +13,16 @@ slice-aggregate-put-word : tie.Need-slice-aggregate-put-word
 slice-aggregate-put-word c = search needs
 
 put-word-requires : tie.Need-put-word-requires
-put-word-requires c κs = omega (arith, length-end (c .before .before .before .args .accepted) (c .before .before .before .args .holders) (c .before .before .before .args .downs))
+put-word-requires c κs = let a = c .before .before .before .args in omega (arith, length-end (a .accepted) (a .holders) (a .downs))
 
 put-number-requires : tie.Need-put-number-requires
-put-number-requires c κs = omega (arith, length-end (c .before .before .before .before .before .before .before .args .accepted) (c .before .before .before .before .before .before .before .args .holders) (c .before .before .before .before .before .before .before .args .downs))
+put-number-requires c κs = let a = c .before .before .before .before .before .before .before .args in omega (arith, length-end (a .accepted) (a .holders) (a .downs))
 
 put-number-requires-2 : tie.Need-put-number-requires-2
-put-number-requires-2 c κs = omega (arith, length-end (c .before .before .before .before .before .before .before .before .before .before .before .args .accepted) (c .before .before .before .before .before .before .before .before .before .before .before .args .holders) (c .before .before .before .before .before .before .before .before .before .before .before .args .downs))
+put-number-requires-2 c κs = let a = c .before .before .before .before .before .before .before .before .before .before .before .args in omega (arith, length-end (a .accepted) (a .holders) (a .downs))
 
 put-number-requires-3 : tie.Need-put-number-requires-3
-put-number-requires-3 c κs = omega (arith, length-end (c .before .before .before .before .before .before .before .before .before .before .before .before .before .before .before .args .accepted) (c .before .before .before .before .before .before .before .before .before .before .before .before .before .before .before .args .holders) (c .before .before .before .before .before .before .before .before .before .before .before .before .before .before .before .args .downs))
+put-number-requires-3 c κs = let a = c .before .before .before .before .before .before .before .before .before .before .before .before .before .before .before .args in omega (arith, length-end (a .accepted) (a .holders) (a .downs))
 
 same-length : tie.Need-same-length
 same-length c = search needs
@@ -30,11 +30,15 @@ same-length c = search needs
 returns : tie.Need-returns
 unfolding endLine
 returns c =
-    let a = c .before .before .before .before .before .before .before .before .before .before .before .before .before .before .before .before .before .before .args in
-    let e₁ = puts-more (puts-none (now (a .out)) (a .at)) (text "end") (c .before .before .before .before .before .before .before .before .before .before .before .before .before .before .put-word .ensures) in
-    let e₂ = puts-more (e₁) (decimal (a .accepted)) (c .before .before .before .before .before .before .before .before .before .before .put-number .ensures) in
-    let e₃ = puts-more (e₂) (decimal (a .holders)) (c .before .before .before .before .before .before .put-number2 .ensures) in
-    puts-last e₃ (decimal (a .downs)) (c .before .before .put-number3 .ensures)
+    let d₄ = c .before .before in
+    let d₃ = d₄ .before .before .before .before in
+    let d₂ = d₃ .before .before .before .before in
+    let d₁ = d₂ .before .before .before .before in
+    let a = d₁ .before .before .before .before .args in
+    let e₁ = puts-more (puts-none (now (a .out)) (a .at)) (text "end") (d₁ .put-word .ensures) in
+    let e₂ = puts-more e₁ (decimal (a .accepted)) (d₂ .put-number .ensures) in
+    let e₃ = puts-more e₂ (decimal (a .holders)) (d₃ .put-number2 .ensures) in
+    puts-last e₃ (decimal (a .downs)) (d₄ .put-number3 .ensures)
 
 pub put-end-spec : {M : Type 1} → statement M
 put-end-spec =

@@ -12,19 +12,19 @@ use Rattle.language.proofs.put_no.Statement.{statement}
 use Rattle.language.proofs.put_no.Tie as tie
 
 put-number-requires : tie.Need-put-number-requires
-put-number-requires c κs = omega (arith, length-no (c .before .before .args .number) (c .before .before .args .refusal))
+put-number-requires c κs = let a = c .before .before .args in omega (arith, length-no (a .number) (a .refusal))
 
 slice-aggregate-put-word : tie.Need-slice-aggregate-put-word
 slice-aggregate-put-word c = search needs
 
 put-word-requires : tie.Need-put-word-requires
-put-word-requires c κs = omega (arith, length-no (c .before .before .before .before .before .before .before .args .number) (c .before .before .before .before .before .before .before .args .refusal))
+put-word-requires c κs = let a = c .before .before .before .before .before .before .before .args in omega (arith, length-no (a .number) (a .refusal))
 
 code-of-requires : tie.Need-code-of-requires
 code-of-requires c κs = search needs
 
 put-number-requires-2 : tie.Need-put-number-requires-2
-put-number-requires-2 c κs = omega (arith, length-no (c .before .before .before .before .before .before .before .before .before .before .before .before .args .number) (c .before .before .before .before .before .before .before .before .before .before .before .before .args .refusal), ap (λ x. length (decimal x)) (c .code-of .ensures))
+put-number-requires-2 c κs = let a = c .before .before .before .before .before .before .before .before .before .before .before .before .args in omega (arith, length-no (a .number) (a .refusal), ap (λ x. length (decimal x)) (c .code-of .ensures))
 
 same-length : tie.Need-same-length
 same-length c = search needs
@@ -32,10 +32,13 @@ same-length c = search needs
 returns : tie.Need-returns
 unfolding noLine
 returns c =
-    let a = c .before .before .before .before .before .before .before .before .before .before .before .before .before .before .before .args in
-    let e₁ = puts-more (puts-none (now (a .out)) (a .at)) (decimal (a .number)) (c .before .before .before .before .before .before .before .before .before .before .before .before .put-number .ensures) in
-    let e₂ = puts-more (e₁) (text "no") (c .before .before .before .before .before .before .before .put-word .ensures) in
-    rw (c .before .before .before .code-of .ensures) at (puts-last e₂ (decimal (c .before .before .before .code-of .result)) (c .before .before .put-number2 .ensures))
+    let d₃ = c .before .before in
+    let d₂ = d₃ .before .before .before .before .before in
+    let d₁ = d₂ .before .before .before .before .before in
+    let a = d₁ .before .before .before .args in
+    let e₁ = puts-more (puts-none (now (a .out)) (a .at)) (decimal (a .number)) (d₁ .put-number .ensures) in
+    let e₂ = puts-more e₁ (text "no") (d₂ .put-word .ensures) in
+    rw (d₃ .before .code-of .ensures) at (puts-last e₂ (decimal (d₃ .before .code-of .result)) (d₃ .put-number2 .ensures))
 
 pub put-no-spec : {M : Type 1} → statement M
 put-no-spec =

@@ -15,13 +15,13 @@ slice-aggregate-put-word : tie.Need-slice-aggregate-put-word
 slice-aggregate-put-word c = search needs
 
 put-word-requires : tie.Need-put-word-requires
-put-word-requires c κs = omega (arith, length-refused (c .before .before .before .args .refusal))
+put-word-requires c κs = let a = c .before .before .before .args in omega (arith, length-refused (a .refusal))
 
 code-of-requires : tie.Need-code-of-requires
 code-of-requires c κs = search needs
 
 put-number-requires : tie.Need-put-number-requires
-put-number-requires c κs = omega (arith, length-refused (c .before .before .before .before .before .before .before .before .args .refusal), ap (λ x. length (decimal x)) (c .code-of .ensures))
+put-number-requires c κs = let a = c .before .before .before .before .before .before .before .before .args in omega (arith, length-refused (a .refusal), ap (λ x. length (decimal x)) (c .code-of .ensures))
 
 same-length : tie.Need-same-length
 same-length c = search needs
@@ -29,9 +29,11 @@ same-length c = search needs
 returns : tie.Need-returns
 unfolding refusedLine
 returns c =
-    let a = c .before .before .before .before .before .before .before .before .before .before .before .args in
-    let e₁ = puts-more (puts-none (now (a .out)) (a .at)) (text "no") (c .before .before .before .before .before .before .before .put-word .ensures) in
-    rw (c .before .before .before .code-of .ensures) at (puts-last e₁ (decimal (c .before .before .before .code-of .result)) (c .before .before .put-number .ensures))
+    let d₂ = c .before .before in
+    let d₁ = d₂ .before .before .before .before .before in
+    let a = d₁ .before .before .before .before .args in
+    let e₁ = puts-more (puts-none (now (a .out)) (a .at)) (text "no") (d₁ .put-word .ensures) in
+    rw (d₂ .before .code-of .ensures) at (puts-last e₁ (decimal (d₂ .before .code-of .result)) (d₂ .put-number .ensures))
 
 pub put-refused-spec : {M : Type 1} → statement M
 put-refused-spec =
