@@ -8,3 +8,4 @@ pub mod PrintedLaws
 pub mod NumberTrip
 pub mod EventTrip
 pub mod SettingTrip
+pub mod Samples
