@@ -187,3 +187,17 @@ number-printed (b ∷ l) x e =
     let (n, d) = passed (eqb b 48 && ltb 0 (length l)) (λ (f : none ≡ some x). let z : _≡_ {A = ℕ} 0 1 = cc in omega arith) e in
     let t = through (digit 0 b) (λ z. digits z l) x d in
     from-first b l x (t .value) n (digit-read 0 b (t .value) (t .is)) (t .gives)
+
+digits-small : (l : List ℕ) (y x : ℕ) → y ≤ largest → digits y l ≡ some x → x ≤ largest
+unfolding digits
+digits-small [] y x h e = let z : y ≡ x = cc in rw z at h
+digits-small (b ∷ l) y x h e =
+    let t = through (digit y b) (λ z. digits z l) x e in
+    digits-small l (t .value) x (digit-read y b (t .value) (t .is) .small) (t .gives)
+
+pub number-small : (l : List ℕ) (x : ℕ) → number l ≡ some x → x ≤ largest
+unfolding number
+number-small [] x e = let z : _≡_ {A = ℕ} 0 1 = cc in absurd (omega arith)
+number-small (b ∷ l) x e =
+    let (n, d) = passed (eqb b 48 && ltb 0 (length l)) (λ (f : none ≡ some x). let z : _≡_ {A = ℕ} 0 1 = cc in omega arith) e in
+    digits-small (b ∷ l) 0 x (omega arith) d
