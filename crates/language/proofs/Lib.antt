@@ -1,0 +1,11 @@
+pub mod ReadLaws
+pub mod WordLaws
+pub mod LineLaws
+pub mod FirstLaws
+pub mod DecimalLaws
+pub mod PutLaws
+pub mod PrintedLaws
+pub mod NumberTrip
+pub mod EventTrip
+pub mod SettingTrip
+pub mod Samples

@@ -1,0 +1,56 @@
+-- `language::equal` meets its contract. The invariant: the words have the same length and agree before place i.
+use Prim.Native.Nat.{_-_}
+use lib.ListN.{length}
+use Rattle.language.proofs.WordLaws.{same-longer, Agrees, agrees-none, agrees-more, agrees-stop, agrees-all}
+use borrow.Author.Needs.{needs}
+use Rattle.language.proofs.equal.Statement.{statement}
+use Rattle.language.proofs.equal.Tie as tie
+
+abbrev Inv-loop : tie.InvT-loop
+Inv-loop a b i₀ i = Agrees a b i
+
+abbrev μ-loop : tie.MeasureT-loop
+μ-loop a b i₀ i = length a - i
+
+returns : tie.Need-returns Inv-loop μ-loop
+returns c = search same-longer
+
+loop-holds : tie.Need-loop-holds Inv-loop μ-loop
+loop-holds c = search agrees-none
+
+shared-slice-read-if2 : tie.Need-shared-slice-read-if2 Inv-loop μ-loop
+shared-slice-read-if2 c = search needs
+
+shared-slice-read-if2-2 : tie.Need-shared-slice-read-if2-2 Inv-loop μ-loop
+shared-slice-read-if2-2 c = search needs
+
+returns-2 : tie.Need-returns-2 Inv-loop μ-loop
+returns-2 c = search agrees-stop
+
+add-i : tie.Need-add-i Inv-loop μ-loop
+add-i c = search needs
+
+loop-less : tie.Need-loop-less Inv-loop μ-loop
+loop-less c = search needs
+
+loop-again : tie.Need-loop-again Inv-loop μ-loop
+loop-again c = search agrees-more
+
+returns-3 : tie.Need-returns-3 Inv-loop μ-loop
+returns-3 c = search agrees-all
+
+pub equal-spec : {M : Type 1} → statement M
+equal-spec =
+    tie.close
+    (tie.spec
+    Inv-loop
+    μ-loop
+    returns
+    loop-holds
+    shared-slice-read-if2
+    shared-slice-read-if2-2
+    returns-2
+    add-i
+    loop-less
+    loop-again
+    returns-3)

@@ -1,0 +1,47 @@
+-- `language::put_refused` meets its contract: two words, one put where the other ended.
+use mathlib.Core.Path.{ap}
+use lib.ListN.{length}
+use native.Mathlib.Omega.{arith}
+use denote.Ref.{now}
+use Rattle.language.specs.Decimals.{decimal}
+use Rattle.language.specs.Words.{text}
+use Rattle.language.specs.Printed.{refusedLine}
+use Rattle.language.proofs.PrintedLaws.{length-refused, puts-none, puts-more, puts-last}
+use borrow.Author.Needs.{needs}
+use Rattle.language.proofs.put_refused.Statement.{statement}
+use Rattle.language.proofs.put_refused.Tie as tie
+
+slice-aggregate-put-word : tie.Need-slice-aggregate-put-word
+slice-aggregate-put-word c = search needs
+
+put-word-requires : tie.Need-put-word-requires
+put-word-requires c κs = let a = c .before .before .before .args in omega (arith, length-refused (a .refusal))
+
+code-of-requires : tie.Need-code-of-requires
+code-of-requires c κs = search needs
+
+put-number-requires : tie.Need-put-number-requires
+put-number-requires c κs = let a = c .before .before .before .before .before .before .before .before .args in omega (arith, length-refused (a .refusal), ap (λ x. length (decimal x)) (c .code-of .ensures))
+
+same-length : tie.Need-same-length
+same-length c = search needs
+
+returns : tie.Need-returns
+unfolding refusedLine
+returns c =
+    let d₂ = c .before .before in
+    let d₁ = d₂ .before .before .before .before .before in
+    let a = d₁ .before .before .before .before .args in
+    let e₁ = puts-more (puts-none (now (a .out)) (a .at)) (text "no") (d₁ .put-word .ensures) in
+    rw (d₂ .before .code-of .ensures) at (puts-last e₁ (decimal (d₂ .before .code-of .result)) (d₂ .put-number .ensures))
+
+pub put-refused-spec : {M : Type 1} → statement M
+put-refused-spec =
+    tie.close
+    (tie.spec
+    slice-aggregate-put-word
+    put-word-requires
+    code-of-requires
+    put-number-requires
+    same-length
+    returns)

@@ -1,0 +1,5 @@
+pub mod Decimals
+pub mod Words
+pub mod Lines
+pub mod Printed
+pub mod Answers
