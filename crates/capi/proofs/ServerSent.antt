@@ -9,6 +9,7 @@ use mathlib.Core.Option.{Option, none, some}
 use lib.Dec.{eqb, ltb, leb}
 use lib.ListN.{length, length-append, drop}
 use borrow.Author.Tests.{not-false, leb-true}
+use Rattle.ids.specs.Lists.{every}
 use Rattle.ids.specs.Choice.{if_then_else_, maybe}
 use Rattle.ids.specs.Requests.{isRequest, isClient, byOwner, same, noRequest}
 use Rattle.ids.specs.declared.ClientId.{ClientId}
@@ -181,4 +182,4 @@ unfolding server.valid server.validQueue
 valid-length s v =
     let (ab, c) = both (server.validSizes (s .n) (s .id) && server.validQueue (s .votes .queue)) (server.validState (view (s .votes))) v in
     let q : server.validQueue (s .votes .queue) ≡ true = both (server.validSizes (s .n) (s .id)) (server.validQueue (s .votes .queue)) ab .1 in
-    leb-true _ _ (both (leb (s .votes .queue .len) maxQueue) (server.every (same noRequest) (drop (s .votes .queue .len) (s .votes .queue .places))) q .0)
+    leb-true _ _ (both (leb (s .votes .queue .len) maxQueue) (every (same noRequest) (drop (s .votes .queue .len) (s .votes .queue .places))) q .0)

@@ -108,20 +108,20 @@ section-small Remainder = refl
 section-small Trying = refl
 section-small Critical = refl
 
-fits-shown : (l : List Request) → client.every validOwner (map shown l) ≡ true → every fitsPlace l ≡ true
+fits-shown : (l : List Request) → every validOwner (map shown l) ≡ true → every fitsPlace l ≡ true
 unfolding validOwner
 fits-shown [] h = refl
 fits-shown (q ∷ l) h =
-    let (p, r) = both (validOwner (shown q)) (client.every validOwner (map shown l)) h in
+    let (p, r) = both (validOwner (shown q)) (every validOwner (map shown l)) h in
     ⊎-elim
     (λ (t : same q noRequest ≡ true). rw (same-true q noRequest t) (fits-shown l r))
     (λ (t : same q noRequest ≡ false). let w : validRequest q ≡ true = rw t at p in rw (le-leb (q .client .0) maxShort (client-range (q .client) (request-range q w .0) .1)) (fits-shown l r))
     (decided (same q noRequest))
 
-fits-blank : (l : List Request) → client.every (same noRequest) l ≡ true → every fitsPlace l ≡ true
+fits-blank : (l : List Request) → every (same noRequest) l ≡ true → every fitsPlace l ≡ true
 fits-blank [] h = refl
 fits-blank (q ∷ l) h =
-    let (p, r) = both (same noRequest q) (client.every (same noRequest) l) h in
+    let (p, r) = both (same noRequest q) (every (same noRequest) l) h in
     rw (← same-true noRequest q p) (fits-blank l r)
 
 module _ (c : Client) (v : client.valid c ≡ true) where
