@@ -5,3 +5,4 @@ pub mod ValidLaws
 pub mod ChangeLaws
 pub mod FindLaws
 pub mod PostLaws
+pub mod Kept
