@@ -6,3 +6,4 @@ pub mod ChangeLaws
 pub mod FindLaws
 pub mod PostLaws
 pub mod Kept
+pub mod Determined
