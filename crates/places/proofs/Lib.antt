@@ -1,0 +1,4 @@
+pub mod Fronts
+pub mod BlockParts
+pub mod TestLaws
+pub mod FlagLaws
