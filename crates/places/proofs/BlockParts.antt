@@ -1,12 +1,12 @@
 -- The parts of a block: what the code's loops and tests say of them, and what a store in one leaves of the others.
 use Prim.Native.Nat.{ℕ, zero, suc, _+_, _-_, _*_, _≤_, _<_}
 use native.Mathlib.Omega.{arith}
-use mathlib.Core.Path.{_≡_, sym, ap, _∙_}
+use mathlib.Core.Path.{_≡_, refl, sym, ap, _∙_}
 use mathlib.Core.Bool.{Bool, true, false}
 use mathlib.Core.List.{List, [], _∷_, _++_, append-nil, append-assoc}
 use lib.Dec.{leb}
 use lib.ListN.{length, getD, take, drop, set, length-drop, length-take, replicate}
-use lib.Seq.{sets, length-sets, sets-eq, drop-length, drop-drop, getD-drop, take-length, take-all}
+use lib.Seq.{sets, getD-set-other, length-sets, sets-eq, drop-length, drop-drop, getD-drop, take-length, take-all}
 use borrow.Author.Tests.{le-leb, lt-leb}
 use Rattle.ids.specs.Requests.{noRequest}
 use Rattle.ids.specs.Choice.{if_then_else_}
@@ -80,6 +80,11 @@ pub covered : (ws vs : List ℕ) → length vs ≡ length ws → sets ws 0 vs �
 covered ws vs e =
     let z : 0 + length vs ≡ length ws = omega arith in
     sets-eq vs ws 0 (omega arith) ∙ rw (z, drop-length ws) (append-nil vs)
+
+-- a store behind the first word
+pub first-kept : (b : List ℕ) (a : ℕ) (vs : List ℕ) → getD (sets b (suc a) vs) 0 0 ≡ getD b 0 0
+first-kept b a [] = refl
+first-kept b a (v ∷ vs) = first-kept (set b (suc a) v) (suc a) vs ∙ getD-set-other b (suc a) 0 v 0 (λ h. omega arith)
 
 pub part-stored : (b ys vs : List ℕ) (a k : ℕ) → a + k ≤ length b → length vs ≡ k → ys ≡ sets (take k (drop a b)) 0 vs → take a b ++ (ys ++ drop k (drop a b)) ≡ sets b a vs
 part-stored b ys vs a k h e p =
