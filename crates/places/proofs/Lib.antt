@@ -7,3 +7,4 @@ pub mod ClientLaws
 pub mod ClientSteps
 pub mod Pigeonhole
 pub mod ServerLaws
+pub mod ServerSteps
