@@ -131,7 +131,7 @@ module _ (n clients j : ℕ) (b : List ℕ) (ok : validServerBlock n clients j b
 
       pub receive-block : clients ≤ 16
           → ServerIs n clients j (server-written n j b (receive (record { 0 = j }) tag r (serverPlace b .state) .state)) (record { up = serverPlace b .up; state = receive (record { 0 = j }) tag r (serverPlace b .state) .state })
-      receive-block few = stored-server n clients j b ok few (receive me tag r at .state) (receive-good me tag r at v good) receive-names
+      receive-block few = stored-server n clients j b ok (receive me tag r at .state) (receive-good me tag r at v good) receive-names (omega (arith, receive-short))
 
   suspect-fair : Fair (OfClients clients) no-one me (at .owner) none-gained (suspect me at)
   suspect-fair = fair-suspect (λ p x. absurd x) holds
@@ -142,7 +142,8 @@ module _ (n clients j : ℕ) (b : List ℕ) (ok : validServerBlock n clients j b
   pub suspect-block : clients ≤ 16
       → ServerIs n clients j (server-written n j b (suspect (record { 0 = j }) (serverPlace b .state) .state)) (record { up = serverPlace b .up; state = suspect (record { 0 = j }) (serverPlace b .state) .state })
   suspect-block few =
-      stored-server n clients j b ok few (suspect me at .state) (suspect-good me at good) (holds-named clients (suspect me at .state) (suspect-fair .holds))
+      let names = holds-named clients (suspect me at .state) (suspect-fair .holds) in
+      stored-server n clients j b ok (suspect me at .state) (suspect-good me at good) names (omega (arith, queue-fits clients (suspect me at .state) (suspect-good me at good) names))
 
   check-fair : Fair (OfClients clients) no-one me (at .owner) none-gained (check me at)
   check-fair = fair-check holds
@@ -153,7 +154,8 @@ module _ (n clients j : ℕ) (b : List ℕ) (ok : validServerBlock n clients j b
   pub check-block : clients ≤ 16
       → ServerIs n clients j (server-written n j b (check (record { 0 = j }) (serverPlace b .state) .state)) (record { up = serverPlace b .up; state = check (record { 0 = j }) (serverPlace b .state) .state })
   check-block few =
-      stored-server n clients j b ok few (check me at .state) (check-good me at good) (holds-named clients (check me at .state) (check-fair .holds))
+      let names = holds-named clients (check me at .state) (check-fair .holds) in
+      stored-server n clients j b ok (check me at .state) (check-good me at good) names (omega (arith, queue-fits clients (check me at .state) (check-good me at good) names))
 
   -- what the calls do
   pub receive-outcome : (tag : Tag) (k : ClientId) (t : Timestamp) → format.valid (message tag k (record { 0 = j }) t) ≡ true → leb (k .0) clients ≡ true → clients ≤ 16
