@@ -101,7 +101,7 @@ flag-adds i (suc d) (x ∷ l) h =
 abbrev pub downBit : ServerPlace → ℕ
 downBit q = if q .up then 0 else 1
 
-none-flagged : (j : ℕ) (l : List ℕ) → every zeroWord l ≡ true → flagged j l ≡ []
+pub none-flagged : (j : ℕ) (l : List ℕ) → every zeroWord l ≡ true → flagged j l ≡ []
 unfolding flagged
 none-flagged j [] h = refl
 none-flagged j (x ∷ l) h = let (a, g) = both (zeroWord x) (every zeroWord l) h in rw a (none-flagged (suc j) l g)

@@ -8,3 +8,4 @@ pub mod ClientSteps
 pub mod Pigeonhole
 pub mod ServerLaws
 pub mod ServerSteps
+pub mod EpochLaws
