@@ -197,7 +197,7 @@ module _ (r : Request) (l : List Owner) (j : ServerId) (o : Owner) (f : Owner �
   every-chosen true false e h g = h
   every-chosen false b e h g = h
 
-  heard-every : every f l ≡ true → (current r o ≡ true → f o ≡ true) → every f (heard r l j o) ≡ true
+  pub heard-every : every f l ≡ true → (current r o ≡ true → f o ≡ true) → every f (heard r l j o) ≡ true
   unfolding heard
   heard-every h g = every-chosen (not (isRequest r (getD l (j .0 - 1) Nobody))) (current r o) refl h g
 
@@ -261,7 +261,7 @@ module _ (n m : ℕ) (k : ClientId) (j : ServerId) (o : Owner) (v : validOwner o
   responds-fits s F = responds-by (s .section) (s .timestamp) (s .responses) F
 
 -- lines 24 and 25 change nothing
-checked-state : (k : ClientId) (j : ServerId) (t : Timestamp) (s : State) → checked k j t s .state ≡ s
+pub checked-state : (k : ClientId) (j : ServerId) (t : Timestamp) (s : State) → checked k j t s .state ≡ s
 unfolding checked
 checked-state k j t s = by-test (eqb (t .0) (s .timestamp .0)) where
   by-test : (b : Bool) → (if b then stay s else record { state = s; sent = Release k j t ∷ [] }) .state ≡ s
@@ -270,12 +270,12 @@ checked-state k j t s = by-test (eqb (t .0) (s .timestamp .0)) where
 
 -- lines 1 to 5 and 19 to 23
 module _ (n m : ℕ) (k : ClientId) (s : State) (R : InRange n m k) where
-  tries-fits : s .timestamp .0 ≤ lastTry → Fits n m k (tries n k s .state)
+  pub tries-fits : s .timestamp .0 ≤ lastTry → Fits n m k (tries n k s .state)
   unfolding tries next
   tries-fits h =
       trying-fits n m k R (record { 0 = s .timestamp .0 + 1 }) (rw (le-leb 1 (s .timestamp .0 + 1) (omega arith)) (lt-ltb (s .timestamp .0 + 1) maxTimestamp (omega arith)))
 
-  exits-fits : Fits n m k (exits n k s .state)
+  pub exits-fits : Fits n m k (exits n k s .state)
   unfolding exits
   exits-fits = remainder-fits n m k R (next (s .timestamp))
 

@@ -49,7 +49,7 @@ pub requests-next : (ws : List ℕ) (at : ℕ) → at + 2 ≤ length ws → requ
 unfolding requestsIn
 requests-next ws at h = rw (drop-cons ws at 0 (omega arith), drop-cons ws (suc at) 0 (omega arith))
 
-requests-at : (ws : List ℕ) (i : ℕ) → 2 * i + 2 ≤ length ws → getD (requestsIn ws) i noRequest ≡ placeAt ws (2 * i)
+pub requests-at : (ws : List ℕ) (i : ℕ) → 2 * i + 2 ≤ length ws → getD (requestsIn ws) i noRequest ≡ placeAt ws (2 * i)
 unfolding requestsIn
 requests-at [] i h = absurd (omega arith)
 requests-at (k ∷ []) i h = absurd (omega arith)

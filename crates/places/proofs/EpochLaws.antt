@@ -1,0 +1,184 @@
+-- Where an epoch begins, goes on and ends, in a client's block: its record stays, and the flags are put, set or cleared.
+use Prim.Native.Nat.{ℕ, zero, suc, _+_, _-_, _≤_, _<_}
+use native.Mathlib.Omega.{arith}
+use mathlib.Core.Path.{_≡_, refl, sym, ap, _∙_, subst}
+use mathlib.Core.Bool.{Bool, true, false, _&&_, _||_, not}
+use mathlib.Core.List.{List, [], _∷_, _++_, map}
+use mathlib.Core.Logic.{⊎-elim}
+use lib.Dec.{eqb, leb}
+use lib.ListN.{length, getD, take, drop, set, replicate, length-map, length-set, length-take, length-drop, length-append}
+use lib.Seq.{sets, sets-eq, length-sets, drop-set-lt, getD-set-same, take-suc, drop-at}
+use borrow.Author.Tests.{leb-true, le-leb, eqb-true}
+use Rattle.ids.specs.Choice.{if_then_else_}
+use Rattle.ids.specs.Lists.{every}
+use Rattle.ids.specs.declared.ClientId.{ClientId}
+use Rattle.ids.specs.declared.ServerId.{ServerId}
+use Rattle.ids.proofs.Choice.{both, decided}
+use Rattle.wire.proofs.BytesLaws.{stored-on}
+use Rattle.client.specs.Figure1.{State, tries, exits}
+use Rattle.client.specs.Record as client
+use Rattle.client.specs.Calls.{isRemainder, lastTry}
+use Rattle.words.specs.Records.{clientFrom, clientWords}
+use Rattle.regions.proofs.SetsLaws.{region-inside, region-before, region-behind}
+use Rattle.system.specs.Numbered.{added}
+use Rattle.system.specs.Places.{ClientPlace, ServerPlace, inEpoch, downed, downFrom}
+use Rattle.places.specs.Blocks.{clientRecord, flags, flagged, cleared, clientPlace, bitWord, zeroWord, validClientBlock}
+use Rattle.places.proofs.BlockParts.{covered, first-kept, length-cleared}
+use Rattle.places.proofs.Facts.{ClientBlock, client-facts, client-block}
+use Rattle.places.proofs.FlagLaws.{none-flagged, flag-adds, downBit, down-flagged}
+use Rattle.places.proofs.ClientLaws.{ClientIs}
+use Rattle.places.proofs.ClientSteps.{written, placed, tries-block, exits-block}
+
+-- a block with the record of a valid one, and flags that fit
+module _ (n m clients k : ℕ) (b b′ : List ℕ) (ok : validClientBlock n m clients k b ≡ true) where
+  abbrev B : ClientBlock n m clients k b
+  B = client-facts n m clients k b ok
+
+  module _ (e : clientRecord b′ ≡ clientRecord b) where
+    moved-place : clientPlace b′ ≡ record { living = eqb (getD b′ 0 0) 1; state = clientPlace b .state; downs = flagged 1 (flags b′) }
+    unfolding clientPlace
+    moved-place = ap (λ (l : List ℕ). record { living = eqb (getD b′ 0 0) 1; state = client.view (clientFrom l); downs = flagged 1 (flags b′) }) e
+
+    moved : length b′ ≡ 99 → getD b′ 0 0 ≤ 1 → every bitWord (flags b′) ≡ true → every zeroWord (drop n (flags b′)) ≡ true
+        → (inEpoch (record { living = eqb (getD b′ 0 0) 1; state = clientPlace b .state; downs = flagged 1 (flags b′) }) || every zeroWord (flags b′)) ≡ true
+        → ClientIs n m clients k b′ (record { living = eqb (getD b′ 0 0) 1; state = clientPlace b .state; downs = flagged 1 (flags b′) })
+    moved l f p q r =
+        record {
+          place = moved-place;
+          valid = client-block n m clients k b′ (record {
+            size = l;
+            bit = f;
+            held = rw e (B .held);
+            valid = rw e (B .valid);
+            servers = rw e (B .servers);
+            threshold = rw e (B .threshold);
+            number = rw e (B .number);
+            names = rw moved-place (B .names);
+            bits = p;
+            behind = q;
+            outside = rw moved-place r;
+          });
+        }
+
+every-drop : (f : ℕ → Bool) (n : ℕ) (l : List ℕ) → every f l ≡ true → every f (drop n l) ≡ true
+every-drop f zero l h = h
+every-drop f (suc n) [] h = refl
+every-drop f (suc n) (x ∷ l) h = every-drop f n l (both (f x) (every f l) h .1)
+
+every-set : (f : ℕ → Bool) (l : List ℕ) (i x : ℕ) → every f l ≡ true → f x ≡ true → every f (set l i x) ≡ true
+every-set f [] i x h g = refl
+every-set f (y ∷ l) zero x h g = rw g (both (f y) (every f l) h .1)
+every-set f (y ∷ l) (suc i) x h g = let (a, r) = both (f y) (every f l) h in rw a (every-set f l i x r g)
+
+every-append : (f : ℕ → Bool) (a b : List ℕ) → every f a ≡ true → every f b ≡ true → every f (a ++ b) ≡ true
+every-append f [] b h g = g
+every-append f (x ∷ a) b h g = let (p, r) = both (f x) (every f a) h in rw p (every-append f a b r g)
+
+or-true : (a : Bool) → a || true ≡ true
+or-true true = refl
+or-true false = refl
+
+-- the flags cleared
+module _ (b : List ℕ) (l : length b ≡ 99) where
+  cleared-flags : flags (cleared b) ≡ replicate 31 0
+  unfolding cleared
+  cleared-flags = region-inside 68 31 b 0 (replicate 31 0) (omega arith) ∙ covered (flags b) (replicate 31 0) (simp (length-take, length-drop) (omega arith))
+
+  cleared-zero : every zeroWord (flags (cleared b)) ≡ true
+  cleared-zero = ap (every zeroWord) cleared-flags
+
+  cleared-record : clientRecord (cleared b) ≡ clientRecord b
+  unfolding cleared
+  cleared-record = region-behind 1 67 b 0 (replicate 31 0)
+
+  cleared-first : getD (cleared b) 0 0 ≡ getD b 0 0
+  unfolding cleared
+  cleared-first = first-kept b 67 (replicate 31 0)
+
+zero-bits : (l : List ℕ) → every zeroWord l ≡ true → every bitWord l ≡ true
+zero-bits [] h = refl
+zero-bits (x ∷ l) h =
+    let (a, g) = both (zeroWord x) (every zeroWord l) h in
+    let z : x ≡ 0 = eqb-true x 0 a in
+    rw (le-leb x 1 (omega arith)) (zero-bits l g)
+
+module _ (n m clients k : ℕ) (b b′ : List ℕ) (ok : validClientBlock n m clients k b ≡ true) (e : clientRecord b′ ≡ clientRecord b) (z : every zeroWord (flags b′) ≡ true) where
+  no-flags : length b′ ≡ 99 → getD b′ 0 0 ≤ 1 → ClientIs n m clients k b′ (record { living = eqb (getD b′ 0 0) 1; state = clientPlace b .state; downs = [] })
+  no-flags l f =
+      let M = moved n m clients k b b′ ok e l f (zero-bits (flags b′) z) (every-drop zeroWord n (flags b′) z) (rw z (or-true (eqb (getD b′ 0 0) 1 && not (isRemainder (clientPlace b .state .section))))) in
+      record { place = M .place ∙ ap (λ (d : List ℕ). record { living = eqb (getD b′ 0 0) 1; state = clientPlace b .state; downs = d }) (none-flagged 1 (flags b′) z); valid = M .valid }
+
+module _ (n m clients k : ℕ) (b : List ℕ) (ok : validClientBlock n m clients k b ≡ true) where
+  abbrev C : ClientBlock n m clients k b
+  C = client-facts n m clients k b ok
+
+  living-is : eqb (getD b 0 0) 1 ≡ clientPlace b .living
+  unfolding clientPlace
+  living-is = refl
+
+  downs-are : flagged 1 (flags b) ≡ clientPlace b .downs
+  unfolding clientPlace
+  downs-are = refl
+
+  -- what `clear_flags` leaves
+  pub cleared-block : ClientIs n m clients k (cleared b) (record { living = clientPlace b .living; state = clientPlace b .state; downs = [] })
+  cleared-block =
+      let f = cleared-first b (C .size) in
+      let M = no-flags n m clients k b (cleared b) ok (cleared-record b (C .size)) (cleared-zero b (C .size)) (length-cleared b ∙ C .size) (rw f (C .bit)) in
+      record { place = M .place ∙ rw (f, living-is); valid = M .valid }
+
+  -- what `fall` leaves
+  pub fall-block : ClientIs n m clients k (cleared (set b 0 0)) (record { living = false; state = clientPlace b .state; downs = [] })
+  fall-block =
+      let l : length (set b 0 0) ≡ 99 = length-set b 0 0 ∙ C .size in
+      let r : clientRecord (set b 0 0) ≡ clientRecord b = ap (take 67) (drop-set-lt 1 b 0 0 (omega arith)) in
+      let f : getD (cleared (set b 0 0)) 0 0 ≡ 0 = cleared-first (set b 0 0) l ∙ getD-set-same b 0 0 0 (omega (arith, C .size)) in
+      let M = no-flags n m clients k b (cleared (set b 0 0)) ok (cleared-record (set b 0 0) l ∙ r) (cleared-zero (set b 0 0) l) (length-cleared (set b 0 0) ∙ l) (rw f (omega arith)) in
+      record { place = M .place ∙ rw f; valid = M .valid }
+
+  -- what `put_flag` with 1 leaves, in an epoch
+  module _ (j : ℕ) (first : 1 ≤ j) (last : j ≤ n) (few : n ≤ 31) (epoch : inEpoch (clientPlace b) ≡ true) where
+    long : length (flags b) ≡ 31
+    long = simp (length-take, length-drop) (omega (arith, C .size))
+
+    set-flags : flags (set b (67 + j) 1) ≡ set (flags b) (j - 1) 1
+    set-flags =
+        let z : 67 + j ≡ 68 + (j - 1) = omega arith in
+        rw z (region-inside 68 31 b (j - 1) (1 ∷ []) (omega arith))
+
+    set-record : clientRecord (set b (67 + j) 1) ≡ clientRecord b
+    set-record =
+        let z : 67 + j ≡ 1 + 67 + (j - 1) = omega arith in
+        rw z (region-behind 1 67 b (j - 1) (1 ∷ []))
+
+    set-first : getD (set b (67 + j) 1) 0 0 ≡ getD b 0 0
+    set-first = let z : 67 + j ≡ suc (66 + j) = omega arith in rw z (first-kept b (66 + j) (1 ∷ []))
+
+    flag-downs : flagged 1 (flags (set b (67 + j) 1)) ≡ added j (flagged 1 (flags b))
+    flag-downs =
+        let z : 1 + (j - 1) ≡ j = omega arith in
+        ap (flagged 1) set-flags ∙ flag-adds 1 (j - 1) (flags b) (omega (arith, long)) ∙ ap (λ (x : ℕ). added x (flagged 1 (flags b))) z
+
+    pub flag-block : ClientIs n m clients k (set b (67 + j) 1) (record { living = clientPlace b .living; state = clientPlace b .state; downs = added j (clientPlace b .downs) })
+    flag-block =
+        let M =
+        moved n m clients k b (set b (67 + j) 1) ok set-record (length-set b (67 + j) 1 ∙ C .size) (rw set-first (C .bit)) (rw set-flags (every-set bitWord (flags b) (j - 1) 1 (C .bits) refl))
+        (rw (set-flags, drop-set-lt n (flags b) (j - 1) 1 (omega arith)) (C .behind))
+        (rw (set-first, living-is, epoch)) in
+        record { place = M .place ∙ rw (set-first, living-is, flag-downs, downs-are); valid = M .valid }
+
+  -- what `mark_down` leaves
+  pub mark-block : (j : ServerId) → 1 ≤ j .0 → j .0 ≤ n → n ≤ 31
+      → ClientIs n m clients k (if inEpoch (clientPlace b) then set b (67 + j .0) 1 else b) (downed j (clientPlace b))
+  mark-block j h g f =
+      ⊎-elim
+      (λ (t : inEpoch (clientPlace b) ≡ true). rw t (flag-block (j .0) h g f t))
+      (λ (t : inEpoch (clientPlace b) ≡ false). rw t (record { place = refl; valid = ok }))
+      (decided (inEpoch (clientPlace b)))
+
+  -- the epoch ends, and the exit's record is written
+  pub exited-block : ClientIs n m clients k (written n m k (cleared b) (exits n (record { 0 = k }) (clientPlace b .state) .state)) (record { living = clientPlace b .living; state = exits n (record { 0 = k }) (clientPlace b .state) .state; downs = [] })
+  exited-block =
+      let D = cleared-block in
+      let E = exits-block n m clients k (cleared b) (D .valid) (cleared-zero b (C .size)) in
+      rw (D .place) at E

@@ -1,0 +1,11 @@
+pub mod Fronts
+pub mod BlockParts
+pub mod TestLaws
+pub mod FlagLaws
+pub mod Facts
+pub mod ClientLaws
+pub mod ClientSteps
+pub mod Pigeonhole
+pub mod ServerLaws
+pub mod ServerSteps
+pub mod EpochLaws

@@ -1,0 +1,144 @@
+-- What a server's block becomes where a record is written in it: the same place with the record's state, and valid again.
+use Prim.Native.Nat.{ℕ, _-_, _≤_}
+use native.Mathlib.Omega.{arith}
+use mathlib.Core.Path.{_≡_, refl, ap, _∙_}
+use mathlib.Core.Bool.{Bool, true, false}
+use mathlib.Core.List.{List, _++_}
+use mathlib.Core.Option.{none, some}
+use lib.Dec.{eqb}
+use lib.ListN.{length, getD, take, drop, set, replicate, length-append, length-replicate, length-take, length-drop, length-set}
+use lib.Seq.{sets, length-sets, take-at, drop-set-lt, getD-set-same}
+use Rattle.ids.specs.Choice.{if_then_else_}
+use Rattle.ids.specs.Lists.{every}
+use Rattle.ids.specs.Limits.{validOwner}
+use Rattle.ids.specs.Requests.{noRequest}
+use Rattle.votes.specs.Figure1.{State, candidates, idle}
+use Rattle.votes.specs.Queues as votes
+use Rattle.server.specs.Record as server
+use Rattle.server.specs.declared.Server.{Server}
+use Rattle.server.proofs.KeepsValid.{Good, stored-valid}
+use Rattle.words.specs.Records.{holdsServer, serverFrom, serverWords}
+use Rattle.words.proofs.RoundTrip.{server-read-back}
+use Rattle.regions.proofs.SetsLaws.{region-inside}
+use Rattle.system.specs.Places.{ServerPlace}
+use Rattle.places.specs.Blocks.{serverRecord, serverPlace, namedPair, validServerBlock, emptied}
+use Rattle.places.proofs.BlockParts.{covered, server-long, first-kept}
+use Rattle.places.proofs.Facts.{ServerBlock, server-facts, server-block, server-sizes}
+
+-- these words are a valid block, which is place p
+pub record ServerIs (n clients j : ℕ) (b : List ℕ) (p : ServerPlace) : Type 0 where
+  pub place : serverPlace b ≡ p
+  pub valid : validServerBlock n clients j b ≡ true
+
+-- the record of server j of n in state q, and the block with it
+abbrev pub server-of : ℕ → ℕ → State → Server
+server-of n j q = record { n = n; id = record { 0 = j }; votes = votes.store q }
+
+abbrev pub server-written : ℕ → ℕ → List ℕ → State → List ℕ
+server-written n j b q = sets b 1 (serverWords (record { n = n; id = record { 0 = j }; votes = votes.store q }))
+
+read-in : (x : Bool) (y z : Server) → (if x then some y else none) ≡ some z → (x ≡ true) × (y ≡ z)
+read-in true y z e = (refl, (cc))
+read-in false y z e = let w : _≡_ {A = ℕ} 0 1 = cc in absurd (omega arith)
+
+view-again : (q : State) → votes.view (votes.store q) ≡ q
+unfolding votes.queueOf
+view-again q =
+    let e : take (length (q .queue)) (q .queue ++ replicate (16 - length (q .queue)) noRequest) ≡ q .queue = take-at (q .queue) _ (length (q .queue)) refl in
+    λ i. record { owner = q .owner; queue = e i }
+
+module _ (n clients j : ℕ) (b : List ℕ) (ok : validServerBlock n clients j b ≡ true) where
+  abbrev B : ServerBlock n clients j b
+  B = server-facts n clients j b ok
+
+  module _ (q : State) (g : Good q) (names : every (namedPair clients) (candidates q) ≡ true) (short : length (q .queue) ≤ 16) where
+    abbrev kept : Server
+    kept = server-of n j q
+
+    kept-places : length (kept .votes .queue .places) ≡ 16
+    unfolding votes.queueOf
+    kept-places = simp (length-append, length-replicate) (omega arith)
+
+    kept-valid : server.valid kept ≡ true
+    kept-valid = stored-valid n (record { 0 = j }) q (server-sizes n clients j b B) short g
+
+    words-held : (holdsServer (serverWords kept) ≡ true) × (serverFrom (serverWords kept) ≡ kept)
+    words-held = read-in (holdsServer (serverWords kept)) (serverFrom (serverWords kept)) kept (server-read-back kept kept-valid kept-places)
+
+    its-record : serverRecord (server-written n j b q) ≡ serverWords kept
+    its-record =
+        let w = server-long kept kept-places in
+        region-inside 1 37 b 0 (serverWords kept) (omega arith) ∙ covered (serverRecord b) (serverWords kept) (simp (length-take, length-drop) (omega (arith, B .size)))
+
+    its-server : serverFrom (serverRecord (server-written n j b q)) ≡ kept
+    its-server = ap serverFrom its-record ∙ words-held .1
+
+    stored-place : serverPlace (server-written n j b q) ≡ record { up = serverPlace b .up; state = q }
+    unfolding serverPlace
+    stored-place =
+        let a : getD (server-written n j b q) 0 0 ≡ getD b 0 0 = first-kept b 0 (serverWords kept) in
+        let v : votes.view (serverFrom (serverRecord (server-written n j b q)) .votes) ≡ q = ap (λ (s : Server). votes.view (s .votes)) its-server ∙ view-again q in
+        λ i. record { up = eqb (a i) 1; state = v i }
+
+    pub stored-server : ServerIs n clients j (server-written n j b q) (record { up = serverPlace b .up; state = q })
+    stored-server =
+        record {
+          place = stored-place;
+          valid = server-block n clients j (server-written n j b q) (record {
+            size = length-sets b 1 (serverWords kept) ∙ B .size;
+            bit = rw (first-kept b 0 (serverWords kept)) (B .bit);
+            held = rw its-record (words-held .0);
+            valid = rw its-server kept-valid;
+            servers = rw its-server;
+            number = rw its-server;
+            names = rw stored-place names;
+          });
+        }
+
+-- the first word says whether the server is up
+module _ (n clients j : ℕ) (b : List ℕ) (ok : validServerBlock n clients j b ≡ true) (x : ℕ) (small : x ≤ 1) where
+  abbrev facts : ServerBlock n clients j b
+  facts = server-facts n clients j b ok
+
+  same-record : serverRecord (set b 0 x) ≡ serverRecord b
+  same-record = ap (take 37) (drop-set-lt 1 b 0 x (omega arith))
+
+  first-set : getD (set b 0 x) 0 0 ≡ x
+  first-set = getD-set-same b 0 x 0 (omega (arith, facts .size))
+
+  set-place : serverPlace (set b 0 x) ≡ record { up = eqb x 1; state = serverPlace b .state }
+  unfolding serverPlace
+  set-place =
+      let v : votes.view (serverFrom (serverRecord (set b 0 x)) .votes) ≡ votes.view (serverFrom (serverRecord b) .votes) = ap (λ (l : List ℕ). votes.view (serverFrom l .votes)) same-record in
+      λ i. record { up = eqb (first-set i) 1; state = v i }
+
+  set-up : ServerIs n clients j (set b 0 x) (record { up = eqb x 1; state = serverPlace b .state })
+  set-up =
+      record {
+        place = set-place;
+        valid = server-block n clients j (set b 0 x) (record {
+          size = length-set b 0 x ∙ facts .size;
+          bit = rw first-set small;
+          held = rw same-record (facts .held);
+          valid = rw same-record (facts .valid);
+          servers = rw same-record (facts .servers);
+          number = rw same-record (facts .number);
+          names = rw set-place (facts .names);
+        });
+      }
+
+idle-good : Good idle
+unfolding validOwner
+idle-good = record { owner = refl; all = refl; behind = refl; sorted = tt; single = tt }
+
+module _ (n clients j : ℕ) (b : List ℕ) (ok : validServerBlock n clients j b ≡ true) where
+  pub rise-block : ServerIs n clients j (set b 0 1) (record { up = true; state = serverPlace b .state })
+  rise-block = set-up n clients j b ok 1 (omega arith)
+
+  -- what `sink` leaves
+  pub sink-block : ServerIs n clients j (set (sets b 1 (serverWords (emptied (serverFrom (serverRecord b))))) 0 0) (record { up = false; state = idle })
+  sink-block =
+      let F = server-facts n clients j b ok in
+      let S = stored-server n clients j b ok idle idle-good refl (omega arith) in
+      let D = set-up n clients j (server-written n j b idle) (S .valid) 0 (omega arith) in
+      rw (F .servers, F .number) (record { place = D .place ∙ ap (λ (p : ServerPlace). record { up = false; state = p .state }) (S .place); valid = D .valid })

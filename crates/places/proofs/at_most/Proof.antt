@@ -1,0 +1,55 @@
+-- `places::at_most` meets its contract. The invariant: the words before word i pass.
+use Prim.Native.Nat.{_-_}
+use native.Mathlib.Omega.{arith}
+use lib.Dec.{leb}
+use lib.ListN.{length}
+use Rattle.places.proofs.Fronts.{Passing}
+use Rattle.places.proofs.BlockParts.{most-none, most-failed, most-more, most-all}
+use borrow.Author.Needs.{needs}
+use Rattle.places.proofs.at_most.Statement.{statement}
+use Rattle.places.proofs.at_most.Tie as tie
+
+abbrev Inv-loop : tie.InvT-loop
+Inv-loop words most i₀ i = Passing (λ x. leb x most) 0 words (length words) i
+
+abbrev μ-loop : tie.MeasureT-loop
+μ-loop words most i₀ i = length words - i
+
+loop-holds : tie.Need-loop-holds Inv-loop μ-loop
+loop-holds c = most-none _ _
+
+mul-if1 : tie.Need-mul-if1 Inv-loop μ-loop
+mul-if1 c = search needs
+
+shared-slice-read-if1 : tie.Need-shared-slice-read-if1 Inv-loop μ-loop
+shared-slice-read-if1 c = search needs
+
+returns : tie.Need-returns Inv-loop μ-loop
+returns c = most-failed _ _ _ (c .before .before .before .loop .inv) (omega arith) (c .if1 .taken)
+
+add-i : tie.Need-add-i Inv-loop μ-loop
+add-i c = search needs
+
+loop-less : tie.Need-loop-less Inv-loop μ-loop
+loop-less c = omega arith
+
+loop-again : tie.Need-loop-again Inv-loop μ-loop
+loop-again c = most-more _ _ _ (c .before .before .before .loop .inv) (omega arith) (c .if1 .left)
+
+returns-2 : tie.Need-returns-2 Inv-loop μ-loop
+returns-2 c = most-all _ _ _ (c .before .loop .inv) (omega arith)
+
+pub at-most-spec : {M : Type 1} → statement M
+at-most-spec =
+    tie.close
+    (tie.spec
+    Inv-loop
+    μ-loop
+    loop-holds
+    mul-if1
+    shared-slice-read-if1
+    returns
+    add-i
+    loop-less
+    loop-again
+    returns-2)

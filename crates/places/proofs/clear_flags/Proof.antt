@@ -1,0 +1,59 @@
+-- `places::clear_flags` meets its contract. The invariant: the flags before flag i are 0.
+use Prim.Native.Nat.{_-_}
+use native.Mathlib.Omega.{arith}
+use lib.ListN.{length}
+use mathlib.Core.Path.{_≡_}
+use Rattle.places.proofs.Fronts.{Clearing, clearing-none, clearing-more}
+use Rattle.places.proofs.BlockParts.{all-cleared}
+use borrow.Author.Needs.{needs}
+use Rattle.places.proofs.clear_flags.Statement.{statement}
+use Rattle.places.proofs.clear_flags.Tie as tie
+
+abbrev Inv-loop : tie.InvT-loop
+Inv-loop b₀ i₀ b i = (length b₀ ≡ 99) × Clearing b₀ 68 31 b i
+
+abbrev μ-loop : tie.MeasureT-loop
+μ-loop b₀ i₀ b i = 31 - i
+
+loop-holds : tie.Need-loop-holds Inv-loop μ-loop
+loop-holds c = (c .pre, clearing-none _ _ _)
+
+add-b : tie.Need-add-b Inv-loop μ-loop
+add-b c = search needs
+
+mul-b : tie.Need-mul-b Inv-loop μ-loop
+mul-b c = search needs
+
+slice-write-b : tie.Need-slice-write-b Inv-loop μ-loop
+slice-write-b c = search needs
+
+add-i : tie.Need-add-i Inv-loop μ-loop
+add-i c = search needs
+
+loop-less : tie.Need-loop-less Inv-loop μ-loop
+loop-less c = omega arith
+
+loop-again : tie.Need-loop-again Inv-loop μ-loop
+loop-again c = (c .before .loop .inv .0, clearing-more _ _ _ _ _ (c .before .loop .inv .1) (omega arith))
+
+same-length : tie.Need-same-length Inv-loop μ-loop
+same-length c = search needs
+
+returns : tie.Need-returns Inv-loop μ-loop
+returns c = all-cleared _ _ _ (c .before .loop .inv .1) (omega arith)
+
+pub clear-flags-spec : {M : Type 1} → statement M
+clear-flags-spec =
+    tie.close
+    (tie.spec
+    Inv-loop
+    μ-loop
+    loop-holds
+    add-b
+    mul-b
+    slice-write-b
+    add-i
+    loop-less
+    loop-again
+    same-length
+    returns)

@@ -1,0 +1,328 @@
+// A client and a server of a simulation as words: a block each, lent as its own slice of 99 or 38 words.
+// For the simulation, whose state is valid: but for the two tests, the functions ask what a valid block has.
+ghost use mathlib.Core.Path.{_≡_};
+ghost use mathlib.Core.Bool.{true, _&&_};
+ghost use Prim.Native.Nat.{_≤_, _+_, _*_};
+ghost use lib.ListN.{length, take, drop, set};
+ghost use lib.Seq.{sets};
+ghost use lib.Dec.{eqb, leb};
+ghost use Rattle.ids.specs.Choice.{if_then_else_};
+ghost use Rattle.ids.specs.Lists.{every};
+ghost use Rattle.words.specs.Records.{requestsIn, holdsServer, serverFrom, serverWords, holdsClient, clientFrom, clientWords};
+ghost use Rattle.system.specs.Places.{inEpoch, isInside};
+ghost use Rattle.places.specs.Blocks.{clientRecord, flags, flagged, cleared, serverRecord, clientPlace, serverPlace, namedPair, fitsClient, fitsFlags, validClientBlock, fitsServer, validServerBlock, emptied};
+use client::Client;
+use ids::Owner;
+use ids::ServerId;
+use server::Server;
+use votes::Queue;
+use votes::Votes;
+
+// Whether no word is above `most`.
+fn at_most(words: &[u32], most: u32) -> bool
+    ensures { λ r. ⌜ r ≡ every (λ x. leb x most) (now (words .entry)) ⌝ }
+{
+    let mut i: usize = 0;
+    while i < words.len() {
+        if most < words[i] {
+            return false;
+        }
+        i += 1;
+    }
+    true
+}
+
+// Whether the first `count` requests of a record's words are of clients 0 to `clients`.
+fn requests_named(words: &[u32], count: usize, clients: u32) -> bool
+    requires { ⌜ 5 + 2 * count ≤ length (now words) ⌝ }
+    ensures { λ r. ⌜ r ≡ every (namedPair clients) (take count (requestsIn (drop 5 (now (words .entry))))) ⌝ }
+{
+    let mut i: usize = 0;
+    while i < count {
+        if clients < words[5 + 2 * i] {
+            return false;
+        }
+        i += 1;
+    }
+    true
+}
+
+fn fits_client(words: &[u32], n: u32, m: u32, clients: u32, k: u32) -> bool
+    requires { ⌜ holdsClient (now words) ≡ true ⌝ }
+    ensures { λ r. ⌜ r ≡ fitsClient n m clients k (clientFrom (now (words .entry))) ⌝ }
+{
+    let c = words::load_client(words);
+    if !client::valid_client(c) {
+        return false;
+    }
+    if words[0] != n {
+        return false;
+    }
+    if words[1] != m {
+        return false;
+    }
+    if words[2] != k {
+        return false;
+    }
+    requests_named(words, n as usize, clients)
+}
+
+fn fits_flags(words: &[u32], n: u32, running: bool) -> bool
+    requires { ⌜ (length (now words) ≡ 31) × (n ≤ 31) ⌝ }
+    ensures { λ r. ⌜ r ≡ fitsFlags n running (now (words .entry)) ⌝ }
+{
+    if !at_most(words, 1) {
+        return false;
+    }
+    let first = n as usize;
+    if !at_most(&words[first..31], 0) {
+        return false;
+    }
+    if running {
+        return true;
+    }
+    at_most(words, 0)
+}
+
+// Whether the client lives.
+pub fn is_living(b: &[u32]) -> bool
+    requires { ⌜ length (now b) ≡ 99 ⌝ }
+    ensures { λ r. ⌜ r ≡ clientPlace (now (b .entry)) .living ⌝ }
+{
+    b[0] == 1
+}
+
+// Whether the client lives and is in the critical section.
+pub fn is_inside(b: &[u32]) -> bool
+    requires { ⌜ length (now b) ≡ 99 ⌝ }
+    ensures { λ r. ⌜ r ≡ isInside (clientPlace (now (b .entry))) ⌝ }
+{
+    if b[0] != 1 {
+        return false;
+    }
+    2 <= b[4]
+}
+
+// Whether the client is in an epoch: it lives, and is trying or in the critical section.
+pub fn in_epoch(b: &[u32]) -> bool
+    requires { ⌜ length (now b) ≡ 99 ⌝ }
+    ensures { λ r. ⌜ r ≡ inEpoch (clientPlace (now (b .entry))) ⌝ }
+{
+    if b[0] != 1 {
+        return false;
+    }
+    b[4] != 0
+}
+
+// What is asked of the record and of the flags.
+fn fits_client_block(b: &[u32], n: u32, m: u32, clients: u32, k: u32) -> bool
+    requires { ⌜ (length (now b) ≡ 99) × (holdsClient (clientRecord (now b)) ≡ true) ⌝ }
+    ensures { λ r. ⌜ r ≡ (fitsClient n m clients k (clientFrom (clientRecord (now (b .entry)))) && fitsFlags n (inEpoch (clientPlace (now (b .entry)))) (flags (now (b .entry)))) ⌝ }
+{
+    if !fits_client(&b[1..68], n, m, clients, k) {
+        return false;
+    }
+    let running = in_epoch(b);
+    fits_flags(&b[68..99], n, running)
+}
+
+// Whether the words are block `k` of a simulation with `n` servers, threshold `m` and so many clients.
+pub fn valid_client_block(b: &[u32], n: u32, m: u32, clients: u32, k: u32) -> bool
+    ensures { λ r. ⌜ r ≡ validClientBlock n m clients k (now (b .entry)) ⌝ }
+{
+    if b.len() != 99 {
+        return false;
+    }
+    if 1 < b[0] {
+        return false;
+    }
+    if !words::holds_client(&b[1..68]) {
+        return false;
+    }
+    fits_client_block(b, n, m, clients, k)
+}
+
+// The client's record.
+pub fn client_record(b: &[u32]) -> Client
+    requires { ⌜ (length (now b) ≡ 99) × (holdsClient (clientRecord (now b)) ≡ true) ⌝ }
+    ensures { λ c. ⌜ c ≡ clientFrom (clientRecord (now (b .entry))) ⌝ }
+{
+    words::load_client(&b[1..68])
+}
+
+// Writes the client's record.
+pub fn put_client(b: &mut [u32], c: Client)
+    requires { ⌜ length (now b) ≡ 99 ⌝ }
+    ensures { λ _. ⌜ now (b .exit) ≡ sets (now (b .entry)) 1 (clientWords c) ⌝ }
+{
+    client::sized(c);
+    words::store_client(&mut b[1..68], c);
+}
+
+// No server counts any more.
+pub fn clear_flags(b: &mut [u32])
+    requires { ⌜ length (now b) ≡ 99 ⌝ }
+    ensures { λ _. ⌜ now (b .exit) ≡ cleared (now (b .entry)) ⌝ }
+{
+    let mut i: usize = 0;
+    while i < 31 {
+        b[68 + i] = 0;
+        i += 1;
+    }
+}
+
+// The client falls: it does not live, and its epoch is over.
+pub fn fall(b: &mut [u32])
+    requires { ⌜ length (now b) ≡ 99 ⌝ }
+    ensures { λ _. ⌜ now (b .exit) ≡ cleared (set (now (b .entry)) 0 0) ⌝ }
+{
+    b[0] = 0;
+    clear_flags(b);
+}
+
+// Writes the flag of server `j`.
+pub fn put_flag(b: &mut [u32], j: ServerId, x: u32)
+    requires { ⌜ (length (now b) ≡ 99) × (1 ≤ j .0) × (j .0 ≤ 31) ⌝ }
+    ensures { λ _. ⌜ now (b .exit) ≡ set (now (b .entry)) (67 + j .0) x ⌝ }
+{
+    let at = 67 + j.0 as usize;
+    b[at] = x;
+}
+
+// Server `j` went down: it counts if the client is in an epoch.
+pub fn mark_down(b: &mut [u32], j: ServerId)
+    requires { ⌜ (length (now b) ≡ 99) × (1 ≤ j .0) × (j .0 ≤ 31) ⌝ }
+    ensures { λ _. ⌜ now (b .exit) ≡ if inEpoch (clientPlace (now (b .entry))) then set (now (b .entry)) (67 + j .0) 1 else now (b .entry) ⌝ }
+{
+    if in_epoch(b) {
+        put_flag(b, j, 1);
+    }
+}
+
+// 1 for a flag that is set.
+fn bit_of(x: u32) -> u32
+    ensures { λ r. ⌜ r ≡ (if eqb x 0 then 0 else 1) ⌝ }
+{
+    if x == 0 {
+        return 0;
+    }
+    1
+}
+
+// How many flags are set.
+fn flags_set(words: &[u32]) -> u32
+    requires { ⌜ length (now words) ≡ 31 ⌝ }
+    ensures { λ r. ⌜ r ≡ length (flagged 1 (now (words .entry))) ⌝ }
+{
+    let mut count: u32 = 0;
+    let mut i: usize = 0;
+    while i < 31 {
+        count += bit_of(words[i]);
+        i += 1;
+    }
+    count
+}
+
+// How many servers were down in the client's epoch.
+pub fn count_flags(b: &[u32]) -> u32
+    requires { ⌜ length (now b) ≡ 99 ⌝ }
+    ensures { λ r. ⌜ r ≡ length (clientPlace (now (b .entry)) .downs) ⌝ }
+{
+    flags_set(&b[68..99])
+}
+
+fn fits_server(words: &[u32], n: u32, clients: u32, j: u32) -> bool
+    requires { ⌜ holdsServer (now words) ≡ true ⌝ }
+    ensures { λ r. ⌜ r ≡ fitsServer n clients j (serverFrom (now (words .entry))) ⌝ }
+{
+    let s = words::load_server(words);
+    if !server::valid_server(s) {
+        return false;
+    }
+    if words[0] != n {
+        return false;
+    }
+    if words[1] != j {
+        return false;
+    }
+    if clients < words[2] {
+        return false;
+    }
+    requests_named(words, words[4] as usize, clients)
+}
+
+// Whether the words are block `j` of a simulation with `n` servers and so many clients.
+pub fn valid_server_block(b: &[u32], n: u32, clients: u32, j: u32) -> bool
+    ensures { λ r. ⌜ r ≡ validServerBlock n clients j (now (b .entry)) ⌝ }
+{
+    if b.len() != 38 {
+        return false;
+    }
+    if 1 < b[0] {
+        return false;
+    }
+    let words = &b[1..38];
+    if !words::holds_server(words) {
+        return false;
+    }
+    fits_server(words, n, clients, j)
+}
+
+// Whether the server is up.
+pub fn is_up(b: &[u32]) -> bool
+    requires { ⌜ length (now b) ≡ 38 ⌝ }
+    ensures { λ r. ⌜ r ≡ serverPlace (now (b .entry)) .up ⌝ }
+{
+    b[0] == 1
+}
+
+// The server's record.
+pub fn server_record(b: &[u32]) -> Server
+    requires { ⌜ (length (now b) ≡ 38) × (holdsServer (serverRecord (now b)) ≡ true) ⌝ }
+    ensures { λ s. ⌜ s ≡ serverFrom (serverRecord (now (b .entry))) ⌝ }
+{
+    words::load_server(&b[1..38])
+}
+
+// Writes the server's record.
+pub fn put_server(b: &mut [u32], s: Server)
+    requires { ⌜ (length (now b) ≡ 38) × (s .votes .queue .len ≤ 16) ⌝ }
+    ensures { λ _. ⌜ now (b .exit) ≡ sets (now (b .entry)) 1 (serverWords s) ⌝ }
+{
+    let v = s.votes;
+    let q = v.queue;
+    votes::sized(q);
+    words::store_server(&mut b[1..38], s);
+}
+
+fn forgetful(s: Server) -> Server
+    ensures { λ r. ⌜ r ≡ emptied s ⌝ }
+{
+    let none = votes::nobody();
+    let places = [none; 16];
+    let owner = Owner::Nobody;
+    let queue = Queue { len: 0, places };
+    let votes = Votes { owner, queue };
+    let n = s.n;
+    let id = s.id;
+    Server { n, id, votes }
+}
+
+// The server goes down, and forgets everything.
+pub fn sink(b: &mut [u32])
+    requires { ⌜ (length (now b) ≡ 38) × (holdsServer (serverRecord (now b)) ≡ true) ⌝ }
+    ensures { λ _. ⌜ now (b .exit) ≡ set (sets (now (b .entry)) 1 (serverWords (emptied (serverFrom (serverRecord (now (b .entry))))))) 0 0 ⌝ }
+{
+    let s = server_record(b);
+    let e = forgetful(s);
+    put_server(b, e);
+    b[0] = 0;
+}
+
+// The server comes up, as it went down.
+pub fn rise(b: &mut [u32])
+    requires { ⌜ length (now b) ≡ 38 ⌝ }
+    ensures { λ _. ⌜ now (b .exit) ≡ set (now (b .entry)) 0 1 ⌝ }
+{
+    b[0] = 1;
+}

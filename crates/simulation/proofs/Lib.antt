@@ -1,0 +1,6 @@
+pub mod ViewLaws
+pub mod ValidLaws
+pub mod Answers
+pub mod PlaceLaws
+pub mod PartLaws
+pub mod LendLaws
