@@ -13,7 +13,7 @@ use Rattle.ids.specs.Choice.{if_then_else_}
 use Rattle.ids.proofs.Choice.{both}
 use Rattle.wire.specs.declared.Fields.{Fields}
 use Rattle.wire.proofs.NumbersLaws.{fields-again}
-use Rattle.server.specs.Record.{every}
+use Rattle.ids.specs.Lists.{every}
 use Rattle.transit.specs.Slots.{slotOf, slotWords, rows, slots, validSlot}
 use Rattle.transit.specs.Calls.{Valid}
 use Rattle.transit.proofs.SlotLaws.{Seven, seven, sevens, slot-fitting}

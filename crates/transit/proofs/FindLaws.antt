@@ -232,7 +232,6 @@ module _ (number len : ℕ) (t : List ℕ) (r : ℕ) (B : Bound number len t r) 
           found = λ n clients sent ok h. absurd (omega arith);
           missing = λ n clients sent ok h.
               let o = valid-ordered n clients sent len t ok in
-              let k : ℕ = len - suc r in
               let z : len ≡ r + suc (len - suc r) = omega arith in
               from-here o (len - suc r) z ∙ (pending-delivered number (slotAt t r) (slots (len - suc r) (drop (7 * suc r) t)) its-number d
               ∙ pending-absent number (len - suc r) (drop (7 * suc r) t) (none-behind o (len - suc r) z same));

@@ -3,6 +3,9 @@ pub mod NumbersLaws
 pub mod SlotLaws
 pub mod ValidLaws
 pub mod ChangeLaws
+pub mod RemoveLaws
+pub mod RestartLaws
 pub mod FindLaws
 pub mod PostLaws
 pub mod Kept
+pub mod Determined

@@ -1,5 +1,5 @@
 -- `transit::delivered_after` meets its contract: only a message of the first four kinds goes to a server.
-use Rattle.transit.proofs.ChangeLaws.{again-client, again-other, again-down}
+use Rattle.transit.proofs.RestartLaws.{again-client, again-other, again-down}
 use Rattle.transit.proofs.delivered_after.Statement.{statement}
 use Rattle.transit.proofs.delivered_after.Tie as tie
 

@@ -1,7 +1,7 @@
 -- `transit::move_up` meets its contract. The invariant: the first i words are moved.
 use Prim.Native.Nat.{_-_}
 use native.Mathlib.Omega.{arith}
-use Rattle.transit.proofs.ChangeLaws.{Moving, moving-none, moving-more, moving-all}
+use Rattle.transit.proofs.RemoveLaws.{Moving, moving-none, moving-more, moving-all}
 use borrow.Author.Needs.{needs}
 use Rattle.transit.proofs.move_up.Statement.{statement}
 use Rattle.transit.proofs.move_up.Tie as tie

@@ -1,5 +1,5 @@
 -- `transit::remove` meets its contract: the slots behind slot i move up, and the last used one is emptied.
-use Rattle.transit.proofs.ChangeLaws.{removes}
+use Rattle.transit.proofs.RemoveLaws.{removes}
 use borrow.Author.Needs.{needs}
 use Rattle.transit.proofs.remove.Statement.{statement}
 use Rattle.transit.proofs.remove.Tie as tie

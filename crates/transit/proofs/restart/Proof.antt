@@ -1,7 +1,7 @@
 -- `transit::restart` meets its contract. The invariant: the slots before slot i are done, those from it on are as they were.
 use Prim.Native.Nat.{_-_}
 use native.Mathlib.Omega.{arith}
-use Rattle.transit.proofs.ChangeLaws.{Restarting, restarting-none, restarting-more, restarting-all}
+use Rattle.transit.proofs.RestartLaws.{Restarting, restarting-none, restarting-more, restarting-all}
 use borrow.Author.Needs.{needs}
 use Rattle.transit.proofs.restart.Statement.{statement}
 use Rattle.transit.proofs.restart.Tie as tie
