@@ -1,33 +1,33 @@
 -- Where an epoch begins, goes on and ends, in a client's block: its record stays, and the flags are put, set or cleared.
 use Prim.Native.Nat.{ℕ, zero, suc, _+_, _-_, _≤_, _<_}
+use native.Mathlib.Numerals.{add-one}
 use native.Mathlib.Omega.{arith}
-use mathlib.Core.Path.{_≡_, refl, sym, ap, _∙_, subst}
+use mathlib.Core.Path.{_≡_, refl, ap, _∙_}
 use mathlib.Core.Bool.{Bool, true, false, _&&_, _||_, not}
 use mathlib.Core.List.{List, [], _∷_, _++_, map}
 use mathlib.Core.Logic.{⊎-elim}
 use lib.Dec.{eqb, leb}
-use lib.ListN.{length, getD, take, drop, set, replicate, length-map, length-set, length-take, length-drop, length-append}
-use lib.Seq.{sets, sets-eq, length-sets, drop-set-lt, getD-set-same, take-suc, drop-at}
-use borrow.Author.Tests.{leb-true, le-leb, eqb-true}
+use lib.ListN.{length, getD, take, drop, set, replicate, length-map, length-set, length-take, length-drop}
+use lib.Seq.{sets, sets-eq, length-sets, drop-set-lt, getD-set-same, take-suc, drop-at, length-take-le}
+use borrow.Author.Tests.{le-leb, eqb-true}
 use Rattle.ids.specs.Choice.{if_then_else_}
 use Rattle.ids.specs.Lists.{every}
-use Rattle.ids.specs.declared.ClientId.{ClientId}
 use Rattle.ids.specs.declared.ServerId.{ServerId}
 use Rattle.ids.proofs.Choice.{both, decided}
 use Rattle.wire.proofs.BytesLaws.{stored-on}
-use Rattle.client.specs.Figure1.{State, tries, exits}
+use Rattle.client.specs.Figure1.{tries, exits}
 use Rattle.client.specs.Record as client
 use Rattle.client.specs.Calls.{isRemainder, lastTry}
-use Rattle.words.specs.Records.{clientFrom, clientWords}
-use Rattle.regions.proofs.SetsLaws.{region-inside, region-before, region-behind}
+use Rattle.words.specs.Records.{clientFrom}
+use Rattle.regions.proofs.SetsLaws.{region-inside, region-behind}
 use Rattle.system.specs.Numbered.{added}
-use Rattle.system.specs.Places.{ClientPlace, ServerPlace, inEpoch, downed, downFrom}
+use Rattle.system.specs.Places.{ServerPlace, inEpoch, downed, downFrom}
 use Rattle.places.specs.Blocks.{clientRecord, flags, flagged, cleared, clientPlace, bitWord, zeroWord, validClientBlock}
 use Rattle.places.proofs.BlockParts.{covered, first-kept, length-cleared}
-use Rattle.places.proofs.Facts.{ClientBlock, client-facts, client-block}
+use Rattle.places.proofs.Facts.{ClientBlock, client-facts, client-block, client-few}
 use Rattle.places.proofs.FlagLaws.{none-flagged, flag-adds, downBit, down-flagged}
 use Rattle.places.proofs.ClientLaws.{ClientIs}
-use Rattle.places.proofs.ClientSteps.{written, placed, tries-block, exits-block}
+use Rattle.places.proofs.ClientSteps.{written, tries-block, exits-block}
 
 -- a block with the record of a valid one, and flags that fit
 module _ (n m clients k : ℕ) (b b′ : List ℕ) (ok : validClientBlock n m clients k b ≡ true) where
@@ -137,14 +137,17 @@ module _ (n m clients k : ℕ) (b : List ℕ) (ok : validClientBlock n m clients
       record { place = M .place ∙ rw f; valid = M .valid }
 
   -- what `put_flag` with 1 leaves, in an epoch
-  module _ (j : ℕ) (first : 1 ≤ j) (last : j ≤ n) (few : n ≤ 31) (epoch : inEpoch (clientPlace b) ≡ true) where
+  module _ (j : ℕ) (first : 1 ≤ j) (last : j ≤ n) (epoch : inEpoch (clientPlace b) ≡ true) where
+    few : n ≤ 31
+    few = client-few n m clients k b C
+
     long : length (flags b) ≡ 31
     long = simp (length-take, length-drop) (omega (arith, C .size))
 
     set-flags : flags (set b (67 + j) 1) ≡ set (flags b) (j - 1) 1
     set-flags =
         let z : 67 + j ≡ 68 + (j - 1) = omega arith in
-        rw z (region-inside 68 31 b (j - 1) (1 ∷ []) (omega arith))
+        rw z (region-inside 68 31 b (j - 1) (1 ∷ []) (omega (arith, few)))
 
     set-record : clientRecord (set b (67 + j) 1) ≡ clientRecord b
     set-record =
@@ -157,7 +160,7 @@ module _ (n m clients k : ℕ) (b : List ℕ) (ok : validClientBlock n m clients
     flag-downs : flagged 1 (flags (set b (67 + j) 1)) ≡ added j (flagged 1 (flags b))
     flag-downs =
         let z : 1 + (j - 1) ≡ j = omega arith in
-        ap (flagged 1) set-flags ∙ flag-adds 1 (j - 1) (flags b) (omega (arith, long)) ∙ ap (λ (x : ℕ). added x (flagged 1 (flags b))) z
+        ap (flagged 1) set-flags ∙ flag-adds 1 (j - 1) (flags b) (omega (arith, long, few)) ∙ ap (λ (x : ℕ). added x (flagged 1 (flags b))) z
 
     pub flag-block : ClientIs n m clients k (set b (67 + j) 1) (record { living = clientPlace b .living; state = clientPlace b .state; downs = added j (clientPlace b .downs) })
     flag-block =
@@ -168,11 +171,11 @@ module _ (n m clients k : ℕ) (b : List ℕ) (ok : validClientBlock n m clients
         record { place = M .place ∙ rw (set-first, living-is, flag-downs, downs-are); valid = M .valid }
 
   -- what `mark_down` leaves
-  pub mark-block : (j : ServerId) → 1 ≤ j .0 → j .0 ≤ n → n ≤ 31
+  pub mark-block : (j : ServerId) → 1 ≤ j .0 → j .0 ≤ n
       → ClientIs n m clients k (if inEpoch (clientPlace b) then set b (67 + j .0) 1 else b) (downed j (clientPlace b))
-  mark-block j h g f =
+  mark-block j h g =
       ⊎-elim
-      (λ (t : inEpoch (clientPlace b) ≡ true). rw t (flag-block (j .0) h g f t))
+      (λ (t : inEpoch (clientPlace b) ≡ true). rw t (flag-block (j .0) h g t))
       (λ (t : inEpoch (clientPlace b) ≡ false). rw t (record { place = refl; valid = ok }))
       (decided (inEpoch (clientPlace b)))
 
@@ -182,3 +185,57 @@ module _ (n m clients k : ℕ) (b : List ℕ) (ok : validClientBlock n m clients
       let D = cleared-block in
       let E = exits-block n m clients k (cleared b) (D .valid) (cleared-zero b (C .size)) in
       rw (D .place) at E
+
+-- an epoch begins: the flags of the servers, put one after another
+pub flag-next : (b vs : List ℕ) (i : ℕ) → i < length vs → set (sets b 68 (take i vs)) (67 + (i + 1)) (getD vs i 0) ≡ sets b 68 (take (i + 1) vs)
+flag-next b vs i h =
+    let z : 67 + (i + 1) ≡ 68 + i = omega arith in
+    let t : take (i + 1) vs ≡ take i vs ++ (getD vs i 0 ∷ []) = rw add-one (take-suc vs i 0 h) in
+    rw (z, t) (stored-on b (sets b 68 (take i vs)) (set (sets b 68 (take i vs)) (68 + i) (getD vs i 0)) (take i vs) (getD vs i 0 ∷ []) 68 (68 + i) refl refl (omega (arith, length-take-le i vs (omega arith))))
+
+down-bits : (qs : List ServerPlace) → every bitWord (map downBit qs) ≡ true
+down-bits [] = refl
+down-bits (q ∷ qs) =
+    ⊎-elim (λ (t : q .up ≡ true). rw t (down-bits qs)) (λ (t : q .up ≡ false). rw t (down-bits qs)) (decided (q .up))
+
+module _ (n m clients k : ℕ) (b : List ℕ) (ok : validClientBlock n m clients k b ≡ true) (qs : List ServerPlace) (all : length qs ≡ n) where
+  abbrev D : ClientBlock n m clients k b
+  D = client-facts n m clients k b ok
+
+  abbrev bits : List ℕ
+  bits = map downBit qs
+
+  few-servers : n ≤ 31
+  few-servers = client-few n m clients k b D
+
+  count : length bits ≡ n
+  count = length-map qs downBit ∙ all
+
+  put-flags : flags (sets b 68 bits) ≡ bits ++ drop n (flags b)
+  put-flags =
+      let l : length (flags b) ≡ 31 = simp (length-take, length-drop) (omega (arith, D .size)) in
+      let z : 0 + length bits ≡ n = omega (arith, count, few-servers) in
+      region-inside 68 31 b 0 bits (omega (arith, count, few-servers)) ∙ sets-eq bits (flags b) 0 (omega (arith, count, few-servers)) ∙ ap (λ (x : ℕ). bits ++ drop x (flags b)) z
+
+  put-record : clientRecord (sets b 68 bits) ≡ clientRecord b
+  put-record = region-behind 1 67 b 0 bits
+
+  put-first : getD (sets b 68 bits) 0 0 ≡ getD b 0 0
+  put-first = first-kept b 67 bits
+
+  pub put-block : inEpoch (clientPlace b) ≡ true → ClientIs n m clients k (sets b 68 (map downBit qs)) (record { living = clientPlace b .living; state = clientPlace b .state; downs = downFrom 1 qs })
+  put-block epoch =
+      let p : every bitWord (flags (sets b 68 bits)) ≡ true = rw put-flags (every-append bitWord bits (drop n (flags b)) (down-bits qs) (every-drop bitWord n (flags b) (D .bits))) in
+      let r : every zeroWord (drop n (flags (sets b 68 bits))) ≡ true = rw (put-flags, drop-at bits (drop n (flags b)) n count) (D .behind) in
+      let M = moved n m clients k b (sets b 68 bits) ok put-record (length-sets b 68 bits ∙ D .size) (rw put-first (D .bit)) p r (rw (put-first, living-is n m clients k b ok, epoch)) in
+      record { place = M .place ∙ rw (put-first, living-is n m clients k b ok, put-flags, down-flagged 1 qs (drop n (flags b)) (D .behind)); valid = M .valid }
+
+-- the record of a try is written, and the flags of the servers are put
+pub tried-block : (n m clients k : ℕ) (b : List ℕ) → validClientBlock n m clients k b ≡ true → clientPlace b .living ≡ true → isRemainder (clientPlace b .state .section) ≡ true
+    → leb (clientPlace b .state .timestamp .0) lastTry ≡ true → (qs : List ServerPlace) → length qs ≡ n
+    → ClientIs n m clients k (sets (written n m k b (tries n (record { 0 = k }) (clientPlace b .state) .state)) 68 (map downBit qs)) (record { living = true; state = tries n (record { 0 = k }) (clientPlace b .state) .state; downs = downFrom 1 qs })
+unfolding tries
+tried-block n m clients k b ok alive h g qs all =
+    let T = tries-block n m clients k b ok h g in
+    let P = put-block n m clients k (written n m k b (tries n (record { 0 = k }) (clientPlace b .state) .state)) (T .valid) qs all (rw (T .place, alive)) in
+    rw (T .place, alive) at P

@@ -96,6 +96,9 @@ module _ (n m clients k : ℕ) (b : List ℕ) where
     unfolding clientPlace
     client-fits = fits-as (B .servers) (B .threshold) (B .number) (view-fits its client-places (valid-known its (B .valid)))
 
+    pub client-few : n ≤ 31
+    client-few = client-fits .ranges .few
+
     -- its record is what its state is stored as
     pub client-again : clientFrom (clientRecord b) ≡ client.store n m (record { 0 = k }) (clientPlace b .state)
     unfolding clientPlace

@@ -6,7 +6,7 @@ use mathlib.Core.Bool.{Bool, true, false}
 use mathlib.Core.List.{List, _++_}
 use mathlib.Core.Option.{none, some}
 use lib.Dec.{eqb}
-use lib.ListN.{length, getD, take, drop, set, replicate, length-append, length-replicate, length-take, length-drop, length-set}
+use lib.ListN.{length, getD, take, set, replicate, length-append, length-replicate, length-take, length-drop, length-set}
 use lib.Seq.{sets, length-sets, take-at, drop-set-lt, getD-set-same}
 use Rattle.ids.specs.Choice.{if_then_else_}
 use Rattle.ids.specs.Lists.{every}
@@ -46,6 +46,11 @@ unfolding votes.queueOf
 view-again q =
     let e : take (length (q .queue)) (q .queue ++ replicate (16 - length (q .queue)) noRequest) ≡ q .queue = take-at (q .queue) _ (length (q .queue)) refl in
     λ i. record { owner = q .owner; queue = e i }
+
+-- what `put_server` asks of a step's record
+pub stored-short : (q : State) → length (q .queue) ≤ 16 → votes.store q .queue .len ≤ 16
+unfolding votes.queueOf
+stored-short q h = h
 
 module _ (n clients j : ℕ) (b : List ℕ) (ok : validServerBlock n clients j b ≡ true) where
   abbrev B : ServerBlock n clients j b

@@ -1,14 +1,13 @@
 -- The three steps of a server, on a valid block: what its call does, what it sends, and what the block is with the step's record.
 use Prim.Native.Nat.{ℕ, _≤_}
 use native.Mathlib.Omega.{arith}
-use mathlib.Core.Path.{_≡_, refl, sym, ap, _∙_}
-use mathlib.Core.Bool.{Bool, true, false, _&&_, not}
+use mathlib.Core.Path.{_≡_, refl, ap, _∙_}
+use mathlib.Core.Bool.{true, false}
 use mathlib.Core.List.{List, [], _∷_}
-use lib.Dec.{eqb, leb, ltb}
+use lib.Dec.{leb, ltb}
 use lib.ListN.{length}
 use borrow.Author.Tests.{eq-eqb, le-ltb}
 use Rattle.ids.specs.Lists.{every}
-use Rattle.ids.specs.Requests.{byOwner}
 use Rattle.ids.specs.Limits.{validRequest, validStamped, validParties, validClient, validServer, validTimestamp}
 use Rattle.ids.specs.declared.ClientId.{ClientId}
 use Rattle.ids.specs.declared.ServerId.{ServerId}
@@ -17,20 +16,18 @@ use Rattle.ids.specs.declared.Request.{Request}
 use Rattle.ids.specs.declared.Owner.{Owner}
 use Rattle.ids.specs.declared.Owner.the-variants.{Nobody, Of}
 use Rattle.ids.proofs.Choice.{both}
-use Rattle.wire.specs.Step.{Step, stepped}
+use Rattle.wire.specs.Step.{stepped}
 use Rattle.wire.specs.Format as format
-use Rattle.wire.specs.declared.Message.{Message}
 use Rattle.votes.specs.declared.Tag.{Tag}
 use Rattle.votes.specs.declared.Tag.the-variants.{Request as Asks, Yield as Yields, Release as Releases, Inquiry as Inquires}
 use Rattle.votes.specs.Figure1.{State, candidates, receive, suspect, check}
 use Rattle.votes.specs.Queues as votes
 use Rattle.server.specs.declared.Server.{Server}
-use Rattle.server.specs.Calls.{messageOutcome, received, suspectOutcome, checkOutcome, held, taken}
+use Rattle.server.specs.Calls.{messageOutcome, received, suspectOutcome, checkOutcome, taken}
 use Rattle.server.proofs.KeepsValid.{Good, receive-good, suspect-good, check-good}
-use Rattle.words.specs.Records.{serverFrom, serverWords}
-use Rattle.system.specs.Places.{ServerPlace}
+use Rattle.words.specs.Records.{serverFrom}
 use Rattle.system.proofs.Tokens.{message, worth, All, empty, more}
-use Rattle.system.proofs.ServerSteps.{Named, Holds, From, Fair, none-gained, fair-receive, fair-suspect, fair-check}
+use Rattle.system.proofs.ServerSteps.{Holds, From, Fair, none-gained, fair-receive, fair-suspect, fair-check}
 use Rattle.places.specs.Blocks.{serverRecord, serverPlace, namedPair, validServerBlock}
 use Rattle.places.proofs.Facts.{ServerBlock, server-facts, server-good}
 use Rattle.places.proofs.Pigeonhole.{queue-fits}
@@ -139,11 +136,16 @@ module _ (n clients j : ℕ) (b : List ℕ) (ok : validServerBlock n clients j b
   pub suspect-from : All (From (OfClients clients) (record { 0 = j })) (suspect (record { 0 = j }) (serverPlace b .state) .sent)
   suspect-from = suspect-fair .from
 
+  suspect-names : every (namedPair clients) (candidates (suspect me at .state)) ≡ true
+  suspect-names = holds-named clients (suspect me at .state) (suspect-fair .holds)
+
+  pub suspect-short : length (suspect (record { 0 = j }) (serverPlace b .state) .state .queue) ≤ clients
+  suspect-short = queue-fits clients (suspect me at .state) (suspect-good me at good) suspect-names
+
   pub suspect-block : clients ≤ 16
       → ServerIs n clients j (server-written n j b (suspect (record { 0 = j }) (serverPlace b .state) .state)) (record { up = serverPlace b .up; state = suspect (record { 0 = j }) (serverPlace b .state) .state })
   suspect-block few =
-      let names = holds-named clients (suspect me at .state) (suspect-fair .holds) in
-      stored-server n clients j b ok (suspect me at .state) (suspect-good me at good) names (omega (arith, queue-fits clients (suspect me at .state) (suspect-good me at good) names))
+      stored-server n clients j b ok (suspect me at .state) (suspect-good me at good) suspect-names (omega (arith, suspect-short))
 
   check-fair : Fair (OfClients clients) no-one me (at .owner) none-gained (check me at)
   check-fair = fair-check holds
@@ -151,11 +153,16 @@ module _ (n clients j : ℕ) (b : List ℕ) (ok : validServerBlock n clients j b
   pub check-from : All (From (OfClients clients) (record { 0 = j })) (check (record { 0 = j }) (serverPlace b .state) .sent)
   check-from = check-fair .from
 
+  check-names : every (namedPair clients) (candidates (check me at .state)) ≡ true
+  check-names = holds-named clients (check me at .state) (check-fair .holds)
+
+  pub check-short : length (check (record { 0 = j }) (serverPlace b .state) .state .queue) ≤ clients
+  check-short = queue-fits clients (check me at .state) (check-good me at good) check-names
+
   pub check-block : clients ≤ 16
       → ServerIs n clients j (server-written n j b (check (record { 0 = j }) (serverPlace b .state) .state)) (record { up = serverPlace b .up; state = check (record { 0 = j }) (serverPlace b .state) .state })
   check-block few =
-      let names = holds-named clients (check me at .state) (check-fair .holds) in
-      stored-server n clients j b ok (check me at .state) (check-good me at good) names (omega (arith, queue-fits clients (check me at .state) (check-good me at good) names))
+      stored-server n clients j b ok (check me at .state) (check-good me at good) check-names (omega (arith, check-short))
 
   -- what the calls do
   pub receive-outcome : (tag : Tag) (k : ClientId) (t : Timestamp) → format.valid (message tag k (record { 0 = j }) t) ≡ true → leb (k .0) clients ≡ true → clients ≤ 16

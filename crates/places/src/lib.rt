@@ -97,10 +97,10 @@ pub fn is_inside(b: &[u32]) -> bool
     requires { ⌜ length (now b) ≡ 99 ⌝ }
     ensures { λ r. ⌜ r ≡ isInside (clientPlace (now (b .entry))) ⌝ }
 {
-    if b[0] != 1 {
-        return false;
+    if b[0] == 1 {
+        return 2 <= b[4];
     }
-    2 <= b[4]
+    false
 }
 
 // Whether the client is in an epoch: it lives, and is trying or in the critical section.
