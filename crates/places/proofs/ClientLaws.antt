@@ -4,11 +4,9 @@ use native.Mathlib.Omega.{arith}
 use mathlib.Core.Path.{_≡_, refl, sym, ap, _∙_}
 use mathlib.Core.Bool.{Bool, true, false, _&&_, _||_, not}
 use mathlib.Core.List.{List}
-use mathlib.Core.Option.{none, some}
 use lib.Dec.{eqb}
 use lib.ListN.{length, getD, length-append, length-map, length-replicate, length-take, length-drop}
 use lib.Seq.{sets, length-sets}
-use Rattle.ids.specs.Choice.{if_then_else_}
 use Rattle.ids.specs.Lists.{every}
 use Rattle.ids.specs.declared.ClientId.{ClientId}
 use Rattle.wire.specs.Format as format
@@ -22,18 +20,13 @@ use Rattle.words.proofs.RoundTrip.{client-read-back}
 use Rattle.regions.proofs.SetsLaws.{region-inside, region-before}
 use Rattle.system.specs.Places.{ClientPlace, inEpoch}
 use Rattle.places.specs.Blocks.{clientRecord, flags, flagged, clientPlace, zeroWord, named, validClientBlock}
-use Rattle.places.proofs.BlockParts.{covered, client-long, first-kept}
+use Rattle.places.proofs.BlockParts.{read-in, covered, client-long, first-kept}
 use Rattle.places.proofs.Facts.{ClientBlock, client-facts, client-block, outside-clear}
 
 -- these words are a valid block, which is place p
 pub record ClientIs (n m clients k : ℕ) (b : List ℕ) (p : ClientPlace) : Type 0 where
   pub place : clientPlace b ≡ p
   pub valid : validClientBlock n m clients k b ≡ true
-
--- the words of a record are that record
-read-in : (x : Bool) (y z : Client) → (if x then some y else none) ≡ some z → (x ≡ true) × (y ≡ z)
-read-in true y z e = (refl, (cc))
-read-in false y z e = let w : _≡_ {A = ℕ} 0 1 = cc in absurd (omega arith)
 
 -- a store of a record, seen through the parts
 module _ (b ws : List ℕ) (l : length b ≡ 99) (w : length ws ≡ 67) where

@@ -2,13 +2,11 @@
 use Prim.Native.Nat.{ℕ, _-_, _≤_}
 use native.Mathlib.Omega.{arith}
 use mathlib.Core.Path.{_≡_, refl, ap, _∙_}
-use mathlib.Core.Bool.{Bool, true, false}
+use mathlib.Core.Bool.{true, false}
 use mathlib.Core.List.{List, _++_}
-use mathlib.Core.Option.{none, some}
 use lib.Dec.{eqb}
 use lib.ListN.{length, getD, take, set, replicate, length-append, length-replicate, length-take, length-drop, length-set}
 use lib.Seq.{sets, length-sets, take-at, drop-set-lt, getD-set-same}
-use Rattle.ids.specs.Choice.{if_then_else_}
 use Rattle.ids.specs.Lists.{every}
 use Rattle.ids.specs.Limits.{validOwner}
 use Rattle.ids.specs.Requests.{noRequest}
@@ -22,7 +20,7 @@ use Rattle.words.proofs.RoundTrip.{server-read-back}
 use Rattle.regions.proofs.SetsLaws.{region-inside}
 use Rattle.system.specs.Places.{ServerPlace}
 use Rattle.places.specs.Blocks.{serverRecord, serverPlace, namedPair, validServerBlock, emptied}
-use Rattle.places.proofs.BlockParts.{covered, server-long, first-kept}
+use Rattle.places.proofs.BlockParts.{read-in, covered, server-long, first-kept}
 use Rattle.places.proofs.Facts.{ServerBlock, server-facts, server-block, server-sizes}
 
 -- these words are a valid block, which is place p
@@ -36,10 +34,6 @@ server-of n j q = record { n = n; id = record { 0 = j }; votes = votes.store q }
 
 abbrev pub server-written : ℕ → ℕ → List ℕ → State → List ℕ
 server-written n j b q = sets b 1 (serverWords (record { n = n; id = record { 0 = j }; votes = votes.store q }))
-
-read-in : (x : Bool) (y z : Server) → (if x then some y else none) ≡ some z → (x ≡ true) × (y ≡ z)
-read-in true y z e = (refl, (cc))
-read-in false y z e = let w : _≡_ {A = ℕ} 0 1 = cc in absurd (omega arith)
 
 view-again : (q : State) → votes.view (votes.store q) ≡ q
 unfolding votes.queueOf
