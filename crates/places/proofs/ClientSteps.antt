@@ -25,7 +25,7 @@ use Rattle.client.specs.declared.Section.{Section}
 use Rattle.client.specs.declared.Section.the-variants.{Remainder, Trying, Critical}
 use Rattle.client.specs.Figure1.{State, Quorum, filled, enough, tries, exits, heard, judge, responds, checked}
 use Rattle.client.specs.Record as client
-use Rattle.client.specs.Calls.{isRemainder, isCritical, lastTry, beginOutcome, exitOutcome, messageOutcome, forClient}
+use Rattle.client.specs.Calls.{clientAfter, isRemainder, isCritical, lastTry, beginOutcome, exitOutcome, messageOutcome, forClient}
 use Rattle.client.proofs.KeepsValid.{Fits, tries-fits, exits-fits, responds-fits, checked-state, heard-every}
 use Rattle.words.specs.Records.{clientFrom, clientWords}
 use Rattle.system.specs.Places.{ClientPlace}
@@ -136,6 +136,10 @@ module _ (n m clients k : ℕ) (b : List ℕ) (ok : validClientBlock n m clients
       → messageOutcome (clientFrom (clientRecord b)) (Check (record { 0 = k }) j t) ≡ stepped (checked (record { 0 = k }) j t (clientPlace b .state))
   unfolding messageOutcome
   check-outcome j t w h = rw (B .valid, w, for-me j h, shows)
+
+  -- the record that an accepted call gives back
+  pub client-after : (p : Step State) → clientAfter (clientFrom (clientRecord b)) (stepped p) ≡ client.store n m (record { 0 = k }) (p .state)
+  client-after p = rw (B .servers, B .threshold, B .number)
 
   -- what they leave
   pub tries-block : isRemainder (clientPlace b .state .section) ≡ true → leb (clientPlace b .state .timestamp .0) lastTry ≡ true
