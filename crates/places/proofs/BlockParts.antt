@@ -4,6 +4,7 @@ use native.Mathlib.Omega.{arith}
 use mathlib.Core.Path.{_≡_, refl, sym, ap, _∙_}
 use mathlib.Core.Bool.{Bool, true, false}
 use mathlib.Core.List.{List, [], _∷_, _++_, append-nil, append-assoc}
+use mathlib.Core.Option.{none, some}
 use lib.Dec.{leb}
 use lib.ListN.{length, getD, take, drop, set, length-drop, length-take, replicate}
 use lib.Seq.{sets, getD-set-other, length-sets, sets-eq, drop-length, drop-drop, getD-drop, take-length, take-all}
@@ -74,6 +75,11 @@ module _ (ws : List ℕ) (count clients : ℕ) where
 
     pub naming-all : count ≤ i → true ≡ every (namedPair clients) (take count (requestsIn (drop 5 ws)))
     naming-all h = passing-all (namedPair clients) noRequest requests count i (S .passing) h
+
+-- the words of a record are read back as that record
+pub read-in : {A : Type 0} (x : Bool) (y z : A) → (if x then some y else none) ≡ some z → (x ≡ true) × (y ≡ z)
+read-in true y z e = (refl, (cc))
+read-in false y z e = let w : _≡_ {A = ℕ} 0 1 = cc in absurd (omega arith)
 
 -- a part of a list, written over whole
 pub covered : (ws vs : List ℕ) → length vs ≡ length ws → sets ws 0 vs ≡ vs

@@ -1,17 +1,15 @@
 -- What a client's block becomes where a step's record is written in it: the same place with the step's state, and valid again.
-use Prim.Native.Nat.{ℕ}
+use Prim.Native.Nat.{ℕ, _≤_}
 use native.Mathlib.Omega.{arith}
+use mathlib.Core.Logic.{_⊎_, inl, inr}
 use mathlib.Core.Path.{_≡_, refl, sym, ap, _∙_}
 use mathlib.Core.Bool.{Bool, true, false, _&&_, _||_, not}
 use mathlib.Core.List.{List}
-use mathlib.Core.Option.{none, some}
 use lib.Dec.{eqb}
-use lib.ListN.{length, getD, length-append, length-map, length-replicate, length-take, length-drop}
+use lib.ListN.{length, getD, drop, length-append, length-map, length-replicate, length-take, length-drop}
 use lib.Seq.{sets, length-sets}
-use Rattle.ids.specs.Choice.{if_then_else_}
 use Rattle.ids.specs.Lists.{every}
 use Rattle.ids.specs.declared.ClientId.{ClientId}
-use Rattle.wire.specs.Format as format
 use Rattle.client.specs.declared.Client.{Client}
 use Rattle.client.specs.Figure1.{State}
 use Rattle.client.specs.Record as client
@@ -21,19 +19,14 @@ use Rattle.words.specs.Records.{holdsClient, clientFrom, clientWords}
 use Rattle.words.proofs.RoundTrip.{client-read-back}
 use Rattle.regions.proofs.SetsLaws.{region-inside, region-before}
 use Rattle.system.specs.Places.{ClientPlace, inEpoch}
-use Rattle.places.specs.Blocks.{clientRecord, flags, flagged, clientPlace, zeroWord, named, validClientBlock}
-use Rattle.places.proofs.BlockParts.{covered, client-long, first-kept}
+use Rattle.places.specs.Blocks.{clientRecord, flags, flagged, clientPlace, bitWord, zeroWord, named, validClientBlock}
+use Rattle.places.proofs.BlockParts.{read-in, covered, client-long, first-kept}
 use Rattle.places.proofs.Facts.{ClientBlock, client-facts, client-block, outside-clear}
 
 -- these words are a valid block, which is place p
 pub record ClientIs (n m clients k : ℕ) (b : List ℕ) (p : ClientPlace) : Type 0 where
   pub place : clientPlace b ≡ p
   pub valid : validClientBlock n m clients k b ≡ true
-
--- the words of a record are that record
-read-in : (x : Bool) (y z : Client) → (if x then some y else none) ≡ some z → (x ≡ true) × (y ≡ z)
-read-in true y z e = (refl, (cc))
-read-in false y z e = let w : _≡_ {A = ℕ} 0 1 = cc in absurd (omega arith)
 
 -- a store of a record, seen through the parts
 module _ (b ws : List ℕ) (l : length b ≡ 99) (w : length ws ≡ 67) where
@@ -44,26 +37,21 @@ module _ (b ws : List ℕ) (l : length b ≡ 99) (w : length ws ≡ 67) where
   pub flags-kept : flags (sets b 1 ws) ≡ flags b
   flags-kept = region-before 68 31 b 1 ws (omega arith)
 
-module _ (n m clients k : ℕ) (b : List ℕ) (ok : validClientBlock n m clients k b ≡ true) where
+-- what a block has beside its record: a fallen client has no flag
+pub record Frame (n : ℕ) (b : List ℕ) : Type 0 where
+  pub size : length b ≡ 99
+  pub bit : getD b 0 0 ≤ 1
+  pub bits : every bitWord (flags b) ≡ true
+  pub behind : every zeroWord (drop n (flags b)) ≡ true
+  pub fallen : clientPlace b .living ≡ false → every zeroWord (flags b) ≡ true
+
+module _ (n m clients k : ℕ) (b : List ℕ) (B : Frame n b) where
   abbrev me : ClientId
   me = record { 0 = k }
-
-  abbrev B : ClientBlock n m clients k b
-  B = client-facts n m clients k b ok
-
-  abbrev at : ClientPlace
-  at = clientPlace b
 
   -- the block with the record of state s
   abbrev with : State → List ℕ
   with s = sets b 1 (clientWords (client.store n m (record { 0 = k }) s))
-
-  pub remainder-clear : isRemainder (at .state .section) ≡ true → every zeroWord (flags b) ≡ true
-  remainder-clear h = outside-clear n m clients k b B (outside (at .living) (isRemainder (at .state .section)) h) where
-    outside : (x y : Bool) → y ≡ true → x && not y ≡ false
-    outside true true e = refl
-    outside false y e = refl
-    outside true false e = sym e
 
   module _ (s : State) (F : Fits n m (record { 0 = k }) s) (names : every (named clients) (s .responses) ≡ true) (clear : isRemainder (s .section) ≡ true → every zeroWord (flags b) ≡ true) where
     abbrev kept : Client
@@ -88,7 +76,7 @@ module _ (n m clients k : ℕ) (b : List ℕ) (ok : validClientBlock n m clients
     its-client : clientFrom (clientRecord (with s)) ≡ kept
     its-client = ap clientFrom its-record ∙ words-held .1
 
-    pub stored-place : clientPlace (with s) ≡ record { living = clientPlace b .living; state = s; downs = clientPlace b .downs }
+    stored-place : clientPlace (with s) ≡ record { living = clientPlace b .living; state = s; downs = clientPlace b .downs }
     unfolding clientPlace
     stored-place =
         let a : getD (with s) 0 0 ≡ getD b 0 0 = first-kept b 0 (clientWords kept) in
@@ -99,17 +87,12 @@ module _ (n m clients k : ℕ) (b : List ℕ) (ok : validClientBlock n m clients
     still-outside : inEpoch (clientPlace (with s)) || every zeroWord (flags (with s)) ≡ true
     still-outside =
         rw (stored-place, its-flags)
-        (by-tests (clientPlace b .living) (isRemainder (s .section)) (isRemainder (at .state .section)) (every zeroWord (flags b)) clear (B .outside))
+        (by-tests (clientPlace b .living) (isRemainder (s .section)) (every zeroWord (flags b)) clear (B .fallen))
       where
-        by-tests : (x y o z : Bool) → (y ≡ true → z ≡ true) → (x && not o) || z ≡ true → (x && not y) || z ≡ true
-        by-tests x y o true h g = or-true (x && not y)
-          where
-            or-true : (a : Bool) → a || true ≡ true
-            or-true true = refl
-            or-true false = refl
-        by-tests true true o false h g = h refl
-        by-tests true false o false h g = refl
-        by-tests false y o false h g = g
+        by-tests : (x y z : Bool) → (y ≡ true → z ≡ true) → (x ≡ false → z ≡ true) → (x && not y) || z ≡ true
+        by-tests true true z h g = h refl
+        by-tests true false z h g = refl
+        by-tests false y z h g = g refl
 
     stored-facts : ClientBlock n m clients k (with s)
     unfolding client.store
@@ -128,5 +111,32 @@ module _ (n m clients k : ℕ) (b : List ℕ) (ok : validClientBlock n m clients
           outside = still-outside;
         }
 
-    pub stored-client : ClientIs n m clients k (with s) (record { living = clientPlace b .living; state = s; downs = clientPlace b .downs })
-    stored-client = record { place = stored-place; valid = client-block n m clients k (with s) stored-facts }
+    pub stored-frame : ClientIs n m clients k (with s) (record { living = clientPlace b .living; state = s; downs = clientPlace b .downs })
+    stored-frame = record { place = stored-place; valid = client-block n m clients k (with s) stored-facts }
+
+module _ (n m clients k : ℕ) (b : List ℕ) (ok : validClientBlock n m clients k b ≡ true) where
+  abbrev facts : ClientBlock n m clients k b
+  facts = client-facts n m clients k b ok
+
+  outside : (x y : Bool) → (x ≡ false) ⊎ (y ≡ true) → x && not y ≡ false
+  outside true true e = refl
+  outside false y e = refl
+  outside true false (inl e) = e
+  outside true false (inr e) = sym e
+
+  pub remainder-clear : isRemainder (clientPlace b .state .section) ≡ true → every zeroWord (flags b) ≡ true
+  remainder-clear h = outside-clear n m clients k b facts (outside (clientPlace b .living) (isRemainder (clientPlace b .state .section)) (inr h))
+
+  frame : Frame n b
+  frame =
+      record {
+        size = facts .size;
+        bit = facts .bit;
+        bits = facts .bits;
+        behind = facts .behind;
+        fallen = λ h. outside-clear n m clients k b facts (outside (clientPlace b .living) (isRemainder (clientPlace b .state .section)) (inl h));
+      }
+
+  pub stored-client : (s : State) → Fits n m (record { 0 = k }) s → every (named clients) (s .responses) ≡ true → (isRemainder (s .section) ≡ true → every zeroWord (flags b) ≡ true)
+      → ClientIs n m clients k (sets b 1 (clientWords (client.store n m (record { 0 = k }) s))) (record { living = clientPlace b .living; state = s; downs = clientPlace b .downs })
+  stored-client s F names clear = stored-frame n m clients k b frame s F names clear

@@ -23,15 +23,15 @@ use Rattle.wire.specs.declared.Message.the-variants.{Response, Check}
 use Rattle.client.specs.declared.Client.{Client}
 use Rattle.client.specs.declared.Section.{Section}
 use Rattle.client.specs.declared.Section.the-variants.{Remainder, Trying, Critical}
-use Rattle.client.specs.Figure1.{State, Quorum, filled, enough, tries, exits, heard, judge, responds, checked}
+use Rattle.client.specs.Figure1.{State, fresh, Quorum, filled, enough, tries, exits, heard, judge, responds, checked}
 use Rattle.client.specs.Record as client
-use Rattle.client.specs.Calls.{isRemainder, isCritical, lastTry, beginOutcome, exitOutcome, messageOutcome, forClient}
-use Rattle.client.proofs.KeepsValid.{Fits, tries-fits, exits-fits, responds-fits, checked-state, heard-every}
+use Rattle.client.specs.Calls.{clientAfter, isRemainder, isCritical, lastTry, beginOutcome, exitOutcome, messageOutcome, forClient}
+use Rattle.client.proofs.KeepsValid.{InRange, remainder-fits, Fits, tries-fits, exits-fits, responds-fits, checked-state, heard-every}
 use Rattle.words.specs.Records.{clientFrom, clientWords}
 use Rattle.system.specs.Places.{ClientPlace}
 use Rattle.places.specs.Blocks.{clientRecord, flags, clientPlace, zeroWord, named, validClientBlock}
 use Rattle.places.proofs.Facts.{ClientBlock, client-facts, client-fits}
-use Rattle.places.proofs.ClientLaws.{ClientIs, remainder-clear, stored-client}
+use Rattle.places.proofs.ClientLaws.{Frame, stored-frame, ClientIs, remainder-clear, stored-client}
 
 -- no response names nobody
 named-none : (clients n : ℕ) → every (named clients) (replicate n Nobody) ≡ true
@@ -137,6 +137,10 @@ module _ (n m clients k : ℕ) (b : List ℕ) (ok : validClientBlock n m clients
   unfolding messageOutcome
   check-outcome j t w h = rw (B .valid, w, for-me j h, shows)
 
+  -- the record that an accepted call gives back
+  pub client-after : (p : Step State) → clientAfter (clientFrom (clientRecord b)) (stepped p) ≡ client.store n m (record { 0 = k }) (p .state)
+  client-after p = rw (B .servers, B .threshold, B .number)
+
   -- what they leave
   pub tries-block : isRemainder (clientPlace b .state .section) ≡ true → leb (clientPlace b .state .timestamp .0) lastTry ≡ true
       → ClientIs n m clients k (written n m k b (tries n (record { 0 = k }) (clientPlace b .state) .state)) (placed b (tries n (record { 0 = k }) (clientPlace b .state) .state))
@@ -162,3 +166,9 @@ module _ (n m clients k : ℕ) (b : List ℕ) (ok : validClientBlock n m clients
       → ClientIs n m clients k (written n m k b (checked (record { 0 = k }) j t (clientPlace b .state) .state)) (placed b (checked (record { 0 = k }) j t (clientPlace b .state) .state))
   checked-block j t =
       rw (checked-state me j t (at .state)) (stored-client n m clients k b ok (at .state) fits (B .names) (λ e. remainder-clear n m clients k b ok e))
+
+-- a new client's record, in a block without flags
+pub fresh-block : (n m clients k : ℕ) (b : List ℕ) → Frame n b → every zeroWord (flags b) ≡ true → InRange n m (record { 0 = k })
+    → ClientIs n m clients k (written n m k b (fresh n)) (placed b (fresh n))
+fresh-block n m clients k b B z R =
+    stored-frame n m clients k b B (fresh n) (remainder-fits n m (record { 0 = k }) R (record { 0 = 0 })) (named-none clients n) (λ e. z)

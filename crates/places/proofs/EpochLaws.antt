@@ -23,6 +23,7 @@ use Rattle.regions.proofs.SetsLaws.{region-inside, region-behind}
 use Rattle.system.specs.Numbered.{added}
 use Rattle.system.specs.Places.{ServerPlace, inEpoch, downed, downFrom}
 use Rattle.places.specs.Blocks.{clientRecord, flags, flagged, cleared, clientPlace, bitWord, zeroWord, validClientBlock}
+use Rattle.places.proofs.Fronts.{every-append}
 use Rattle.places.proofs.BlockParts.{covered, first-kept, length-cleared}
 use Rattle.places.proofs.Facts.{ClientBlock, client-facts, client-block, client-few}
 use Rattle.places.proofs.FlagLaws.{none-flagged, flag-adds, downBit, down-flagged}
@@ -69,10 +70,6 @@ every-set : (f : ℕ → Bool) (l : List ℕ) (i x : ℕ) → every f l ≡ true
 every-set f [] i x h g = refl
 every-set f (y ∷ l) zero x h g = rw g (both (f y) (every f l) h .1)
 every-set f (y ∷ l) (suc i) x h g = let (a, r) = both (f y) (every f l) h in rw a (every-set f l i x r g)
-
-every-append : (f : ℕ → Bool) (a b : List ℕ) → every f a ≡ true → every f b ≡ true → every f (a ++ b) ≡ true
-every-append f [] b h g = g
-every-append f (x ∷ a) b h g = let (p, r) = both (f x) (every f a) h in rw p (every-append f a b r g)
 
 or-true : (a : Bool) → a || true ≡ true
 or-true true = refl

@@ -11,11 +11,11 @@ use Rattle.ids.specs.Lists.{every}
 use Rattle.ids.proofs.Choice.{both}
 use Rattle.wire.proofs.BytesLaws.{stored-on}
 
-module _ {A : Type 0} (f : A → Bool) (d : A) where
-  every-append : (a b : List A) → every f a ≡ true → every f b ≡ true → every f (a ++ b) ≡ true
-  every-append [] b h g = g
-  every-append (x ∷ a) b h g = let (p, r) = both (f x) (every f a) h in rw p (every-append a b r g)
+pub every-append : {A : Type 0} (f : A → Bool) (a b : List A) → every f a ≡ true → every f b ≡ true → every f (a ++ b) ≡ true
+every-append f [] b h g = g
+every-append f (x ∷ a) b h g = let (p, r) = both (f x) (every f a) h in rw p (every-append f a b r g)
 
+module _ {A : Type 0} (f : A → Bool) (d : A) where
   and-false : (a : Bool) → a && false ≡ false
   and-false true = refl
   and-false false = refl
@@ -45,7 +45,7 @@ module _ {A : Type 0} (f : A → Bool) (d : A) where
           record {
             within = omega arith;
             size = S .size;
-            done = rw (add-one, take-suc l i d (omega (arith, S .size))) (every-append (take i l) (getD l i d ∷ []) (S .done) (rw e));
+            done = rw (add-one, take-suc l i d (omega (arith, S .size))) (every-append f (take i l) (getD l i d ∷ []) (S .done) (rw e));
           }
 
       pub passing-all : n ≤ i → true ≡ every f (take n l)

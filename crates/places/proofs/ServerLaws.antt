@@ -2,13 +2,11 @@
 use Prim.Native.Nat.{ℕ, _-_, _≤_}
 use native.Mathlib.Omega.{arith}
 use mathlib.Core.Path.{_≡_, refl, ap, _∙_}
-use mathlib.Core.Bool.{Bool, true, false}
+use mathlib.Core.Bool.{true, false}
 use mathlib.Core.List.{List, _++_}
-use mathlib.Core.Option.{none, some}
 use lib.Dec.{eqb}
 use lib.ListN.{length, getD, take, set, replicate, length-append, length-replicate, length-take, length-drop, length-set}
 use lib.Seq.{sets, length-sets, take-at, drop-set-lt, getD-set-same}
-use Rattle.ids.specs.Choice.{if_then_else_}
 use Rattle.ids.specs.Lists.{every}
 use Rattle.ids.specs.Limits.{validOwner}
 use Rattle.ids.specs.Requests.{noRequest}
@@ -22,7 +20,7 @@ use Rattle.words.proofs.RoundTrip.{server-read-back}
 use Rattle.regions.proofs.SetsLaws.{region-inside}
 use Rattle.system.specs.Places.{ServerPlace}
 use Rattle.places.specs.Blocks.{serverRecord, serverPlace, namedPair, validServerBlock, emptied}
-use Rattle.places.proofs.BlockParts.{covered, server-long, first-kept}
+use Rattle.places.proofs.BlockParts.{read-in, covered, server-long, first-kept}
 use Rattle.places.proofs.Facts.{ServerBlock, server-facts, server-block, server-sizes}
 
 -- these words are a valid block, which is place p
@@ -37,10 +35,6 @@ server-of n j q = record { n = n; id = record { 0 = j }; votes = votes.store q }
 abbrev pub server-written : ℕ → ℕ → List ℕ → State → List ℕ
 server-written n j b q = sets b 1 (serverWords (record { n = n; id = record { 0 = j }; votes = votes.store q }))
 
-read-in : (x : Bool) (y z : Server) → (if x then some y else none) ≡ some z → (x ≡ true) × (y ≡ z)
-read-in true y z e = (refl, (cc))
-read-in false y z e = let w : _≡_ {A = ℕ} 0 1 = cc in absurd (omega arith)
-
 view-again : (q : State) → votes.view (votes.store q) ≡ q
 unfolding votes.queueOf
 view-again q =
@@ -52,10 +46,7 @@ pub stored-short : (q : State) → length (q .queue) ≤ 16 → votes.store q .q
 unfolding votes.queueOf
 stored-short q h = h
 
-module _ (n clients j : ℕ) (b : List ℕ) (ok : validServerBlock n clients j b ≡ true) where
-  abbrev B : ServerBlock n clients j b
-  B = server-facts n clients j b ok
-
+module _ (n clients j : ℕ) (b : List ℕ) (size : length b ≡ 38) (bit : getD b 0 0 ≤ 1) (sizes : server.validSizes n (record { 0 = j }) ≡ true) where
   module _ (q : State) (g : Good q) (names : every (namedPair clients) (candidates q) ≡ true) (short : length (q .queue) ≤ 16) where
     abbrev kept : Server
     kept = server-of n j q
@@ -65,7 +56,7 @@ module _ (n clients j : ℕ) (b : List ℕ) (ok : validServerBlock n clients j b
     kept-places = simp (length-append, length-replicate) (omega arith)
 
     kept-valid : server.valid kept ≡ true
-    kept-valid = stored-valid n (record { 0 = j }) q (server-sizes n clients j b B) short g
+    kept-valid = stored-valid n (record { 0 = j }) q sizes short g
 
     words-held : (holdsServer (serverWords kept) ≡ true) × (serverFrom (serverWords kept) ≡ kept)
     words-held = read-in (holdsServer (serverWords kept)) (serverFrom (serverWords kept)) kept (server-read-back kept kept-valid kept-places)
@@ -73,7 +64,7 @@ module _ (n clients j : ℕ) (b : List ℕ) (ok : validServerBlock n clients j b
     its-record : serverRecord (server-written n j b q) ≡ serverWords kept
     its-record =
         let w = server-long kept kept-places in
-        region-inside 1 37 b 0 (serverWords kept) (omega arith) ∙ covered (serverRecord b) (serverWords kept) (simp (length-take, length-drop) (omega (arith, B .size)))
+        region-inside 1 37 b 0 (serverWords kept) (omega arith) ∙ covered (serverRecord b) (serverWords kept) (simp (length-take, length-drop) (omega arith))
 
     its-server : serverFrom (serverRecord (server-written n j b q)) ≡ kept
     its-server = ap serverFrom its-record ∙ words-held .1
@@ -85,13 +76,13 @@ module _ (n clients j : ℕ) (b : List ℕ) (ok : validServerBlock n clients j b
         let v : votes.view (serverFrom (serverRecord (server-written n j b q)) .votes) ≡ q = ap (λ (s : Server). votes.view (s .votes)) its-server ∙ view-again q in
         λ i. record { up = eqb (a i) 1; state = v i }
 
-    pub stored-server : ServerIs n clients j (server-written n j b q) (record { up = serverPlace b .up; state = q })
-    stored-server =
+    pub stored-record : ServerIs n clients j (server-written n j b q) (record { up = serverPlace b .up; state = q })
+    stored-record =
         record {
           place = stored-place;
           valid = server-block n clients j (server-written n j b q) (record {
-            size = length-sets b 1 (serverWords kept) ∙ B .size;
-            bit = rw (first-kept b 0 (serverWords kept)) (B .bit);
+            size = length-sets b 1 (serverWords kept) ∙ size;
+            bit = rw (first-kept b 0 (serverWords kept)) bit;
             held = rw its-record (words-held .0);
             valid = rw its-server kept-valid;
             servers = rw its-server;
@@ -99,6 +90,12 @@ module _ (n clients j : ℕ) (b : List ℕ) (ok : validServerBlock n clients j b
             names = rw stored-place names;
           });
         }
+
+pub stored-server : (n clients j : ℕ) (b : List ℕ) → validServerBlock n clients j b ≡ true → (q : State) → Good q → every (namedPair clients) (candidates q) ≡ true → length (q .queue) ≤ 16
+    → ServerIs n clients j (server-written n j b q) (record { up = serverPlace b .up; state = q })
+stored-server n clients j b ok q g names short =
+    let B = server-facts n clients j b ok in
+    stored-record n clients j b (B .size) (B .bit) (server-sizes n clients j b B) q g names short
 
 -- the first word says whether the server is up
 module _ (n clients j : ℕ) (b : List ℕ) (ok : validServerBlock n clients j b ≡ true) (x : ℕ) (small : x ≤ 1) where
@@ -135,6 +132,11 @@ module _ (n clients j : ℕ) (b : List ℕ) (ok : validServerBlock n clients j b
 idle-good : Good idle
 unfolding validOwner
 idle-good = record { owner = refl; all = refl; behind = refl; sorted = tt; single = tt }
+
+-- a new server's record
+pub idle-block : (n clients j : ℕ) (b : List ℕ) → length b ≡ 38 → getD b 0 0 ≤ 1 → server.validSizes n (record { 0 = j }) ≡ true
+    → ServerIs n clients j (server-written n j b idle) (record { up = serverPlace b .up; state = idle })
+idle-block n clients j b size bit sizes = stored-record n clients j b size bit sizes idle idle-good refl (omega arith)
 
 module _ (n clients j : ℕ) (b : List ℕ) (ok : validServerBlock n clients j b ≡ true) where
   pub rise-block : ServerIs n clients j (set b 0 1) (record { up = true; state = serverPlace b .state })

@@ -16,14 +16,14 @@ use Rattle.ids.specs.declared.Request.{Request}
 use Rattle.ids.specs.declared.Owner.{Owner}
 use Rattle.ids.specs.declared.Owner.the-variants.{Nobody, Of}
 use Rattle.ids.proofs.Choice.{both}
-use Rattle.wire.specs.Step.{stepped}
+use Rattle.wire.specs.Step.{Step, stepped}
 use Rattle.wire.specs.Format as format
 use Rattle.votes.specs.declared.Tag.{Tag}
 use Rattle.votes.specs.declared.Tag.the-variants.{Request as Asks, Yield as Yields, Release as Releases, Inquiry as Inquires}
 use Rattle.votes.specs.Figure1.{State, candidates, receive, suspect, check}
 use Rattle.votes.specs.Queues as votes
 use Rattle.server.specs.declared.Server.{Server}
-use Rattle.server.specs.Calls.{messageOutcome, received, suspectOutcome, checkOutcome, taken}
+use Rattle.server.specs.Calls.{serverAfter, messageOutcome, received, suspectOutcome, checkOutcome, taken}
 use Rattle.server.proofs.KeepsValid.{Good, receive-good, suspect-good, check-good}
 use Rattle.words.specs.Records.{serverFrom}
 use Rattle.system.proofs.Tokens.{message, worth, All, empty, more}
@@ -31,7 +31,7 @@ use Rattle.system.proofs.ServerSteps.{Holds, From, Fair, none-gained, fair-rece
 use Rattle.places.specs.Blocks.{serverRecord, serverPlace, namedPair, validServerBlock}
 use Rattle.places.proofs.Facts.{ServerBlock, server-facts, server-good}
 use Rattle.places.proofs.Pigeonhole.{queue-fits}
-use Rattle.places.proofs.ServerLaws.{ServerIs, server-written, stored-server}
+use Rattle.places.proofs.ServerLaws.{ServerIs, server-of, server-written, stored-server}
 
 -- r is a request of one of so many clients
 abbrev pub OfClients : ℕ → Request → Type 0
@@ -163,6 +163,10 @@ module _ (n clients j : ℕ) (b : List ℕ) (ok : validServerBlock n clients j b
       → ServerIs n clients j (server-written n j b (check (record { 0 = j }) (serverPlace b .state) .state)) (record { up = serverPlace b .up; state = check (record { 0 = j }) (serverPlace b .state) .state })
   check-block few =
       stored-server n clients j b ok (check me at .state) (check-good me at good) check-names (omega (arith, check-short))
+
+  -- the record that an accepted call gives back
+  pub server-after : (p : Step State) → serverAfter (serverFrom (serverRecord b)) (stepped p) ≡ server-of n j (p .state)
+  server-after p = rw (B .servers, B .number)
 
   -- what the calls do
   pub receive-outcome : (tag : Tag) (k : ClientId) (t : Timestamp) → format.valid (message tag k (record { 0 = j }) t) ≡ true → leb (k .0) clients ≡ true → clients ≤ 16

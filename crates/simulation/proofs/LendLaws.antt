@@ -101,3 +101,23 @@ module _ (w : List ℕ) (j : ℕ) (in-it : ServerIn w j) where
 pub length-cleared : (b : List ℕ) → length (cleared (set b 0 0)) ≡ length b
 unfolding cleared
 length-cleared b = length-sets (set b 0 0) 68 (replicate 31 0) ∙ length-set b 0 0
+
+-- the words behind the blocks in use
+region-rest : (from used more : ℕ) (w : List ℕ) → drop used (take (used + more) (drop from w)) ≡ take more (drop (from + used) w)
+region-rest from used more w = drop-take used more (drop from w) ∙ ap (take more) (drop-drop used from w)
+
+pub clients-rest : (w : List ℕ) (c : ℕ) → c ≤ 16 → take (1591 - (7 + 99 * c)) (drop (7 + 99 * c) w) ≡ drop (c * 99) (clientWords w)
+unfolding clientWords
+clients-rest w c h =
+    let z : c * 99 + (1591 - (7 + 99 * c)) ≡ 1584 = omega arith in
+    let y : 7 + 99 * c ≡ 7 + c * 99 = omega arith in
+    ap (λ (x : ℕ). take (1591 - (7 + 99 * c)) (drop x w)) y ∙
+    (sym (region-rest 7 (c * 99) (1591 - (7 + 99 * c)) w) ∙ ap (λ (x : ℕ). drop (c * 99) (take x (drop 7 w))) z)
+
+pub servers-rest : (w : List ℕ) (n : ℕ) → n ≤ 31 → take (2769 - (1591 + 38 * n)) (drop (1591 + 38 * n) w) ≡ drop (n * 38) (serverWords w)
+unfolding serverWords
+servers-rest w n h =
+    let z : n * 38 + (2769 - (1591 + 38 * n)) ≡ 1178 = omega arith in
+    let y : 1591 + 38 * n ≡ 1591 + n * 38 = omega arith in
+    ap (λ (x : ℕ). take (2769 - (1591 + 38 * n)) (drop x w)) y ∙
+    (sym (region-rest 1591 (n * 38) (2769 - (1591 + 38 * n)) w) ∙ ap (λ (x : ℕ). drop (n * 38) (take x (drop 1591 w))) z)

@@ -4,3 +4,5 @@ pub mod Answers
 pub mod PlaceLaws
 pub mod PartLaws
 pub mod LendLaws
+pub mod LoopLaws
+pub mod TestLaws

@@ -8,7 +8,7 @@ nobody-requires : tie.Need-nobody-requires
 nobody-requires c κs = search needs
 
 returns : tie.Need-returns
-returns c = forgot (c .before .before .args .s) _ (c .before .nobody .ensures)
+returns c = search forgot
 
 pub forgetful-spec : {M : Type 1} → statement M
 forgetful-spec = tie.close (tie.spec nobody-requires returns)
