@@ -5,14 +5,16 @@ ghost use mathlib.Core.Bool.{true};
 ghost use Prim.Native.Nat.{_≤_, _+_, _*_, _-_, max};
 ghost use lib.ListN.{length, set, take, drop};
 ghost use lib.Seq.{sets};
-ghost use Rattle.system.specs.Places.{isInside, worst};
+ghost use Rattle.ids.specs.Choice.{if_then_else_};
+ghost use Rattle.system.specs.Places.{isInside, inEpoch, worst};
 ghost use Rattle.words.specs.Records.{holdsClient, clientFrom, clientWords, holdsServer, serverFrom, serverWords};
-ghost use Rattle.places.specs.Blocks.{clientPlace, serverPlace, clientRecord, serverRecord, cleared, validClientBlock, validServerBlock};
+ghost use Rattle.places.specs.Blocks.{clientPlace, serverPlace, clientRecord, serverRecord, cleared, emptied, validClientBlock, validServerBlock};
 ghost use Rattle.regions.specs.Blocks.{blocks};
 ghost use Rattle.simulation.specs.Layout.{clientWords as clientsPart, serverWords as serversPart, transitWords, lengthOf, sentOf, validFrom, itself, blank, valid as isValid};
 ghost use Rattle.transit.specs.Slots.{validSlots};
 ghost use Rattle.simulation.specs.Parts.{clientBlockOf, serverBlockOf, ClientIn, ServerIn, blocksValid, partsValid};
 use client::Client;
+use ids::ServerId;
 use server::Server;
 
 fn is_living(w: &[u32], k: u16) -> bool
@@ -60,6 +62,16 @@ fn fall_client(w: &mut [u32], k: u16)
     places::fall(&mut w[a..e]);
 }
 
+// Server j goes down: noted if the client's epoch runs.
+fn mark_client(w: &mut [u32], k: u16, j: ServerId)
+    requires { ⌜ ClientIn (now w) k × (1 ≤ j .0) × (j .0 ≤ 31) ⌝ }
+    ensures { λ _. ⌜ now (w .exit) ≡ sets (now (w .entry)) (7 + 99 * (k - 1)) (if inEpoch (clientPlace (clientBlockOf (now (w .entry)) k)) then set (clientBlockOf (now (w .entry)) k) (67 + j .0) 1 else clientBlockOf (now (w .entry)) k) ⌝ }
+{
+    let a = 7 + 99 * (k as usize - 1);
+    let e = a + 99;
+    places::mark_down(&mut w[a..e], j);
+}
+
 fn is_up(w: &[u32], j: u16) -> bool
     requires { ⌜ ServerIn (now w) j ⌝ }
     ensures { λ r. ⌜ r ≡ serverPlace (serverBlockOf (now (w .entry)) j) .up ⌝ }
@@ -85,6 +97,15 @@ fn put_server(w: &mut [u32], j: u16, s: Server)
     let a = 1591 + 38 * (j as usize - 1);
     let e = a + 38;
     places::put_server(&mut w[a..e], s);
+}
+
+fn sink_server(w: &mut [u32], j: u16)
+    requires { ⌜ ServerIn (now w) j × (holdsServer (serverRecord (serverBlockOf (now w) j)) ≡ true) ⌝ }
+    ensures { λ _. ⌜ now (w .exit) ≡ sets (now (w .entry)) (1591 + 38 * (j - 1)) (set (sets (serverBlockOf (now (w .entry)) j) 1 (serverWords (emptied (serverFrom (serverRecord (serverBlockOf (now (w .entry)) j)))))) 0 0) ⌝ }
+{
+    let a = 1591 + 38 * (j as usize - 1);
+    let e = a + 38;
+    places::sink(&mut w[a..e]);
 }
 
 fn rise_server(w: &mut [u32], j: u16)
