@@ -6,3 +6,4 @@ pub mod PartLaws
 pub mod LendLaws
 pub mod LoopLaws
 pub mod TestLaws
+pub mod HolderLaws

@@ -5,7 +5,9 @@ ghost use mathlib.Core.Bool.{true};
 ghost use Prim.Native.Nat.{_≤_, _+_, _*_, _-_, max};
 ghost use lib.ListN.{length, set, take, drop};
 ghost use lib.Seq.{sets};
+ghost use mathlib.Core.List.{map};
 ghost use Rattle.ids.specs.Choice.{if_then_else_};
+ghost use Rattle.client.specs.Figure1.{count};
 ghost use Rattle.system.specs.Places.{isInside, inEpoch, worst};
 ghost use Rattle.words.specs.Records.{holdsClient, clientFrom, clientWords, holdsServer, serverFrom, serverWords};
 ghost use Rattle.places.specs.Blocks.{clientPlace, serverPlace, clientRecord, serverRecord, cleared, emptied, validClientBlock, validServerBlock};
@@ -212,6 +214,22 @@ fn worst_down(w: &[u32], clients: u16) -> u32
         i += 1;
     }
     most
+}
+
+// How many living clients are in the critical section.
+fn count_inside(w: &[u32], clients: u16) -> u32
+    requires { ⌜ (length (now w) ≡ 6353) × (clients ≤ 16) ⌝ }
+    ensures { λ r. ⌜ r ≡ count (map isInside (blocks 99 clientPlace clients (clientsPart (now (w .entry))))) ⌝ }
+{
+    let mut found: u32 = 0;
+    let mut i: u16 = 0;
+    while i < clients {
+        if is_inside(w, i + 1) {
+            found += 1;
+        }
+        i += 1;
+    }
+    found
 }
 
 // The tests of the blocks and of what stands behind them, in a setting in range.
