@@ -1,13 +1,25 @@
 -- What an event does to a simulation: the system's event with refusal 19, seen through `view`.
 use mathlib.Core.Path.{_≡_}
 use Prim.Native.Nat.{ℕ}
-use mathlib.Core.Bool.{true, false}
+use mathlib.Core.Bool.{Bool, true, false, _&&_}
 use mathlib.Core.List.{List}
+use lib.Dec.{eqb}
+use lib.ListN.{length}
+use Rattle.ids.specs.Choice.{if_then_else_}
+use Rattle.ids.specs.Limits.{within}
+use Rattle.ids.specs.declared.Refusal.the-variants.{ParameterOutOfRange, InvalidRecord}
+use Rattle.wire.specs.Step.{refused, stepped}
 use Rattle.client.specs.Figure1.{enough}
+use Rattle.quorum.specs.Check.{inRange}
 use Rattle.system.specs.declared.Event.{Event}
+use Rattle.system.specs.Places.{System, holders}
 use Rattle.system.specs.Events.{Result, event, withPlaces}
-use Rattle.system.specs.Runs.{after, isStepped}
-use Rattle.simulation.specs.Layout.{settingOf, view, valid}
+use Rattle.system.specs.Runs.{after, isStepped, start}
+use Rattle.layout.specs.Layout.{Setting, size, maxClients, settingOf, view, valid}
+use Rattle.simulation.specs.declared.Moved.{Moved}
+use Rattle.simulation.specs.declared.Moved.the-variants as moved
+use Rattle.simulation.specs.declared.Reply.{Reply}
+use Rattle.simulation.specs.declared.Reply.the-variants as reply
 
 abbrev pub maxTransit : ℕ
 maxTransit = 512
@@ -15,9 +27,13 @@ maxTransit = 512
 abbrev pub maxNumber : ℕ
 maxNumber = 4294967295
 
+-- an event with n servers and threshold m
+abbrev pub bounded : ℕ → ℕ → System → Event → Result
+bounded n m u e = withPlaces maxTransit maxNumber (event n (enough m) u e)
+
 -- the event's outcome
 abbrev pub happens : List ℕ → Event → Result
-happens w e = withPlaces maxTransit maxNumber (event (settingOf w .n) (enough (settingOf w .m)) (view w) e)
+happens w e = bounded (settingOf w .n) (settingOf w .m) (view w) e
 
 -- of a valid simulation w the words w′ are what the event leaves
 pub record Leaves (w : List ℕ) (e : Event) (w′ : List ℕ) : Type 0 where
@@ -25,3 +41,38 @@ pub record Leaves (w : List ℕ) (e : Event) (w′ : List ℕ) : Type 0 where
   pub setting : settingOf w′ ≡ settingOf w
   pub again : valid w′ ≡ true
   pub kept : isStepped (happens w e) ≡ false → w′ ≡ w
+
+-- how many messages the event sent, or its refusal
+abbrev pub movedOf : Result → Moved
+movedOf (refused x) = moved.Refused x
+movedOf (stepped s) = moved.Sent (length (s .sent))
+
+-- the same with the living holders afterwards
+unfoldable pub replyOf : System → Result → Reply
+replyOf u (refused x) = reply.Refused x
+replyOf u (stepped s) = reply.Accepted (length (s .sent)) (holders (after u (stepped s)))
+
+-- `event` of any words: 21, or what the event does
+unfoldable pub eventReply : List ℕ → Event → Reply
+eventReply w e = if valid w then replyOf (view w) (happens w e) else reply.Refused InvalidRecord
+
+pub record EventLeaves (w : List ℕ) (e : Event) (w′ : List ℕ) : Type 0 where
+  pub valid-leaves : valid w ≡ true → Leaves w e w′
+  pub invalid-kept : valid w ≡ false → w′ ≡ w
+
+-- a new simulation: all words are there, and the setting is in range
+unfoldable pub opens : ℕ → ℕ → ℕ → ℕ → ℕ → Bool
+opens long n m f clients = eqb long size && (inRange n m f && within clients maxClients)
+
+unfoldable pub newReply : Bool → Moved
+newReply b = if b then moved.Sent 0 else moved.Refused ParameterOutOfRange
+
+-- w′ is a fresh start
+pub record Starts (n m f clients : ℕ) (w′ : List ℕ) : Type 0 where
+  pub system : view w′ ≡ start n (enough m) clients
+  pub setting : settingOf w′ ≡ record { n = n; m = m; f = f; clients = clients }
+  pub again : valid w′ ≡ true
+
+pub record NewLeaves (n m f clients : ℕ) (w w′ : List ℕ) : Type 0 where
+  pub starts : opens (length w) n m f clients ≡ true → Starts n m f clients w′
+  pub kept : opens (length w) n m f clients ≡ false → w′ ≡ w

@@ -1,3 +1,2 @@
-pub mod Layout
 pub mod Happens
-pub mod Parts
+pub mod Changes

@@ -1,297 +1,473 @@
-// The bounded simulation of a whole system, in lent words: a head, client blocks, server blocks, and messages in transit.
-// Document 01 says gallery for simulation. The functions here are for this crate's events, whose state is valid.
+// The bounded simulation of a whole system: a new one, and its nine events. Document 01 says gallery for simulation.
+// The state is words that the caller lends (`layout`): an event loads one client's or one server's record, steps it, and stores it.
 ghost use mathlib.Core.Path.{_≡_};
 ghost use mathlib.Core.Bool.{true};
-ghost use Prim.Native.Nat.{_≤_, _+_, _*_, _-_, max};
-ghost use lib.ListN.{length, set, take, drop};
-ghost use lib.Seq.{sets};
-ghost use mathlib.Core.List.{map};
-ghost use Rattle.ids.specs.Choice.{if_then_else_};
-ghost use Rattle.client.specs.Figure1.{count};
-ghost use Rattle.system.specs.Places.{isInside, inEpoch, worst};
-ghost use Rattle.words.specs.Records.{holdsClient, clientFrom, clientWords, holdsServer, serverFrom, serverWords};
-ghost use Rattle.places.specs.Blocks.{clientPlace, serverPlace, clientRecord, serverRecord, cleared, emptied, validClientBlock, validServerBlock};
-ghost use Rattle.regions.specs.Blocks.{blocks};
-ghost use Rattle.simulation.specs.Layout.{clientWords as clientsPart, serverWords as serversPart, transitWords, lengthOf, sentOf, validFrom, itself, blank, valid as isValid};
-ghost use Rattle.transit.specs.Slots.{validSlots};
-ghost use Rattle.simulation.specs.Parts.{clientBlockOf, serverBlockOf, ClientIn, ServerIn, blocksValid, partsValid};
+ghost use mathlib.Core.List.{[], map};
+ghost use Prim.Native.Nat.{_≤_, _+_};
+ghost use Rattle.wire.specs.Format as format;
+ghost use Rattle.system.specs.Numbered.{put};
+ghost use Rattle.system.specs.Transit.{replaced, keeping, gone, again};
+ghost use Rattle.system.specs.Places.{clientAt, serverAt, inEpoch, downFrom, downed};
+ghost use Rattle.transit.specs.Slots.{messagesIn, slotAt, names};
+ghost use Rattle.system.specs.declared.Event.the-variants.{Try, Exit, Fall, Down, Up, Take, Drop, Miss, Check};
+ghost use Rattle.layout.specs.Layout.{settingOf, lengthOf, transitWords, view, valid};
+ghost use Rattle.simulation.specs.Happens.{happens, Leaves, movedOf, replyOf};
+ghost use Rattle.simulation.specs.Changes.{Becomes, HasClient, HasServer, HasSlot, withClient, withServer, withTransit, withClients, sending, hasRoom, Sendable};
 use client::Client;
+use ids::ClientId;
+use ids::Owner;
+use ids::Refusal;
 use ids::ServerId;
-use server::Server;
+use ids::Timestamp;
+use system::Event;
+use system::MessageNumber;
+use votes::Tag;
+use wire::Answer;
+use wire::Message;
 
-fn is_living(w: &[u32], k: u16) -> bool
-    requires { ⌜ ClientIn (now w) k ⌝ }
-    ensures { λ r. ⌜ r ≡ clientPlace (clientBlockOf (now (w .entry)) k) .living ⌝ }
-{
-    let a = 7 + 99 * (k as usize - 1);
-    let e = a + 99;
-    places::is_living(&w[a..e])
+// What an event did: the messages it sent, or its refusal.
+pub enum Moved {
+    Sent(u32),
+    Refused(Refusal),
 }
 
-fn is_inside(w: &[u32], k: u16) -> bool
-    requires { ⌜ ClientIn (now w) k ⌝ }
-    ensures { λ r. ⌜ r ≡ isInside (clientPlace (clientBlockOf (now (w .entry)) k)) ⌝ }
-{
-    let a = 7 + 99 * (k as usize - 1);
-    let e = a + 99;
-    places::is_inside(&w[a..e])
+// The same with the living holders afterwards.
+pub enum Reply {
+    Accepted(u32, u32),
+    Refused(Refusal),
 }
 
-fn client_record(w: &[u32], k: u16) -> Client
-    requires { ⌜ ClientIn (now w) k × (holdsClient (clientRecord (clientBlockOf (now w) k)) ≡ true) ⌝ }
-    ensures { λ c. ⌜ c ≡ clientFrom (clientRecord (clientBlockOf (now (w .entry)) k)) ⌝ }
-{
-    let a = 7 + 99 * (k as usize - 1);
-    let e = a + 99;
-    places::client_record(&w[a..e])
-}
+// The events that send nothing.
 
-fn put_client(w: &mut [u32], k: u16, c: Client)
-    requires { ⌜ ClientIn (now w) k ⌝ }
-    ensures { λ _. ⌜ now (w .exit) ≡ sets (now (w .entry)) (7 + 99 * (k - 1)) (sets (clientBlockOf (now (w .entry)) k) 1 (clientWords c)) ⌝ }
+// The client falls.
+fn fall(w: &mut [u32], k: ClientId) -> Moved
+    requires { ⌜ valid (now w) ≡ true ⌝ }
+    ensures { λ r. ⌜ Leaves (now (w .entry)) (Fall k) (now (w .exit)) × (r ≡ movedOf (happens (now (w .entry)) (Fall k))) ⌝ }
 {
-    let a = 7 + 99 * (k as usize - 1);
-    let e = a + 99;
-    places::put_client(&mut w[a..e], c);
-}
-
-fn fall_client(w: &mut [u32], k: u16)
-    requires { ⌜ ClientIn (now w) k ⌝ }
-    ensures { λ _. ⌜ now (w .exit) ≡ sets (now (w .entry)) (7 + 99 * (k - 1)) (cleared (set (clientBlockOf (now (w .entry)) k) 0 0)) ⌝ }
-{
-    let a = 7 + 99 * (k as usize - 1);
-    let e = a + 99;
-    places::fall(&mut w[a..e]);
-}
-
-// Server j goes down: noted if the client's epoch runs.
-fn mark_client(w: &mut [u32], k: u16, j: ServerId)
-    requires { ⌜ ClientIn (now w) k × (1 ≤ j .0) × (j .0 ≤ 31) ⌝ }
-    ensures { λ _. ⌜ now (w .exit) ≡ sets (now (w .entry)) (7 + 99 * (k - 1)) (if inEpoch (clientPlace (clientBlockOf (now (w .entry)) k)) then set (clientBlockOf (now (w .entry)) k) (67 + j .0) 1 else clientBlockOf (now (w .entry)) k) ⌝ }
-{
-    let a = 7 + 99 * (k as usize - 1);
-    let e = a + 99;
-    places::mark_down(&mut w[a..e], j);
-}
-
-fn is_up(w: &[u32], j: u16) -> bool
-    requires { ⌜ ServerIn (now w) j ⌝ }
-    ensures { λ r. ⌜ r ≡ serverPlace (serverBlockOf (now (w .entry)) j) .up ⌝ }
-{
-    let a = 1591 + 38 * (j as usize - 1);
-    let e = a + 38;
-    places::is_up(&w[a..e])
-}
-
-fn server_record(w: &[u32], j: u16) -> Server
-    requires { ⌜ ServerIn (now w) j × (holdsServer (serverRecord (serverBlockOf (now w) j)) ≡ true) ⌝ }
-    ensures { λ s. ⌜ s ≡ serverFrom (serverRecord (serverBlockOf (now (w .entry)) j)) ⌝ }
-{
-    let a = 1591 + 38 * (j as usize - 1);
-    let e = a + 38;
-    places::server_record(&w[a..e])
-}
-
-fn put_server(w: &mut [u32], j: u16, s: Server)
-    requires { ⌜ ServerIn (now w) j × (s .votes .queue .len ≤ 16) ⌝ }
-    ensures { λ _. ⌜ now (w .exit) ≡ sets (now (w .entry)) (1591 + 38 * (j - 1)) (sets (serverBlockOf (now (w .entry)) j) 1 (serverWords s)) ⌝ }
-{
-    let a = 1591 + 38 * (j as usize - 1);
-    let e = a + 38;
-    places::put_server(&mut w[a..e], s);
-}
-
-fn sink_server(w: &mut [u32], j: u16)
-    requires { ⌜ ServerIn (now w) j × (holdsServer (serverRecord (serverBlockOf (now w) j)) ≡ true) ⌝ }
-    ensures { λ _. ⌜ now (w .exit) ≡ sets (now (w .entry)) (1591 + 38 * (j - 1)) (set (sets (serverBlockOf (now (w .entry)) j) 1 (serverWords (emptied (serverFrom (serverRecord (serverBlockOf (now (w .entry)) j)))))) 0 0) ⌝ }
-{
-    let a = 1591 + 38 * (j as usize - 1);
-    let e = a + 38;
-    places::sink(&mut w[a..e]);
-}
-
-fn rise_server(w: &mut [u32], j: u16)
-    requires { ⌜ ServerIn (now w) j ⌝ }
-    ensures { λ _. ⌜ now (w .exit) ≡ sets (now (w .entry)) (1591 + 38 * (j - 1)) (set (serverBlockOf (now (w .entry)) j) 0 1) ⌝ }
-{
-    let a = 1591 + 38 * (j as usize - 1);
-    let e = a + 38;
-    places::rise(&mut w[a..e]);
-}
-
-// Whether the words from `from` to `to` are all 0.
-fn is_blank(w: &[u32], from: usize, to: usize) -> bool
-    requires { ⌜ (from ≤ to) × (to ≤ length (now w)) ⌝ }
-    ensures { λ r. ⌜ r ≡ blank (take (to - from) (drop from (now (w .entry)))) ⌝ }
-{
-    let mut i = from;
-    while i < to {
-        if w[i] != 0 {
-            return false;
-        }
-        i += 1;
+    if !ids::within_limit(k.0 as u32, w[3]) {
+        return Moved::Refused(Refusal::NoSuchParty);
     }
-    true
+    if !layout::is_living(w, k.0) {
+        return Moved::Refused(Refusal::PartyDown);
+    }
+    layout::fall_client(w, k.0);
+    Moved::Sent(0)
 }
 
-fn client_valid(w: &[u32], n: u32, m: u32, clients: u32, k: u16) -> bool
-    requires { ⌜ ClientIn (now w) k ⌝ }
-    ensures { λ r. ⌜ r ≡ validClientBlock n m clients k (clientBlockOf (now (w .entry)) k) ⌝ }
+// The server comes up.
+fn up(w: &mut [u32], j: ServerId) -> Moved
+    requires { ⌜ valid (now w) ≡ true ⌝ }
+    ensures { λ r. ⌜ Leaves (now (w .entry)) (Up j) (now (w .exit)) × (r ≡ movedOf (happens (now (w .entry)) (Up j))) ⌝ }
 {
-    let a = 7 + 99 * (k as usize - 1);
-    let e = a + 99;
-    places::valid_client_block(&w[a..e], n, m, clients, k as u32)
+    if !ids::within_limit(j.0 as u32, w[0]) {
+        return Moved::Refused(Refusal::NoSuchParty);
+    }
+    if layout::is_up(w, j.0) {
+        return Moved::Refused(Refusal::PartyDown);
+    }
+    layout::rise_server(w, j.0);
+    Moved::Sent(0)
 }
 
-// Whether the blocks of the first clients are valid, each as its number.
-fn clients_valid(w: &[u32], n: u32, m: u32, clients: u16) -> bool
-    requires { ⌜ (length (now w) ≡ 6353) × (clients ≤ 16) ⌝ }
-    ensures { λ r. ⌜ r ≡ validFrom (validClientBlock n m clients) 1 (blocks 99 itself clients (clientsPart (now (w .entry)))) ⌝ }
+// The message in slot `i` is gone.
+fn remove_message(w: &mut [u32], i: usize)
+    requires { ⌜ HasSlot (now w) i ⌝ }
+    ensures { λ _. ⌜ Becomes (now (w .entry)) (now (w .exit)) (withTransit (view (now (w .entry))) (replaced (slotAt (transitWords (now (w .entry))) i .number) gone (view (now (w .entry)) .transit))) ⌝ }
 {
+    let len = w[4] as usize;
+    transit::remove(&mut w[2769..6353], len, i);
+    w[4] = (len - 1) as u32;
+}
+
+// The message is gone, wherever it stands.
+fn drop(w: &mut [u32], number: MessageNumber) -> Moved
+    requires { ⌜ valid (now w) ≡ true ⌝ }
+    ensures { λ r. ⌜ Leaves (now (w .entry)) (Drop number) (now (w .exit)) × (r ≡ movedOf (happens (now (w .entry)) (Drop number))) ⌝ }
+{
+    let len = w[4] as usize;
+    let i = transit::find_present(&w[2769..6353], len, number.0);
+    if i == len {
+        return Moved::Refused(Refusal::NoSuchParty);
+    }
+    remove_message(w, i);
+    Moved::Sent(0)
+}
+
+// The most servers down within an epoch are noted.
+fn note_most(w: &mut [u32]) {
+    let clients = w[3];
+    let worst = layout::worst_down(w, clients as u16);
+    let most = layout::larger(w[6], worst);
+    w[6] = most;
+}
+
+// Server `j` goes down: the epochs of all clients note it.
+fn note_down(w: &mut [u32], j: ServerId)
+    requires { ⌜ HasServer (now w) (j .0) ⌝ }
+    ensures { λ _. ⌜ Becomes (now (w .entry)) (now (w .exit)) (withClients (view (now (w .entry))) (map (downed j) (view (now (w .entry)) .clients))) ⌝ }
+{
+    let clients = w[3] as u16;
     let mut i: u16 = 0;
     while i < clients {
-        if !client_valid(w, n, m, clients as u32, i + 1) {
-            return false;
-        }
+        layout::mark_client(w, i + 1, j);
         i += 1;
     }
-    true
+    note_most(w);
 }
 
-fn server_valid(w: &[u32], n: u32, clients: u32, j: u16) -> bool
-    requires { ⌜ ServerIn (now w) j ⌝ }
-    ensures { λ r. ⌜ r ≡ validServerBlock n clients j (serverBlockOf (now (w .entry)) j) ⌝ }
+// What was delivered to server `j` is pending again.
+fn restart_messages(w: &mut [u32], j: ServerId)
+    requires { ⌜ valid (now w) ≡ true ⌝ }
+    ensures { λ _. ⌜ Becomes (now (w .entry)) (now (w .exit)) (withTransit (view (now (w .entry))) (map (again j) (view (now (w .entry)) .transit))) ⌝ }
 {
-    let a = 1591 + 38 * (j as usize - 1);
-    let e = a + 38;
-    places::valid_server_block(&w[a..e], n, clients, j as u32)
+    let len = w[4] as usize;
+    transit::restart(&mut w[2769..6353], len, j);
 }
 
-// Whether the blocks of the servers are valid, each as its number.
-fn servers_valid(w: &[u32], n: u16, clients: u32) -> bool
-    requires { ⌜ (length (now w) ≡ 6353) × (n ≤ 31) ⌝ }
-    ensures { λ r. ⌜ r ≡ validFrom (validServerBlock n clients) 1 (blocks 38 itself n (serversPart (now (w .entry)))) ⌝ }
+// The server goes down, and forgets everything.
+fn down(w: &mut [u32], j: ServerId) -> Moved
+    requires { ⌜ valid (now w) ≡ true ⌝ }
+    ensures { λ r. ⌜ Leaves (now (w .entry)) (Down j) (now (w .exit)) × (r ≡ movedOf (happens (now (w .entry)) (Down j))) ⌝ }
 {
+    if !ids::within_limit(j.0 as u32, w[0]) {
+        return Moved::Refused(Refusal::NoSuchParty);
+    }
+    if !layout::is_up(w, j.0) {
+        return Moved::Refused(Refusal::PartyDown);
+    }
+    layout::sink_server(w, j.0);
+    restart_messages(w, j);
+    note_down(w, j);
+    Moved::Sent(0)
+}
+
+// 1 if the server is down.
+fn down_flag(w: &[u32], j: u16) -> u32 {
+    if layout::is_up(w, j) {
+        return 0;
+    }
+    1
+}
+
+// An epoch of client `k` begins: the servers that are down count.
+fn begin_epoch(w: &mut [u32], k: ClientId)
+    requires { ⌜ HasClient (now w) (k .0) × (inEpoch (clientAt (view (now w)) (k .0)) ≡ true) ⌝ }
+    ensures { λ _. ⌜ Becomes (now (w .entry)) (now (w .exit)) (withClients (view (now (w .entry))) (put (view (now (w .entry)) .clients) (k .0) (record { living = clientAt (view (now (w .entry))) (k .0) .living; state = clientAt (view (now (w .entry))) (k .0) .state; downs = downFrom 1 (view (now (w .entry)) .servers) }))) ⌝ }
+{
+    let n = w[0] as u16;
     let mut i: u16 = 0;
     while i < n {
-        if !server_valid(w, n as u32, clients, i + 1) {
-            return false;
-        }
+        let x = down_flag(w, i + 1);
+        layout::put_flag(w, k.0, ServerId(i + 1), x);
         i += 1;
     }
-    true
+    note_most(w);
 }
 
-fn larger(a: u32, b: u32) -> u32
-    ensures { λ r. ⌜ r ≡ max a b ⌝ }
+// The epoch of client `k` ends: no server counts any more.
+fn end_epoch(w: &mut [u32], k: ClientId)
+    requires { ⌜ HasClient (now w) (k .0) ⌝ }
+    ensures { λ _. ⌜ Becomes (now (w .entry)) (now (w .exit)) (withClient (view (now (w .entry))) (k .0) (record { living = clientAt (view (now (w .entry))) (k .0) .living; state = clientAt (view (now (w .entry))) (k .0) .state; downs = [] })) ⌝ }
 {
-    if a < b {
-        return b;
+    layout::clear_client(w, k.0);
+}
+
+// The events that send.
+
+// Whether so many messages may be sent once `gone` messages are gone.
+fn has_room(w: &[u32], gone: u32, count: usize) -> bool
+    requires { ⌜ (valid (now w) ≡ true) × (gone ≤ lengthOf (now w)) × (count ≤ 512) ⌝ }
+    ensures { λ r. ⌜ r ≡ hasRoom (now (w .entry)) gone count ⌝ }
+{
+    if count == 0 {
+        return true;
     }
-    a
-}
-
-// The servers ever down in the client's epoch.
-fn downs_of(w: &[u32], k: u16) -> u32
-    requires { ⌜ ClientIn (now w) k ⌝ }
-    ensures { λ r. ⌜ r ≡ length (clientPlace (clientBlockOf (now (w .entry)) k) .downs) ⌝ }
-{
-    let a = 7 + 99 * (k as usize - 1);
-    let e = a + 99;
-    places::count_flags(&w[a..e])
-}
-
-// The most servers ever down within an epoch that runs.
-fn worst_down(w: &[u32], clients: u16) -> u32
-    requires { ⌜ (length (now w) ≡ 6353) × (clients ≤ 16) ⌝ }
-    ensures { λ r. ⌜ r ≡ worst (blocks 99 clientPlace clients (clientsPart (now (w .entry)))) ⌝ }
-{
-    let mut most: u32 = 0;
-    let mut i: u16 = 0;
-    while i < clients {
-        let x = downs_of(w, i + 1);
-        most = larger(most, x);
-        i += 1;
-    }
-    most
-}
-
-// How many living clients are in the critical section.
-fn count_inside(w: &[u32], clients: u16) -> u32
-    requires { ⌜ (length (now w) ≡ 6353) × (clients ≤ 16) ⌝ }
-    ensures { λ r. ⌜ r ≡ count (map isInside (blocks 99 clientPlace clients (clientsPart (now (w .entry))))) ⌝ }
-{
-    let mut found: u32 = 0;
-    let mut i: u16 = 0;
-    while i < clients {
-        if is_inside(w, i + 1) {
-            found += 1;
-        }
-        i += 1;
-    }
-    found
-}
-
-// The tests of the blocks and of what stands behind them, in a setting in range.
-fn blocks_valid(w: &[u32], n: u16, m: u32, clients: u16) -> bool
-    requires { ⌜ (length (now w) ≡ 6353) × (n ≤ 31) × (clients ≤ 16) ⌝ }
-    ensures { λ r. ⌜ r ≡ blocksValid n m clients (now (w .entry)) ⌝ }
-{
-    if !clients_valid(w, n as u32, m, clients) {
+    let more = count as u32;
+    if 512 < w[4] - gone + more {
         return false;
     }
-    if !is_blank(w, 7 + 99 * (clients as usize), 1591) {
-        return false;
-    }
-    if !servers_valid(w, n, clients as u32) {
-        return false;
-    }
-    is_blank(w, 1591 + 38 * (n as usize), 2769)
+    w[5] <= 4294967295 - more
 }
 
-fn transit_valid(w: &[u32], n: u32, clients: u32) -> bool
-    requires { ⌜ length (now w) ≡ 6353 ⌝ }
-    ensures { λ r. ⌜ r ≡ validSlots n clients (sentOf (now (w .entry))) (lengthOf (now (w .entry))) (transitWords (now (w .entry))) ⌝ }
+// The first `count` messages of the bytes are sent.
+fn send(w: &mut [u32], bytes: &[u8], count: usize)
+    requires { ⌜ Sendable (now w) count (now bytes) ⌝ }
+    ensures { λ _. ⌜ Becomes (now (w .entry)) (now (w .exit)) (sending (view (now (w .entry))) (messagesIn count (now (bytes .entry)))) ⌝ }
 {
-    let len = w[4];
+    let len = w[4] as usize;
     let sent = w[5];
-    transit::valid(&w[2769..6353], len as usize, sent, n, clients)
+    transit::post(&mut w[2769..6353], len, sent, bytes, count);
+    w[4] = (len + count) as u32;
+    w[5] = sent + count as u32;
 }
 
-// The tests of all that stands behind the setting, which is in range.
-fn parts_valid(w: &[u32], n: u16, m: u32, clients: u16) -> bool
-    requires { ⌜ (length (now w) ≡ 6353) × (n ≤ 31) × (clients ≤ 16) ⌝ }
-    ensures { λ r. ⌜ r ≡ partsValid n m clients (now (w .entry)) ⌝ }
+// A client that lives begins its step: document 01's try.
+fn begin(w: &mut [u32], k: ClientId) -> Moved
+    requires { ⌜ HasClient (now w) (k .0) × (clientAt (view (now w)) (k .0) .living ≡ true) ⌝ }
+    ensures { λ r. ⌜ Leaves (now (w .entry)) (Try k) (now (w .exit)) × (r ≡ movedOf (happens (now (w .entry)) (Try k))) ⌝ }
 {
-    if !blocks_valid(w, n, m, clients) {
-        return false;
+    let mut bytes = [0u8; 512];
+    let s = client::begin(layout::client_record(w, k.0), &mut bytes);
+    let answer = s.answer;
+    match answer {
+        Answer::Refused(x) => Moved::Refused(x),
+        Answer::Sent(count, _) => {
+            if !has_room(w, 0, count) {
+                return Moved::Refused(Refusal::SystemFull);
+            }
+            layout::put_client(w, k.0, s.client);
+            begin_epoch(w, k);
+            send(w, &bytes, count);
+            Moved::Sent(count as u32)
+        }
     }
-    if !transit_valid(w, n as u32, clients as u32) {
-        return false;
-    }
-    let most = w[6];
-    if (n as u32) < most {
-        return false;
-    }
-    worst_down(w, clients) <= most
 }
 
-// Whether the words are a simulation: the setting in range, every block and message as the setting says, the rest empty.
-pub fn valid(w: &[u32]) -> bool
-    ensures { λ r. ⌜ r ≡ isValid (now (w .entry)) ⌝ }
+fn try_enter(w: &mut [u32], k: ClientId) -> Moved
+    requires { ⌜ valid (now w) ≡ true ⌝ }
+    ensures { λ r. ⌜ Leaves (now (w .entry)) (Try k) (now (w .exit)) × (r ≡ movedOf (happens (now (w .entry)) (Try k))) ⌝ }
 {
-    if w.len() != 6353 {
-        return false;
+    if !ids::within_limit(k.0 as u32, w[3]) {
+        return Moved::Refused(Refusal::NoSuchParty);
     }
-    let n = w[0];
-    let m = w[1];
-    let f = w[2];
-    if !quorum::in_range(n, m, f) {
-        return false;
+    if !layout::is_living(w, k.0) {
+        return Moved::Refused(Refusal::PartyDown);
     }
-    let clients = w[3];
-    if !ids::within_limit(clients, 16) {
-        return false;
+    begin(w, k)
+}
+
+// A client that lives leaves the critical section.
+fn leave(w: &mut [u32], k: ClientId) -> Moved
+    requires { ⌜ HasClient (now w) (k .0) × (clientAt (view (now w)) (k .0) .living ≡ true) ⌝ }
+    ensures { λ r. ⌜ Leaves (now (w .entry)) (Exit k) (now (w .exit)) × (r ≡ movedOf (happens (now (w .entry)) (Exit k))) ⌝ }
+{
+    let mut bytes = [0u8; 512];
+    let s = client::exit(layout::client_record(w, k.0), &mut bytes);
+    let answer = s.answer;
+    match answer {
+        Answer::Refused(x) => Moved::Refused(x),
+        Answer::Sent(count, _) => {
+            if !has_room(w, 0, count) {
+                return Moved::Refused(Refusal::SystemFull);
+            }
+            end_epoch(w, k);
+            layout::put_client(w, k.0, s.client);
+            send(w, &bytes, count);
+            Moved::Sent(count as u32)
+        }
     }
-    parts_valid(w, n as u16, m, clients as u16)
+}
+
+fn exit(w: &mut [u32], k: ClientId) -> Moved
+    requires { ⌜ valid (now w) ≡ true ⌝ }
+    ensures { λ r. ⌜ Leaves (now (w .entry)) (Exit k) (now (w .exit)) × (r ≡ movedOf (happens (now (w .entry)) (Exit k))) ⌝ }
+{
+    if !ids::within_limit(k.0 as u32, w[3]) {
+        return Moved::Refused(Refusal::NoSuchParty);
+    }
+    if !layout::is_living(w, k.0) {
+        return Moved::Refused(Refusal::PartyDown);
+    }
+    leave(w, k)
+}
+
+// The message in slot `i` is delivered, and stays.
+fn mark_message(w: &mut [u32], i: usize)
+    requires { ⌜ HasSlot (now w) i ⌝ }
+    ensures { λ _. ⌜ Becomes (now (w .entry)) (now (w .exit)) (withTransit (view (now (w .entry))) (replaced (slotAt (transitWords (now (w .entry))) i .number) keeping (view (now (w .entry)) .transit))) ⌝ }
+{
+    transit::mark(&mut w[2769..6353], i);
+}
+
+// Server `j` takes the message in slot `i`.
+fn to_server(w: &mut [u32], i: usize, tag: Tag, k: ClientId, j: ServerId, t: Timestamp) -> Moved {
+    if !layout::is_up(w, j.0) {
+        return Moved::Refused(Refusal::PartyDown);
+    }
+    let mut bytes = [0u8; 512];
+    let s = server::take(layout::server_record(w, j.0), tag, k, j, t, &mut bytes);
+    let answer = s.answer;
+    match answer {
+        Answer::Refused(x) => Moved::Refused(x),
+        Answer::Sent(count, _) => {
+            if !has_room(w, 0, count) {
+                return Moved::Refused(Refusal::SystemFull);
+            }
+            mark_message(w, i);
+            layout::put_server(w, j.0, s.server);
+            send(w, &bytes, count);
+            Moved::Sent(count as u32)
+        }
+    }
+}
+
+// Client `k` takes the RESPONSE in slot `i`.
+fn to_client(w: &mut [u32], i: usize, k: ClientId, j: ServerId, o: Owner) -> Moved {
+    if !layout::is_living(w, k.0) {
+        return Moved::Refused(Refusal::PartyDown);
+    }
+    let mut bytes = [0u8; 512];
+    let s = client::respond(layout::client_record(w, k.0), j, o, &mut bytes);
+    let answer = s.answer;
+    match answer {
+        Answer::Refused(x) => Moved::Refused(x),
+        Answer::Sent(count, _) => {
+            if !has_room(w, 1, count) {
+                return Moved::Refused(Refusal::SystemFull);
+            }
+            remove_message(w, i);
+            layout::put_client(w, k.0, s.client);
+            send(w, &bytes, count);
+            Moved::Sent(count as u32)
+        }
+    }
+}
+
+// Client `k` takes the CHECK in slot `i`: its record stays.
+fn checks_client(w: &mut [u32], i: usize, k: ClientId, j: ServerId, t: Timestamp) -> Moved {
+    if !layout::is_living(w, k.0) {
+        return Moved::Refused(Refusal::PartyDown);
+    }
+    let mut bytes = [0u8; 512];
+    let s = client::check(layout::client_record(w, k.0), j, t, &mut bytes);
+    let answer = s.answer;
+    match answer {
+        Answer::Refused(x) => Moved::Refused(x),
+        Answer::Sent(count, _) => {
+            if !has_room(w, 1, count) {
+                return Moved::Refused(Refusal::SystemFull);
+            }
+            remove_message(w, i);
+            layout::put_client(w, k.0, s.client);
+            send(w, &bytes, count);
+            Moved::Sent(count as u32)
+        }
+    }
+}
+
+// The receiver takes the message.
+fn take(w: &mut [u32], number: MessageNumber) -> Moved
+    requires { ⌜ valid (now w) ≡ true ⌝ }
+    ensures { λ r. ⌜ Leaves (now (w .entry)) (Take number) (now (w .exit)) × (r ≡ movedOf (happens (now (w .entry)) (Take number))) ⌝ }
+{
+    let len = w[4] as usize;
+    let i = transit::find_pending(&w[2769..6353], len, number.0);
+    if i == len {
+        return Moved::Refused(Refusal::NoSuchParty);
+    }
+    let m = transit::message_at(&w[2769..6353], i);
+    match m {
+        Message::Request(k, j, t) => to_server(w, i, Tag::Request, k, j, t),
+        Message::Yield(k, j, t) => to_server(w, i, Tag::Yield, k, j, t),
+        Message::Release(k, j, t) => to_server(w, i, Tag::Release, k, j, t),
+        Message::Inquiry(k, j, t) => to_server(w, i, Tag::Inquiry, k, j, t),
+        Message::Response(k, j, o) => to_client(w, i, k, j, o),
+        Message::Check(k, j, t) => checks_client(w, i, k, j, t),
+    }
+}
+
+// The owner of server `j`, which is up, has fallen: document 01's missing owner.
+fn suspect(w: &mut [u32], j: ServerId) -> Moved {
+    let mut bytes = [0u8; 512];
+    let s = server::suspect(layout::server_record(w, j.0), &mut bytes);
+    let answer = s.answer;
+    match answer {
+        Answer::Refused(x) => Moved::Refused(x),
+        Answer::Sent(count, _) => {
+            if !has_room(w, 0, count) {
+                return Moved::Refused(Refusal::SystemFull);
+            }
+            layout::put_server(w, j.0, s.server);
+            send(w, &bytes, count);
+            Moved::Sent(count as u32)
+        }
+    }
+}
+
+fn miss(w: &mut [u32], j: ServerId) -> Moved
+    requires { ⌜ valid (now w) ≡ true ⌝ }
+    ensures { λ r. ⌜ Leaves (now (w .entry)) (Miss j) (now (w .exit)) × (r ≡ movedOf (happens (now (w .entry)) (Miss j))) ⌝ }
+{
+    if !ids::within_limit(j.0 as u32, w[0]) {
+        return Moved::Refused(Refusal::NoSuchParty);
+    }
+    if !layout::is_up(w, j.0) {
+        return Moved::Refused(Refusal::PartyDown);
+    }
+    let s = layout::server_record(w, j.0);
+    let v = s.votes;
+    let owner = v.owner;
+    match owner {
+        Owner::Nobody => Moved::Refused(Refusal::NoOwner),
+        Owner::Of(o) => {
+            let k = o.client;
+            if layout::is_living(w, k.0) {
+                return Moved::Refused(Refusal::OwnerLives);
+            }
+            suspect(w, j)
+        }
+    }
+}
+
+// Server `j`, which is up, asks its owner.
+fn ask(w: &mut [u32], j: ServerId) -> Moved {
+    let mut bytes = [0u8; 512];
+    let s = server::check(layout::server_record(w, j.0), &mut bytes);
+    let answer = s.answer;
+    match answer {
+        Answer::Refused(x) => Moved::Refused(x),
+        Answer::Sent(count, _) => {
+            if !has_room(w, 0, count) {
+                return Moved::Refused(Refusal::SystemFull);
+            }
+            layout::put_server(w, j.0, s.server);
+            send(w, &bytes, count);
+            Moved::Sent(count as u32)
+        }
+    }
+}
+
+fn check(w: &mut [u32], j: ServerId) -> Moved
+    requires { ⌜ valid (now w) ≡ true ⌝ }
+    ensures { λ r. ⌜ Leaves (now (w .entry)) (Check j) (now (w .exit)) × (r ≡ movedOf (happens (now (w .entry)) (Check j))) ⌝ }
+{
+    if !ids::within_limit(j.0 as u32, w[0]) {
+        return Moved::Refused(Refusal::NoSuchParty);
+    }
+    if !layout::is_up(w, j.0) {
+        return Moved::Refused(Refusal::PartyDown);
+    }
+    ask(w, j)
+}
+
+fn work(w: &mut [u32], e: Event) -> Moved
+    requires { ⌜ valid (now w) ≡ true ⌝ }
+    ensures { λ r. ⌜ Leaves (now (w .entry)) e (now (w .exit)) × (r ≡ movedOf (happens (now (w .entry)) e)) ⌝ }
+{
+    match e {
+        Event::Try(k) => try_enter(w, k),
+        Event::Exit(k) => exit(w, k),
+        Event::Fall(k) => fall(w, k),
+        Event::Down(j) => down(w, j),
+        Event::Up(j) => up(w, j),
+        Event::Take(i) => take(w, i),
+        Event::Drop(i) => drop(w, i),
+        Event::Miss(j) => miss(w, j),
+        Event::Check(j) => check(w, j),
+    }
+}
+
+// An event of a simulation that is known to be valid: for callers that made it, or tested it once.
+pub fn happen(w: &mut [u32], e: Event) -> Reply
+    requires { ⌜ valid (now w) ≡ true ⌝ }
+    ensures { λ r. ⌜ Leaves (now (w .entry)) e (now (w .exit)) × (r ≡ replyOf (view (now (w .entry))) (happens (now (w .entry)) e)) ⌝ }
+{
+    let moved = work(w, e);
+    match moved {
+        Moved::Refused(x) => Reply::Refused(x),
+        Moved::Sent(count) => {
+            let clients = w[3];
+            Reply::Accepted(count, layout::count_inside(w, clients as u16))
+        }
+    }
 }

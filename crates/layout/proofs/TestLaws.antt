@@ -1,0 +1,187 @@
+-- The tests of a simulation's words, one after another, are the definition's.
+use mathlib.Core.Path.{_≡_, refl, sym, ap, _∙_}
+use Prim.Native.Nat.{ℕ, zero, suc, _+_, _*_, _-_, _≤_, _<_, max}
+use native.Mathlib.Omega.{arith}
+use mathlib.Core.Bool.{Bool, true, false, not}
+use mathlib.Core.List.{List}
+use lib.Dec.{leb}
+use lib.ListN.{length, getD, take, drop}
+use borrow.Author.Tests.{le-leb, lt-leb, leb-true}
+use Rattle.ids.specs.Limits.{within}
+use Rattle.quorum.specs.Check.{inRange}
+use Rattle.quorum.proofs.CheckLaws.{range}
+use Rattle.transit.specs.Slots.{validSlots}
+use lib.Seq.{drop-drop}
+use Rattle.ids.proofs.Choice.{both, clash, holds, fails}
+use Rattle.regions.specs.Blocks.{blocks}
+use Rattle.system.specs.Places.{ClientPlace, worst}
+use Rattle.places.specs.Blocks.{clientBlock, serverBlock, clientPlace, validClientBlock, validServerBlock}
+use Rattle.layout.specs.Layout.{size, maxClients, settingOf, clientWords, serverWords, transitWords, lengthOf, sentOf, mostOf, view, validFrom, itself, blank, valid}
+use Rattle.layout.specs.Parts.{blocksValid, partsValid}
+use Rattle.layout.proofs.ValidLaws.{Facts, facts, from-facts}
+use Rattle.layout.proofs.LendLaws.{clients-rest, servers-rest}
+
+-- the most servers down, block by block
+pub worst-more : (s : ℕ) (f : List ℕ → ClientPlace) (i : ℕ) (l : List ℕ) →
+    worst (blocks s f (suc i) l) ≡ max (worst (blocks s f i l)) (length (f (take s (drop (i * s) l)) .downs))
+unfolding worst blocks
+worst-more s f zero l = let z : 0 * s ≡ 0 = omega arith in rw z (omega arith)
+worst-more s f (suc i) l =
+    let y : s + i * s ≡ suc i * s = omega arith in
+    let at : drop (i * s) (drop s l) ≡ drop (suc i * s) l = drop-drop (i * s) s l ∙ ap (λ (x : ℕ). drop x l) y in
+    rw (← at) (omega (arith, worst-more s f i (drop s l)))
+
+module _ (f : List ℕ → ClientPlace) (l : List ℕ) where
+  pub worst-start : 0 ≡ worst (blocks 99 f 0 l)
+  unfolding worst blocks
+  worst-start = refl
+
+  pub worst-step : (i most x r : ℕ) → most ≡ worst (blocks 99 f i l) → x ≡ length (f (take 99 (drop ((i + 1 - 1) * 99) l)) .downs) → r ≡ max most x → r ≡ worst (blocks 99 f (i + 1) l)
+  worst-step i most x r e g h =
+      let z : i + 1 - 1 ≡ i = omega arith in
+      let y : i + 1 ≡ suc i = omega arith in
+      let x′ : x ≡ length (f (take 99 (drop (i * 99) l)) .downs) = g ∙ ap (λ (k : ℕ). length (f (take 99 (drop (k * 99) l)) .downs)) z in
+      h ∙ (omega (arith, e, x′, worst-more 99 f i l) ∙ ap (λ (k : ℕ). worst (blocks 99 f k l)) (sym y))
+
+  pub worst-end : (i c r : ℕ) → i ≤ c → c ≤ i → r ≡ worst (blocks 99 f i l) → r ≡ worst (blocks 99 f c l)
+  worst-end i c r p q e = let z : i ≡ c = omega arith in e ∙ ap (λ (k : ℕ). worst (blocks 99 f k l)) z
+
+-- blocks_valid
+module _ (n m clients : ℕ) (w : List ℕ) (r : (length w ≡ 6353) × (n ≤ 31) × (clients ≤ 16)) (a : Bool)
+    (p : a ≡ validFrom (validClientBlock n m clients) 1 (blocks clientBlock itself clients (clientWords w))) where
+  abbrev C : Bool
+  C = validFrom (validClientBlock n m clients) 1 (blocks clientBlock itself clients (clientWords w))
+
+  abbrev D : Bool
+  D = blank (drop (clients * clientBlock) (clientWords w))
+
+  abbrev E : Bool
+  E = validFrom (validServerBlock n clients) 1 (blocks serverBlock itself n (serverWords w))
+
+  abbrev F : Bool
+  F = blank (drop (n * serverBlock) (serverWords w))
+
+  pub clients-bad : not a ≡ true → false ≡ blocksValid n m clients w
+  unfolding blocksValid
+  clients-bad t = rw (fails a C p t)
+
+  module _ (t : not a ≡ false) (b : Bool) (q : b ≡ blank (take (1591 - (7 + 99 * clients)) (drop (7 + 99 * clients) w))) where
+    behind : b ≡ D
+    behind = q ∙ ap blank (clients-rest w clients (r .2))
+
+    pub behind-clients : not b ≡ true → false ≡ blocksValid n m clients w
+    unfolding blocksValid
+    behind-clients u = rw (holds a C p t, fails b D behind u)
+
+    module _ (u : not b ≡ false) (d : Bool) (s : d ≡ E) where
+      pub servers-bad : not d ≡ true → false ≡ blocksValid n m clients w
+      unfolding blocksValid
+      servers-bad v = rw (holds a C p t, holds b D behind u, fails d E s v)
+
+      pub behind-servers : (e : Bool) → not d ≡ false → e ≡ blank (take (2769 - (1591 + 38 * n)) (drop (1591 + 38 * n) w)) → e ≡ blocksValid n m clients w
+      unfolding blocksValid
+      behind-servers e v g = rw (holds a C p t, holds b D behind u, holds d E s v) (g ∙ ap blank (servers-rest w n (r .1)))
+
+-- parts_valid
+module _ (n m clients : ℕ) (w : List ℕ) (a : Bool) (p : a ≡ blocksValid n m clients w) where
+  abbrev T : Bool
+  T = validSlots n clients (sentOf w) (lengthOf w) (transitWords w)
+
+  pub blocks-bad : not a ≡ true → false ≡ partsValid n m clients w
+  unfolding partsValid
+  blocks-bad t = rw (fails a (blocksValid n m clients w) p t)
+
+  module _ (t : not a ≡ false) (b : Bool) (q : b ≡ T) where
+    pub transit-bad : not b ≡ true → false ≡ partsValid n m clients w
+    unfolding partsValid
+    transit-bad u = rw (holds a (blocksValid n m clients w) p t, fails b T q u)
+
+    module _ (u : not b ≡ false) where
+      pub most-high : n < mostOf w → false ≡ partsValid n m clients w
+      unfolding partsValid
+      most-high h = rw (holds a (blocksValid n m clients w) p t, holds b T q u, lt-leb (mostOf w) n h)
+
+      pub most-noted : (r : ℕ) → mostOf w ≤ n → r ≡ worst (blocks clientBlock clientPlace clients (clientWords w)) → leb r (mostOf w) ≡ partsValid n m clients w
+      unfolding partsValid
+      most-noted r h e = rw (holds a (blocksValid n m clients w) p t, holds b T q u, le-leb (mostOf w) n h) (ap (λ (x : ℕ). leb x (mostOf w)) e)
+
+-- valid
+same-truth : (a b : Bool) → (a ≡ true → b ≡ true) → (b ≡ true → a ≡ true) → a ≡ b
+same-truth true b f g = sym (f refl)
+same-truth false true f g = g refl
+same-truth false false f g = refl
+
+module _ (w : List ℕ) where
+  abbrev inParts : Bool
+  inParts = partsValid (settingOf w .n) (settingOf w .m) (settingOf w .clients) w
+
+  parts-of : Facts w → inParts ≡ true
+  unfolding partsValid blocksValid view
+  parts-of f =
+      rw (f .clients, f .noClients, f .servers, f .noServers, f .transit, le-leb (mostOf w) (settingOf w .n) (f .few), le-leb (worst (blocks clientBlock clientPlace (settingOf w .clients) (clientWords w))) (mostOf w) (f .noted))
+
+  facts-of : length w ≡ size → inRange (settingOf w .n) (settingOf w .m) (settingOf w .f) ≡ true → within (settingOf w .clients) maxClients ≡ true → inParts ≡ true → Facts w
+  unfolding partsValid blocksValid view
+  facts-of l r k h =
+      let d = both _ (leb (worst (blocks clientBlock clientPlace (settingOf w .clients) (clientWords w))) (mostOf w)) h in
+      let c = both _ (leb (mostOf w) (settingOf w .n)) (d .0) in
+      let b = both _ (validSlots (settingOf w .n) (settingOf w .clients) (sentOf w) (lengthOf w) (transitWords w)) (c .0) in
+      let e = both _ (blank (drop (settingOf w .n * serverBlock) (serverWords w))) (b .0) in
+      let f = both _ (validFrom (validServerBlock (settingOf w .n) (settingOf w .clients)) 1 (blocks serverBlock itself (settingOf w .n) (serverWords w))) (e .0) in
+      let g = both (validFrom (validClientBlock (settingOf w .n) (settingOf w .m) (settingOf w .clients)) 1 (blocks clientBlock itself (settingOf w .clients) (clientWords w))) (blank (drop (settingOf w .clients * clientBlock) (clientWords w))) (f .0) in
+      record {
+        long = l;
+        range = r;
+        some = k;
+        clients = g .0;
+        noClients = g .1;
+        servers = f .1;
+        noServers = e .1;
+        transit = b .1;
+        few = leb-true (mostOf w) (settingOf w .n) (c .1);
+        noted = leb-true (worst (blocks clientBlock clientPlace (settingOf w .clients) (clientWords w))) (mostOf w) (d .1);
+      }
+
+  -- a test that fails makes the whole false
+  by-fact : (b : Bool) → (Facts w → b ≡ true) → b ≡ false → false ≡ valid w
+  by-fact b f e = same-truth false (valid w) (λ z. clash false z refl) (λ z. clash b (f (facts w z)) e)
+
+  pub size-wrong : (length w ≡ 6353 → ⊥) → false ≡ valid w
+  size-wrong n = same-truth false (valid w) (λ z. clash false z refl) (λ z. absurd (n (facts w z .long)))
+
+  module _ (l : length w ≡ 6353) (a : Bool) (p : a ≡ inRange (getD w 0 0) (getD w 1 0) (getD w 2 0)) where
+    its-range : inRange (settingOf w .n) (settingOf w .m) (settingOf w .f) ≡ inRange (getD w 0 0) (getD w 1 0) (getD w 2 0)
+    unfolding settingOf
+    its-range = refl
+
+    pub range-wrong : not a ≡ true → false ≡ valid w
+    range-wrong t = by-fact (inRange (settingOf w .n) (settingOf w .m) (settingOf w .f)) (λ f. f .range) (its-range ∙ fails a (inRange (getD w 0 0) (getD w 1 0) (getD w 2 0)) p t)
+
+    module _ (t : not a ≡ false) (b : Bool) (q : b ≡ within (getD w 3 0) 16) where
+      its-clients : within (settingOf w .clients) maxClients ≡ within (getD w 3 0) 16
+      unfolding settingOf
+      its-clients = refl
+
+      pub clients-wrong : not b ≡ true → false ≡ valid w
+      clients-wrong u = by-fact (within (settingOf w .clients) maxClients) (λ f. f .some) (its-clients ∙ fails b (within (getD w 3 0) 16) q u)
+
+      pub bounds : not b ≡ false → (length w ≡ 6353) × (getD w 0 0 ≤ 31) × (getD w 3 0 ≤ 16)
+      bounds u =
+          let r = range (getD w 0 0) (getD w 1 0) (getD w 2 0) (holds a (inRange (getD w 0 0) (getD w 1 0) (getD w 2 0)) p t) in
+          let k = both (leb 1 (getD w 3 0)) (leb (getD w 3 0) 16) (holds b (within (getD w 3 0) 16) q u) in
+          (l, r .servers, leb-true (getD w 3 0) 16 (k .1))
+
+      its-parts : inParts ≡ partsValid (getD w 0 0) (getD w 1 0) (getD w 3 0) w
+      unfolding settingOf
+      its-parts = refl
+
+      pub parts-decide : (r : Bool) → not b ≡ false → r ≡ partsValid (getD w 0 0) (getD w 1 0) (getD w 3 0) w → r ≡ valid w
+      parts-decide r u e =
+          e ∙ (sym its-parts ∙ same-truth inParts (valid w)
+          (λ h. from-facts w (facts-of l (its-range ∙ holds a (inRange (getD w 0 0) (getD w 1 0) (getD w 2 0)) p t) (its-clients ∙ holds b (within (getD w 3 0) 16) q u) h))
+          (λ h. parts-of (facts w h)))
+
+-- transit_valid
+pub transit-part : (n clients : ℕ) (w : List ℕ) → validSlots n clients (sentOf w) (lengthOf w) (transitWords w) ≡ validSlots n clients (getD w 5 0) (getD w 4 0) (take 3584 (drop 2769 w))
+unfolding transitWords
+transit-part n clients w = refl

@@ -1,0 +1,62 @@
+-- `layout::client_record` meets its contract: the block is lent, and what the callee says of it is said of the simulation's block.
+use Rattle.layout.proofs.LendLaws.{client-read, client-lent, client-block-long}
+use denote.Ref.{now}
+use lib.ListN.{length}
+use Rattle.places.specs.Blocks.{clientRecord}
+use Rattle.words.specs.Records.{clientFrom, holdsClient}
+use borrow.Author.Needs.{needs}
+use Rattle.layout.proofs.client_record.Statement.{statement}
+use Rattle.layout.proofs.client_record.Tie as tie
+
+sub-a : tie.Need-sub-a
+sub-a c = search needs
+
+mul-a : tie.Need-mul-a
+mul-a c = search needs
+
+add-a : tie.Need-add-a
+add-a c = search needs
+
+add-e : tie.Need-add-e
+add-e c = search needs
+
+mul-client-record : tie.Need-mul-client-record
+mul-client-record c = search needs
+
+sub-client-record : tie.Need-sub-client-record
+sub-client-record c = search needs
+
+part-client-record-start : tie.Need-part-client-record-start
+part-client-record-start c = search needs
+
+part-client-record-end : tie.Need-part-client-record-end
+part-client-record-end c = search needs
+
+client-record-requires : tie.Need-client-record-requires
+client-record-requires c κs =
+    let d = c .before .before in
+    let a = d .args in
+    let i = d .pre .0 in (
+      client-lent (now (a .w)) (a .k) i length 99 (client-block-long (now (a .w)) (a .k) (i .long) (i .first) (i .last)),
+      client-lent (now (a .w)) (a .k) i (λ b. holdsClient (clientRecord b)) _ (d .pre .1),
+    )
+
+returns : tie.Need-returns
+returns c =
+    let a = c .before .before .before .args in
+    client-read (now (a .w)) (a .k) (c .before .before .before .pre .0) (λ b. clientFrom (clientRecord b)) _ (c .client-record .ensures)
+
+pub client-record-spec : {M : Type 1} → statement M
+client-record-spec =
+    tie.close
+    (tie.spec
+    sub-a
+    mul-a
+    add-a
+    add-e
+    mul-client-record
+    sub-client-record
+    part-client-record-start
+    part-client-record-end
+    client-record-requires
+    returns)

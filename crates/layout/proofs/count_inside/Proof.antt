@@ -1,0 +1,64 @@
+-- `layout::count_inside` meets its contract. The invariant: found of the first i clients.
+use denote.Ref.{now}
+use Prim.Native.Nat.{_-_, _≤_, zero-le}
+use native.Mathlib.Omega.{arith}
+use mathlib.Core.Logic.{⊎-elim}
+use Rattle.places.specs.Blocks.{clientPlace}
+use Rattle.layout.specs.Layout.{clientWords}
+use Rattle.layout.proofs.HolderLaws.{Found, found-none, found-one, found-same, found-all}
+use borrow.Author.Needs.{needs}
+use Rattle.layout.proofs.count_inside.Statement.{statement}
+use Rattle.layout.proofs.count_inside.Tie as tie
+
+abbrev Inv-loop : tie.InvT-loop
+Inv-loop w clients found₀ i₀ found i = (i ≤ clients) × Found clientPlace (clientWords w) i found
+
+abbrev μ-loop : tie.MeasureT-loop
+μ-loop w clients found₀ i₀ found i = clients - i
+
+loop-holds : tie.Need-loop-holds Inv-loop μ-loop
+loop-holds c = (zero-le, found-none clientPlace (clientWords (now (c .before .args .w))))
+
+add-is-inside : tie.Need-add-is-inside Inv-loop μ-loop
+add-is-inside c = search needs
+
+is-inside-requires : tie.Need-is-inside-requires Inv-loop μ-loop
+is-inside-requires c κs = search needs
+
+add-found : tie.Need-add-found Inv-loop μ-loop
+add-found c = search needs
+
+add-i : tie.Need-add-i Inv-loop μ-loop
+add-i c = search needs
+
+loop-less : tie.Need-loop-less Inv-loop μ-loop
+loop-less c = search needs
+
+loop-again : tie.Need-loop-again Inv-loop μ-loop
+loop-again c =
+    let d = c .before .before .before in
+    let l = clientWords (now (d .before .before .args .w)) in
+    let more = found-one clientPlace l _ _ (d .loop .inv .1) _ (c .before .is-inside .ensures) in
+    let same = found-same clientPlace l _ _ (d .loop .inv .1) _ (c .before .is-inside .ensures) in
+    (omega (arith, c .before .before .loop-test .taken), ⊎-elim (λ x. more _ (x .0 .taken) (x .1)) (λ x. same _ (x .0 .left) (x .1)) (c .if1 .came))
+
+returns : tie.Need-returns Inv-loop μ-loop
+returns c =
+    let a = c .before .before .before .args in
+    let v = c .before .loop .inv in
+    found-all clientPlace (clientWords (now (a .w))) _ (a .clients) _ (v .0) (c .loop-test .left) (v .1)
+
+pub count-inside-spec : {M : Type 1} → statement M
+count-inside-spec =
+    tie.close
+    (tie.spec
+    Inv-loop
+    μ-loop
+    loop-holds
+    add-is-inside
+    is-inside-requires
+    add-found
+    add-i
+    loop-less
+    loop-again
+    returns)

@@ -1,0 +1,70 @@
+-- `layout::mark_client` meets its contract: the block is lent, and what the callee says of it is said of the simulation's block.
+use Rattle.layout.proofs.LendLaws.{client-written}
+use denote.Ref.{now}
+use mathlib.Core.Path.{_≡_, refl}
+use Prim.Native.Nat.{ℕ, _+_}
+use mathlib.Core.Bool.{Bool, true, false}
+use mathlib.Core.List.{List}
+use lib.ListN.{length, set, length-set}
+use Rattle.ids.specs.Choice.{if_then_else_}
+use Rattle.system.specs.Places.{inEpoch}
+use Rattle.places.specs.Blocks.{clientPlace}
+use borrow.Author.Needs.{needs}
+use Rattle.layout.proofs.mark_client.Statement.{statement}
+use Rattle.layout.proofs.mark_client.Tie as tie
+
+sub-a : tie.Need-sub-a
+sub-a c = search needs
+
+mul-a : tie.Need-mul-a
+mul-a c = search needs
+
+add-a : tie.Need-add-a
+add-a c = search needs
+
+add-e : tie.Need-add-e
+add-e c = search needs
+
+mul-mark-down : tie.Need-mul-mark-down
+mul-mark-down c = search needs
+
+sub-mark-down : tie.Need-sub-mark-down
+sub-mark-down c = search needs
+
+part-mark-down-start : tie.Need-part-mark-down-start
+part-mark-down-start c = search needs
+
+part-mark-down-end : tie.Need-part-mark-down-end
+part-mark-down-end c = search needs
+
+mark-down-requires : tie.Need-mark-down-requires
+mark-down-requires c κs = search needs
+
+same-length : tie.Need-same-length
+same-length c = search needs
+
+length-either : (x : Bool) (b : List ℕ) (i : ℕ) → length (if x then set b i 1 else b) ≡ length b
+length-either true b i = length-set b i 1
+length-either false b i = refl
+
+returns : tie.Need-returns
+returns c =
+    let d = c .before .before .before .before .before in
+    let a = d .args in
+    client-written (now (a .w)) (a .k) (d .pre .0) (λ b. if inEpoch (clientPlace b) then set b (67 + a .j .0) 1 else b) _ (λ l. length-either (inEpoch (clientPlace l)) l (67 + a .j .0)) (c .before .before .mark-down .ensures)
+
+pub mark-client-spec : {M : Type 1} → statement M
+mark-client-spec =
+    tie.close
+    (tie.spec
+    sub-a
+    mul-a
+    add-a
+    add-e
+    mul-mark-down
+    sub-mark-down
+    part-mark-down-start
+    part-mark-down-end
+    mark-down-requires
+    same-length
+    returns)

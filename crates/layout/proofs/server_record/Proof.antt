@@ -1,0 +1,62 @@
+-- `layout::server_record` meets its contract: the block is lent, and what the callee says of it is said of the simulation's block.
+use Rattle.layout.proofs.LendLaws.{server-read, server-lent, server-block-long}
+use denote.Ref.{now}
+use lib.ListN.{length}
+use Rattle.places.specs.Blocks.{serverRecord}
+use Rattle.words.specs.Records.{serverFrom, holdsServer}
+use borrow.Author.Needs.{needs}
+use Rattle.layout.proofs.server_record.Statement.{statement}
+use Rattle.layout.proofs.server_record.Tie as tie
+
+sub-a : tie.Need-sub-a
+sub-a c = search needs
+
+mul-a : tie.Need-mul-a
+mul-a c = search needs
+
+add-a : tie.Need-add-a
+add-a c = search needs
+
+add-e : tie.Need-add-e
+add-e c = search needs
+
+mul-server-record : tie.Need-mul-server-record
+mul-server-record c = search needs
+
+sub-server-record : tie.Need-sub-server-record
+sub-server-record c = search needs
+
+part-server-record-start : tie.Need-part-server-record-start
+part-server-record-start c = search needs
+
+part-server-record-end : tie.Need-part-server-record-end
+part-server-record-end c = search needs
+
+server-record-requires : tie.Need-server-record-requires
+server-record-requires c κs =
+    let d = c .before .before in
+    let a = d .args in
+    let i = d .pre .0 in (
+      server-lent (now (a .w)) (a .j) i length 38 (server-block-long (now (a .w)) (a .j) (i .long) (i .first) (i .last)),
+      server-lent (now (a .w)) (a .j) i (λ b. holdsServer (serverRecord b)) _ (d .pre .1),
+    )
+
+returns : tie.Need-returns
+returns c =
+    let a = c .before .before .before .args in
+    server-read (now (a .w)) (a .j) (c .before .before .before .pre .0) (λ b. serverFrom (serverRecord b)) _ (c .server-record .ensures)
+
+pub server-record-spec : {M : Type 1} → statement M
+server-record-spec =
+    tie.close
+    (tie.spec
+    sub-a
+    mul-a
+    add-a
+    add-e
+    mul-server-record
+    sub-server-record
+    part-server-record-start
+    part-server-record-end
+    server-record-requires
+    returns)

@@ -1,0 +1,85 @@
+-- `layout::valid` meets its contract: each return is one case of the definition.
+use Rattle.layout.proofs.TestLaws.{size-wrong, range-wrong, clients-wrong, parts-decide, bounds}
+use denote.Ref.{now}
+use native.Mathlib.Omega.{arith}
+use borrow.Author.Needs.{needs}
+use Rattle.layout.proofs.valid.Statement.{statement}
+use Rattle.layout.proofs.valid.Tie as tie
+
+returns : tie.Need-returns
+returns c =
+    let d = c .before .before in
+    let a = d .args in
+    size-wrong (now (a .w)) (c .if1 .taken)
+
+shared-slice-read-n : tie.Need-shared-slice-read-n
+shared-slice-read-n c = search needs
+
+shared-slice-read-m : tie.Need-shared-slice-read-m
+shared-slice-read-m c = search needs
+
+shared-slice-read-f : tie.Need-shared-slice-read-f
+shared-slice-read-f c = search needs
+
+in-range-requires : tie.Need-in-range-requires
+in-range-requires c κs = search needs
+
+returns-2 : tie.Need-returns-2
+returns-2 c =
+    let d = c .before .before .before .before .before .before .before in
+    let a = d .args in
+    range-wrong (now (a .w)) (c .before .before .before .before .before .if1 .left) _ (c .before .in-range .ensures) (c .if2 .taken)
+
+shared-slice-read-clients : tie.Need-shared-slice-read-clients
+shared-slice-read-clients c = search needs
+
+within-limit-requires : tie.Need-within-limit-requires
+within-limit-requires c κs = search needs
+
+returns-3 : tie.Need-returns-3
+returns-3 c =
+    let d = c .before .before .before .before .before .before .before .before .before .before in
+    let a = d .args in
+    clients-wrong (now (a .w)) (c .before .before .before .before .before .before .before .before .if1 .left) _ (c .before .before .before .before .in-range .ensures) (c .before .before .before .if2 .left) _ (c .before .within-limit .ensures) (c .if3 .taken)
+
+cast-parts-valid : tie.Need-cast-parts-valid
+cast-parts-valid c =
+    let d = c .before .before .before .before .before .before .before .before .before .before in
+    let a = d .args in
+    omega (arith, bounds (now (a .w)) (c .before .before .before .before .before .before .before .before .if1 .left) _ (c .before .before .before .before .in-range .ensures) (c .before .before .before .if2 .left) _ (c .before .within-limit .ensures) (c .if3 .left))
+
+cast-parts-valid-2 : tie.Need-cast-parts-valid-2
+cast-parts-valid-2 c =
+    let d = c .before .before .before .before .before .before .before .before .before .before in
+    let a = d .args in
+    omega (arith, bounds (now (a .w)) (c .before .before .before .before .before .before .before .before .if1 .left) _ (c .before .before .before .before .in-range .ensures) (c .before .before .before .if2 .left) _ (c .before .within-limit .ensures) (c .if3 .left))
+
+parts-valid-requires : tie.Need-parts-valid-requires
+parts-valid-requires c κs =
+    let d = c .before .before .before .before .before .before .before .before .before .before in
+    let a = d .args in
+    bounds (now (a .w)) (c .before .before .before .before .before .before .before .before .if1 .left) _ (c .before .before .before .before .in-range .ensures) (c .before .before .before .if2 .left) _ (c .before .within-limit .ensures) (c .if3 .left)
+
+returns-4 : tie.Need-returns-4
+returns-4 c =
+    let d = c .before .before .before .before .before .before .before .before .before .before .before in
+    let a = d .args in
+    parts-decide (now (a .w)) (c .before .before .before .before .before .before .before .before .before .if1 .left) _ (c .before .before .before .before .before .in-range .ensures) (c .before .before .before .before .if2 .left) _ (c .before .before .within-limit .ensures) _ (c .before .if3 .left) (c .parts-valid .ensures)
+
+pub valid-spec : {M : Type 1} → statement M
+valid-spec =
+    tie.close
+    (tie.spec
+    returns
+    shared-slice-read-n
+    shared-slice-read-m
+    shared-slice-read-f
+    in-range-requires
+    returns-2
+    shared-slice-read-clients
+    within-limit-requires
+    returns-3
+    cast-parts-valid
+    cast-parts-valid-2
+    parts-valid-requires
+    returns-4)

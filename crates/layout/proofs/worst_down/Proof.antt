@@ -1,0 +1,66 @@
+-- `layout::worst_down` meets its contract. The invariant: the most of the first i blocks.
+use Rattle.layout.proofs.TestLaws.{worst-start, worst-step, worst-end}
+use denote.Ref.{now}
+use Prim.Native.Nat.{_-_, _≤_, zero-le}
+use native.Mathlib.Omega.{arith}
+use mathlib.Core.Path.{_≡_}
+use Rattle.regions.specs.Blocks.{blocks}
+use Rattle.system.specs.Places.{worst}
+use Rattle.places.specs.Blocks.{clientPlace}
+use Rattle.layout.specs.Layout.{clientWords}
+use borrow.Author.Needs.{needs}
+use Rattle.layout.proofs.worst_down.Statement.{statement}
+use Rattle.layout.proofs.worst_down.Tie as tie
+
+abbrev Inv-loop : tie.InvT-loop
+Inv-loop w clients most₀ i₀ most i = (i ≤ clients) × (most ≡ worst (blocks 99 clientPlace i (clientWords w)))
+
+abbrev μ-loop : tie.MeasureT-loop
+μ-loop w clients most₀ i₀ most i = clients - i
+
+loop-holds : tie.Need-loop-holds Inv-loop μ-loop
+loop-holds c =
+    (zero-le, worst-start clientPlace (clientWords (now (c .before .args .w))))
+
+add-downs-of : tie.Need-add-downs-of Inv-loop μ-loop
+add-downs-of c = search needs
+
+downs-of-requires : tie.Need-downs-of-requires Inv-loop μ-loop
+downs-of-requires c κs = search needs
+
+larger-requires : tie.Need-larger-requires Inv-loop μ-loop
+larger-requires c κs = search needs
+
+add-i : tie.Need-add-i Inv-loop μ-loop
+add-i c = search needs
+
+loop-less : tie.Need-loop-less Inv-loop μ-loop
+loop-less c = search needs
+
+loop-again : tie.Need-loop-again Inv-loop μ-loop
+loop-again c =
+    let d = c .before .before .before in
+    let a = d .before .before .args in
+    let lt = c .before .before .loop-test .taken in
+    (omega (arith, lt), worst-step clientPlace (clientWords (now (a .w))) _ _ _ _ (d .loop .inv .1) (c .before .downs-of .ensures) (c .larger .ensures))
+
+returns : tie.Need-returns Inv-loop μ-loop
+returns c =
+    let a = c .before .before .before .args in
+    let v = c .before .loop .inv in
+    worst-end clientPlace (clientWords (now (a .w))) _ (a .clients) _ (v .0) (c .loop-test .left) (v .1)
+
+pub worst-down-spec : {M : Type 1} → statement M
+worst-down-spec =
+    tie.close
+    (tie.spec
+    Inv-loop
+    μ-loop
+    loop-holds
+    add-downs-of
+    downs-of-requires
+    larger-requires
+    add-i
+    loop-less
+    loop-again
+    returns)

@@ -1,0 +1,68 @@
+-- One part of a simulation changed: the words are a simulation of the same setting again, and its system differs in that part alone.
+use mathlib.Core.Path.{_≡_}
+use Prim.Native.Nat.{ℕ, _+_, _-_, _≤_, _<_, max}
+use mathlib.Core.Bool.{Bool, true, _&&_, _||_}
+use mathlib.Core.List.{List, _++_, map}
+use lib.Dec.{eqb, leb}
+use lib.ListN.{length}
+use Rattle.ids.specs.Lists.{every}
+use Rattle.ids.specs.declared.ServerId.{ServerId}
+use Rattle.wire.specs.declared.Message.{Message}
+use Rattle.system.specs.Numbered.{put}
+use Rattle.system.specs.Transit.{InTransit, numbered, again}
+use Rattle.system.specs.Places.{System, ClientPlace, ServerPlace, worst, downed}
+use Rattle.layout.specs.Layout.{settingOf, lengthOf, sentOf, view, valid}
+use Rattle.transit.specs.Slots.{names, messagesIn}
+use Rattle.simulation.specs.Happens.{maxTransit, maxNumber}
+
+-- w′ is a simulation of w's setting, and its system is u
+pub record Becomes (w w′ : List ℕ) (u : System) : Type 0 where
+  pub system : view w′ ≡ u
+  pub setting : settingOf w′ ≡ settingOf w
+  pub again : valid w′ ≡ true
+
+-- w is a simulation that has a client k, or a server j, or a used slot i
+pub record HasClient (w : List ℕ) (k : ℕ) : Type 0 where
+  pub valid : valid w ≡ true
+  pub first : 1 ≤ k
+  pub last : k ≤ settingOf w .clients
+
+pub record HasServer (w : List ℕ) (j : ℕ) : Type 0 where
+  pub valid : valid w ≡ true
+  pub first : 1 ≤ j
+  pub last : j ≤ settingOf w .n
+
+pub record HasSlot (w : List ℕ) (i : ℕ) : Type 0 where
+  pub valid : valid w ≡ true
+  pub used : i < lengthOf w
+
+-- the system with one part changed
+abbrev pub withClient : System → ℕ → ClientPlace → System
+withClient u k p = record { clients = put (u .clients) k p; servers = u .servers; transit = u .transit; sent = u .sent; most = u .most }
+
+abbrev pub withServer : System → ℕ → ServerPlace → System
+withServer u j q = record { clients = u .clients; servers = put (u .servers) j q; transit = u .transit; sent = u .sent; most = u .most }
+
+abbrev pub withTransit : System → List InTransit → System
+withTransit u l = record { clients = u .clients; servers = u .servers; transit = l; sent = u .sent; most = u .most }
+
+-- messages are sent
+abbrev pub sending : System → List Message → System
+sending u l =
+    record { clients = u .clients; servers = u .servers; transit = u .transit ++ numbered (u .sent) l; sent = u .sent + length l; most = u .most }
+
+-- the clients are these, and the most servers down within one of their epochs is noted
+abbrev pub withClients : System → List ClientPlace → System
+withClients u l = record { clients = l; servers = u .servers; transit = u .transit; sent = u .sent; most = max (u .most) (worst l) }
+
+-- so many messages may be sent once `gone` messages are gone: refusal 19, turned round
+unfoldable pub hasRoom : List ℕ → ℕ → ℕ → Bool
+hasRoom w gone count = eqb count 0 || (leb (lengthOf w - gone + count) maxTransit && leb (sentOf w + count) maxNumber)
+
+-- the first messages of the bytes can be sent
+pub record Sendable (w : List ℕ) (count : ℕ) (bytes : List ℕ) : Type 0 where
+  pub valid : valid w ≡ true
+  pub whole : length (messagesIn count bytes) ≡ count
+  pub places : lengthOf w + count ≤ maxTransit
+  pub numbers : sentOf w + count ≤ maxNumber
+  pub named : every (names (settingOf w .n) (settingOf w .clients)) (messagesIn count bytes) ≡ true
