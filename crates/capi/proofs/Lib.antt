@@ -1,6 +1,5 @@
 pub mod CallLaws
-pub mod ServerSent
-pub mod ClientSent
+pub mod Accepted
 pub mod StepLaws
 pub mod NewLaws
 pub mod StaysValid

@@ -31,8 +31,8 @@ use Rattle.capi.specs.declared.ServerCall.{ServerCall}
 use Rattle.capi.specs.declared.ServerCall.the-variants.{Message as ServerMessage, Suspect, Check}
 use Rattle.capi.specs.declared.ClientCall.{ClientCall}
 use Rattle.capi.specs.declared.ClientCall.the-variants.{Message as ClientMessage, Begin, Exit}
-use Rattle.capi.proofs.ClientSent as client-sent
-use Rattle.capi.proofs.ServerSent.{never, accepted, valid-length}
+use Rattle.capi.proofs.Accepted.{server-accepted, client-accepted}
+use Rattle.sends.proofs.ServerSends.{never, valid-length}
 use Rattle.capi.proofs.StepLaws.{room-stepped, server-takes-words, client-takes-words}
 
 -- a whole record is written over a whole record
@@ -57,7 +57,7 @@ module _ (ws : List ℕ) (call : ServerCall) where
   next-server : (s : Server) (q : Step votes.State) → serverOutcome call s ≡ stepped q → ValidServer (serverWith s (q .state))
   unfolding queueOf
   next-server s q e =
-      let v = accepted call s q e .after in
+      let v = server-accepted call s q e .after in
       let l = valid-length (server-calls.serverAfter s (stepped q)) v in
       record {
         held = server-calls.serverAfter s (stepped q);
@@ -106,16 +106,16 @@ pub record ValidClient (ws : List ℕ) : Type 0 where
   pub valid : client.valid held ≡ true
 
 kept : (call : ClientCall) (c : Client) (q : Step client-state.State) → length (c .places) ≡ 31 → clientOutcome call c ≡ stepped q → client.valid (client.store (c .n) (c .m) (c .id) (q .state)) ≡ true
-kept (ClientMessage m) c q l e = message-valid c q (client-sent.accepted (ClientMessage m) c q e .before) l m e
-kept Begin c q l e = begin-valid c q (client-sent.accepted Begin c q e .before) e
-kept Exit c q l e = exit-valid c q (client-sent.accepted Exit c q e .before) e
+kept (ClientMessage m) c q l e = message-valid c q (client-accepted (ClientMessage m) c q e .before) l m e
+kept Begin c q l e = begin-valid c q (client-accepted Begin c q e .before) e
+kept Exit c q l e = exit-valid c q (client-accepted Exit c q e .before) e
 
 module _ (ws : List ℕ) (call : ClientCall) where
   next-client : (c : Client) (q : Step client-state.State) → length (c .places) ≡ 31 → clientOutcome call c ≡ stepped q → ValidClient (clientWith c (q .state))
   unfolding client.store
   next-client c q l e =
       let v = kept call c q l e in
-      let n = client-sent.accepted call c q e .long in
+      let n = client-accepted call c q e .long in
       record {
         held = client.store (c .n) (c .m) (c .id) (q .state);
         read = client-read-back (client.store (c .n) (c .m) (c .id) (q .state)) v (simp (length-append, length-map, length-replicate) (omega arith));

@@ -37,8 +37,8 @@ use Rattle.capi.specs.declared.ServerCall.{ServerCall}
 use Rattle.capi.specs.declared.ServerCall.the-variants.{Message as ServerMessage}
 use Rattle.capi.specs.declared.ClientCall.{ClientCall}
 use Rattle.capi.specs.declared.ClientCall.the-variants.{Message as ClientMessage}
-use Rattle.capi.proofs.ServerSent.{never, accepted, valid-length}
-use Rattle.capi.proofs.ClientSent as client-sent
+use Rattle.sends.proofs.ServerSends.{never, valid-length}
+use Rattle.capi.proofs.Accepted.{server-accepted, client-accepted}
 use Rattle.client.proofs.ValidLaws.{valid-known}
 
 -- a refused call changes nothing
@@ -128,7 +128,7 @@ module _ (ws : List ℕ) (b : Bool) (h : b ≡ holdsServer ws) where
         server-storable =
             fitting (withRoom (length out) (serverOutcome call s)) (x .server .votes .queue .len) (x .answer) (rw e)
             (λ p k.
-            let a = accepted call s p (room-stepped (length out) (serverOutcome call s) p k) in
+            let a = server-accepted call s p (room-stepped (length out) (serverOutcome call s) p k) in
             let z : x .server ≡ server-calls.serverAfter s (stepped p) = rw (e, k) in
             (omega (arith, a .few), omega (arith, a .small), rw z (valid-length (server-calls.serverAfter s (stepped p)) (a .after))))
 
@@ -162,7 +162,7 @@ module _ (ws : List ℕ) (b : Bool) (h : b ≡ holdsClient ws) where
         client-storable =
             fitting (withRoom (length out) (clientOutcome call s)) 0 (x .answer) (rw e)
             (λ p k.
-            let a = client-sent.accepted call s p (room-stepped (length out) (clientOutcome call s) p k) in
+            let a = client-accepted call s p (room-stepped (length out) (clientOutcome call s) p k) in
             let f : s .n ≤ 31 = valid-known s (a .before) .few in
             (omega (arith, a .most .few), omega (arith, a .most .small), omega arith))
 

@@ -1,0 +1,2 @@
+pub mod ServerSends
+pub mod ClientSends
