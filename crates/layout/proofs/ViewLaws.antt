@@ -12,7 +12,7 @@ use Rattle.places.specs.Blocks.{clientPlace, serverPlace}
 use Rattle.layout.specs.Layout.{settingOf, clientWords, serverWords, transitWords, view}
 
 -- the head's words, after a store behind the head
-head-kept : (w : List ℕ) (a : ℕ) (vs : List ℕ) (i : ℕ) → i < a → getD (sets w a vs) i 0 ≡ getD w i 0
+pub head-kept : (w : List ℕ) (a : ℕ) (vs : List ℕ) (i : ℕ) → i < a → getD (sets w a vs) i 0 ≡ getD w i 0
 head-kept w a vs i h = sym (getD-take a (sets w a vs) i 0 h) ∙ (ap (λ (l : List ℕ). getD l i 0) (take-sets-after a w a vs (omega arith)) ∙ getD-take a w i 0 h)
 
 module _ (w : List ℕ) (a : ℕ) (vs : List ℕ) where

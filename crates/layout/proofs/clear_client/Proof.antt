@@ -31,8 +31,8 @@ part-clear-flags-start c = search needs
 part-clear-flags-end : tie.Need-part-clear-flags-end
 part-clear-flags-end c = search needs
 
-fall-requires : tie.Need-clear-flags-requires
-fall-requires c κs = search needs
+clear-flags-requires : tie.Need-clear-flags-requires
+clear-flags-requires c κs = search needs
 
 same-length : tie.Need-same-length
 same-length c = search needs
@@ -55,6 +55,6 @@ clear-client-spec =
     sub-clear-flags
     part-clear-flags-start
     part-clear-flags-end
-    fall-requires
+    clear-flags-requires
     same-length
     returns)

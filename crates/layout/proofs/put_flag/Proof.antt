@@ -31,8 +31,8 @@ part-put-flag-start c = search needs
 part-put-flag-end : tie.Need-part-put-flag-end
 part-put-flag-end c = search needs
 
-fall-requires : tie.Need-put-flag-requires
-fall-requires c κs = search needs
+put-flag-requires : tie.Need-put-flag-requires
+put-flag-requires c κs = search needs
 
 same-length : tie.Need-same-length
 same-length c = search needs
@@ -41,7 +41,7 @@ returns : tie.Need-returns
 returns c =
     let d = c .before .before .before .before .before in
     let a = d .args in
-    client-written (now (a .w)) (a .k) (d .pre) (λ b. set b (67 + a .j .0) (a .x)) _ (λ l. length-set l _ _) (c .before .before .put-flag .ensures)
+    client-written (now (a .w)) (a .k) (d .pre .0) (λ b. set b (67 + a .j .0) (a .x)) _ (λ l. length-set l _ _) (c .before .before .put-flag .ensures)
 
 pub put-flag-spec : {M : Type 1} → statement M
 put-flag-spec =
@@ -55,6 +55,6 @@ put-flag-spec =
     sub-put-flag
     part-put-flag-start
     part-put-flag-end
-    fall-requires
+    put-flag-requires
     same-length
     returns)
