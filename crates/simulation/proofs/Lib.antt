@@ -4,3 +4,7 @@ pub mod Leaving
 pub mod Parties
 pub mod Silent
 pub mod Messages
+pub mod SentLaws
+pub mod Storing
+pub mod Sending
+pub mod Taking

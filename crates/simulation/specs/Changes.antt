@@ -1,18 +1,27 @@
 -- One part of a simulation changed: the words are a simulation of the same setting again, and its system differs in that part alone.
 use mathlib.Core.Path.{_≡_}
 use Prim.Native.Nat.{ℕ, _+_, _-_, _≤_, _<_, max}
-use mathlib.Core.Bool.{Bool, true, _&&_, _||_}
+use mathlib.Core.Bool.{Bool, true, false, _&&_, _||_}
 use mathlib.Core.List.{List, _++_, map}
+use mathlib.Core.Option.{some}
 use lib.Dec.{eqb, leb}
 use lib.ListN.{length}
 use Rattle.ids.specs.Lists.{every}
+use Rattle.ids.specs.declared.ClientId.{ClientId}
 use Rattle.ids.specs.declared.ServerId.{ServerId}
+use Rattle.ids.specs.declared.Timestamp.{Timestamp}
+use Rattle.ids.specs.declared.Request.{Request as Pair}
+use Rattle.ids.specs.declared.Owner.the-variants.{Of}
 use Rattle.wire.specs.declared.Message.{Message}
+use Rattle.wire.specs.declared.Message.the-variants.{Request, Yield, Release, Inquiry}
+use Rattle.votes.specs.declared.Tag.{Tag}
+use Rattle.votes.specs.declared.Tag.the-variants as tag
+use Rattle.system.specs.declared.MessageNumber.{MessageNumber}
 use Rattle.system.specs.Numbered.{put}
-use Rattle.system.specs.Transit.{InTransit, numbered, again}
-use Rattle.system.specs.Places.{System, ClientPlace, ServerPlace, worst, downed}
-use Rattle.layout.specs.Layout.{settingOf, lengthOf, sentOf, view, valid}
-use Rattle.transit.specs.Slots.{names, messagesIn}
+use Rattle.system.specs.Transit.{InTransit, numbered, pending, again}
+use Rattle.system.specs.Places.{System, ClientPlace, ServerPlace, clientAt, serverAt, worst, downed}
+use Rattle.layout.specs.Layout.{settingOf, lengthOf, sentOf, transitWords, view, valid}
+use Rattle.transit.specs.Slots.{slotAt, names, messagesIn}
 use Rattle.simulation.specs.Happens.{maxTransit, maxNumber}
 
 -- w′ is a simulation of w's setting, and its system is u
@@ -35,6 +44,31 @@ pub record HasServer (w : List ℕ) (j : ℕ) : Type 0 where
 pub record HasSlot (w : List ℕ) (i : ℕ) : Type 0 where
   pub valid : valid w ≡ true
   pub used : i < lengthOf w
+
+-- server j is up, and its owner has fallen
+pub record Missing (w : List ℕ) (j : ℕ) : Type 0 where
+  pub there : HasServer w j
+  pub up : serverAt (view w) j .up ≡ true
+  pub owner : Pair
+  pub owns : serverAt (view w) j .state .owner ≡ Of owner
+  pub fallen : clientAt (view w) (owner .client .0) .living ≡ false
+
+-- the number of the message in slot i
+abbrev pub numberAt : List ℕ → ℕ → MessageNumber
+numberAt w i = record { 0 = slotAt (transitWords w) i .number }
+
+-- m is the message in slot i, and it is pending
+pub record Pends (w : List ℕ) (i : ℕ) (m : Message) : Type 0 where
+  pub slot : HasSlot w i
+  pub holds : slotAt (transitWords w) i .message ≡ m
+  pub waits : pending (slotAt (transitWords w) i .number) (view w .transit) ≡ some m
+
+-- the message of client k to server j with this tag
+abbrev pub tagged : Tag → ClientId → ServerId → Timestamp → Message
+tagged tag.Request k j t = Request k j t
+tagged tag.Yield k j t = Yield k j t
+tagged tag.Release k j t = Release k j t
+tagged tag.Inquiry k j t = Inquiry k j t
 
 -- the system with one part changed
 abbrev pub withClient : System → ℕ → ClientPlace → System
@@ -63,6 +97,5 @@ hasRoom w gone count = eqb count 0 || (leb (lengthOf w - gone + count) maxTransi
 pub record Sendable (w : List ℕ) (count : ℕ) (bytes : List ℕ) : Type 0 where
   pub valid : valid w ≡ true
   pub whole : length (messagesIn count bytes) ≡ count
-  pub places : lengthOf w + count ≤ maxTransit
-  pub numbers : sentOf w + count ≤ maxNumber
+  pub room : hasRoom w 0 count ≡ true
   pub named : every (names (settingOf w .n) (settingOf w .clients)) (messagesIn count bytes) ≡ true

@@ -5,6 +5,7 @@ ghost use mathlib.Core.Bool.{true};
 ghost use mathlib.Core.List.{[], map};
 ghost use Prim.Native.Nat.{_≤_, _+_};
 ghost use Rattle.wire.specs.Format as format;
+ghost use Rattle.wire.specs.declared.Message.the-variants.{Response as RESPONSE, Check as CHECK};
 ghost use Rattle.system.specs.Numbered.{put};
 ghost use Rattle.system.specs.Transit.{replaced, keeping, gone, again};
 ghost use Rattle.system.specs.Places.{clientAt, serverAt, inEpoch, downFrom, downed};
@@ -12,7 +13,7 @@ ghost use Rattle.transit.specs.Slots.{messagesIn, slotAt, names};
 ghost use Rattle.system.specs.declared.Event.the-variants.{Try, Exit, Fall, Down, Up, Take, Drop, Miss, Check};
 ghost use Rattle.layout.specs.Layout.{settingOf, lengthOf, transitWords, view, valid};
 ghost use Rattle.simulation.specs.Happens.{happens, Leaves, movedOf, replyOf};
-ghost use Rattle.simulation.specs.Changes.{Becomes, HasClient, HasServer, HasSlot, withClient, withServer, withTransit, withClients, sending, hasRoom, Sendable};
+ghost use Rattle.simulation.specs.Changes.{Becomes, HasClient, HasServer, HasSlot, withClient, withServer, withTransit, withClients, sending, hasRoom, Sendable, Missing, Pends, numberAt, tagged};
 use client::Client;
 use ids::ClientId;
 use ids::Owner;
@@ -280,7 +281,10 @@ fn mark_message(w: &mut [u32], i: usize)
 }
 
 // Server `j` takes the message in slot `i`.
-fn to_server(w: &mut [u32], i: usize, tag: Tag, k: ClientId, j: ServerId, t: Timestamp) -> Moved {
+fn to_server(w: &mut [u32], i: usize, tag: Tag, k: ClientId, j: ServerId, t: Timestamp) -> Moved
+    requires { ⌜ Pends (now w) i (tagged tag k j t) ⌝ }
+    ensures { λ r. ⌜ Leaves (now (w .entry)) (Take (numberAt (now (w .entry)) i)) (now (w .exit)) × (r ≡ movedOf (happens (now (w .entry)) (Take (numberAt (now (w .entry)) i)))) ⌝ }
+{
     if !layout::is_up(w, j.0) {
         return Moved::Refused(Refusal::PartyDown);
     }
@@ -302,7 +306,10 @@ fn to_server(w: &mut [u32], i: usize, tag: Tag, k: ClientId, j: ServerId, t: Tim
 }
 
 // Client `k` takes the RESPONSE in slot `i`.
-fn to_client(w: &mut [u32], i: usize, k: ClientId, j: ServerId, o: Owner) -> Moved {
+fn to_client(w: &mut [u32], i: usize, k: ClientId, j: ServerId, o: Owner) -> Moved
+    requires { ⌜ Pends (now w) i (RESPONSE k j o) ⌝ }
+    ensures { λ r. ⌜ Leaves (now (w .entry)) (Take (numberAt (now (w .entry)) i)) (now (w .exit)) × (r ≡ movedOf (happens (now (w .entry)) (Take (numberAt (now (w .entry)) i)))) ⌝ }
+{
     if !layout::is_living(w, k.0) {
         return Moved::Refused(Refusal::PartyDown);
     }
@@ -324,7 +331,10 @@ fn to_client(w: &mut [u32], i: usize, k: ClientId, j: ServerId, o: Owner) -> Mov
 }
 
 // Client `k` takes the CHECK in slot `i`: its record stays.
-fn checks_client(w: &mut [u32], i: usize, k: ClientId, j: ServerId, t: Timestamp) -> Moved {
+fn checks_client(w: &mut [u32], i: usize, k: ClientId, j: ServerId, t: Timestamp) -> Moved
+    requires { ⌜ Pends (now w) i (CHECK k j t) ⌝ }
+    ensures { λ r. ⌜ Leaves (now (w .entry)) (Take (numberAt (now (w .entry)) i)) (now (w .exit)) × (r ≡ movedOf (happens (now (w .entry)) (Take (numberAt (now (w .entry)) i)))) ⌝ }
+{
     if !layout::is_living(w, k.0) {
         return Moved::Refused(Refusal::PartyDown);
     }
@@ -367,7 +377,10 @@ fn take(w: &mut [u32], number: MessageNumber) -> Moved
 }
 
 // The owner of server `j`, which is up, has fallen: document 01's missing owner.
-fn suspect(w: &mut [u32], j: ServerId) -> Moved {
+fn suspect(w: &mut [u32], j: ServerId) -> Moved
+    requires { ⌜ Missing (now w) (j .0) ⌝ }
+    ensures { λ r. ⌜ Leaves (now (w .entry)) (Miss j) (now (w .exit)) × (r ≡ movedOf (happens (now (w .entry)) (Miss j))) ⌝ }
+{
     let mut bytes = [0u8; 512];
     let s = server::suspect(layout::server_record(w, j.0), &mut bytes);
     let answer = s.answer;
@@ -384,6 +397,15 @@ fn suspect(w: &mut [u32], j: ServerId) -> Moved {
     }
 }
 
+fn owner_of(w: &[u32], j: ServerId) -> Owner
+    requires { ⌜ HasServer (now w) (j .0) ⌝ }
+    ensures { λ r. ⌜ r ≡ serverAt (view (now (w .entry))) (j .0) .state .owner ⌝ }
+{
+    let s = layout::server_record(w, j.0);
+    let v = s.votes;
+    v.owner
+}
+
 fn miss(w: &mut [u32], j: ServerId) -> Moved
     requires { ⌜ valid (now w) ≡ true ⌝ }
     ensures { λ r. ⌜ Leaves (now (w .entry)) (Miss j) (now (w .exit)) × (r ≡ movedOf (happens (now (w .entry)) (Miss j))) ⌝ }
@@ -394,9 +416,7 @@ fn miss(w: &mut [u32], j: ServerId) -> Moved
     if !layout::is_up(w, j.0) {
         return Moved::Refused(Refusal::PartyDown);
     }
-    let s = layout::server_record(w, j.0);
-    let v = s.votes;
-    let owner = v.owner;
+    let owner = owner_of(w, j);
     match owner {
         Owner::Nobody => Moved::Refused(Refusal::NoOwner),
         Owner::Of(o) => {
@@ -410,7 +430,10 @@ fn miss(w: &mut [u32], j: ServerId) -> Moved
 }
 
 // Server `j`, which is up, asks its owner.
-fn ask(w: &mut [u32], j: ServerId) -> Moved {
+fn ask(w: &mut [u32], j: ServerId) -> Moved
+    requires { ⌜ HasServer (now w) (j .0) × (serverAt (view (now w)) (j .0) .up ≡ true) ⌝ }
+    ensures { λ r. ⌜ Leaves (now (w .entry)) (Check j) (now (w .exit)) × (r ≡ movedOf (happens (now (w .entry)) (Check j))) ⌝ }
+{
     let mut bytes = [0u8; 512];
     let s = server::check(layout::server_record(w, j.0), &mut bytes);
     let answer = s.answer;
