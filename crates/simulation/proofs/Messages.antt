@@ -5,7 +5,7 @@ use native.Mathlib.Omega.{arith}
 use mathlib.Core.Bool.{true}
 use mathlib.Core.List.{List, map}
 use lib.ListN.{length, set, take, drop}
-use lib.Seq.{sets}
+use lib.Seq.{sets, length-sets}
 use borrow.Rule.Slice.PartMut.{putMid}
 use Rattle.ids.specs.declared.ServerId.{ServerId}
 use Rattle.system.specs.Transit.{InTransit, replaced, keeping, gone, again}
@@ -30,7 +30,7 @@ module _ (w : List ℕ) (ok : valid w ≡ true) where
   pub lent-sized : Sized (lengthOf w) (take 3584 (drop 2769 w))
   lent-sized = rw (lent-is w) (valid-sized (settingOf w .n) (settingOf w .clients) (sentOf w) (lengthOf w) (transitWords w) old)
 
-  its-transit : slots (lengthOf w) (transitWords w) ≡ view w .transit
+  pub its-transit : slots (lengthOf w) (transitWords w) ≡ view w .transit
   unfolding view
   its-transit = refl
 
@@ -61,3 +61,7 @@ module _ (w : List ℕ) (ok : valid w ≡ true) where
       let ok′ = R .valid (settingOf w .n) (settingOf w .clients) (sentOf w) old in
       let e = R .after (settingOf w .n) (settingOf w .clients) (sentOf w) old in
       rw (stored t (lengthOf w - 1) ok′, ← its-transit, ← e) (length-becomes w ok t (lengthOf w - 1) ok′)
+
+  pub removed-long : (i : ℕ) (t : List ℕ) → Removes (lengthOf w) i (take 3584 (drop 2769 w)) t → length (putMid 2769 3584 w t) ≡ 6353
+  unfolding transitWords
+  removed-long i t R = ap length (stored t (lengthOf w - 1) (R .valid (settingOf w .n) (settingOf w .clients) (sentOf w) old)) ∙ (length-sets w 2769 t ∙ facts w ok .long)

@@ -4,7 +4,7 @@ use Prim.Native.Nat.{ℕ, _≤_}
 use native.Mathlib.Omega.{arith}
 use mathlib.Core.Bool.{Bool, true, false, not}
 use mathlib.Core.List.{List}
-use lib.ListN.{getD}
+use lib.ListN.{length, getD}
 use Rattle.ids.specs.Limits.{within}
 use Rattle.ids.proofs.Choice.{holds, fails}
 use Rattle.ids.proofs.LimitsLaws.{within-range}
@@ -16,6 +16,9 @@ use Rattle.layout.specs.Parts.{clientBlockOf, serverBlockOf, ClientIn, ServerIn
 use Rattle.layout.proofs.PlaceLaws.{client-place, server-place, client-there, server-there}
 use Rattle.simulation.specs.Changes.{HasClient, HasServer}
 use Rattle.simulation.proofs.Becoming.{sound, few-servers, few-clients}
+
+pub words-long : (w : List ℕ) → valid w ≡ true → length w ≡ 6353
+words-long w ok = sound w ok .long
 
 -- client k
 module _ (w : List ℕ) (ok : valid w ≡ true) (k : ℕ) (r : Bool) (e : r ≡ within k (getD w 3 0)) where

@@ -1,10 +1,17 @@
 -- The events that send nothing: what their stores leave is the system's event.
 use mathlib.Core.Path.{_≡_, refl, sym, ap, _∙_}
-use Prim.Native.Nat.{ℕ, zero-le, _+_, _*_, _-_}
-use mathlib.Core.Bool.{true, false}
+use mathlib.Core.Logic.{⊎-elim}
+use Prim.Native.Nat.{ℕ, zero-le, _+_, _*_, _-_, _≤_, _<_, max}
+use native.Mathlib.Omega.{arith}
+use mathlib.Core.Bool.{Bool, true, false, not}
 use mathlib.Core.List.{List, [], map}
-use lib.ListN.{set}
+use lib.Dec.{ltb}
+use lib.ListN.{getD, set, take, drop}
+use borrow.Author.Tests.{ltb-true, ltb-false}
 use lib.Seq.{sets}
+use Rattle.ids.specs.Limits.{within}
+use Rattle.ids.proofs.Choice.{holds, fails, decided}
+use Rattle.ids.specs.declared.Refusal.the-variants.{NoSuchParty, PartyDown}
 use Rattle.ids.specs.declared.ClientId.{ClientId}
 use Rattle.ids.specs.declared.ServerId.{ServerId}
 use Rattle.words.specs.Records.{serverFrom, serverWords}
@@ -14,21 +21,30 @@ use Rattle.system.specs.declared.Event.the-variants.{Fall, Down, Up, Drop}
 use Rattle.system.specs.declared.MessageNumber.{MessageNumber}
 use Rattle.system.specs.Numbered.{has}
 use Rattle.system.specs.Transit.{present, replaced, gone, again}
-use Rattle.system.specs.Places.{ClientPlace, ServerPlace, clientAt, serverAt, downed}
+use Rattle.system.specs.Places.{clientAt, serverAt, downed, worst}
 use Rattle.system.specs.Events.{fallen, cameUp, dropped, wentDown}
-use Rattle.places.specs.Blocks.{cleared, serverRecord, emptied}
+use Rattle.regions.specs.Blocks.{blocks}
+use Rattle.places.specs.Blocks.{clientPlace, serverPlace, cleared, serverRecord, emptied}
 use Rattle.places.proofs.ClientLaws.{ClientIs}
 use Rattle.places.proofs.ServerLaws.{ServerIs, rise-block, sink-block}
 use Rattle.places.proofs.EpochLaws.{fall-block, cleared-block}
-use Rattle.layout.specs.Layout.{settingOf, view, valid}
+use Rattle.transit.specs.Slots.{slots, slotAt}
+use Rattle.transit.specs.Calls.{Valid, FindsPresent}
+use Rattle.layout.specs.Layout.{settingOf, lengthOf, sentOf, mostOf, clientWords, transitWords, view, valid}
+use Rattle.layout.proofs.ValidLaws.{facts}
 use Rattle.layout.specs.Parts.{clientBlockOf, serverBlockOf}
 use Rattle.layout.proofs.PlaceLaws.{client-place, server-place}
-use Rattle.simulation.specs.declared.Moved.the-variants.{Sent}
+use Rattle.simulation.specs.declared.Moved.the-variants.{Sent, Refused}
 use Rattle.simulation.specs.Happens.{happens, Leaves, movedOf}
 use Rattle.simulation.specs.Changes.{Becomes, HasClient, HasServer, withClient, withServer, withTransit, withClients}
-use Rattle.simulation.proofs.Answers.{falls, ups, drops, downs}
+use Rattle.simulation.proofs.Answers.{no-client-falls, fallen-falls, falls, no-server-ups, ups-twice, ups, drops, drops-nothing, no-server-downs, downs-twice, downs}
 use Rattle.simulation.proofs.Becoming.{sound, client-valid, server-valid, client-becomes, server-becomes}
-use Rattle.simulation.proofs.Leaving.{leaves-silent, leaves-quiet}
+use Rattle.simulation.proofs.Messages.{its-transit}
+use Rattle.simulation.proofs.Leaving.{leaves-refused, leaves-silent, leaves-quiet}
+use Rattle.simulation.proofs.Parties.{client-missing, client-there-is, client-found, server-missing, server-there-is, server-found, living-is, up-is}
+
+below : (r n : ℕ) → r ≤ n → (r ≡ n → ⊥) → r < n
+below r n h ne = ⊎-elim (λ (t : ltb r n ≡ true). ltb-true r n t) (λ (t : ltb r n ≡ false). absurd (ne (omega (arith, ltb-false r n t)))) (decided (ltb r n))
 
 module _ (w : List ℕ) (k : ℕ) (H : HasClient w k) where
   abbrev block : List ℕ
@@ -41,17 +57,35 @@ module _ (w : List ℕ) (k : ℕ) (H : HasClient w k) where
       rw (client-place w k (H .first) (H .last)) (fall-block (settingOf w .n) (settingOf w .m) (settingOf w .clients) k block (client-valid w (sound w (H .valid)) k (H .first) (H .last))) in
       client-becomes w (H .valid) k (cleared (set block 0 0)) _ (H .first) (H .last) B zero-le
 
-  pub ending : Becomes w (sets w (7 + 99 * (k - 1)) (cleared block)) (withClient (view w) k (record { living = clientAt (view w) k .living; state = clientAt (view w) k .state; downs = [] }))
+  ending : Becomes w (sets w (7 + 99 * (k - 1)) (cleared block)) (withClient (view w) k (record { living = clientAt (view w) k .living; state = clientAt (view w) k .state; downs = [] }))
   ending =
       let B : ClientIs (settingOf w .n) (settingOf w .m) (settingOf w .clients) k (cleared block) (record { living = clientAt (view w) k .living; state = clientAt (view w) k .state; downs = [] }) =
       rw (client-place w k (H .first) (H .last)) (cleared-block (settingOf w .n) (settingOf w .m) (settingOf w .clients) k block (client-valid w (sound w (H .valid)) k (H .first) (H .last))) in
       client-becomes w (H .valid) k (cleared block) _ (H .first) (H .last) B zero-le
 
-pub fall-leaves : (w : List ℕ) (k : ClientId) → HasClient w (k .0) → has (view w .clients) (k .0) ≡ true → clientAt (view w) (k .0) .living ≡ true
-    → (w′ : List ℕ) → w′ ≡ sets w (7 + 99 * (k .0 - 1)) (cleared (set (clientBlockOf w (k .0)) 0 0))
-    → Leaves w (Fall k) w′ × (Sent 0 ≡ movedOf (happens w (Fall k)))
-fall-leaves w k H there lives w′ e =
-    rw e (leaves-quiet w (Fall k) (fallen (view w) k) refl (falls (settingOf w .n) (enough (settingOf w .m)) (view w) k there lives) refl _ (falling w (k .0) H))
+pub epoch-ends : (w : List ℕ) (k : ℕ) → HasClient w k → (w′ : List ℕ) → w′ ≡ sets w (7 + 99 * (k - 1)) (cleared (clientBlockOf w k))
+    → Becomes w w′ (withClient (view w) k (record { living = clientAt (view w) k .living; state = clientAt (view w) k .state; downs = [] }))
+epoch-ends w k H w′ e = rw e (ending w k H)
+
+-- fall, test by test
+module _ (w : List ℕ) (k : ClientId) (ok : valid w ≡ true) (a : Bool) (e : a ≡ within (k .0) (getD w 3 0)) where
+  pub fall-missing : not a ≡ true → Leaves w (Fall k) w × (Refused NoSuchParty ≡ movedOf (happens w (Fall k)))
+  fall-missing t = leaves-refused w (Fall k) NoSuchParty ok (no-client-falls (settingOf w .n) (enough (settingOf w .m)) (view w) k (client-missing w ok (k .0) a e t))
+
+  module _ (t : not a ≡ false) (b : Bool) (f : b ≡ clientPlace (clientBlockOf w (k .0)) .living) where
+    abbrev present-client : has (view w .clients) (k .0) ≡ true
+    present-client = client-there-is w ok (k .0) a e t
+
+    abbrev its-client : HasClient w (k .0)
+    its-client = client-found w ok (k .0) a e t
+
+    pub fall-twice : not b ≡ true → Leaves w (Fall k) w × (Refused PartyDown ≡ movedOf (happens w (Fall k)))
+    fall-twice u = leaves-refused w (Fall k) PartyDown ok (fallen-falls (settingOf w .n) (enough (settingOf w .m)) (view w) k present-client (fails b _ (sym (living-is w (k .0) its-client b f)) u))
+
+    pub fall-leaves : not b ≡ false → (w′ : List ℕ) → w′ ≡ sets w (7 + 99 * (k .0 - 1)) (cleared (set (clientBlockOf w (k .0)) 0 0)) → Leaves w (Fall k) w′ × (Sent 0 ≡ movedOf (happens w (Fall k)))
+    fall-leaves u w′ g =
+        rw g (leaves-quiet w (Fall k) (fallen (view w) k) refl
+        (falls (settingOf w .n) (enough (settingOf w .m)) (view w) k present-client (holds b _ (sym (living-is w (k .0) its-client b f)) u)) refl _ (falling w (k .0) its-client))
 
 module _ (w : List ℕ) (j : ℕ) (H : HasServer w j) where
   abbrev place : List ℕ
@@ -67,14 +101,62 @@ module _ (w : List ℕ) (j : ℕ) (H : HasServer w j) where
   sinking =
       server-becomes w (H .valid) j _ _ (H .first) (H .last) (sink-block (settingOf w .n) (settingOf w .clients) j place (server-valid w (sound w (H .valid)) j (H .first) (H .last)))
 
-pub up-leaves : (w : List ℕ) (j : ServerId) → HasServer w (j .0) → has (view w .servers) (j .0) ≡ true → serverAt (view w) (j .0) .up ≡ false
-    → (w′ : List ℕ) → w′ ≡ sets w (1591 + 38 * (j .0 - 1)) (set (serverBlockOf w (j .0)) 0 1)
-    → Leaves w (Up j) w′ × (Sent 0 ≡ movedOf (happens w (Up j)))
-up-leaves w j H there down w′ e =
-    rw e (leaves-quiet w (Up j) (cameUp (view w) j) refl (ups (settingOf w .n) (enough (settingOf w .m)) (view w) j there down) refl _ (rising w (j .0) H))
+-- up, test by test
+module _ (w : List ℕ) (j : ServerId) (ok : valid w ≡ true) (a : Bool) (e : a ≡ within (j .0) (getD w 0 0)) where
+  pub up-missing : not a ≡ true → Leaves w (Up j) w × (Refused NoSuchParty ≡ movedOf (happens w (Up j)))
+  up-missing t = leaves-refused w (Up j) NoSuchParty ok (no-server-ups (settingOf w .n) (enough (settingOf w .m)) (view w) j (server-missing w ok (j .0) a e t))
 
-pub drop-leaves : (w : List ℕ) (i : MessageNumber) (number : ℕ) → number ≡ i .0 → present (i .0) (view w .transit) ≡ true
-    → (w′ : List ℕ) → Becomes w w′ (withTransit (view w) (replaced number gone (view w .transit)))
-    → Leaves w (Drop i) w′ × (Sent 0 ≡ movedOf (happens w (Drop i)))
-drop-leaves w i number same there w′ B =
-    leaves-quiet w (Drop i) (dropped (view w) (i .0)) refl (drops (settingOf w .n) (enough (settingOf w .m)) (view w) i there) refl w′ (rw same at B)
+  module _ (t : not a ≡ false) (b : Bool) (f : b ≡ serverPlace (serverBlockOf w (j .0)) .up) where
+    abbrev present-server : has (view w .servers) (j .0) ≡ true
+    present-server = server-there-is w ok (j .0) a e t
+
+    abbrev its-server : HasServer w (j .0)
+    its-server = server-found w ok (j .0) a e t
+
+    pub up-twice : b ≡ true → Leaves w (Up j) w × (Refused PartyDown ≡ movedOf (happens w (Up j)))
+    up-twice u = leaves-refused w (Up j) PartyDown ok (ups-twice (settingOf w .n) (enough (settingOf w .m)) (view w) j present-server (up-is w (j .0) its-server b f ∙ u))
+
+    pub up-leaves : b ≡ false → (w′ : List ℕ) → w′ ≡ sets w (1591 + 38 * (j .0 - 1)) (set (serverBlockOf w (j .0)) 0 1) → Leaves w (Up j) w′ × (Sent 0 ≡ movedOf (happens w (Up j)))
+    up-leaves u w′ g =
+        rw g (leaves-quiet w (Up j) (cameUp (view w) j) refl
+        (ups (settingOf w .n) (enough (settingOf w .m)) (view w) j present-server (up-is w (j .0) its-server b f ∙ u)) refl _ (rising w (j .0) its-server))
+
+-- drop: r is what `find_present` gave
+module _ (w : List ℕ) (i : MessageNumber) (ok : valid w ≡ true) (r : ℕ) (F : FindsPresent (i .0) (lengthOf w) (take 3584 (drop 2769 w)) r) where
+  there-is : (b : Bool) → present (i .0) (slots (lengthOf w) (take 3584 (drop 2769 w))) ≡ b → present (i .0) (view w .transit) ≡ b
+  unfolding transitWords
+  there-is b e = rw (← its-transit w ok) e
+
+  in-words : Valid (settingOf w .n) (settingOf w .clients) (sentOf w) (lengthOf w) (take 3584 (drop 2769 w))
+  unfolding transitWords
+  in-words = facts w ok .transit
+
+  pub drop-missing : r ≡ lengthOf w → Leaves w (Drop i) w × (Refused NoSuchParty ≡ movedOf (happens w (Drop i)))
+  drop-missing e =
+      leaves-refused w (Drop i) NoSuchParty ok
+      (drops-nothing (settingOf w .n) (enough (settingOf w .m)) (view w) i (there-is false (F .missing (settingOf w .n) (settingOf w .clients) (sentOf w) in-words e)))
+
+  module _ (ne : r ≡ lengthOf w → ⊥) where
+    used : r < lengthOf w
+    used = below r (lengthOf w) (F .within) ne
+
+    numbered-is : slotAt (transitWords w) r .number ≡ i .0
+    unfolding transitWords
+    numbered-is = F .numbered used
+
+    pub drop-leaves : (w′ : List ℕ) → Becomes w w′ (withTransit (view w) (replaced (slotAt (transitWords w) r .number) gone (view w .transit)))
+        → Leaves w (Drop i) w′ × (Sent 0 ≡ movedOf (happens w (Drop i)))
+    drop-leaves w′ B =
+        leaves-quiet w (Drop i) (dropped (view w) (i .0)) refl
+        (drops (settingOf w .n) (enough (settingOf w .m)) (view w) i (there-is true (F .found (settingOf w .n) (settingOf w .clients) (sentOf w) in-words used)))
+        refl w′ (rw numbered-is at B)
+
+-- what `note_most` stores
+pub few-word : (w : List ℕ) → settingOf w .clients ≤ 16 → getD w 3 0 ≤ 16
+unfolding settingOf
+few-word w h = h
+
+pub noted-words : (w : List ℕ) (x r : ℕ) → x ≡ worst (blocks 99 clientPlace (getD w 3 0) (clientWords w)) → r ≡ max (getD w 6 0) x
+    → set w 6 r ≡ set w 6 (max (mostOf w) (worst (view w .clients)))
+unfolding view settingOf
+noted-words w x r e g = rw (g, e)

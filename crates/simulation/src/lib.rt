@@ -3,16 +3,20 @@
 ghost use mathlib.Core.Path.{_≡_};
 ghost use mathlib.Core.Bool.{true};
 ghost use mathlib.Core.List.{[], map};
-ghost use Prim.Native.Nat.{_≤_, _+_};
+ghost use Prim.Native.Nat.{_≤_, _+_, max};
+ghost use lib.ListN.{length, set};
+ghost use Rattle.ids.specs.Choice.{if_then_else_};
 ghost use Rattle.wire.specs.Format as format;
 ghost use Rattle.wire.specs.declared.Message.the-variants.{Response as RESPONSE, Check as CHECK};
 ghost use Rattle.system.specs.Numbered.{put};
 ghost use Rattle.system.specs.Transit.{replaced, keeping, gone, again};
-ghost use Rattle.system.specs.Places.{clientAt, serverAt, inEpoch, downFrom, downed};
+ghost use Rattle.system.specs.Places.{clientAt, serverAt, inEpoch, downFrom, downed, worst};
 ghost use Rattle.transit.specs.Slots.{messagesIn, slotAt, names};
 ghost use Rattle.system.specs.declared.Event.the-variants.{Try, Exit, Fall, Down, Up, Take, Drop, Miss, Check};
-ghost use Rattle.layout.specs.Layout.{settingOf, lengthOf, transitWords, view, valid};
-ghost use Rattle.simulation.specs.Happens.{happens, Leaves, movedOf, replyOf};
+ghost use Rattle.places.specs.Blocks.{serverPlace};
+ghost use Rattle.layout.specs.Layout.{settingOf, lengthOf, mostOf, transitWords, view, valid};
+ghost use Rattle.layout.specs.Parts.{serverBlockOf, ServerIn};
+ghost use Rattle.simulation.specs.Happens.{happens, Leaves, movedOf, replyOf, EventLeaves, eventReply};
 ghost use Rattle.simulation.specs.Changes.{Becomes, HasClient, HasServer, HasSlot, withClient, withServer, withTransit, withClients, sending, hasRoom, Sendable, Missing, Pends, numberAt, tagged};
 use client::Client;
 use ids::ClientId;
@@ -95,7 +99,10 @@ fn drop(w: &mut [u32], number: MessageNumber) -> Moved
 }
 
 // The most servers down within an epoch are noted.
-fn note_most(w: &mut [u32]) {
+fn note_most(w: &mut [u32])
+    requires { ⌜ (length (now w) ≡ 6353) × (settingOf (now w) .clients ≤ 16) ⌝ }
+    ensures { λ _. ⌜ now (w .exit) ≡ set (now (w .entry)) 6 (max (mostOf (now (w .entry))) (worst (view (now (w .entry)) .clients))) ⌝ }
+{
     let clients = w[3];
     let worst = layout::worst_down(w, clients as u16);
     let most = layout::larger(w[6], worst);
@@ -143,7 +150,10 @@ fn down(w: &mut [u32], j: ServerId) -> Moved
 }
 
 // 1 if the server is down.
-fn down_flag(w: &[u32], j: u16) -> u32 {
+fn down_flag(w: &[u32], j: u16) -> u32
+    requires { ⌜ ServerIn (now w) j ⌝ }
+    ensures { λ r. ⌜ r ≡ (if serverPlace (serverBlockOf (now (w .entry)) j) .up then 0 else 1) ⌝ }
+{
     if layout::is_up(w, j) {
         return 0;
     }
@@ -493,4 +503,14 @@ pub fn happen(w: &mut [u32], e: Event) -> Reply
             Reply::Accepted(count, layout::count_inside(w, clients as u16))
         }
     }
+}
+
+// An event of any words: words that are no simulation are refused, and stay.
+pub fn event(w: &mut [u32], e: Event) -> Reply
+    ensures { λ r. ⌜ EventLeaves (now (w .entry)) e (now (w .exit)) × (r ≡ eventReply (now (w .entry)) e) ⌝ }
+{
+    if !layout::valid(w) {
+        return Reply::Refused(Refusal::InvalidRecord);
+    }
+    happen(w, e)
 }

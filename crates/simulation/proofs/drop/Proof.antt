@@ -1,0 +1,76 @@
+-- `simulation::drop` meets its contract: each return is one case of the event.
+use denote.Ref.{now}
+use native.Mathlib.Omega.{arith}
+use Rattle.simulation.proofs.Parties.{words-long}
+use Rattle.simulation.proofs.Messages.{lent-sized}
+use Rattle.simulation.proofs.Silent.{drop-missing, drop-leaves}
+use borrow.Author.Needs.{needs}
+use Rattle.simulation.proofs.drop.Statement.{statement}
+use Rattle.simulation.proofs.drop.Tie as tie
+
+slice-read-len : tie.Need-slice-read-len
+slice-read-len c =
+    let d = c .before .before in
+    let a = d .args in
+    omega (arith, words-long (now (a .w)) (d .pre))
+
+cast-len : tie.Need-cast-len
+cast-len c =
+    let d = c .before .before in
+    let a = d .args in
+    record { fits = omega (arith, lent-sized (now (a .w)) (d .pre) .few) }
+
+sub-find-present : tie.Need-sub-find-present
+sub-find-present c = search needs
+
+part-find-present-start : tie.Need-part-find-present-start
+part-find-present-start c = search needs
+
+part-find-present-end : tie.Need-part-find-present-end
+part-find-present-end c =
+    let d = c .before .before .before in
+    let a = d .args in
+    omega (arith, words-long (now (a .w)) (d .pre))
+
+find-present-requires : tie.Need-find-present-requires
+find-present-requires c κs =
+    let d = c .before .before .before .before in
+    let a = d .args in
+    lent-sized (now (a .w)) (d .pre)
+
+same-length : tie.Need-same-length
+same-length c = search needs
+
+returns : tie.Need-returns
+returns c =
+    let d = c .before .before .before .before .before .before in
+    let a = d .args in
+    drop-missing (now (a .w)) (a .number) (d .pre) _ (c .before .find-present .ensures) (c .if1 .taken)
+
+remove-message-requires : tie.Need-remove-message-requires
+remove-message-requires c κs = search needs
+
+same-length-2 : tie.Need-same-length-2
+same-length-2 c = search needs
+
+returns-2 : tie.Need-returns-2
+returns-2 c =
+    let d = c .before .before .before .before .before .before .before .before .before .before in
+    let a = d .args in
+    drop-leaves (now (a .w)) (a .number) (d .pre) _ (c .before .before .before .before .before .find-present .ensures) (c .before .before .before .before .if1 .left) _ (c .before .before .remove-message .ensures)
+
+pub drop-spec : {M : Type 1} → statement M
+drop-spec =
+    tie.close
+    (tie.spec
+    slice-read-len
+    cast-len
+    sub-find-present
+    part-find-present-start
+    part-find-present-end
+    find-present-requires
+    same-length
+    returns
+    remove-message-requires
+    same-length-2
+    returns-2)
