@@ -8,3 +8,4 @@ pub mod SentLaws
 pub mod Storing
 pub mod Sending
 pub mod Taking
+pub mod ServerEvents

@@ -6,8 +6,8 @@ use mathlib.Core.Bool.{Bool, true, false, _&&_, _||_, not}
 use mathlib.Core.List.{List, [], _∷_, _++_}
 use mathlib.Core.Logic.{⊎-elim}
 use lib.Dec.{eqb, leb}
-use lib.ListN.{length, set, take, drop, length-append}
-use lib.Seq.{sets}
+use lib.ListN.{length, set, take, drop, length-append, length-set}
+use lib.Seq.{sets, length-sets}
 use borrow.Author.Tests.{eqb-true, ne-eqb, leb-true, leb-false, le-leb, lt-leb, le-ltb, not-true, not-false}
 use borrow.Rule.Slice.PartMut.{putMid}
 use Rattle.ids.specs.Choice.{if_then_else_}
@@ -37,6 +37,7 @@ use Rattle.simulation.specs.declared.Moved.the-variants.{Sent, Refused}
 use Rattle.simulation.specs.Happens.{maxTransit, maxNumber, happens, Leaves, movedOf}
 use Rattle.simulation.specs.Changes.{Becomes, Sendable, hasRoom, sending}
 use Rattle.simulation.proofs.Becoming.{sent-becomes}
+use Rattle.simulation.proofs.Messages.{lent-sized}
 use Rattle.simulation.proofs.SentLaws.{Sends}
 
 -- the room test
@@ -80,17 +81,31 @@ module _ (w : List ℕ) (count : ℕ) (bytes : List ℕ) (S : Sendable w count b
       (omega (arith, leb-true (lengthOf w - 0 + count) 512 a), leb-true (sentOf w + count) 4294967295 b))
       (decided (eqb count 0))
 
-  pub send-becomes : (t : List ℕ) → Posts (lengthOf w) (sentOf w) (messagesIn count bytes) (take 3584 (drop 2769 w)) t
-      → Becomes w (set (set (putMid 2769 3584 w t) 4 (lengthOf w + count)) 5 (sentOf w + count)) (sending (view w) (messagesIn count bytes))
-  unfolding transitWords view
-  send-becomes t P =
-      let ok : Valid (settingOf w .n) (settingOf w .clients) (sentOf w + length l) (lengthOf w + length l) t = P .valid (settingOf w .n) (settingOf w .clients) (facts w (S .valid) .transit) (S .named) in
-      let long : length t ≡ 3584 = valid-sized (settingOf w .n) (settingOf w .clients) (sentOf w + length l) (lengthOf w + length l) t ok .size in
-      let back : putMid 2769 3584 w t ≡ sets w 2769 t = came-back w 2769 3584 t long (omega (arith, facts w (S .valid) .long)) in
-      let B = sent-becomes w (S .valid) t (lengthOf w + length l) (sentOf w + length l) ok in
-      let z : lengthOf w + count ≡ lengthOf w + length l = omega (arith, S .whole) in
-      let y : sentOf w + count ≡ sentOf w + length l = omega (arith, S .whole) in
-      rw (back, z, y) (rw (P .after) at B)
+  pub sized-with : lengthOf w + count ≤ 512 → Sized (lengthOf w + count) (take 3584 (drop 2769 w))
+  sized-with h = record { size = lent-sized w (S .valid) .size; few = h }
+
+  module _ (t : List ℕ) (P : Posts (lengthOf w) (sentOf w) (messagesIn count bytes) (take 3584 (drop 2769 w)) t) where
+    posted : Valid (settingOf w .n) (settingOf w .clients) (sentOf w + length l) (lengthOf w + length l) t
+    unfolding transitWords
+    posted = P .valid (settingOf w .n) (settingOf w .clients) (facts w (S .valid) .transit) (S .named)
+
+    back : putMid 2769 3584 w t ≡ sets w 2769 t
+    back =
+        came-back w 2769 3584 t (valid-sized (settingOf w .n) (settingOf w .clients) (sentOf w + length l) (lengthOf w + length l) t posted .size) (omega (arith, facts w (S .valid) .long))
+
+    pub posted-long : length (putMid 2769 3584 w t) ≡ 6353
+    posted-long = ap length back ∙ (length-sets w 2769 t ∙ facts w (S .valid) .long)
+
+    pub counted-long : (x : ℕ) → length (set (putMid 2769 3584 w t) 4 x) ≡ 6353
+    counted-long x = length-set (putMid 2769 3584 w t) 4 x ∙ posted-long
+
+    pub send-becomes : Becomes w (set (set (putMid 2769 3584 w t) 4 (lengthOf w + count)) 5 (sentOf w + count)) (sending (view w) (messagesIn count bytes))
+    unfolding transitWords view
+    send-becomes =
+        let B = sent-becomes w (S .valid) t (lengthOf w + length l) (sentOf w + length l) posted in
+        let z : lengthOf w + count ≡ lengthOf w + length l = omega (arith, S .whole) in
+        let y : sentOf w + count ≡ sentOf w + length l = omega (arith, S .whole) in
+        rw (back, z, y) (rw (P .after) at B)
 
 -- an event's step s, accepted but for the room, sends l where `gone` messages are gone
 pub record Steps (w : List ℕ) (e : Event) (gone : ℕ) (l : List Message) (s : Step System) : Type 0 where
@@ -111,6 +126,9 @@ view-noted w ok = facts w ok .noted
 view-long : (w : List ℕ) → length (view w .transit) ≡ lengthOf w
 unfolding view
 view-long w = length-slots (lengthOf w) (transitWords w)
+
+pub view-all : (w : List ℕ) → length (view w .transit) ≡ lengthOf w - 0
+view-all w = omega (arith, view-long w)
 
 view-sent : (w : List ℕ) → view w .sent ≡ sentOf w
 unfolding view
@@ -168,7 +186,7 @@ and-then f a b = record { system = b .system ∙ ap f (a .system); setting = b .
 
 -- a call whose outcome is step p, in a buffer of 512 bytes
 module _ {A : Type 0} (n clients : ℕ) (o : Outcome A) (p : Step A) (is : o ≡ stepped p) (S : Sends n clients (p .sent)) (bytes : List ℕ) (long : length bytes ≡ 512) where
-  roomy : withRoom (length bytes) o ≡ stepped p
+  pub roomy : withRoom (length bytes) o ≡ stepped p
   unfolding withRoom
   roomy = rw (is, long, le-ltb 512 (sizeOfAll (p .sent)) (S .small))
 
