@@ -9,3 +9,4 @@ pub mod Storing
 pub mod Sending
 pub mod Taking
 pub mod ServerEvents
+pub mod Guards

@@ -2,19 +2,24 @@
 use mathlib.Core.Path.{_≡_, refl, sym, ap, _∙_}
 use Prim.Native.Nat.{ℕ, _+_, _*_, _-_, _≤_}
 use native.Mathlib.Omega.{arith}
-use mathlib.Core.Bool.{Bool, true, false, not}
+use mathlib.Core.Bool.{Bool, true, false, not, _&&_}
 use mathlib.Core.List.{List}
 use mathlib.Core.Option.{some}
 use lib.Dec.{leb}
 use lib.ListN.{length, drop, length-drop}
 use lib.Seq.{sets}
-use borrow.Author.Tests.{le-leb}
-use Rattle.ids.specs.Limits.{validRequest}
+use borrow.Author.Tests.{le-leb, leb-true}
+use Rattle.ids.specs.Lists.{every}
+use Rattle.ids.specs.Limits.{validRequest, validOwner}
 use Rattle.ids.specs.declared.ClientId.{ClientId}
 use Rattle.ids.specs.declared.ServerId.{ServerId}
 use Rattle.ids.specs.declared.Timestamp.{Timestamp}
 use Rattle.ids.specs.declared.Request.{Request}
-use Rattle.ids.specs.declared.Owner.the-variants.{Of}
+use Rattle.ids.specs.declared.Owner.{Owner}
+use Rattle.ids.specs.declared.Owner.the-variants.{Nobody, Of}
+use Rattle.ids.specs.declared.Refusal.the-variants.{NoOwner, OwnerLives}
+use Rattle.ids.proofs.Choice.{both}
+use Rattle.ids.proofs.LimitsLaws.{client-range, request-range}
 use Rattle.wire.specs.Step.{Step, Outcome, stepped, withRoom, sentInto}
 use Rattle.wire.specs.declared.Answer.the-variants as answer
 use Rattle.votes.specs.Figure1 as votes
@@ -31,21 +36,23 @@ use Rattle.system.specs.declared.Event.{Event}
 use Rattle.system.specs.declared.Event.the-variants.{Check, Miss}
 use Rattle.system.specs.Numbered.{has}
 use Rattle.system.specs.Transit.{InTransit}
-use Rattle.system.specs.Places.{serverAt}
+use Rattle.system.specs.Places.{ServerPlace, serverAt}
 use Rattle.system.specs.Events.{event, serverMoves, asked, suspected}
 use Rattle.transit.specs.Slots.{messagesIn}
-use Rattle.places.specs.Blocks.{serverRecord, serverPlace}
-use Rattle.places.proofs.Facts.{server-facts}
+use Rattle.places.specs.Blocks.{serverRecord, clientPlace, serverPlace, namedPair}
+use Rattle.places.proofs.Facts.{server-facts, server-good}
 use Rattle.places.proofs.ServerLaws.{server-of, stored-short}
 use Rattle.places.proofs.ServerSteps.{check-outcome, check-short, suspect-outcome, suspect-short, server-after}
 use Rattle.layout.specs.Layout.{settingOf, lengthOf, view}
-use Rattle.layout.specs.Parts.{serverBlockOf}
+use Rattle.layout.specs.Parts.{clientBlockOf, serverBlockOf}
 use Rattle.layout.proofs.PlaceLaws.{server-there}
-use Rattle.simulation.specs.declared.Moved.the-variants.{Sent}
+use Rattle.simulation.specs.declared.Moved.the-variants.{Sent, Refused}
 use Rattle.simulation.specs.Happens.{happens, Leaves, movedOf}
-use Rattle.simulation.specs.Changes.{Becomes, HasServer, Missing, Sendable, hasRoom, withServer, withTransit, sending}
-use Rattle.simulation.proofs.Answers.{checks, misses}
+use Rattle.simulation.specs.Changes.{Becomes, HasClient, HasServer, Missing, Sendable, hasRoom, withServer, withTransit, sending}
+use Rattle.simulation.proofs.Answers.{checks, misses, misses-nobody, misses-living}
 use Rattle.simulation.proofs.Becoming.{sound, few-clients}
+use Rattle.simulation.proofs.Leaving.{leaves-refused}
+use Rattle.simulation.proofs.Parties.{living-is}
 use Rattle.simulation.proofs.SentLaws.{Sends, check-sends, suspect-sends}
 use Rattle.simulation.proofs.Storing.{server-block, server-is, check-stored, suspect-stored}
 use Rattle.simulation.proofs.Sending.{Steps, Call, call-sendable, call-sent, steps-by, called, roomy, view-all}
@@ -137,3 +144,37 @@ module _ (w : List ℕ) (j : ServerId) (H : HasServer w (j .0)) where
     pub suspect-stored-in : (w₁ : List ℕ) → w₁ ≡ sets w (1591 + 38 * (j .0 - 1)) (sets (serverBlockOf w (j .0)) 1 (serverWords (r .server)))
         → Becomes w w₁ (withServer (view w) (j .0) (record { up = serverAt (view w) (j .0) .up; state = votes.suspect j (serverAt (view w) (j .0) .state) .state }))
     suspect-stored-in w₁ e = suspect-stored w (j .0) H (r .server) w₁ e (suspect-called .server)
+
+  -- the owner
+  pub owner-is : (s : Server) → s ≡ serverFrom (serverRecord (serverBlockOf w (j .0))) → s .votes .owner ≡ serverAt (view w) (j .0) .state .owner
+  unfolding serverPlace
+  owner-is s k = rw (k, server-is w (j .0) H)
+
+  module _ (up : serverAt (view w) (j .0) .up ≡ true) (x : Owner) (e : x ≡ serverAt (view w) (j .0) .state .owner) where
+    pub miss-nobody : x ≡ Nobody → Leaves w (Miss j) w × (Refused NoOwner ≡ movedOf (happens w (Miss j)))
+    miss-nobody f = leaves-refused w (Miss j) NoOwner (H .valid) (misses-nobody (settingOf w .n) (enough (settingOf w .m)) (view w) j server-there-in up (sym e ∙ f))
+
+    module _ (o : Request) (f : x ≡ Of o) where
+      its-owner : serverPlace (serverBlockOf w (j .0)) .state .owner ≡ Of o
+      its-owner = ap (λ (p : ServerPlace). p .state .owner) (sym (server-is w (j .0) H)) ∙ (sym e ∙ f)
+
+      owner-in-range : (1 ≤ o .client .0) × (o .client .0 ≤ settingOf w .clients)
+      unfolding validOwner
+      owner-in-range =
+          let b = serverBlockOf w (j .0) in
+          let B = server-facts (settingOf w .n) (settingOf w .clients) (j .0) b (server-block w (j .0) H) in
+          let v : validRequest o ≡ true = rw its-owner at (server-good (settingOf w .n) (settingOf w .clients) (j .0) b B .owner) in
+          let d : leb (o .client .0) (settingOf w .clients) && every (namedPair (settingOf w .clients)) (serverPlace b .state .queue) ≡ true = rw its-owner at (B .names) in
+          (client-range (o .client) (request-range o v .0) .0, leb-true _ _ (both (leb (o .client .0) (settingOf w .clients)) (every (namedPair (settingOf w .clients)) (serverPlace b .state .queue)) d .0))
+
+      pub owner-client : HasClient w (o .client .0)
+      owner-client = record { valid = H .valid; first = owner-in-range .0; last = owner-in-range .1 }
+
+      module _ (r : Bool) (g : r ≡ clientPlace (clientBlockOf w (o .client .0)) .living) where
+        pub miss-living : r ≡ true → Leaves w (Miss j) w × (Refused OwnerLives ≡ movedOf (happens w (Miss j)))
+        miss-living t =
+            leaves-refused w (Miss j) OwnerLives (H .valid)
+            (misses-living (settingOf w .n) (enough (settingOf w .m)) (view w) j server-there-in up o (sym e ∙ f) (living-is w (o .client .0) owner-client r g ∙ t))
+
+        pub owner-missing : r ≡ false → Missing w (j .0)
+        owner-missing t = record { there = H; up = up; owner = o; owns = sym e ∙ f; fallen = living-is w (o .client .0) owner-client r g ∙ t }

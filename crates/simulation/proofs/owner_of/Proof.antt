@@ -1,0 +1,20 @@
+-- `simulation::owner_of` meets its contract: the owner stands in the record.
+use denote.Ref.{now}
+use Rattle.simulation.proofs.Parties.{server-in}
+use Rattle.simulation.proofs.ServerEvents.{record-held, owner-is}
+use borrow.Author.Needs.{needs}
+use Rattle.simulation.proofs.owner_of.Statement.{statement}
+use Rattle.simulation.proofs.owner_of.Tie as tie
+
+server-record-requires : tie.Need-server-record-requires
+server-record-requires c κs =
+    let d = c .before in
+    (server-in (now (d .args .w)) (d .args .j .0) (d .pre), record-held (now (d .args .w)) (d .args .j) (d .pre))
+
+returns : tie.Need-returns
+returns c =
+    let d = c .before .before .before in
+    owner-is (now (d .args .w)) (d .args .j) (d .pre) _ (c .before .server-record .ensures)
+
+pub owner-of-spec : {M : Type 1} → statement M
+owner-of-spec = tie.close (tie.spec server-record-requires returns)
