@@ -9,4 +9,5 @@ pub mod Storing
 pub mod Sending
 pub mod Taking
 pub mod ServerEvents
+pub mod ClientEvents
 pub mod Guards
