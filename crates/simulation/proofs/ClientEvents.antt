@@ -106,7 +106,7 @@ module _ (w : List ℕ) (k : ClientId) (H : HasClient w (k .0)) where
   unfolding clientPlace
   its-state = rw (client-is w (k .0) H)
 
-  place-state : clientPlace (clientBlockOf w (k .0)) .state ≡ state
+  pub place-state : clientPlace (clientBlockOf w (k .0)) .state ≡ clientAt (view w) (k .0) .state
   place-state = ap (λ (c : ClientPlace). c .state) (sym (client-is w (k .0) H))
 
   its-section : its .section ≡ state .section

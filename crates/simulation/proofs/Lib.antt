@@ -10,4 +10,5 @@ pub mod Sending
 pub mod Taking
 pub mod ServerEvents
 pub mod ClientEvents
+pub mod TakeEvents
 pub mod Guards
