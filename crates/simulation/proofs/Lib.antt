@@ -2,7 +2,6 @@ pub mod Answers
 pub mod Becoming
 pub mod Leaving
 pub mod Parties
-pub mod Silent
 pub mod Messages
 pub mod SentLaws
 pub mod Storing
@@ -12,3 +11,5 @@ pub mod ServerEvents
 pub mod ClientEvents
 pub mod TakeEvents
 pub mod Guards
+pub mod Epochs
+pub mod Silent
