@@ -5,7 +5,7 @@ use Prim.Native.Nat.{ℕ, zero, suc, _+_, _*_, _-_, _≤_, _<_, max}
 use native.Mathlib.Omega.{arith}
 use mathlib.Core.Bool.{Bool, true}
 use mathlib.Core.List.{List, [], _∷_, map}
-use lib.ListN.{length, getD, set, take, drop, length-map}
+use lib.ListN.{length, getD, set, take, drop, length-map, length-set}
 use lib.Seq.{sets, take-all, set-comm, set-set, length-sets}
 use borrow.Rule.Slice.PartMut.{putMid, put-same}
 use Rattle.ids.specs.Choice.{if_then_else_}
@@ -80,10 +80,10 @@ pub record Marking (w : List ℕ) (j : ServerId) (clients : ℕ) (w′ : List �
   pub near : Near w w′ (markedSystem w j i)
 
 module _ (w : List ℕ) (j : ServerId) where
-  pub marking-none : HasServer w (j .0) → (clients : ℕ) → clients ≡ settingOf w .clients → Marking w j clients w 0
-  unfolding marked
-  marking-none H clients e =
-      record { has = H; count = e; within = omega arith; near = record { system = refl; setting = refl; again = sound w (H .valid) } }
+  pub marking-none : HasServer w (j .0) → Marking w j (getD w 3 0) w 0
+  unfolding marked settingOf
+  marking-none H =
+      record { has = H; count = refl; within = omega arith; near = record { system = refl; setting = refl; again = sound w (H .valid) } }
 
   module _ (clients : ℕ) (w′ : List ℕ) (i : ℕ) (M : Marking w j clients w′ i) where
     pub marking-fits : clients ≤ 16
@@ -129,6 +129,9 @@ module _ (w : List ℕ) (j : ServerId) where
 
     pub marking-sized : (length w′ ≡ 6353) × (settingOf w′ .clients ≤ 16)
     marking-sized = (M .near .again .long, few-clients w′ (M .near .again))
+
+    pub marking-same : (x : ℕ) (w″ : List ℕ) → w″ ≡ set w′ 6 x → length w″ ≡ length w
+    marking-same x w″ e = ap length e ∙ (length-set w′ 6 x ∙ (M .near .again .long ∙ sym (sound w (M .has .valid) .long)))
 
     pub marking-all : clients ≤ i → (w″ : List ℕ) → w″ ≡ set w′ 6 (max (mostOf w′) (worst (view w′ .clients))) → Becomes w w″ (withClients (view w) (map (downed j) (view w .clients)))
     marking-all h w″ e =
@@ -182,8 +185,9 @@ module _ (w : List ℕ) (k : ℕ) (H : HasClient w k) where
   long : length w ≡ 6353
   long = sound w (H .valid) .long
 
-  pub flagging-none : (n : ℕ) → n ≡ settingOf w .n → Flagging w k n w 0
-  flagging-none n e = record { has = H; count = e; within = omega arith; words = sym (same-stored w k long (H .first) last-client) }
+  pub flagging-none : Flagging w k (getD w 0 0) w 0
+  unfolding settingOf
+  flagging-none = record { has = H; count = refl; within = omega arith; words = sym (same-stored w k long (H .first) last-client) }
 
   flagged-long : (i : ℕ) → length (flaggedTo w k i) ≡ 99
   flagged-long i = length-sets (clientBlockOf w k) 68 (take i (bitsOf w)) ∙ client-block-long w k long (H .first) last-client
@@ -236,6 +240,9 @@ module _ (w : List ℕ) (k n : ℕ) (w′ : List ℕ) (i : ℕ) (P : Flagging w 
   pub flagging-sized : (length w′ ≡ 6353) × (settingOf w′ .clients ≤ 16)
   flagging-sized =
       rw (P .words) (length-sets w (7 + 99 * (k - 1)) (flaggedTo w k i) ∙ long w k (P .has), rw (setting-kept w (7 + 99 * (k - 1)) (flaggedTo w k i) (omega arith)) (few-clients w (sound w (P .has .valid))))
+
+  pub flagging-same : (x : ℕ) (w″ : List ℕ) → w″ ≡ set w′ 6 x → length w″ ≡ length w
+  flagging-same x w″ e = ap length e ∙ (length-set w′ 6 x ∙ (flagging-sized .0 ∙ sym (long w k (P .has))))
 
   pub flagging-server : i < n → ServerIn w′ (i + 1)
   flagging-server lt = record { long = flagging-sized .0; first = omega arith; last = omega (arith, flagging-fits, lt) }

@@ -20,6 +20,14 @@ use Rattle.simulation.proofs.Becoming.{sound, few-servers, few-clients}
 pub words-long : (w : List ℕ) → valid w ≡ true → length w ≡ 6353
 words-long w ok = sound w ok .long
 
+pub clients-fit : (w : List ℕ) → valid w ≡ true → getD w 3 0 ≤ 16
+unfolding settingOf
+clients-fit w ok = few-clients w (sound w ok)
+
+pub servers-fit : (w : List ℕ) → valid w ≡ true → getD w 0 0 ≤ 31
+unfolding settingOf
+servers-fit w ok = few-servers w (sound w ok)
+
 -- client k
 module _ (w : List ℕ) (ok : valid w ≡ true) (k : ℕ) (r : Bool) (e : r ≡ within k (getD w 3 0)) where
   has-client : r ≡ has (view w .clients) k
