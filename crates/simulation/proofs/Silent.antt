@@ -14,17 +14,20 @@ use Rattle.ids.proofs.Choice.{holds, fails, decided}
 use Rattle.ids.specs.declared.Refusal.the-variants.{NoSuchParty, PartyDown}
 use Rattle.ids.specs.declared.ClientId.{ClientId}
 use Rattle.ids.specs.declared.ServerId.{ServerId}
-use Rattle.words.specs.Records.{serverFrom, serverWords}
+use Rattle.words.specs.Records.{serverFrom, serverWords, holdsServer}
+use Rattle.wire.specs.Step.{stepped}
 use Rattle.client.specs.Figure1.{enough}
 use Rattle.votes.specs.Figure1.{idle}
 use Rattle.system.specs.declared.Event.the-variants.{Fall, Down, Up, Drop}
 use Rattle.system.specs.declared.MessageNumber.{MessageNumber}
 use Rattle.system.specs.Numbered.{has}
 use Rattle.system.specs.Transit.{present, replaced, gone, again}
-use Rattle.system.specs.Places.{clientAt, serverAt, downed, worst}
+use Rattle.system.specs.Places.{System, clientAt, serverAt, downed, worst}
 use Rattle.system.specs.Events.{fallen, cameUp, dropped, wentDown}
+use Rattle.system.specs.Runs.{after}
 use Rattle.regions.specs.Blocks.{blocks}
 use Rattle.places.specs.Blocks.{clientPlace, serverPlace, cleared, serverRecord, emptied}
+use Rattle.places.proofs.Facts.{server-facts}
 use Rattle.places.proofs.ClientLaws.{ClientIs}
 use Rattle.places.proofs.ServerLaws.{ServerIs, rise-block, sink-block}
 use Rattle.places.proofs.EpochLaws.{fall-block, cleared-block}
@@ -32,7 +35,7 @@ use Rattle.transit.specs.Slots.{slots, slotAt}
 use Rattle.transit.specs.Calls.{Valid, FindsPresent}
 use Rattle.layout.specs.Layout.{settingOf, lengthOf, sentOf, mostOf, clientWords, transitWords, view, valid}
 use Rattle.layout.proofs.ValidLaws.{facts}
-use Rattle.layout.specs.Parts.{clientBlockOf, serverBlockOf}
+use Rattle.layout.specs.Parts.{clientBlockOf, serverBlockOf, ServerIn}
 use Rattle.layout.proofs.PlaceLaws.{client-place, server-place}
 use Rattle.simulation.specs.declared.Moved.the-variants.{Sent, Refused}
 use Rattle.simulation.specs.Happens.{happens, Leaves, movedOf}
@@ -41,7 +44,7 @@ use Rattle.simulation.proofs.Answers.{no-client-falls, fallen-falls, fa
 use Rattle.simulation.proofs.Becoming.{sound, client-valid, server-valid, client-becomes, server-becomes}
 use Rattle.simulation.proofs.Messages.{its-transit}
 use Rattle.simulation.proofs.Leaving.{leaves-refused, leaves-silent, leaves-quiet}
-use Rattle.simulation.proofs.Parties.{client-missing, client-there-is, client-found, server-missing, server-there-is, server-found, living-is, up-is}
+use Rattle.simulation.proofs.Parties.{client-missing, client-there-is, client-found, server-missing, server-there-is, server-found, living-is, up-is, server-in}
 
 below : (r n : ℕ) → r ≤ n → (r ≡ n → ⊥) → r < n
 below r n h ne = ⊎-elim (λ (t : ltb r n ≡ true). ltb-true r n t) (λ (t : ltb r n ≡ false). absurd (ne (omega (arith, ltb-false r n t)))) (decided (ltb r n))
@@ -97,7 +100,7 @@ module _ (w : List ℕ) (j : ℕ) (H : HasServer w j) where
       rw (server-place w j (H .first) (H .last)) (rise-block (settingOf w .n) (settingOf w .clients) j place (server-valid w (sound w (H .valid)) j (H .first) (H .last))) in
       server-becomes w (H .valid) j (set place 0 1) _ (H .first) (H .last) B
 
-  pub sinking : Becomes w (sets w (1591 + 38 * (j - 1)) (set (sets place 1 (serverWords (emptied (serverFrom (serverRecord place))))) 0 0)) (withServer (view w) j (record { up = false; state = idle }))
+  sinking : Becomes w (sets w (1591 + 38 * (j - 1)) (set (sets place 1 (serverWords (emptied (serverFrom (serverRecord place))))) 0 0)) (withServer (view w) j (record { up = false; state = idle }))
   sinking =
       server-becomes w (H .valid) j _ _ (H .first) (H .last) (sink-block (settingOf w .n) (settingOf w .clients) j place (server-valid w (sound w (H .valid)) j (H .first) (H .last)))
 
@@ -120,6 +123,45 @@ module _ (w : List ℕ) (j : ServerId) (ok : valid w ≡ true) (a : Bool) (e : a
     up-leaves u w′ g =
         rw g (leaves-quiet w (Up j) (cameUp (view w) j) refl
         (ups (settingOf w .n) (enough (settingOf w .m)) (view w) j present-server (up-is w (j .0) its-server b f ∙ u)) refl _ (rising w (j .0) its-server))
+
+-- down, test by test, then store by store
+module _ (w : List ℕ) (j : ServerId) (ok : valid w ≡ true) (a : Bool) (e : a ≡ within (j .0) (getD w 0 0)) where
+  pub down-missing : not a ≡ true → Leaves w (Down j) w × (Refused NoSuchParty ≡ movedOf (happens w (Down j)))
+  down-missing t = leaves-refused w (Down j) NoSuchParty ok (no-server-downs (settingOf w .n) (enough (settingOf w .m)) (view w) j (server-missing w ok (j .0) a e t))
+
+  module _ (t : not a ≡ false) where
+    abbrev down-server : HasServer w (j .0)
+    down-server = server-found w ok (j .0) a e t
+
+    pub down-twice : (b : Bool) → b ≡ serverPlace (serverBlockOf w (j .0)) .up → not b ≡ true → Leaves w (Down j) w × (Refused PartyDown ≡ movedOf (happens w (Down j)))
+    down-twice b f u =
+        leaves-refused w (Down j) PartyDown ok
+        (downs-twice (settingOf w .n) (enough (settingOf w .m)) (view w) j (server-there-is w ok (j .0) a e t) (fails b _ (sym (up-is w (j .0) down-server b f)) u))
+
+    pub sinkable : ServerIn w (j .0) × (holdsServer (serverRecord (serverBlockOf w (j .0))) ≡ true)
+    sinkable =
+        (server-in w (j .0) down-server,
+          server-facts (settingOf w .n) (settingOf w .clients) (j .0) (serverBlockOf w (j .0)) (server-valid w (sound w ok) (j .0) (down-server .first) (down-server .last)) .held)
+
+    module _ (w₁ : List ℕ) (s : w₁ ≡ sets w (1591 + 38 * (j .0 - 1)) (set (sets (serverBlockOf w (j .0)) 1 (serverWords (emptied (serverFrom (serverRecord (serverBlockOf w (j .0))))))) 0 0)) where
+      pub sunk : Becomes w w₁ (withServer (view w) (j .0) (record { up = false; state = idle }))
+      sunk = rw s (sinking w (j .0) down-server)
+
+      module _ (w₂ : List ℕ) (R : Becomes w₁ w₂ (withTransit (view w₁) (map (again j) (view w₁ .transit)))) where
+        pub still-server : HasServer w₂ (j .0)
+        still-server = record { valid = R .again; first = down-server .first; last = rw (R .setting, sunk .setting) (down-server .last) }
+
+        module _ (w₃ : List ℕ) (N : Becomes w₂ w₃ (withClients (view w₂) (map (downed j) (view w₂ .clients)))) where
+          down-system : view w₃ ≡ after (view w) (stepped (wentDown (view w) j))
+          unfolding after
+          down-system =
+              N .system ∙ ap (λ (u : System). withClients u (map (downed j) (u .clients))) (R .system ∙ ap (λ (u : System). withTransit u (map (again j) (u .transit))) (sunk .system))
+
+          pub down-leaves : (b : Bool) → b ≡ serverPlace (serverBlockOf w (j .0)) .up → not b ≡ false → Leaves w (Down j) w₃ × (Sent 0 ≡ movedOf (happens w (Down j)))
+          down-leaves b f u =
+              leaves-silent w (Down j) (wentDown (view w) j) refl
+              (downs (settingOf w .n) (enough (settingOf w .m)) (view w) j (server-there-is w ok (j .0) a e t) (holds b _ (sym (up-is w (j .0) down-server b f)) u))
+              w₃ (record { system = down-system; setting = N .setting ∙ (R .setting ∙ sunk .setting); again = N .again })
 
 -- drop: r is what `find_present` gave
 module _ (w : List ℕ) (i : MessageNumber) (ok : valid w ≡ true) (r : ℕ) (F : FindsPresent (i .0) (lengthOf w) (take 3584 (drop 2769 w)) r) where
