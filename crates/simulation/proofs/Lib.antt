@@ -13,3 +13,4 @@ pub mod TakeEvents
 pub mod Guards
 pub mod Epochs
 pub mod Silent
+pub mod Replies

@@ -1,0 +1,67 @@
+-- The last steps: an event's variant, its answer with the living holders, and the answer for words that may be no simulation.
+use mathlib.Core.Path.{_≡_, refl, sym, ap, _∙_}
+use Prim.Native.Nat.{ℕ}
+use native.Mathlib.Omega.{arith}
+use mathlib.Core.Bool.{Bool, true, false, not}
+use mathlib.Core.List.{List, map}
+use lib.ListN.{length, getD}
+use Rattle.ids.specs.declared.Refusal.{Refusal}
+use Rattle.ids.specs.declared.Refusal.the-variants.{InvalidRecord}
+use Rattle.ids.proofs.Choice.{clash, holds, fails}
+use Rattle.wire.specs.Step.{refused, stepped}
+use Rattle.client.specs.Figure1.{count}
+use Rattle.regions.specs.Blocks.{blocks}
+use Rattle.system.specs.declared.Event.{Event}
+use Rattle.system.specs.Places.{System, isInside, holders}
+use Rattle.system.specs.Events.{Result}
+use Rattle.system.specs.Runs.{after}
+use Rattle.places.specs.Blocks.{clientPlace}
+use Rattle.layout.specs.Layout.{settingOf, clientWords, view, valid}
+use Rattle.simulation.specs.declared.Moved.{Moved}
+use Rattle.simulation.specs.declared.Moved.the-variants as moved
+use Rattle.simulation.specs.declared.Reply.{Reply}
+use Rattle.simulation.specs.declared.Reply.the-variants as reply
+use Rattle.simulation.specs.Happens.{happens, Leaves, movedOf, replyOf, EventLeaves, eventReply}
+
+-- the event is this variant
+pub as-event : {w w′ : List ℕ} {r : Moved} {e e′ : Event} → e ≡ e′ → Leaves w e′ w′ × (r ≡ movedOf (happens w e′)) → Leaves w e w′ × (r ≡ movedOf (happens w e))
+as-event p h = rw p h
+
+-- a refusal, and an answer with the holders v has
+refused-reply : (u : System) (o : Result) (x : Refusal) → moved.Refused x ≡ movedOf o → reply.Refused x ≡ replyOf u o
+unfolding replyOf
+refused-reply u (refused y) x h = let z : x ≡ y = cc in ap (λ (a : Refusal). reply.Refused a) z
+refused-reply u (stepped s) x h = let z : _≡_ {A = ℕ} 0 1 = cc in absurd (omega arith)
+
+accepted-reply : (u : System) (o : Result) (v : System) (c : ℕ) → v ≡ after u o → moved.Sent c ≡ movedOf o → reply.Accepted c (holders v) ≡ replyOf u o
+unfolding replyOf
+accepted-reply u (refused y) v c g h = let z : _≡_ {A = ℕ} 0 1 = cc in absurd (omega arith)
+accepted-reply u (stepped s) v c g h =
+    let z : c ≡ length (s .sent) = cc in
+    ap (λ (a : ℕ). reply.Accepted a (holders v)) z ∙ ap (λ (a : System). reply.Accepted (length (s .sent)) (holders a)) g
+
+module _ (w : List ℕ) (e : Event) (w′ : List ℕ) (r : Moved) (h : Leaves w e w′ × (r ≡ movedOf (happens w e))) where
+  pub happened-refused : (x : Refusal) → r ≡ moved.Refused x → Leaves w e w′ × (reply.Refused x ≡ replyOf (view w) (happens w e))
+  happened-refused x g = (h .0, refused-reply (view w) (happens w e) x (sym g ∙ h .1))
+
+  inside-is : holders (view w′) ≡ count (map isInside (blocks 99 clientPlace (getD w′ 3 0) (clientWords w′)))
+  unfolding view settingOf
+  inside-is = refl
+
+  pub happened : (c i : ℕ) → r ≡ moved.Sent c → i ≡ count (map isInside (blocks 99 clientPlace (getD w′ 3 0) (clientWords w′)))
+      → Leaves w e w′ × (reply.Accepted c i ≡ replyOf (view w) (happens w e))
+  happened c i g f =
+      (h .0, ap (λ (a : ℕ). reply.Accepted c a) (f ∙ sym inside-is) ∙ accepted-reply (view w) (happens w e) (view w′) c (h .0 .system) (sym g ∙ h .1))
+
+module _ (w : List ℕ) (e : Event) (b : Bool) (t : b ≡ valid w) where
+  pub event-invalid : not b ≡ true → EventLeaves w e w × (reply.Refused InvalidRecord ≡ eventReply w e)
+  unfolding eventReply
+  event-invalid f =
+      let no = fails b (valid w) t f in
+      (record { valid-leaves = λ y. clash (valid w) y no; invalid-kept = λ y. refl }, rw no)
+
+  pub event-valid : not b ≡ false → (w′ : List ℕ) (r : Reply) → Leaves w e w′ × (r ≡ replyOf (view w) (happens w e)) → EventLeaves w e w′ × (r ≡ eventReply w e)
+  unfolding eventReply
+  event-valid f w′ r h =
+      let yes = holds b (valid w) t f in
+      (record { valid-leaves = λ y. h .0; invalid-kept = λ y. clash (valid w) yes y }, rw yes (h .1))
