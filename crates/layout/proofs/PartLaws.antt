@@ -81,7 +81,7 @@ systemIn h c s t =
     }
 
 module _ {w h c s t : List ℕ} (p : Is w h c s t) where
-  head-word : (i : ℕ) → i < 7 → getD w i 0 ≡ getD h i 0
+  pub head-word : (i : ℕ) → i < 7 → getD w i 0 ≡ getD h i 0
   head-word i lt = sym (getD-take 7 w i 0 lt) ∙ ap (λ (l : List ℕ). getD l i 0) (p .head)
 
   pub setting-is : settingOf w ≡ settingIn h

@@ -25,6 +25,7 @@ use Rattle.layout.proofs.ValidLaws.{block-here}
 use Rattle.layout.proofs.PlaceLaws.{client-place, server-place}
 use Rattle.layout.proofs.LendLaws.{came-back, client-part, client-block-long}
 use Rattle.simulation.specs.Changes.{Becomes, HasClient, HasServer, withClient, withClients}
+use Rattle.simulation.proofs.Stores.{sets-over, client-block-stored}
 use Rattle.simulation.proofs.Becoming.{Sound, sound, Near, few-clients, few-servers, client-valid, client-near, most-becomes}
 
 near-trans : {w w′ w″ : List ℕ} {u v : System} → Near w w′ u → Near w′ w″ v → Near w w″ v
@@ -138,19 +139,7 @@ module _ (w : List ℕ) (j : ServerId) where
         let a = marked-all j i (view w .clients) (omega (arith, clients-long w, M .count, h)) in
         subst (λ (l : List ClientPlace). Becomes w w″ (withClients (view w) l)) a (noted (marked j i (view w .clients)) (M .near) w″ e)
 
--- stores of one block, one after the other: the last stands
-set-sets : (l : List ℕ) (i a v : ℕ) (vs : List ℕ) → i < a → set (sets l a vs) i v ≡ sets (set l i v) a vs
-set-sets l i a v [] h = refl
-set-sets l i a v (x ∷ vs) h = set-sets (set l a x) i (suc a) v vs (omega arith) ∙ ap (λ (z : List ℕ). sets z (suc a) vs) (set-comm l a i x v (λ e. omega arith))
-
-sets-over : (l : List ℕ) (a : ℕ) (xs ys : List ℕ) → length xs ≡ length ys → sets (sets l a xs) a ys ≡ sets l a ys
-sets-over l a [] [] e = refl
-sets-over l a [] (y ∷ ys) e = absurd (omega arith)
-sets-over l a (x ∷ xs) [] e = absurd (omega arith)
-sets-over l a (x ∷ xs) (y ∷ ys) e =
-    ap (λ (z : List ℕ). sets z (suc a) ys) (set-sets (set l a x) a (suc a) y xs (omega arith) ∙ ap (λ (z : List ℕ). sets z (suc a) xs) (set-set l a x y)) ∙
-    sets-over (set l a y) (suc a) xs ys (omega arith)
-
+-- the block stored as it is
 same-stored : (w : List ℕ) (k : ℕ) → length w ≡ 6353 → 1 ≤ k → k ≤ 16 → sets w (7 + 99 * (k - 1)) (clientBlockOf w k) ≡ w
 same-stored w k l p q =
     let z : 7 + 99 * (k - 1) + 99 - (7 + 99 * (k - 1)) ≡ 99 = omega arith in
@@ -200,12 +189,7 @@ module _ (w : List ℕ) (k : ℕ) (H : HasClient w k) where
 
   flagged-block : (i : ℕ) → clientBlockOf (flagged-words i) k ≡ flaggedTo w k i
   flagged-block i =
-      let z : 99 * (k - 1) ≡ (k - 1) * 99 + 0 = omega arith in
-      let e : clientWords (flagged-words i) ≡ sets (clientWords w) ((k - 1) * 99 + 0) (flaggedTo w k i) =
-      in-clients w (99 * (k - 1)) (flaggedTo w k i) (omega (arith, flagged-long i, last-client, H .first)) ∙ ap (λ (x : ℕ). sets (clientWords w) x (flaggedTo w k i)) z in
-      ap (λ (l : List ℕ). take 99 (drop ((k - 1) * 99) l)) e ∙
-      (block-here 99 16 (k - 1) (clientWords w) 0 (flaggedTo w k i) (omega (arith, last-client, H .first)) (omega (arith, flagged-long i)) ∙
-      covered (clientBlockOf w k) (flaggedTo w k i) (flagged-long i ∙ sym (client-block-long w k long (H .first) last-client)))
+      client-block-stored w k (record { long = long; first = H .first; last = last-client }) (flaggedTo w k i) (omega (arith, flagged-long i)) (flagged-long i)
 
   -- the flag of server i + 1
   flag-is : (i x : ℕ) → i < settingOf w .n → x ≡ (if serverPlace (serverBlockOf (flagged-words i) (suc i)) .up then 0 else 1) → x ≡ getD (bitsOf w) i 0
@@ -221,7 +205,7 @@ module _ (w : List ℕ) (k : ℕ) (H : HasClient w k) where
       let b : set (clientBlockOf (flagged-words i) k) (67 + (i + 1)) x ≡ flaggedTo w k (i + 1) =
       ap (λ (b : List ℕ). set b (67 + (i + 1)) x) (flagged-block i) ∙ (ap (λ (y : ℕ). set (flaggedTo w k i) (67 + (i + 1)) y) e ∙ flag-next (clientBlockOf w k) (bitsOf w) i l) in
       ap (λ (b : List ℕ). sets (flagged-words i) (7 + 99 * (k - 1)) b) b ∙
-      sets-over w (7 + 99 * (k - 1)) (flaggedTo w k i) (flaggedTo w k (i + 1)) (flagged-long i ∙ sym (flagged-long (i + 1)))
+      sets-over w (7 + 99 * (k - 1)) (flaggedTo w k i) (flaggedTo w k (i + 1)) (omega (arith, flagged-long i, flagged-long (i + 1)))
 
   -- all flags are put
   flagged-near : inEpoch (clientAt (view w) k) ≡ true

@@ -11,6 +11,8 @@ pub mod ServerEvents
 pub mod ClientEvents
 pub mod TakeEvents
 pub mod Guards
+pub mod Stores
 pub mod Epochs
 pub mod Silent
 pub mod Replies
+pub mod Opening

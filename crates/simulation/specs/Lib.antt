@@ -1,2 +1,3 @@
 pub mod Happens
 pub mod Changes
+pub mod Opening

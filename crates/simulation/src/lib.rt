@@ -6,6 +6,8 @@ ghost use mathlib.Core.List.{[], map};
 ghost use Prim.Native.Nat.{_≤_, _+_, max};
 ghost use lib.ListN.{length, set};
 ghost use Rattle.ids.specs.Choice.{if_then_else_};
+ghost use Rattle.ids.specs.Limits.{within};
+ghost use Rattle.quorum.specs.Check.{inRange};
 ghost use Rattle.wire.specs.Format as format;
 ghost use Rattle.wire.specs.declared.Message.the-variants.{Response as RESPONSE, Check as CHECK};
 ghost use Rattle.system.specs.Numbered.{put};
@@ -14,9 +16,10 @@ ghost use Rattle.system.specs.Places.{clientAt, serverAt, inEpoch, downFrom, do
 ghost use Rattle.transit.specs.Slots.{messagesIn, slotAt, names};
 ghost use Rattle.system.specs.declared.Event.the-variants.{Try, Exit, Fall, Down, Up, Take, Drop, Miss, Check};
 ghost use Rattle.places.specs.Blocks.{serverPlace};
-ghost use Rattle.layout.specs.Layout.{settingOf, lengthOf, mostOf, transitWords, view, valid};
-ghost use Rattle.layout.specs.Parts.{serverBlockOf, ServerIn};
-ghost use Rattle.simulation.specs.Happens.{happens, Leaves, movedOf, replyOf, EventLeaves, eventReply};
+ghost use Rattle.layout.specs.Layout.{settingOf, lengthOf, mostOf, transitWords, view, valid, blank};
+ghost use Rattle.layout.specs.Parts.{serverBlockOf, ClientIn, ServerIn};
+ghost use Rattle.simulation.specs.Happens.{happens, Leaves, movedOf, replyOf, EventLeaves, eventReply, opens, newReply, Starts, NewLeaves};
+ghost use Rattle.simulation.specs.Opening.{newClient, newServer, inTurn};
 ghost use Rattle.simulation.specs.Changes.{Becomes, HasClient, HasServer, HasSlot, withClient, withServer, withTransit, withClients, sending, hasRoom, Sendable, Missing, Pends, numberAt, tagged};
 use client::Client;
 use ids::ClientId;
@@ -513,4 +516,87 @@ pub fn event(w: &mut [u32], e: Event) -> Reply
         return Reply::Refused(Refusal::InvalidRecord);
     }
     happen(w, e)
+}
+
+// A new simulation.
+
+fn clear_all(w: &mut [u32])
+    ensures { λ _. ⌜ (length (now (w .exit)) ≡ length (now (w .entry))) × (blank (now (w .exit)) ≡ true) ⌝ }
+{
+    let mut i: usize = 0;
+    while i < w.len() {
+        w[i] = 0;
+        i += 1;
+    }
+}
+
+fn new_client(w: &mut [u32], n: u16, m: u16, k: u16)
+    requires { ⌜ ClientIn (now w) k ⌝ }
+    ensures { λ _. ⌜ now (w .exit) ≡ newClient n m k (now (w .entry)) ⌝ }
+{
+    w[7 + 99 * (k as usize - 1)] = 1;
+    let s = client::new(n, m, ClientId(k));
+    layout::put_client(w, k, s.client);
+}
+
+fn new_clients(w: &mut [u32], n: u16, m: u16, clients: u16)
+    requires { ⌜ (length (now w) ≡ 6353) × (clients ≤ 16) ⌝ }
+    ensures { λ _. ⌜ now (w .exit) ≡ inTurn (newClient n m) clients (now (w .entry)) ⌝ }
+{
+    let mut i: u16 = 0;
+    while i < clients {
+        new_client(w, n, m, i + 1);
+        i += 1;
+    }
+}
+
+fn new_server(w: &mut [u32], n: u16, j: u16)
+    requires { ⌜ ServerIn (now w) j ⌝ }
+    ensures { λ _. ⌜ now (w .exit) ≡ newServer n j (now (w .entry)) ⌝ }
+{
+    layout::rise_server(w, j);
+    let s = server::new(n, ServerId(j));
+    layout::put_server(w, j, s.server);
+}
+
+fn new_servers(w: &mut [u32], n: u16)
+    requires { ⌜ (length (now w) ≡ 6353) × (n ≤ 31) ⌝ }
+    ensures { λ _. ⌜ now (w .exit) ≡ inTurn (newServer n) n (now (w .entry)) ⌝ }
+{
+    let mut i: u16 = 0;
+    while i < n {
+        new_server(w, n, i + 1);
+        i += 1;
+    }
+}
+
+// The words are a fresh start of this setting, which is in range.
+fn start(w: &mut [u32], n: u32, m: u32, f: u32, clients: u32)
+    requires { ⌜ (length (now w) ≡ 6353) × (inRange n m f ≡ true) × (within clients 16 ≡ true) ⌝ }
+    ensures { λ _. ⌜ Starts n m f clients (now (w .exit)) ⌝ }
+{
+    clear_all(w);
+    w[0] = n;
+    w[1] = m;
+    w[2] = f;
+    w[3] = clients;
+    new_clients(w, n as u16, m as u16, clients as u16);
+    new_servers(w, n as u16);
+}
+
+// A new simulation with `n` servers, threshold `m`, `f` faults and so many clients. Refused 7.
+pub fn new(w: &mut [u32], n: u32, m: u32, f: u32, clients: u32) -> Moved
+    ensures { λ r. ⌜ NewLeaves n m f clients (now (w .entry)) (now (w .exit)) × (r ≡ newReply (opens (length (now (w .entry))) n m f clients)) ⌝ }
+{
+    if w.len() != 6353 {
+        return Moved::Refused(Refusal::ParameterOutOfRange);
+    }
+    if !quorum::in_range(n, m, f) {
+        return Moved::Refused(Refusal::ParameterOutOfRange);
+    }
+    if !ids::within_limit(clients, 16) {
+        return Moved::Refused(Refusal::ParameterOutOfRange);
+    }
+    start(w, n, m, f, clients);
+    Moved::Sent(0)
 }

@@ -1,0 +1,23 @@
+-- What opens a new simulation, block by block: a living client with a new client's record, an up server with a new server's.
+-- Only the private functions cite this.
+use Prim.Native.Nat.{ℕ, zero, suc, _+_, _*_, _-_}
+use mathlib.Core.List.{List}
+use lib.ListN.{set}
+use lib.Seq.{sets}
+use Rattle.client.specs.Calls as client
+use Rattle.server.specs.Calls as server
+use Rattle.words.specs.Records.{clientWords, serverWords}
+use Rattle.layout.specs.Parts.{clientBlockOf, serverBlockOf}
+
+unfoldable pub newClient : ℕ → ℕ → ℕ → List ℕ → List ℕ
+newClient n m k w =
+    sets w (7 + 99 * (k - 1)) (sets (set (clientBlockOf w k) 0 1) 1 (clientWords (client.newResult n m (record { 0 = k }) .client)))
+
+unfoldable pub newServer : ℕ → ℕ → List ℕ → List ℕ
+newServer n j w =
+    sets w (1591 + 38 * (j - 1)) (sets (set (serverBlockOf w j) 0 1) 1 (serverWords (server.newResult n (record { 0 = j }) .server)))
+
+-- each of the first so many parties put, one after another
+unfoldable pub inTurn : (ℕ → List ℕ → List ℕ) → ℕ → List ℕ → List ℕ
+inTurn f zero w = w
+inTurn f (suc i) w = f (suc i) (inTurn f i w)
