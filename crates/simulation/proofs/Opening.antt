@@ -4,16 +4,16 @@ use mathlib.Core.Path.{_≡_, refl, sym, ap, subst, _∙_}
 use mathlib.Core.Logic.{⊎-elim}
 use Prim.Native.Nat.{ℕ, zero, suc, _+_, _*_, _-_, _≤_, _<_}
 use native.Mathlib.Omega.{arith}
-use mathlib.Core.Bool.{Bool, true, false, _&&_}
+use mathlib.Core.Bool.{Bool, true, false, not, _&&_}
 use mathlib.Core.List.{List, [], _∷_}
 use lib.Dec.{eqb, ltb}
 use lib.ListN.{length, getD, set, take, drop, replicate, length-set, length-replicate, length-take, length-drop}
 use lib.Seq.{sets, length-sets, drop-drop, take-set-lt, getD-set-same, getD-set-other, length-take-le}
-use borrow.Author.Tests.{eq-eqb, eqb-true, ltb-true, ltb-false, le-leb}
+use borrow.Author.Tests.{eq-eqb, ne-eqb, eqb-true, ltb-true, ltb-false, le-leb}
 use Rattle.ids.specs.Choice.{if_then_else_}
 use Rattle.ids.specs.Limits.{within, validClient}
 use Rattle.ids.specs.Lists.{every}
-use Rattle.ids.proofs.Choice.{both, decided}
+use Rattle.ids.proofs.Choice.{both, decided, clash, holds, fails}
 use Rattle.ids.proofs.LimitsLaws.{within-range}
 use Rattle.votes.specs.Queues as votes
 use Rattle.votes.specs.Figure1.{idle}
@@ -44,8 +44,10 @@ use Rattle.layout.specs.Parts.{clientBlockOf, serverBlockOf, ClientIn, ServerIn
 use Rattle.layout.proofs.ValidLaws.{all-valid, block-here, block-other, from-facts}
 use Rattle.layout.proofs.PartLaws.{Is, itself-is, is-client-store, is-server-store, is-head-store, head-word, setting-is, view-is, settingIn, systemIn}
 use Rattle.layout.proofs.LendLaws.{client-block-long, server-block-long}
-use Rattle.simulation.specs.Opening.{newClient, newServer, inTurn}
-use Rattle.simulation.specs.Happens.{Starts}
+use Rattle.simulation.specs.Opening.{Cleared, newClient, newServer, inTurn}
+use Rattle.simulation.specs.Happens.{opens, newReply, Starts, NewLeaves}
+use Rattle.simulation.specs.declared.Moved.the-variants as moved
+use Rattle.ids.specs.declared.Refusal.the-variants.{ParameterOutOfRange}
 use Rattle.simulation.proofs.Stores.{sets-over, client-block-from, server-block-stored}
 
 -- words that are all 0
@@ -88,8 +90,8 @@ module _ (w₀ w : List ℕ) (i : ℕ) (C : Clearing w₀ w i) where
             (decided (ltb x i));
       }
 
-  pub clearing-all : length w ≤ i → (length w ≡ length w₀) × (blank w ≡ true)
-  clearing-all h = (C .same, blank-all w (λ x q. C .done x (omega arith)))
+  pub clearing-all : length w ≤ i → Cleared w₀ w
+  clearing-all h = record { same = C .same; zeros = blank-all w (λ x q. C .done x (omega arith)) }
 
 -- one party's block
 module _ (n m k : ℕ) (w : List ℕ) (h : ClientIn w k) where
@@ -432,3 +434,77 @@ module _ (n m f clients : ℕ) (z : List ℕ) (long : length z ≡ 6353) (zeros 
 
   pub started : (w′ : List ℕ) → w′ ≡ inTurn (newServer n) n (inTurn (newClient n m) clients (set (set (set (set z 0 n) 1 m) 2 f) 3 clients)) → Starts n m f clients w′
   started w′ e = rw e (record { system = started-system; setting = started-setting; again = started-valid })
+
+length-turn : (f : ℕ → List ℕ → List ℕ) → ((k : ℕ) (l : List ℕ) → length (f k l) ≡ length l) → (i : ℕ) (w : List ℕ) → length (inTurn f i w) ≡ length w
+unfolding inTurn
+length-turn f same zero w = refl
+length-turn f same (suc i) w = same (suc i) (inTurn f i w) ∙ length-turn f same i w
+
+-- `start`, call by call
+module _ (n m f clients : ℕ) (w z : List ℕ) (pre : (length w ≡ 6353) × (inRange n m f ≡ true) × (within clients 16 ≡ true)) (E : Cleared w z) where
+  abbrev written : List ℕ
+  written = set (set (set (set z 0 n) 1 m) 2 f) 3 clients
+
+  pub start-fits : (n ≤ 31) × (m ≤ 31) × (clients ≤ 16)
+  start-fits = let r = range n m f (pre .1) in (r .servers, omega (arith, r .servers, r .threshold), within-range clients 16 (pre .2) .1)
+
+  pub start-two : 2 < length (set (set z 0 n) 1 m)
+  start-two = omega (arith, length-set (set z 0 n) 1 m, length-set z 0 n, E .same, pre .0)
+
+  pub start-three : 3 < length (set (set (set z 0 n) 1 m) 2 f)
+  start-three = omega (arith, length-set (set (set z 0 n) 1 m) 2 f, length-set (set z 0 n) 1 m, length-set z 0 n, E .same, pre .0)
+
+  pub start-clients : (length written ≡ 6353) × (clients ≤ 16)
+  start-clients =
+      (omega (arith, length-set (set (set (set z 0 n) 1 m) 2 f) 3 clients, length-set (set (set z 0 n) 1 m) 2 f, length-set (set z 0 n) 1 m, length-set z 0 n, E .same, pre .0), start-fits .2)
+
+  module _ (w₂ : List ℕ) (e : w₂ ≡ inTurn (newClient n m) clients written) where
+    pub start-servers : (length w₂ ≡ 6353) × (n ≤ 31)
+    start-servers = (ap length e ∙ (length-turn (newClient n m) (length-client n m) clients written ∙ start-clients .0), start-fits .0)
+
+    module _ (w₃ : List ℕ) (g : w₃ ≡ inTurn (newServer n) n w₂) where
+      pub start-same : length w₃ ≡ length w
+      start-same = ap length g ∙ (length-turn (newServer n) (length-server n) n w₂ ∙ (start-servers .0 ∙ sym (pre .0)))
+
+      pub start-done : Starts n m f clients w₃
+      start-done = started n m f clients z (E .same ∙ pre .0) (E .zeros) (pre .1) (pre .2) w₃ (g ∙ ap (λ (l : List ℕ). inTurn (newServer n) n l) e)
+
+-- `new`, test by test
+module _ (n m f clients : ℕ) (w : List ℕ) where
+  refuses : opens (length w) n m f clients ≡ false → NewLeaves n m f clients w w × (moved.Refused ParameterOutOfRange ≡ newReply (opens (length w) n m f clients))
+  unfolding newReply
+  refuses h = (record { starts = λ y. clash (opens (length w) n m f clients) y h; kept = λ y. refl }, rw h)
+
+  wrong-size : (length w ≡ 6353 → ⊥) → opens (length w) n m f clients ≡ false
+  unfolding opens
+  wrong-size ne = rw (ne-eqb (length w) 6353 ne)
+
+  pub new-size : (length w ≡ 6353 → ⊥) → NewLeaves n m f clients w w × (moved.Refused ParameterOutOfRange ≡ newReply (opens (length w) n m f clients))
+  new-size ne = refuses (wrong-size ne)
+
+  module _ (l : length w ≡ 6353) (a : Bool) (p : a ≡ inRange n m f) where
+    wrong-range : not a ≡ true → opens (length w) n m f clients ≡ false
+    unfolding opens
+    wrong-range t = rw (eq-eqb (length w) 6353 l, fails a (inRange n m f) p t)
+
+    pub new-range : not a ≡ true → NewLeaves n m f clients w w × (moved.Refused ParameterOutOfRange ≡ newReply (opens (length w) n m f clients))
+    new-range t = refuses (wrong-range t)
+
+    module _ (t : not a ≡ false) (b : Bool) (q : b ≡ within clients 16) where
+      wrong-clients : not b ≡ true → opens (length w) n m f clients ≡ false
+      unfolding opens
+      wrong-clients u = rw (eq-eqb (length w) 6353 l, holds a (inRange n m f) p t, fails b (within clients 16) q u)
+
+      pub new-clients : not b ≡ true → NewLeaves n m f clients w w × (moved.Refused ParameterOutOfRange ≡ newReply (opens (length w) n m f clients))
+      new-clients u = refuses (wrong-clients u)
+
+      pub new-asks : not b ≡ false → (length w ≡ 6353) × (inRange n m f ≡ true) × (within clients 16 ≡ true)
+      new-asks u = (l, holds a (inRange n m f) p t, holds b (within clients 16) q u)
+
+      all-right : not b ≡ false → opens (length w) n m f clients ≡ true
+      unfolding opens
+      all-right u = rw (eq-eqb (length w) 6353 l, holds a (inRange n m f) p t, holds b (within clients 16) q u)
+
+      pub new-starts : not b ≡ false → (w′ : List ℕ) → Starts n m f clients w′ → NewLeaves n m f clients w w′ × (moved.Sent 0 ≡ newReply (opens (length w) n m f clients))
+      unfolding newReply
+      new-starts u w′ S = (record { starts = λ y. S; kept = λ y. clash (opens (length w) n m f clients) (all-right u) y }, rw (all-right u))

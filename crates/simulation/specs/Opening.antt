@@ -1,13 +1,21 @@
 -- What opens a new simulation, block by block: a living client with a new client's record, an up server with a new server's.
 -- Only the private functions cite this.
+use mathlib.Core.Path.{_≡_}
+use mathlib.Core.Bool.{true}
 use Prim.Native.Nat.{ℕ, zero, suc, _+_, _*_, _-_}
 use mathlib.Core.List.{List}
-use lib.ListN.{set}
+use lib.ListN.{length, set}
 use lib.Seq.{sets}
 use Rattle.client.specs.Calls as client
 use Rattle.server.specs.Calls as server
 use Rattle.words.specs.Records.{clientWords, serverWords}
+use Rattle.layout.specs.Layout.{blank}
 use Rattle.layout.specs.Parts.{clientBlockOf, serverBlockOf}
+
+-- all words are 0, as many as before
+pub record Cleared (w w′ : List ℕ) : Type 0 where
+  pub same : length w′ ≡ length w
+  pub zeros : blank w′ ≡ true
 
 unfoldable pub newClient : ℕ → ℕ → ℕ → List ℕ → List ℕ
 newClient n m k w =

@@ -16,10 +16,10 @@ ghost use Rattle.system.specs.Places.{clientAt, serverAt, inEpoch, downFrom, do
 ghost use Rattle.transit.specs.Slots.{messagesIn, slotAt, names};
 ghost use Rattle.system.specs.declared.Event.the-variants.{Try, Exit, Fall, Down, Up, Take, Drop, Miss, Check};
 ghost use Rattle.places.specs.Blocks.{serverPlace};
-ghost use Rattle.layout.specs.Layout.{settingOf, lengthOf, mostOf, transitWords, view, valid, blank};
+ghost use Rattle.layout.specs.Layout.{settingOf, lengthOf, mostOf, transitWords, view, valid};
 ghost use Rattle.layout.specs.Parts.{serverBlockOf, ClientIn, ServerIn};
 ghost use Rattle.simulation.specs.Happens.{happens, Leaves, movedOf, replyOf, EventLeaves, eventReply, opens, newReply, Starts, NewLeaves};
-ghost use Rattle.simulation.specs.Opening.{newClient, newServer, inTurn};
+ghost use Rattle.simulation.specs.Opening.{Cleared, newClient, newServer, inTurn};
 ghost use Rattle.simulation.specs.Changes.{Becomes, HasClient, HasServer, HasSlot, withClient, withServer, withTransit, withClients, sending, hasRoom, Sendable, Missing, Pends, numberAt, tagged};
 use client::Client;
 use ids::ClientId;
@@ -521,7 +521,7 @@ pub fn event(w: &mut [u32], e: Event) -> Reply
 // A new simulation.
 
 fn clear_all(w: &mut [u32])
-    ensures { λ _. ⌜ (length (now (w .exit)) ≡ length (now (w .entry))) × (blank (now (w .exit)) ≡ true) ⌝ }
+    ensures { λ _. ⌜ Cleared (now (w .entry)) (now (w .exit)) ⌝ }
 {
     let mut i: usize = 0;
     while i < w.len() {

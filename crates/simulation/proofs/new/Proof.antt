@@ -1,43 +1,48 @@
+-- `simulation::new` meets its contract: each return is one case of the definition.
+use denote.Ref.{now}
+use Rattle.simulation.proofs.Opening.{new-size, new-range, new-clients, new-asks, new-starts}
 use borrow.Author.Needs.{needs}
 use Rattle.simulation.proofs.new.Statement.{statement}
 use Rattle.simulation.proofs.new.Tie as tie
-use Rattle.simulation.proofs.new.Reads as reads
-use Rattle.simulation.proofs.new.Lts as lts
-use Rattle.ids.proofs.within_limit.Reads as within-limit-reads
-use Rattle.quorum.proofs.in_range.Reads as in-range-reads
-use Rattle.simulation.proofs.start.Reads as start-reads
 
--- src/lib.rt:111:9
 returns : tie.Need-returns
-returns c = ?
+returns c =
+    let d = c .before .before in
+    let a = d .args in
+    new-size (a .n) (a .m) (a .f) (a .clients) (now (a .w)) (c .if1 .taken)
 
--- src/lib.rt:113:9
 in-range-requires : tie.Need-in-range-requires
 in-range-requires c κs = search needs
 
--- src/lib.rt:114:9
 returns-2 : tie.Need-returns-2
-returns-2 c = ?
+returns-2 c =
+    let d = c .before .before .before .before in
+    let a = d .args in
+    new-range (a .n) (a .m) (a .f) (a .clients) (now (a .w)) (c .before .before .if1 .left) _ (c .before .in-range .ensures) (c .if2 .taken)
 
--- src/lib.rt:116:9
 within-limit-requires : tie.Need-within-limit-requires
 within-limit-requires c κs = search needs
 
--- src/lib.rt:117:9
 returns-3 : tie.Need-returns-3
-returns-3 c = ?
+returns-3 c =
+    let d = c .before .before .before .before .before .before in
+    let a = d .args in
+    new-clients (a .n) (a .m) (a .f) (a .clients) (now (a .w)) (c .before .before .before .before .if1 .left) _ (c .before .before .before .in-range .ensures) (c .before .before .if2 .left) _ (c .before .within-limit .ensures) (c .if3 .taken)
 
--- src/lib.rt:119:5
 start-requires : tie.Need-start-requires
-start-requires c κs = ?
+start-requires c κs =
+    let d = c .before .before .before .before .before .before .before in
+    let a = d .args in
+    new-asks (a .n) (a .m) (a .f) (a .clients) (now (a .w)) (c .before .before .before .before .before .if1 .left) _ (c .before .before .before .before .in-range .ensures) (c .before .before .before .if2 .left) _ (c .before .before .within-limit .ensures) (c .before .if3 .left)
 
--- src/lib.rt:107:1
 same-length : tie.Need-same-length
 same-length c = search needs
 
--- src/lib.rt:107:1
 returns-4 : tie.Need-returns-4
-returns-4 c = ?
+returns-4 c =
+    let d = c .before .before .before .before .before .before .before .before .before .before in
+    let a = d .args in
+    new-starts (a .n) (a .m) (a .f) (a .clients) (now (a .w)) (c .before .before .before .before .before .before .before .before .if1 .left) _ (c .before .before .before .before .before .before .before .in-range .ensures) (c .before .before .before .before .before .before .if2 .left) _ (c .before .before .before .before .before .within-limit .ensures) (c .before .before .before .before .if3 .left) _ (c .before .before .start .ensures)
 
 pub new-spec : {M : Type 1} → statement M
 new-spec =

@@ -1,63 +1,79 @@
+-- `simulation::start` meets its contract: cleared words with the setting, then the parties in turn.
+use denote.Ref.{now}
+use native.Mathlib.Omega.{arith}
+use Rattle.simulation.proofs.Opening.{start-two, start-three, start-fits, start-clients, start-servers, start-same, start-done}
 use borrow.Author.Needs.{needs}
 use Rattle.simulation.proofs.start.Statement.{statement}
 use Rattle.simulation.proofs.start.Tie as tie
-use Rattle.simulation.proofs.start.Reads as reads
-use Rattle.simulation.proofs.start.Lts as lts
-use Rattle.simulation.proofs.clear_all.Reads as clear-all-reads
-use Rattle.simulation.proofs.new_clients.Reads as new-clients-reads
-use Rattle.simulation.proofs.new_servers.Reads as new-servers-reads
 
--- src/lib.rt:99:5
 clear-all-requires : tie.Need-clear-all-requires
 clear-all-requires c κs = search needs
 
--- src/lib.rt:100:5
 slice-write-w : tie.Need-slice-write-w
 slice-write-w c = search needs
 
--- src/lib.rt:101:5
 slice-write-w-2 : tie.Need-slice-write-w-2
 slice-write-w-2 c = search needs
 
--- src/lib.rt:102:5
 slice-write-w-3 : tie.Need-slice-write-w-3
-slice-write-w-3 c = ?
+slice-write-w-3 c =
+    let d = c .before .before .before .before .before in
+    let a = d .args in
+    start-two (a .n) (a .m) (a .f) (a .clients) (now (a .w)) _ (d .pre) (c .before .before .clear-all .ensures)
 
--- src/lib.rt:103:5
 slice-write-w-4 : tie.Need-slice-write-w-4
-slice-write-w-4 c = ?
+slice-write-w-4 c =
+    let d = c .before .before .before .before .before in
+    let a = d .args in
+    start-three (a .n) (a .m) (a .f) (a .clients) (now (a .w)) _ (d .pre) (c .before .before .clear-all .ensures)
 
--- src/lib.rt:104:20
 cast-new-clients : tie.Need-cast-new-clients
-cast-new-clients c = ?
+cast-new-clients c =
+    let d = c .before .before .before .before .before .before in
+    let a = d .args in
+    record { fits = omega (arith, start-fits (a .n) (a .m) (a .f) (a .clients) (now (a .w)) _ (d .pre) (c .before .before .before .clear-all .ensures) .0) }
 
--- src/lib.rt:104:30
 cast-new-clients-2 : tie.Need-cast-new-clients-2
-cast-new-clients-2 c = ?
+cast-new-clients-2 c =
+    let d = c .before .before .before .before .before .before in
+    let a = d .args in
+    record { fits = omega (arith, start-fits (a .n) (a .m) (a .f) (a .clients) (now (a .w)) _ (d .pre) (c .before .before .before .clear-all .ensures) .1) }
 
--- src/lib.rt:104:40
 cast-new-clients-3 : tie.Need-cast-new-clients-3
-cast-new-clients-3 c = ?
+cast-new-clients-3 c =
+    let d = c .before .before .before .before .before .before in
+    let a = d .args in
+    record { fits = omega (arith, start-fits (a .n) (a .m) (a .f) (a .clients) (now (a .w)) _ (d .pre) (c .before .before .before .clear-all .ensures) .2) }
 
--- src/lib.rt:104:5
 new-clients-requires : tie.Need-new-clients-requires
-new-clients-requires c κs = ?
+new-clients-requires c κs =
+    let d = c .before .before .before .before .before .before in
+    let a = d .args in
+    start-clients (a .n) (a .m) (a .f) (a .clients) (now (a .w)) _ (d .pre) (c .before .before .before .clear-all .ensures)
 
--- src/lib.rt:105:20
 cast-new-servers : tie.Need-cast-new-servers
-cast-new-servers c = ?
+cast-new-servers c =
+    let d = c .before .before .before .before .before .before .before .before .before .before in
+    let a = d .args in
+    record { fits = omega (arith, start-fits (a .n) (a .m) (a .f) (a .clients) (now (a .w)) _ (d .pre) (c .before .before .before .before .before .before .before .clear-all .ensures) .0) }
 
--- src/lib.rt:105:5
 new-servers-requires : tie.Need-new-servers-requires
-new-servers-requires c κs = ?
+new-servers-requires c κs =
+    let d = c .before .before .before .before .before .before .before .before .before .before in
+    let a = d .args in
+    start-servers (a .n) (a .m) (a .f) (a .clients) (now (a .w)) _ (d .pre) (c .before .before .before .before .before .before .before .clear-all .ensures) _ (c .before .before .before .new-clients .ensures)
 
--- src/lib.rt:95:1
 same-length : tie.Need-same-length
-same-length c = ?
+same-length c =
+    let d = c .before .before .before .before .before .before .before .before .before .before .before .before .before in
+    let a = d .args in
+    start-same (a .n) (a .m) (a .f) (a .clients) (now (a .w)) _ (d .pre) (c .before .before .before .before .before .before .before .before .before .before .clear-all .ensures) _ (c .before .before .before .before .before .before .new-clients .ensures) _ (c .before .before .new-servers .ensures)
 
--- src/lib.rt:95:1
 returns : tie.Need-returns
-returns c = ?
+returns c =
+    let d = c .before .before .before .before .before .before .before .before .before .before .before .before .before in
+    let a = d .args in
+    start-done (a .n) (a .m) (a .f) (a .clients) (now (a .w)) _ (d .pre) (c .before .before .before .before .before .before .before .before .before .before .clear-all .ensures) _ (c .before .before .before .before .before .before .new-clients .ensures) _ (c .before .before .new-servers .ensures)
 
 pub start-spec : {M : Type 1} → statement M
 start-spec =
