@@ -1,24 +1,23 @@
 -- A store in one part of a simulation: the words are a simulation again, and its system differs in that part alone.
 -- Between the stores of one event the most servers down may not be noted yet: such words are sound, and valid once it is noted.
-use mathlib.Core.Path.{_≡_, refl, sym, ap, subst, _∙_}
+use mathlib.Core.Path.{_≡_, sym, ap, subst, _∙_}
 use mathlib.Core.Logic.{⊎-elim}
 use Prim.Native.Nat.{ℕ, zero, suc, _+_, _*_, _-_, _≤_, _<_, max}
 use native.Mathlib.Omega.{arith}
-use mathlib.Core.Bool.{Bool, true, false}
+use mathlib.Core.Bool.{true, false}
 use mathlib.Core.List.{List, [], _∷_}
 use lib.Dec.{eqb}
 use lib.ListN.{length, getD, take, drop, set, length-set}
 use lib.Seq.{sets, length-sets, set-getD, getD-set-same, getD-set-other}
 use Rattle.ids.specs.Limits.{within}
 use Rattle.ids.specs.Lists.{every}
-use Rattle.ids.proofs.Choice.{decided, both}
+use Rattle.ids.proofs.Choice.{decided}
 use Rattle.ids.proofs.LimitsLaws.{within-range}
 use Rattle.quorum.specs.Check.{inRange}
 use Rattle.quorum.proofs.CheckLaws.{range}
 use Rattle.regions.specs.Blocks.{blocks}
 use Rattle.regions.proofs.SetsLaws.{drop-sets-before}
 use Rattle.system.specs.Numbered.{put}
-use Rattle.system.specs.Transit.{InTransit}
 use Rattle.system.specs.Places.{System, ClientPlace, ServerPlace, worst}
 use Rattle.places.specs.Blocks.{clientBlock, serverBlock, clientPlace, serverPlace, flags, flagged, zeroWord, validClientBlock, validServerBlock}
 use Rattle.places.proofs.BlockParts.{covered}
@@ -31,7 +30,7 @@ use Rattle.transit.proofs.Kept.{valid-sized}
 use Rattle.layout.specs.Layout.{size, maxClients, settingOf, clientWords, serverWords, transitWords, lengthOf, sentOf, mostOf, view, validFrom, itself, blank, valid}
 use Rattle.layout.specs.Parts.{clientBlockOf, serverBlockOf}
 use Rattle.layout.proofs.ViewLaws.{head-kept, setting-kept, in-clients, clients-servers, clients-transit, servers-clients, in-servers, servers-transit, client-stored, server-stored}
-use Rattle.layout.proofs.ValidLaws.{Facts, facts, from-facts, each-valid, still-valid}
+use Rattle.layout.proofs.ValidLaws.{facts, from-facts, each-valid, still-valid}
 use Rattle.layout.proofs.LendLaws.{client-block-long, server-block-long}
 use Rattle.layout.proofs.PlaceLaws.{put-set}
 use Rattle.layout.proofs.PartLaws.{Is, itself-is, is-transit-store, is-head-store}
@@ -279,8 +278,12 @@ module _ (w : List ℕ) (F : Sound w) where
   worst-few-of (suc i) h =
       let f = validClientBlock (settingOf w .n) (settingOf w .m) (settingOf w .clients) in
       let v = each-valid f 99 (settingOf w .clients) 1 (clientWords w) (F .clients) i h in
-      omega (arith, worst-more 99 clientPlace i (clientWords w), worst-few-of i (omega arith),
-        downs-few (settingOf w .n) (settingOf w .m) (settingOf w .clients) (1 + i) (take 99 (drop (i * 99) (clientWords w))) v)
+      omega (
+        arith,
+        worst-more 99 clientPlace i (clientWords w),
+        worst-few-of i (omega arith),
+        downs-few (settingOf w .n) (settingOf w .m) (settingOf w .clients) (1 + i) (take 99 (drop (i * 99) (clientWords w))) v,
+      )
 
   worst-few : worst (view w .clients) ≤ settingOf w .n
   unfolding view

@@ -3,10 +3,10 @@
 use mathlib.Core.Path.{_≡_, refl, sym, ap, subst, _∙_}
 use Prim.Native.Nat.{ℕ, zero, suc, _+_, _*_, _-_, _≤_, _<_, max}
 use native.Mathlib.Omega.{arith}
-use mathlib.Core.Bool.{Bool, true}
+use mathlib.Core.Bool.{true}
 use mathlib.Core.List.{List, [], _∷_, map}
 use lib.ListN.{length, getD, set, take, drop, length-map, length-set}
-use lib.Seq.{sets, take-all, set-comm, set-set, length-sets}
+use lib.Seq.{sets, take-all, length-sets}
 use borrow.Rule.Slice.PartMut.{putMid, put-same}
 use Rattle.ids.specs.Choice.{if_then_else_}
 use Rattle.ids.specs.declared.ServerId.{ServerId}
@@ -14,19 +14,17 @@ use Rattle.regions.proofs.BlockLaws.{length-blocks}
 use Rattle.system.specs.Numbered.{put, at}
 use Rattle.system.specs.Places.{System, ClientPlace, ServerPlace, noClient, noServer, clientAt, serverAt, inEpoch, downed, downFrom, worst}
 use Rattle.places.specs.Blocks.{clientPlace, serverPlace}
-use Rattle.places.proofs.BlockParts.{covered}
 use Rattle.places.proofs.FlagLaws.{downBit}
 use Rattle.places.proofs.ClientLaws.{ClientIs}
 use Rattle.places.proofs.EpochLaws.{mark-block, flag-next, put-block}
 use Rattle.layout.specs.Layout.{settingOf, mostOf, clientWords, serverWords, view, valid}
 use Rattle.layout.specs.Parts.{clientBlockOf, serverBlockOf, ClientIn, ServerIn}
-use Rattle.layout.proofs.ViewLaws.{setting-kept, in-clients, clients-servers}
-use Rattle.layout.proofs.ValidLaws.{block-here}
+use Rattle.layout.proofs.ViewLaws.{setting-kept, clients-servers}
 use Rattle.layout.proofs.PlaceLaws.{client-place, server-place}
 use Rattle.layout.proofs.LendLaws.{came-back, client-part, client-block-long}
 use Rattle.simulation.specs.Changes.{Becomes, HasClient, HasServer, withClient, withClients}
 use Rattle.simulation.proofs.Stores.{sets-over, client-block-stored}
-use Rattle.simulation.proofs.Becoming.{Sound, sound, Near, few-clients, few-servers, client-valid, client-near, most-becomes}
+use Rattle.simulation.proofs.Becoming.{sound, Near, few-clients, few-servers, client-valid, client-near, most-becomes}
 
 near-trans : {w w′ w″ : List ℕ} {u v : System} → Near w w′ u → Near w′ w″ v → Near w w″ v
 near-trans a b = record { system = b .system; setting = b .setting ∙ a .setting; again = b .again }

@@ -1,8 +1,8 @@
 -- From what the system's event gives to what the words are afterwards and what the call answers: a refused event, and one that sends nothing.
-use mathlib.Core.Path.{_≡_, refl, sym, ap, _∙_}
+use mathlib.Core.Path.{_≡_, refl, _∙_}
 use Prim.Native.Nat.{ℕ, _≤_, max}
 use native.Mathlib.Omega.{arith}
-use mathlib.Core.Bool.{true, false}
+use mathlib.Core.Bool.{true}
 use mathlib.Core.List.{List, []}
 use Rattle.ids.specs.declared.Refusal.{Refusal}
 use Rattle.ids.proofs.Choice.{clash}

@@ -1,6 +1,6 @@
 -- The messages in transit are lent, and come back changed: the simulation differs in them alone.
 use mathlib.Core.Path.{_≡_, refl, ap, _∙_}
-use Prim.Native.Nat.{ℕ, _+_, _-_, _<_, _≤_}
+use Prim.Native.Nat.{ℕ, _-_, _<_}
 use native.Mathlib.Omega.{arith}
 use mathlib.Core.Bool.{true}
 use mathlib.Core.List.{List, map}
@@ -8,14 +8,14 @@ use lib.ListN.{length, set, take, drop}
 use lib.Seq.{sets, length-sets}
 use borrow.Rule.Slice.PartMut.{putMid}
 use Rattle.ids.specs.declared.ServerId.{ServerId}
-use Rattle.system.specs.Transit.{InTransit, replaced, keeping, gone, again}
-use Rattle.transit.specs.Slots.{slots, slotAt, validSlots}
+use Rattle.system.specs.Transit.{replaced, keeping, gone, again}
+use Rattle.transit.specs.Slots.{slots, slotAt}
 use Rattle.transit.specs.Calls.{Sized, Valid, Marks, Removes, Restarts}
 use Rattle.transit.proofs.Kept.{valid-sized}
 use Rattle.layout.specs.Layout.{settingOf, lengthOf, sentOf, transitWords, view, valid}
 use Rattle.layout.proofs.ValidLaws.{facts}
 use Rattle.layout.proofs.LendLaws.{came-back}
-use Rattle.simulation.specs.Changes.{Becomes, HasSlot, withTransit}
+use Rattle.simulation.specs.Changes.{Becomes, withTransit}
 use Rattle.simulation.proofs.Becoming.{transit-becomes, length-becomes}
 
 -- the words that are lent

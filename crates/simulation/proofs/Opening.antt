@@ -1,14 +1,14 @@
 -- A new simulation: all words are cleared, the setting is written, and block by block the parties are put. What is put behind the
 -- first i blocks is still 0.
-use mathlib.Core.Path.{_≡_, refl, sym, ap, subst, _∙_}
+use mathlib.Core.Path.{_≡_, refl, sym, ap, _∙_}
 use mathlib.Core.Logic.{⊎-elim}
 use Prim.Native.Nat.{ℕ, zero, suc, _+_, _*_, _-_, _≤_, _<_}
 use native.Mathlib.Omega.{arith}
-use mathlib.Core.Bool.{Bool, true, false, not, _&&_}
+use mathlib.Core.Bool.{Bool, true, false, not}
 use mathlib.Core.List.{List, [], _∷_}
 use lib.Dec.{eqb, ltb}
-use lib.ListN.{length, getD, set, take, drop, replicate, length-set, length-replicate, length-take, length-drop}
-use lib.Seq.{sets, length-sets, drop-drop, take-set-lt, getD-set-same, getD-set-other, length-take-le}
+use lib.ListN.{length, getD, set, take, drop, replicate, length-set, length-drop}
+use lib.Seq.{sets, length-sets, drop-drop, getD-set-same, getD-set-other, length-take-le}
 use borrow.Author.Tests.{eq-eqb, ne-eqb, eqb-true, ltb-true, ltb-false, le-leb}
 use Rattle.ids.specs.Choice.{if_then_else_}
 use Rattle.ids.specs.Limits.{within, validClient}
@@ -18,10 +18,8 @@ use Rattle.ids.proofs.LimitsLaws.{within-range}
 use Rattle.votes.specs.Queues as votes
 use Rattle.votes.specs.Figure1.{idle}
 use Rattle.client.specs.Calls as client
-use Rattle.client.specs.Record.{store}
 use Rattle.client.specs.declared.Stepped.{Stepped as ClientStepped}
 use Rattle.client.specs.Figure1.{fresh, enough}
-use Rattle.client.proofs.KeepsValid.{InRange}
 use Rattle.server.specs.Calls as server
 use Rattle.server.specs.Record.{validSizes as server-sizes}
 use Rattle.server.specs.declared.Stepped.{Stepped as ServerStepped}
@@ -30,14 +28,13 @@ use Rattle.quorum.specs.Check.{inRange}
 use Rattle.quorum.proofs.CheckLaws.{range}
 use Rattle.regions.specs.Blocks.{blocks}
 use Rattle.regions.proofs.SetsLaws.{drop-sets-before}
-use Rattle.system.specs.Places.{ClientPlace, ServerPlace, worst}
+use Rattle.system.specs.Places.{ClientPlace, worst}
 use Rattle.system.specs.Runs.{start}
 use Rattle.places.specs.Blocks.{clientPlace, serverPlace, validClientBlock, validServerBlock, flagged, zeroWord}
 use Rattle.places.proofs.BlockParts.{covered}
 use Rattle.places.proofs.ClientLaws.{ClientIs, Frame}
 use Rattle.places.proofs.ClientSteps.{fresh-block}
 use Rattle.places.proofs.ServerLaws.{ServerIs, idle-block}
-use Rattle.transit.specs.Slots.{slots}
 use Rattle.transit.proofs.Kept.{valid-none, slots-none}
 use Rattle.layout.specs.Layout.{settingOf, clientWords, serverWords, transitWords, view, valid, validFrom, itself, blank}
 use Rattle.layout.specs.Parts.{clientBlockOf, serverBlockOf, ClientIn, ServerIn}

@@ -139,9 +139,10 @@ module _ (w : List ℕ) (j : ServerId) (ok : valid w ≡ true) (a : Bool) (e : a
         (downs-twice (settingOf w .n) (enough (settingOf w .m)) (view w) j (server-there-is w ok (j .0) a e t) (fails b _ (sym (up-is w (j .0) down-server b f)) u))
 
     pub sinkable : ServerIn w (j .0) × (holdsServer (serverRecord (serverBlockOf w (j .0))) ≡ true)
-    sinkable =
-        (server-in w (j .0) down-server,
-          server-facts (settingOf w .n) (settingOf w .clients) (j .0) (serverBlockOf w (j .0)) (server-valid w (sound w ok) (j .0) (down-server .first) (down-server .last)) .held)
+    sinkable = (
+      server-in w (j .0) down-server,
+      server-facts (settingOf w .n) (settingOf w .clients) (j .0) (serverBlockOf w (j .0)) (server-valid w (sound w ok) (j .0) (down-server .first) (down-server .last)) .held,
+    )
 
     module _ (w₁ : List ℕ) (s : w₁ ≡ sets w (1591 + 38 * (j .0 - 1)) (set (sets (serverBlockOf w (j .0)) 1 (serverWords (emptied (serverFrom (serverRecord (serverBlockOf w (j .0))))))) 0 0)) where
       pub sunk : Becomes w w₁ (withServer (view w) (j .0) (record { up = false; state = idle }))

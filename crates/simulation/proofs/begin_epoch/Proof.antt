@@ -4,7 +4,6 @@ use native.Mathlib.Omega.{arith}
 use Rattle.simulation.proofs.Parties.{words-long, servers-fit}
 use Rattle.simulation.proofs.Epochs.{Flagging, flagging-none, flagging-fits, flagging-server, flagging-client, flagging-more, flagging-sized, flagging-same, flagging-all}
 use Prim.Native.Nat.{_-_}
-use borrow.Author.Needs.{needs}
 use Rattle.simulation.proofs.begin_epoch.Statement.{statement}
 use Rattle.simulation.proofs.begin_epoch.Tie as tie
 

@@ -11,7 +11,7 @@ cast-within-limit : tie.Need-cast-within-limit
 cast-within-limit c = search needs
 
 slice-read-within-limit : tie.Need-slice-read-within-limit
-slice-read-within-limit c = 
+slice-read-within-limit c =
     let d = c .before .before .before in
     let a = d .args in
     omega (arith, words-long (now (a .w)) (d .pre))
@@ -20,13 +20,13 @@ within-limit-requires : tie.Need-within-limit-requires
 within-limit-requires c κs = search needs
 
 returns : tie.Need-returns
-returns c = 
+returns c =
     let d = c .before .before .before .before .before in
     let a = d .args in
     fall-missing (now (a .w)) (a .k) (d .pre) _ (c .before .within-limit .ensures) (c .if1 .taken)
 
 is-living-requires : tie.Need-is-living-requires
-is-living-requires c κs = 
+is-living-requires c κs =
     let d = c .before .before .before .before .before .before in
     let a = d .args in
     client-in (now (a .w)) (a .k .0) (client-found (now (a .w)) (d .pre) (a .k .0) _ (c .before .before .within-limit .ensures) (c .before .if1 .left))
@@ -35,13 +35,13 @@ same-length : tie.Need-same-length
 same-length c = search needs
 
 returns-2 : tie.Need-returns-2
-returns-2 c = 
+returns-2 c =
     let d = c .before .before .before .before .before .before .before .before in
     let a = d .args in
     fall-twice (now (a .w)) (a .k) (d .pre) _ (c .before .before .before .before .within-limit .ensures) (c .before .before .before .if1 .left) _ (c .before .is-living .ensures) (c .if2 .taken)
 
 fall-client-requires : tie.Need-fall-client-requires
-fall-client-requires c κs = 
+fall-client-requires c κs =
     let d = c .before .before .before .before .before .before .before .before .before in
     let a = d .args in
     client-in (now (a .w)) (a .k .0) (client-found (now (a .w)) (d .pre) (a .k .0) _ (c .before .before .before .before .before .within-limit .ensures) (c .before .before .before .before .if1 .left))
@@ -50,7 +50,7 @@ same-length-2 : tie.Need-same-length-2
 same-length-2 c = search needs
 
 returns-3 : tie.Need-returns-3
-returns-3 c = 
+returns-3 c =
     let d = c .before .before .before .before .before .before .before .before .before .before .before .before in
     let a = d .args in
     fall-leaves (now (a .w)) (a .k) (d .pre) _ (c .before .before .before .before .before .before .before .before .within-limit .ensures) (c .before .before .before .before .before .before .before .if1 .left) _ (c .before .before .before .before .before .is-living .ensures) (c .before .before .before .before .if2 .left) _ (c .before .before .fall-client .ensures)

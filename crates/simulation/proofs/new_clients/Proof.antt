@@ -3,7 +3,6 @@ use native.Mathlib.Omega.{arith}
 use Prim.Native.Nat.{_-_}
 use Rattle.simulation.proofs.Opening.{Putting, putting-none, putting-client, putting-more, putting-all, length-client}
 use Rattle.simulation.specs.Opening.{newClient}
-use borrow.Author.Needs.{needs}
 use Rattle.simulation.proofs.new_clients.Statement.{statement}
 use Rattle.simulation.proofs.new_clients.Tie as tie
 

@@ -3,7 +3,6 @@ use native.Mathlib.Omega.{arith}
 use Prim.Native.Nat.{_-_}
 use Rattle.simulation.proofs.Opening.{Putting, putting-none, putting-server, putting-more, putting-all, length-server}
 use Rattle.simulation.specs.Opening.{newServer}
-use borrow.Author.Needs.{needs}
 use Rattle.simulation.proofs.new_servers.Statement.{statement}
 use Rattle.simulation.proofs.new_servers.Tie as tie
 

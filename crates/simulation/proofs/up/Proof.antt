@@ -11,7 +11,7 @@ cast-within-limit : tie.Need-cast-within-limit
 cast-within-limit c = search needs
 
 slice-read-within-limit : tie.Need-slice-read-within-limit
-slice-read-within-limit c = 
+slice-read-within-limit c =
     let d = c .before .before .before in
     let a = d .args in
     omega (arith, words-long (now (a .w)) (d .pre))
@@ -20,13 +20,13 @@ within-limit-requires : tie.Need-within-limit-requires
 within-limit-requires c κs = search needs
 
 returns : tie.Need-returns
-returns c = 
+returns c =
     let d = c .before .before .before .before .before in
     let a = d .args in
     up-missing (now (a .w)) (a .j) (d .pre) _ (c .before .within-limit .ensures) (c .if1 .taken)
 
 is-up-requires : tie.Need-is-up-requires
-is-up-requires c κs = 
+is-up-requires c κs =
     let d = c .before .before .before .before .before .before in
     let a = d .args in
     server-in (now (a .w)) (a .j .0) (server-found (now (a .w)) (d .pre) (a .j .0) _ (c .before .before .within-limit .ensures) (c .before .if1 .left))
@@ -35,13 +35,13 @@ same-length : tie.Need-same-length
 same-length c = search needs
 
 returns-2 : tie.Need-returns-2
-returns-2 c = 
+returns-2 c =
     let d = c .before .before .before .before .before .before .before .before in
     let a = d .args in
     up-twice (now (a .w)) (a .j) (d .pre) _ (c .before .before .before .before .within-limit .ensures) (c .before .before .before .if1 .left) _ (c .before .is-up .ensures) (c .if2 .taken)
 
 rise-server-requires : tie.Need-rise-server-requires
-rise-server-requires c κs = 
+rise-server-requires c κs =
     let d = c .before .before .before .before .before .before .before .before .before in
     let a = d .args in
     server-in (now (a .w)) (a .j .0) (server-found (now (a .w)) (d .pre) (a .j .0) _ (c .before .before .before .before .before .within-limit .ensures) (c .before .before .before .before .if1 .left))
@@ -50,7 +50,7 @@ same-length-2 : tie.Need-same-length-2
 same-length-2 c = search needs
 
 returns-3 : tie.Need-returns-3
-returns-3 c = 
+returns-3 c =
     let d = c .before .before .before .before .before .before .before .before .before .before .before .before in
     let a = d .args in
     up-leaves (now (a .w)) (a .j) (d .pre) _ (c .before .before .before .before .before .before .before .before .within-limit .ensures) (c .before .before .before .before .before .before .before .if1 .left) _ (c .before .before .before .before .before .is-up .ensures) (c .before .before .before .before .if2 .left) _ (c .before .before .rise-server .ensures)
