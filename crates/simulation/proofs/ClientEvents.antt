@@ -1,12 +1,12 @@
 -- The events in which a client makes a step: what its call answers and leaves is the system's event.
 use mathlib.Core.Path.{_≡_, refl, sym, ap, subst, _∙_}
-use Prim.Native.Nat.{ℕ, zero, suc, _+_, _*_, _-_, _≤_, _<_}
+use Prim.Native.Nat.{ℕ, zero, suc, _+_, _*_, _-_}
 use native.Mathlib.Omega.{arith}
 use mathlib.Core.Bool.{Bool, true, false, not}
 use mathlib.Core.List.{List, []}
 use mathlib.Core.Logic.{⊎-elim}
-use lib.Dec.{leb, ltb}
-use lib.ListN.{length, set}
+use lib.Dec.{leb}
+use lib.ListN.{length}
 use lib.Seq.{sets, set-set}
 use borrow.Author.Tests.{le-leb, leb-false, lt-ltb}
 use Rattle.ids.specs.declared.ClientId.{ClientId}
@@ -28,7 +28,7 @@ use Rattle.system.specs.declared.Event.the-variants.{Try, Exit}
 use Rattle.system.specs.Numbered.{has, put, at}
 use Rattle.system.specs.Transit.{InTransit}
 use Rattle.system.specs.Places.{System, ClientPlace, noClient, clientAt, inEpoch, downFrom}
-use Rattle.system.specs.Events.{event, clientMoves, tried, exited}
+use Rattle.system.specs.Events.{event, clientMoves}
 use Rattle.system.specs.Runs.{after}
 use Rattle.system.proofs.PlaceLaws.{put-numbered}
 use Rattle.transit.specs.Slots.{messagesIn}

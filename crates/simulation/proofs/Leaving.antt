@@ -22,6 +22,14 @@ view-noted : (w : List ℕ) → valid w ≡ true → worst (view w .clients) ≤
 unfolding view
 view-noted w ok = facts w ok .noted
 
+-- of valid words the most is noted: a system with the old most is the one after the event
+pub after-is : (w : List ℕ) (s : Step System) → s .state .most ≡ view w .most → (w′ : List ℕ) → Becomes w w′ (s .state) → s .state ≡ after (view w) (stepped s)
+unfolding after
+after-is w s same w′ B =
+    let noted : worst (s .state .clients) ≤ s .state .most = rw (B .system) at (view-noted w′ (B .again)) in
+    let e : s .state .most ≡ max (view w .most) (worst (s .state .clients)) = omega (arith, same, noted) in
+    λ i. record { clients = s .state .clients; servers = s .state .servers; transit = s .state .transit; sent = s .state .sent; most = e i }
+
 module _ (w : List ℕ) (e : Event) where
   pub leaves-refused : (x : Refusal) → valid w ≡ true → event (settingOf w .n) (enough (settingOf w .m)) (view w) e ≡ refused x
       → Leaves w e w × (Refused x ≡ movedOf (happens w e))
@@ -37,13 +45,5 @@ module _ (w : List ℕ) (e : Event) where
     leaves-silent w′ B =
         (record { system = rw silent (B .system); setting = B .setting; again = B .again; kept = λ z. clash true refl (rw silent at z) }, rw (silent, none))
 
-    -- of valid words the most is noted: a system with the old most is the one after the event
-    after-is : s .state .most ≡ view w .most → (w′ : List ℕ) → Becomes w w′ (s .state) → s .state ≡ after (view w) (stepped s)
-    unfolding after
-    after-is same w′ B =
-        let noted : worst (s .state .clients) ≤ s .state .most = rw (B .system) at (view-noted w′ (B .again)) in
-        let e : s .state .most ≡ max (view w .most) (worst (s .state .clients)) = omega (arith, same, noted) in
-        λ i. record { clients = s .state .clients; servers = s .state .servers; transit = s .state .transit; sent = s .state .sent; most = e i }
-
     pub leaves-quiet : s .state .most ≡ view w .most → (w′ : List ℕ) → Becomes w w′ (s .state) → Leaves w e w′ × (Sent 0 ≡ movedOf (happens w e))
-    leaves-quiet same w′ B = leaves-silent w′ (record { system = B .system ∙ after-is same w′ B; setting = B .setting; again = B .again })
+    leaves-quiet same w′ B = leaves-silent w′ (record { system = B .system ∙ after-is w s same w′ B; setting = B .setting; again = B .again })

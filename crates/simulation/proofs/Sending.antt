@@ -1,6 +1,6 @@
 -- Events that send: an accepted step whose messages have room is what the words become, one whose messages have none is refused 19.
 use mathlib.Core.Path.{_≡_, refl, sym, ap, _∙_}
-use Prim.Native.Nat.{ℕ, suc, _+_, _-_, _≤_, _<_, max}
+use Prim.Native.Nat.{ℕ, suc, _+_, _-_, _≤_, _<_}
 use native.Mathlib.Omega.{arith}
 use mathlib.Core.Bool.{Bool, true, false, _&&_, _||_, not}
 use mathlib.Core.List.{List, [], _∷_, _++_}
@@ -11,7 +11,6 @@ use lib.Seq.{sets, length-sets}
 use borrow.Author.Tests.{eqb-true, ne-eqb, leb-true, leb-false, le-leb, lt-leb, le-ltb, not-true, not-false}
 use borrow.Rule.Slice.PartMut.{putMid}
 use Rattle.ids.specs.Choice.{if_then_else_}
-use Rattle.ids.specs.Lists.{every}
 use Rattle.ids.specs.declared.Refusal.{Refusal}
 use Rattle.ids.specs.declared.Refusal.the-variants.{SystemFull}
 use Rattle.ids.proofs.Choice.{both, clash, decided}
@@ -23,10 +22,10 @@ use Rattle.wire.specs.declared.Message.{Message}
 use Rattle.client.specs.Figure1.{enough}
 use Rattle.system.specs.declared.Event.{Event}
 use Rattle.system.specs.Transit.{InTransit, numbered}
-use Rattle.system.specs.Places.{System, worst}
+use Rattle.system.specs.Places.{System}
 use Rattle.system.specs.Events.{Result, event, nothing, withPlaces}
 use Rattle.system.specs.Runs.{after}
-use Rattle.transit.specs.Slots.{slots, names, messagesIn}
+use Rattle.transit.specs.Slots.{messagesIn}
 use Rattle.transit.specs.Calls.{Sized, Valid, Posts}
 use Rattle.transit.proofs.Kept.{length-slots, valid-sized}
 use Rattle.transit.proofs.PostLaws.{messages-read-buffer}
@@ -37,6 +36,7 @@ use Rattle.simulation.specs.declared.Moved.the-variants.{Sent, Refused}
 use Rattle.simulation.specs.Happens.{maxTransit, maxNumber, happens, Leaves, movedOf}
 use Rattle.simulation.specs.Changes.{Becomes, Sendable, hasRoom, sending}
 use Rattle.simulation.proofs.Becoming.{sent-becomes}
+use Rattle.simulation.proofs.Leaving.{after-is}
 use Rattle.simulation.proofs.Messages.{lent-sized}
 use Rattle.simulation.proofs.SentLaws.{Sends}
 
@@ -119,10 +119,6 @@ by-list : (l : List Message) (b : Bool) (x y : Result) → (if nothing l then x 
 by-list [] b x y = refl
 by-list (m ∷ l) b x y = rw (ne-eqb (length (m ∷ l)) 0 (λ h. omega arith))
 
-view-noted : (w : List ℕ) → valid w ≡ true → worst (view w .clients) ≤ view w .most
-unfolding view
-view-noted w ok = facts w ok .noted
-
 view-long : (w : List ℕ) → length (view w .transit) ≡ lengthOf w
 unfolding view
 view-long w = length-slots (lengthOf w) (transitWords w)
@@ -160,16 +156,8 @@ module _ (w : List ℕ) (e : Event) (gone : ℕ) (l : List Message) (s : Step Sy
     leaves-sent w′ B =
         (record { system = rw stepped-is (B .system); setting = B .setting; again = B .again; kept = λ z. clash true refl (rw stepped-is at z) }, rw (stepped-is, S .sent))
 
-    -- of valid words the most is noted: a system with the old most is the one after the event
-    after-is : s .state .most ≡ view w .most → (w′ : List ℕ) → Becomes w w′ (s .state) → s .state ≡ after (view w) (stepped s)
-    unfolding after
-    after-is same w′ B =
-        let noted : worst (s .state .clients) ≤ s .state .most = rw (B .system) at (view-noted w′ (B .again)) in
-        let q : s .state .most ≡ max (view w .most) (worst (s .state .clients)) = omega (arith, same, noted) in
-        λ i. record { clients = s .state .clients; servers = s .state .servers; transit = s .state .transit; sent = s .state .sent; most = q i }
-
     pub leaves-stepped : s .state .most ≡ view w .most → (w′ : List ℕ) → Becomes w w′ (s .state) → Leaves w e w′ × (Sent (length l) ≡ movedOf (happens w e))
-    leaves-stepped same w′ B = leaves-sent w′ (record { system = B .system ∙ after-is same w′ B; setting = B .setting; again = B .again })
+    leaves-stepped same w′ B = leaves-sent w′ (record { system = B .system ∙ after-is w s same w′ B; setting = B .setting; again = B .again })
 
     -- before its messages are sent, in words w₂
     pub sendable : (w₂ : List ℕ) (u : System) → Becomes w w₂ u → length (u .transit) ≡ lengthOf w - gone → u .sent ≡ view w .sent

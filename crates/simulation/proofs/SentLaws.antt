@@ -21,7 +21,7 @@ use Rattle.ids.proofs.LimitsLaws.{within-range, request-range, client-range}
 use Rattle.wire.specs.Format as format
 use Rattle.wire.specs.Format.{sizeOfAll, fieldsOf, ownerClient}
 use Rattle.wire.specs.declared.Message.{Message}
-use Rattle.wire.specs.declared.Message.the-variants.{Request, Yield, Release, Inquiry, Response, Check}
+use Rattle.wire.specs.declared.Message.the-variants.{Response, Check}
 use Rattle.votes.specs.declared.Tag.{Tag}
 use Rattle.votes.specs.Figure1 as votes
 use Rattle.server.specs.Record as server
@@ -29,7 +29,7 @@ use Rattle.client.specs.Figure1 as client
 use Rattle.client.specs.Calls.{isCritical, lastTry}
 use Rattle.client.proofs.KeepsValid.{Fits}
 use Rattle.places.specs.Blocks.{clientPlace, serverPlace, namedPair, validClientBlock, validServerBlock}
-use Rattle.places.proofs.Facts.{ClientBlock, client-facts, client-fits, ServerBlock, server-facts, server-sizes, server-good}
+use Rattle.places.proofs.Facts.{client-facts, client-fits, ServerBlock, server-facts, server-sizes, server-good}
 use Rattle.transit.specs.Slots.{names}
 use Rattle.sends.proofs.ClientSends as of-client
 use Rattle.sends.proofs.ServerSends as of-server

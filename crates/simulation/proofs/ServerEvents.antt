@@ -4,16 +4,13 @@ use Prim.Native.Nat.{ℕ, _+_, _*_, _-_, _≤_}
 use native.Mathlib.Omega.{arith}
 use mathlib.Core.Bool.{Bool, true, false, not, _&&_}
 use mathlib.Core.List.{List}
-use mathlib.Core.Option.{some}
 use lib.Dec.{leb}
-use lib.ListN.{length, drop, length-drop}
+use lib.ListN.{length}
 use lib.Seq.{sets}
 use borrow.Author.Tests.{le-leb, leb-true}
 use Rattle.ids.specs.Lists.{every}
 use Rattle.ids.specs.Limits.{validRequest, validOwner}
-use Rattle.ids.specs.declared.ClientId.{ClientId}
 use Rattle.ids.specs.declared.ServerId.{ServerId}
-use Rattle.ids.specs.declared.Timestamp.{Timestamp}
 use Rattle.ids.specs.declared.Request.{Request}
 use Rattle.ids.specs.declared.Owner.{Owner}
 use Rattle.ids.specs.declared.Owner.the-variants.{Nobody, Of}
@@ -23,21 +20,18 @@ use Rattle.ids.proofs.LimitsLaws.{client-range, request-range}
 use Rattle.wire.specs.Step.{Step, Outcome, stepped, withRoom, sentInto}
 use Rattle.wire.specs.declared.Answer.the-variants as answer
 use Rattle.votes.specs.Figure1 as votes
-use Rattle.votes.specs.Places.{Padded}
 use Rattle.server.specs.Record as server
 use Rattle.server.specs.Calls.{serverAfter, result, suspectOutcome, checkOutcome}
 use Rattle.server.specs.declared.Server.{Server}
 use Rattle.server.specs.declared.Stepped.{Stepped}
-use Rattle.server.proofs.RecordLaws.{server-padded}
 use Rattle.client.specs.Figure1.{enough}
 use Rattle.words.specs.Records.{holdsServer, serverFrom, serverWords}
-use Rattle.words.proofs.RecordsLaws.{server-held, length-requests}
 use Rattle.system.specs.declared.Event.{Event}
 use Rattle.system.specs.declared.Event.the-variants.{Check, Miss}
 use Rattle.system.specs.Numbered.{has}
 use Rattle.system.specs.Transit.{InTransit}
 use Rattle.system.specs.Places.{ServerPlace, serverAt}
-use Rattle.system.specs.Events.{event, serverMoves, asked, suspected}
+use Rattle.system.specs.Events.{event, serverMoves}
 use Rattle.transit.specs.Slots.{messagesIn}
 use Rattle.places.specs.Blocks.{serverRecord, clientPlace, serverPlace, namedPair}
 use Rattle.places.proofs.Facts.{server-facts, server-good}

@@ -1,12 +1,12 @@
 -- The record that a step gives back is stored in its party's block: the simulation differs in that party's state alone.
-use mathlib.Core.Path.{_≡_, refl, sym, ap, _∙_}
-use Prim.Native.Nat.{ℕ, zero, suc, _+_, _*_, _-_, _≤_}
+use mathlib.Core.Path.{_≡_, refl}
+use Prim.Native.Nat.{ℕ, suc, _+_, _*_, _-_, _≤_}
 use native.Mathlib.Omega.{arith}
 use mathlib.Core.Bool.{true, false}
 use mathlib.Core.List.{List, [], _∷_}
 use mathlib.Core.Logic.{⊎-elim}
 use lib.Dec.{eqb, leb}
-use lib.ListN.{length, getD}
+use lib.ListN.{length}
 use lib.Seq.{sets}
 use Rattle.ids.specs.Lists.{every}
 use Rattle.ids.specs.Limits.{validOwner, validRequest}
@@ -24,7 +24,7 @@ use Rattle.client.specs.Record.{store}
 use Rattle.client.specs.Calls.{isRemainder, lastTry}
 use Rattle.client.specs.declared.Client.{Client}
 use Rattle.words.specs.Records.{serverWords, clientWords}
-use Rattle.system.specs.Places.{ClientPlace, ServerPlace, noClient, clientAt, serverAt, worst}
+use Rattle.system.specs.Places.{clientAt, serverAt, worst}
 use Rattle.system.proofs.PlaceLaws.{worst-at}
 use Rattle.places.specs.Blocks.{clientPlace, serverPlace, flags, flagged, zeroWord, named, validClientBlock, validServerBlock}
 use Rattle.places.proofs.ClientLaws.{ClientIs}

@@ -5,7 +5,7 @@ use native.Mathlib.Omega.{arith}
 use mathlib.Core.Bool.{Bool, true, false, not}
 use mathlib.Core.List.{List}
 use mathlib.Core.Logic.{⊎-elim}
-use mathlib.Core.Option.{none, some}
+use mathlib.Core.Option.{none}
 use lib.Dec.{leb, ltb}
 use lib.ListN.{length, take, drop, length-drop}
 use lib.Seq.{sets}
@@ -46,9 +46,9 @@ use Rattle.system.specs.declared.MessageNumber.{MessageNumber}
 use Rattle.system.specs.declared.Event.the-variants.{Take}
 use Rattle.system.specs.Transit.{InTransit, pending, replaced, gone, keeping}
 use Rattle.system.specs.Places.{System, clientAt, serverAt}
-use Rattle.system.specs.Events.{Result, event, deliver, toServer, need, serverTook, responseTook, checkTook}
+use Rattle.system.specs.Events.{event, deliver, toServer, need, serverTook, responseTook, checkTook}
 use Rattle.system.proofs.Tokens.{message}
-use Rattle.transit.specs.Slots.{slots, slotAt, names}
+use Rattle.transit.specs.Slots.{slotAt}
 use Rattle.transit.specs.Calls.{FindsPending, IsAt}
 use Rattle.transit.proofs.Kept.{Named, names-named}
 use Rattle.places.specs.Blocks.{serverRecord, serverPlace, clientRecord, clientPlace, named}
@@ -60,7 +60,7 @@ use Rattle.layout.proofs.ValidLaws.{facts}
 use Rattle.simulation.specs.declared.Moved.{Moved}
 use Rattle.simulation.specs.declared.Moved.the-variants.{Refused}
 use Rattle.simulation.specs.Happens.{happens, Leaves, movedOf}
-use Rattle.simulation.specs.Changes.{Becomes, HasClient, HasServer, HasSlot, Pends, numberAt, tagged, withClient, withServer, withTransit}
+use Rattle.simulation.specs.Changes.{Becomes, HasClient, HasServer, Pends, numberAt, tagged, withClient, withServer, withTransit}
 use Rattle.simulation.proofs.Answers.{takes, takes-nothing}
 use Rattle.simulation.proofs.Becoming.{sound, few-clients}
 use Rattle.simulation.proofs.Leaving.{leaves-refused}

@@ -1,9 +1,9 @@
 -- The message in a slot is taken: it stays, delivered, or is gone.
-use mathlib.Core.Path.{_≡_, refl, sym, ap, _∙_}
-use Prim.Native.Nat.{ℕ, suc, _+_, _-_, _*_, _<_}
+use mathlib.Core.Path.{_≡_, ap, _∙_}
+use Prim.Native.Nat.{ℕ, suc, _+_, _-_, _*_}
 use native.Mathlib.Omega.{arith}
 use mathlib.Core.Bool.{true}
-use mathlib.Core.List.{List, [], _∷_, _++_}
+use mathlib.Core.List.{List, _∷_, _++_}
 use lib.ListN.{length, drop, length-append}
 use Rattle.system.specs.Transit.{InTransit, replaced, gone, keeping}
 use Rattle.transit.specs.Slots.{slots, slotAt, ascending}

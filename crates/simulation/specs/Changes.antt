@@ -2,7 +2,7 @@
 use mathlib.Core.Path.{_≡_}
 use Prim.Native.Nat.{ℕ, _+_, _-_, _≤_, _<_, max}
 use mathlib.Core.Bool.{Bool, true, false, _&&_, _||_}
-use mathlib.Core.List.{List, _++_, map}
+use mathlib.Core.List.{List, _++_}
 use mathlib.Core.Option.{some}
 use lib.Dec.{eqb, leb}
 use lib.ListN.{length}
@@ -19,7 +19,7 @@ use Rattle.votes.specs.declared.Tag.the-variants as tag
 use Rattle.system.specs.declared.MessageNumber.{MessageNumber}
 use Rattle.system.specs.Numbered.{put}
 use Rattle.system.specs.Transit.{InTransit, numbered, pending, again}
-use Rattle.system.specs.Places.{System, ClientPlace, ServerPlace, clientAt, serverAt, worst, downed}
+use Rattle.system.specs.Places.{System, ClientPlace, ServerPlace, clientAt, serverAt, worst}
 use Rattle.layout.specs.Layout.{settingOf, lengthOf, sentOf, transitWords, view, valid}
 use Rattle.transit.specs.Slots.{slotAt, names, messagesIn}
 use Rattle.simulation.specs.Happens.{maxTransit, maxNumber}

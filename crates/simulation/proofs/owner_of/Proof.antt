@@ -2,7 +2,6 @@
 use denote.Ref.{now}
 use Rattle.simulation.proofs.Parties.{server-in}
 use Rattle.simulation.proofs.ServerEvents.{record-held, owner-is}
-use borrow.Author.Needs.{needs}
 use Rattle.simulation.proofs.owner_of.Statement.{statement}
 use Rattle.simulation.proofs.owner_of.Tie as tie
 
