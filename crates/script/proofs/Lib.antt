@@ -1,2 +1,7 @@
 pub mod Print
 pub mod Whole
+pub mod Cuts
+pub mod StateLaws
+pub mod LineLaws
+pub mod TestLaws
+pub mod StepLaws
