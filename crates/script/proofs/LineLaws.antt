@@ -104,7 +104,7 @@ module _ (w : List ℕ) where
 
 -- the line's words, copied out
 module _ (w : List ℕ) (S : Sound w) where
-  line-long : length (view w .line) ≡ getD w 4 0
+  pub line-long : length (view w .line) ≡ getD w 4 0
   unfolding view headIn
   line-long = length-take-le (getD w 4 0) (keptIn w) (omega (arith, S .short, kept-long w (S .long)))
 

@@ -5,7 +5,7 @@ ghost use mathlib.Core.Path.{_≡_};
 ghost use mathlib.Core.Bool.{true, _&&_};
 ghost use Prim.Native.Nat.{_≤_, _<_, _+_, max};
 ghost use mathlib.Core.List.{[]};
-ghost use lib.ListN.{length, getD, replicate};
+ghost use lib.ListN.{length, getD, set, replicate};
 ghost use mathlib.Core.Option.{some};
 ghost use lib.Seq.{sets};
 ghost use Rattle.ids.specs.Lists.{every};
@@ -148,6 +148,44 @@ fn refuse(w: &mut [u32], out: &mut [u8], at: usize, x: Refusal) -> usize
     language::put_refused(out, at, x)
 }
 
+// The script runs, and nothing is counted yet.
+fn start_counts(w: &mut [u32])
+    requires { ⌜ length (now w) ≡ 6399 ⌝ }
+    ensures { λ _. ⌜ now (w .exit) ≡ set (set (set (set (now (w .entry)) 0 1) 1 0) 2 0) 3 0 ⌝ }
+{
+    w[0] = 1;
+    w[1] = 0;
+    w[2] = 0;
+    w[3] = 0;
+}
+
+// The first line is a setting.
+fn begin(w: &mut [u32], out: &mut [u8], at: usize, s: Setting) -> usize
+    requires { ⌜ Ready (now w) (now out) at × (getD (now w) 0 0 ≡ 0) ⌝ }
+    ensures { λ r. ⌜ Does (now (w .entry)) (now (out .entry)) at (opened (some s)) (now (w .exit)) (now (out .exit)) r ⌝ }
+{
+    let made = simulation::new(&mut w[46..6399], s.n, s.m, s.f, s.clients);
+    match made {
+        Moved::Refused(x) => refuse(w, out, at, x),
+        Moved::Sent(_) => {
+            start_counts(w);
+            language::put_header(out, at, s)
+        }
+    }
+}
+
+// The first line.
+fn open(w: &mut [u32], out: &mut [u8], at: usize) -> usize
+    requires { ⌜ Ready (now w) (now out) at × (getD (now w) 0 0 ≡ 0) ⌝ }
+    ensures { λ r. ⌜ Does (now (w .entry)) (now (out .entry)) at (opened (settingIn (view (now (w .entry)) .line))) (now (w .exit)) (now (out .exit)) r ⌝ }
+{
+    let first = read_setting(w);
+    match first {
+        First::Bad => refuse(w, out, at, Refusal::BadLine),
+        First::Setting(s) => begin(w, out, at, s),
+    }
+}
+
 fn larger(a: u32, b: u32) -> u32
     ensures { λ r. ⌜ r ≡ max a b ⌝ }
 {
@@ -155,6 +193,34 @@ fn larger(a: u32, b: u32) -> u32
         return b;
     }
     a
+}
+
+// An accepted event is counted, and the living holders after it.
+fn count_accepted(w: &mut [u32], holders: u32)
+    requires { ⌜ (length (now w) ≡ 6399) × (getD (now w) 2 0 ≤ 1000000) ⌝ }
+    ensures { λ _. ⌜ now (w .exit) ≡ set (set (now (w .entry)) 2 (getD (now (w .entry)) 2 0 + 1)) 3 (max (getD (now (w .entry)) 3 0) holders) ⌝ }
+{
+    let accepted = w[2] + 1;
+    let most = larger(w[3], holders);
+    w[2] = accepted;
+    w[3] = most;
+}
+
+// An event of a script that runs.
+fn happen(w: &mut [u32], out: &mut [u8], at: usize, e: Event) -> usize
+    requires { ⌜ Ready (now w) (now out) at × Reads (now w) ⌝ }
+    ensures { λ r. ⌜ Does (now (w .entry)) (now (out .entry)) at (happened (runIn (headIn (now (w .entry))) (simulationIn (now (w .entry)))) e) (now (w .exit)) (now (out .exit)) r ⌝ }
+{
+    let number = w[1] + 1;
+    let reply = simulation::happen(&mut w[46..6399], e);
+    w[1] = number;
+    match reply {
+        Reply::Refused(x) => language::put_no(out, at, number, x),
+        Reply::Accepted(sent, holders) => {
+            count_accepted(w, holders);
+            language::put_ok(out, at, number, sent, holders)
+        }
+    }
 }
 
 // A line that changes nothing.
@@ -165,6 +231,36 @@ fn pass(w: &mut [u32], out: &mut [u8], at: usize, x: Refusal) -> usize
     let number = w[1] + 1;
     w[1] = number;
     language::put_no(out, at, number, x)
+}
+
+// An event line.
+fn answer(w: &mut [u32], out: &mut [u8], at: usize) -> usize
+    requires { ⌜ Ready (now w) (now out) at × (getD (now w) 0 0 ≡ 1) ⌝ }
+    ensures { λ r. ⌜ Does (now (w .entry)) (now (out .entry)) at (worked (view (now (w .entry)) .stage) (view (now (w .entry)) .line)) (now (w .exit)) (now (out .exit)) r ⌝ }
+{
+    if 1000000 <= w[1] {
+        return at;
+    }
+    let line = read_event(w);
+    match line {
+        Line::Bad => pass(w, out, at, Refusal::BadLine),
+        Line::Unknown => pass(w, out, at, Refusal::NoSuchParty),
+        Line::Event(e) => happen(w, out, at, e),
+    }
+}
+
+// The line is whole.
+fn work(w: &mut [u32], out: &mut [u8], at: usize) -> usize
+    requires { ⌜ Ready (now w) (now out) at ⌝ }
+    ensures { λ r. ⌜ Does (now (w .entry)) (now (out .entry)) at (worked (view (now (w .entry)) .stage) (view (now (w .entry)) .line)) (now (w .exit)) (now (out .exit)) r ⌝ }
+{
+    if w[0] == 0 {
+        return open(w, out, at);
+    }
+    if w[0] == 1 {
+        return answer(w, out, at);
+    }
+    at
 }
 
 fn clear(w: &mut [u32])
@@ -189,6 +285,20 @@ pub fn new(w: &mut [u32]) -> Progress
     Progress::Took(0, 0)
 }
 
+// One byte of the input.
+fn take(w: &mut [u32], out: &mut [u8], at: usize, b: u8) -> usize
+    requires { ⌜ Ready (now w) (now out) at ⌝ }
+    ensures { λ r. ⌜ Takes (now (out .entry)) at (taken (view (now (w .entry))) b) (now (w .exit)) (now (out .exit)) r ⌝ }
+{
+    if b == b'\n' {
+        let end = work(w, out, at);
+        w[4] = 0;
+        return end;
+    }
+    keep(w, b);
+    at
+}
+
 // What the end prints.
 fn end(w: &[u32], out: &mut [u8], at: usize) -> usize
     requires { ⌜ Ready (now w) (now out) at ⌝ }
@@ -201,4 +311,15 @@ fn end(w: &[u32], out: &mut [u8], at: usize) -> usize
         return language::put_end(out, at, w[2], w[3], w[46 + 6]);
     }
     at
+}
+
+// The last line, where its newline is missing.
+fn last(w: &mut [u32], out: &mut [u8]) -> usize
+    requires { ⌜ Ready (now w) (now out) 0 ⌝ }
+    ensures { λ r. ⌜ Does (now (w .entry)) (now (out .entry)) 0 (lastLine (view (now (w .entry)))) (now (w .exit)) (now (out .exit)) r ⌝ }
+{
+    if w[4] == 0 {
+        return 0;
+    }
+    work(w, out, 0)
 }

@@ -1,66 +1,55 @@
+-- `script::end` meets its contract: the last line by the stage.
+use denote.Ref.{now}
+use native.Mathlib.Omega.{arith}
+use lib.ListN.{getD}
+use Rattle.ids.specs.declared.Refusal.the-variants.{BadLine}
+use Rattle.language.proofs.PrintedLaws.{refused-short, end-short}
+use Rattle.script.proofs.StepLaws.{end-opening, end-running, end-closed}
 use borrow.Author.Needs.{needs}
 use Rattle.script.proofs.end.Statement.{statement}
 use Rattle.script.proofs.end.Tie as tie
-use Rattle.script.proofs.end.Reads as reads
-use Rattle.script.proofs.end.Lts as lts
-use Rattle.language.proofs.put_end.Reads as put-end-reads
-use Rattle.language.proofs.put_refused.Reads as put-refused-reads
 
--- src/lib.rt:197:8
 shared-slice-read-if1 : tie.Need-shared-slice-read-if1
 shared-slice-read-if1 c = search needs
 
--- src/lib.rt:198:9
 put-refused-requires : tie.Need-put-refused-requires
-put-refused-requires c κs = search needs
+put-refused-requires c κs = omega (arith, refused-short BadLine, c .before .before .before .before .before .pre .room)
 
--- src/lib.rt:198:9
 same-length : tie.Need-same-length
 same-length c = search needs
 
--- src/lib.rt:198:9
 returns : tie.Need-returns
-returns c = search needs
+returns c = end-opening (now (c .before .before .before .before .before .before .before .before .args .w)) (c .before .before .before .before .before .before .before .before .args .at) (now (c .before .before .before .before .before .before .before .before .args .out)) (c .before .before .before .before .if1 .taken) _ _ (c .before .before .put-refused .ensures)
 
--- src/lib.rt:200:8
 shared-slice-read-if2 : tie.Need-shared-slice-read-if2
 shared-slice-read-if2 c = search needs
 
--- src/lib.rt:201:43
 shared-slice-read-put-end : tie.Need-shared-slice-read-put-end
 shared-slice-read-put-end c = search needs
 
--- src/lib.rt:201:49
 shared-slice-read-put-end-2 : tie.Need-shared-slice-read-put-end-2
 shared-slice-read-put-end-2 c = search needs
 
--- src/lib.rt:201:57
 add-put-end : tie.Need-add-put-end
 add-put-end c = search needs
 
--- src/lib.rt:201:55
 mul-put-end : tie.Need-mul-put-end
 mul-put-end c = search needs
 
--- src/lib.rt:201:55
 shared-slice-read-put-end-3 : tie.Need-shared-slice-read-put-end-3
 shared-slice-read-put-end-3 c = search needs
 
--- src/lib.rt:201:9
 put-end-requires : tie.Need-put-end-requires
-put-end-requires c κs = search needs
+put-end-requires c κs = omega (arith, end-short (getD (now (c .before .before .before .before .before .before .before .before .before .before .args .w)) 2 0) (getD (now (c .before .before .before .before .before .before .before .before .before .before .args .w)) 3 0) (getD (now (c .before .before .before .before .before .before .before .before .before .before .args .w)) 52 0), c .before .before .before .before .before .before .before .before .before .before .pre .room)
 
--- src/lib.rt:201:9
 same-length-2 : tie.Need-same-length-2
 same-length-2 c = search needs
 
--- src/lib.rt:201:9
 returns-2 : tie.Need-returns-2
-returns-2 c = search needs
+returns-2 c = end-running (now (c .before .before .before .before .before .before .before .before .before .before .before .before .before .args .w)) (c .before .before .before .before .before .before .before .before .before .before .before .before .before .args .at) (now (c .before .before .before .before .before .before .before .before .before .before .before .before .before .args .out)) (c .before .before .before .before .before .before .before .before .before .before .before .before .before .pre .long) (c .before .before .before .before .before .before .before .if2 .taken) _ _ (c .before .before .put-end .ensures)
 
--- src/lib.rt:193:1
 returns-3 : tie.Need-returns-3
-returns-3 c = search needs
+returns-3 c = end-closed (now (c .before .before .before .before .before .before .args .w)) (c .before .before .before .before .before .before .args .at) (now (c .before .before .before .before .before .before .args .out)) (c .before .before .if1 .left) (c .if2 .left)
 
 pub end-spec : {M : Type 1} → statement M
 end-spec =

@@ -1,37 +1,34 @@
+-- `script::pass` meets its contract: the line is counted, and its refusal printed.
+use denote.Ref.{now}
+use Prim.Native.Nat.{_+_}
+use native.Mathlib.Omega.{arith}
+use lib.ListN.{getD}
+use Rattle.language.proofs.PrintedLaws.{no-short}
+use Rattle.script.proofs.StepLaws.{passing-does}
 use borrow.Author.Needs.{needs}
 use Rattle.script.proofs.pass.Statement.{statement}
 use Rattle.script.proofs.pass.Tie as tie
-use Rattle.script.proofs.pass.Reads as reads
-use Rattle.script.proofs.pass.Lts as lts
-use Rattle.language.proofs.put_no.Reads as put-no-reads
 
--- src/lib.rt:165:18
 slice-read-number : tie.Need-slice-read-number
 slice-read-number c = search needs
 
--- src/lib.rt:165:18
 add-number : tie.Need-add-number
 add-number c = search needs
 
--- src/lib.rt:166:5
 slice-write-w : tie.Need-slice-write-w
 slice-write-w c = search needs
 
--- src/lib.rt:167:5
 put-no-requires : tie.Need-put-no-requires
-put-no-requires c κs = search needs
+put-no-requires c κs = omega (arith, no-short (getD (now (c .before .before .before .before .args .w)) 1 0 + 1) (c .before .before .before .before .args .x), c .before .before .before .before .pre .0 .room)
 
--- src/lib.rt:161:1
 same-length : tie.Need-same-length
 same-length c = search needs
 
--- src/lib.rt:161:1
 same-length-2 : tie.Need-same-length-2
 same-length-2 c = search needs
 
--- src/lib.rt:161:1
 returns : tie.Need-returns
-returns c = search needs
+returns c = passing-does (now (c .before .before .before .before .before .before .before .args .w)) (now (c .before .before .before .before .before .before .before .args .out)) (c .before .before .before .before .before .before .before .args .at) (c .before .before .before .before .before .before .before .pre .0) (c .before .before .before .before .before .before .before .pre .1) (c .before .before .before .before .before .before .before .args .x) _ _ (c .before .before .put-no .ensures)
 
 pub pass-spec : {M : Type 1} → statement M
 pass-spec =

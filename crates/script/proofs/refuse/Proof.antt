@@ -1,29 +1,26 @@
+-- `script::refuse` meets its contract: the stage is stored, and the line printed.
+use denote.Ref.{now}
+use native.Mathlib.Omega.{arith}
+use Rattle.language.proofs.PrintedLaws.{refused-short}
+use Rattle.script.proofs.StepLaws.{refused-does}
 use borrow.Author.Needs.{needs}
 use Rattle.script.proofs.refuse.Statement.{statement}
 use Rattle.script.proofs.refuse.Tie as tie
-use Rattle.script.proofs.refuse.Reads as reads
-use Rattle.script.proofs.refuse.Lts as lts
-use Rattle.language.proofs.put_refused.Reads as put-refused-reads
 
--- src/lib.rt:147:5
 slice-write-w : tie.Need-slice-write-w
 slice-write-w c = search needs
 
--- src/lib.rt:148:5
 put-refused-requires : tie.Need-put-refused-requires
-put-refused-requires c κs = search needs
+put-refused-requires c κs = omega (arith, refused-short (c .before .before .before .args .x), c .before .before .before .pre .room)
 
--- src/lib.rt:143:1
 same-length : tie.Need-same-length
 same-length c = search needs
 
--- src/lib.rt:143:1
 same-length-2 : tie.Need-same-length-2
 same-length-2 c = search needs
 
--- src/lib.rt:143:1
 returns : tie.Need-returns
-returns c = search needs
+returns c = refused-does (now (c .before .before .before .before .before .before .args .w)) (now (c .before .before .before .before .before .before .args .out)) (c .before .before .before .before .before .before .args .at) (c .before .before .before .before .before .before .pre) (c .before .before .before .before .before .before .args .x) _ _ (c .before .before .put-refused .ensures)
 
 pub refuse-spec : {M : Type 1} → statement M
 refuse-spec =
