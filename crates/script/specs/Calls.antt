@@ -93,6 +93,13 @@ pub record Takes (out : List ℕ) (at : ℕ) (p : Printed Reader) (w′ out′ :
   pub place : r ≡ at + length (p .out)
   pub bytes : out′ ≡ sets out at (p .out)
 
+-- the bytes were taken in while there was room for a line
+pub record FedAs (w input out w′ out′ : List ℕ) (r : Progress) : Type 0 where
+  pub answer : r ≡ Took (fedWithin (length out) (view w) input .used) (length (fedWithin (length out) (view w) input .out))
+  pub reader : view w′ ≡ fedWithin (length out) (view w) input .now
+  pub again : valid w′ ≡ true
+  pub bytes : out′ ≡ sets out 0 (fedWithin (length out) (view w) input .out)
+
 -- an event of a script that runs, and a line that changes nothing
 abbrev pub happened : Run → Event → Printed Stage
 happened r e =

@@ -11,9 +11,9 @@ ghost use lib.Seq.{sets};
 ghost use Rattle.ids.specs.Lists.{every};
 ghost use Rattle.language.specs.Lines.{eventIn, lineOf, settingIn, firstOf};
 ghost use Rattle.language.specs.Printed.{refusedLine};
-ghost use Rattle.script.specs.Reader.{closed, opened, worked, behind, taken, ended, lastLine, fedWithin, finished};
+ghost use Rattle.script.specs.Reader.{closed, opened, worked, behind, taken, ended, lastLine, finished};
 ghost use Rattle.script.specs.State.{headIn, keptIn, simulationIn, runIn, byteWord, validRun, view, valid as isValid};
-ghost use Rattle.script.specs.Calls.{newAnswer, newWords, feedAnswer, FeedLeaves, finishAnswer, FinishLeaves, Sound, Ready, Reads, Does, Takes, happened, passing};
+ghost use Rattle.script.specs.Calls.{newAnswer, newWords, feedAnswer, FeedLeaves, finishAnswer, FinishLeaves, Sound, Ready, Reads, Does, Takes, FedAs, happened, passing};
 use ids::Refusal;
 use language::First;
 use language::Line;
@@ -263,15 +263,18 @@ fn work(w: &mut [u32], out: &mut [u8], at: usize) -> usize
     at
 }
 
-fn clear(w: &mut [u32])
-    requires { ⌜ length (now w) ≡ 6399 ⌝ }
-    ensures { λ _. ⌜ now (w .exit) ≡ sets (now (w .entry)) 0 (replicate 46 0) ⌝ }
+// One byte of the input.
+fn take(w: &mut [u32], out: &mut [u8], at: usize, b: u8) -> usize
+    requires { ⌜ Ready (now w) (now out) at ⌝ }
+    ensures { λ r. ⌜ Takes (now (out .entry)) at (taken (view (now (w .entry))) b) (now (w .exit)) (now (out .exit)) r ⌝ }
 {
-    let mut i: usize = 0;
-    while i < 46 {
-        w[i] = 0;
-        i += 1;
+    if b == b'\n' {
+        let end = work(w, out, at);
+        w[4] = 0;
+        return end;
     }
+    keep(w, b);
+    at
 }
 
 // A new script.
@@ -285,18 +288,57 @@ pub fn new(w: &mut [u32]) -> Progress
     Progress::Took(0, 0)
 }
 
-// One byte of the input.
-fn take(w: &mut [u32], out: &mut [u8], at: usize, b: u8) -> usize
-    requires { ⌜ Ready (now w) (now out) at ⌝ }
-    ensures { λ r. ⌜ Takes (now (out .entry)) at (taken (view (now (w .entry))) b) (now (w .exit)) (now (out .exit)) r ⌝ }
+fn clear(w: &mut [u32])
+    requires { ⌜ length (now w) ≡ 6399 ⌝ }
+    ensures { λ _. ⌜ now (w .exit) ≡ sets (now (w .entry)) 0 (replicate 46 0) ⌝ }
 {
-    if b == b'\n' {
-        let end = work(w, out, at);
-        w[4] = 0;
-        return end;
+    let mut i: usize = 0;
+    while i < 46 {
+        w[i] = 0;
+        i += 1;
     }
-    keep(w, b);
-    at
+}
+
+// The bytes of the input, one after another, while there is room for a line.
+fn take_all(w: &mut [u32], input: &[u8], out: &mut [u8]) -> Progress
+    requires { ⌜ Sound (now w) ⌝ }
+    ensures { λ r. ⌜ FedAs (now (w .entry)) (now (input .entry)) (now (out .entry)) (now (w .exit)) (now (out .exit)) r ⌝ }
+{
+    let room = out.len();
+    let mut used: usize = 0;
+    let mut at: usize = 0;
+    while used < input.len() {
+        if room - at < 52 {
+            return Progress::Took(used, at);
+        }
+        at = take(w, out, at, input[used]);
+        used += 1;
+    }
+    Progress::Took(used, at)
+}
+
+// The next part of the input. Refused 21, 6.
+pub fn feed(w: &mut [u32], input: &[u8], out: &mut [u8]) -> Progress
+    ensures { λ r. ⌜ (r ≡ feedAnswer (now (w .entry)) (now (input .entry)) (length (now (out .entry)))) × FeedLeaves (now (w .entry)) (now (input .entry)) (now (out .entry)) (now (w .exit)) (now (out .exit)) ⌝ }
+{
+    if !valid(w) {
+        return Progress::Refused(Refusal::InvalidRecord);
+    }
+    if out.len() < 52 {
+        return Progress::Refused(Refusal::RoomShort);
+    }
+    take_all(w, input, out)
+}
+
+// The last line, where its newline is missing.
+fn last(w: &mut [u32], out: &mut [u8]) -> usize
+    requires { ⌜ Ready (now w) (now out) 0 ⌝ }
+    ensures { λ r. ⌜ Does (now (w .entry)) (now (out .entry)) 0 (lastLine (view (now (w .entry)))) (now (w .exit)) (now (out .exit)) r ⌝ }
+{
+    if w[4] == 0 {
+        return 0;
+    }
+    work(w, out, 0)
 }
 
 // What the end prints.
@@ -313,13 +355,27 @@ fn end(w: &[u32], out: &mut [u8], at: usize) -> usize
     at
 }
 
-// The last line, where its newline is missing.
-fn last(w: &mut [u32], out: &mut [u8]) -> usize
-    requires { ⌜ Ready (now w) (now out) 0 ⌝ }
-    ensures { λ r. ⌜ Does (now (w .entry)) (now (out .entry)) 0 (lastLine (view (now (w .entry)))) (now (w .exit)) (now (out .exit)) r ⌝ }
+fn close(w: &mut [u32], out: &mut [u8]) -> usize
+    requires { ⌜ Sound (now w) × (104 ≤ length (now out)) ⌝ }
+    ensures { λ r. ⌜ (r ≡ length (finished (view (now (w .entry))))) × (view (now (w .exit)) ≡ record { stage = closed; line = [] }) × (isValid (now (w .exit)) ≡ true) × (now (out .exit) ≡ sets (now (out .entry)) 0 (finished (view (now (w .entry))))) ⌝ }
 {
-    if w[4] == 0 {
-        return 0;
+    let at = last(w, out);
+    let wrote = end(w, out, at);
+    w[0] = 2;
+    w[4] = 0;
+    wrote
+}
+
+// The end of the input. Refused 21, 6.
+pub fn finish(w: &mut [u32], out: &mut [u8]) -> Progress
+    ensures { λ r. ⌜ (r ≡ finishAnswer (now (w .entry)) (length (now (out .entry)))) × FinishLeaves (now (w .entry)) (now (out .entry)) (now (w .exit)) (now (out .exit)) ⌝ }
+{
+    if !valid(w) {
+        return Progress::Refused(Refusal::InvalidRecord);
     }
-    work(w, out, 0)
+    if out.len() < 104 {
+        return Progress::Refused(Refusal::RoomShort);
+    }
+    let wrote = close(w, out);
+    Progress::Took(0, wrote)
 }
