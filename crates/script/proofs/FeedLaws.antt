@@ -99,6 +99,7 @@ one-more room r b s h = rw (le-ltb room 52 h)
 pub record Feeding (w₀ input out₀ w out : List ℕ) (used at : ℕ) : Type 0 where
   pub valid : valid w ≡ true
   pub long : length w ≡ 6399
+  pub begun : length w₀ ≡ 6399
   pub short : getD w 4 0 ≤ 41
   pub within : used ≤ length input
   pub fits : at ≤ length out
@@ -116,6 +117,7 @@ feeding-none w input out S =
     record {
       valid = S .valid;
       long = S .long;
+      begun = S .long;
       short = S .short;
       within = omega arith;
       fits = omega arith;
@@ -127,10 +129,10 @@ feeding-none w input out S =
     }
 
 module _ {w₀ input out₀ w out : List ℕ} {used at : ℕ} (F : Feeding w₀ input out₀ w out used at) where
-  pub feeding-ready : 52 ≤ length out₀ - at → Ready w out at
+  pub feeding-ready : 52 ≤ length out - at → Ready w out at
   feeding-ready h = record { valid = F .valid; long = F .long; short = F .short; room = omega (arith, F .size, F .fits) }
 
-  pub feeding-more : used < length input → 52 ≤ length out₀ - at → (w′ out′ : List ℕ) (r : ℕ) → Takes out at (taken (view w) (getD input used 0)) w′ out′ r → Feeding w₀ input out₀ w′ out′ (used + 1) r
+  pub feeding-more : used < length input → 52 ≤ length out - at → (w′ out′ : List ℕ) (r : ℕ) → Takes out at (taken (view w) (getD input used 0)) w′ out′ r → Feeding w₀ input out₀ w′ out′ (used + 1) r
   feeding-more lt room w′ out′ r T =
       let S = sound w′ (T .again) in
       let b : ℕ = getD input used 0 in
@@ -139,6 +141,7 @@ module _ {w₀ input out₀ w out : List ℕ} {used at : ℕ} (F : Feeding w₀ 
       record {
         valid = T .again;
         long = S .long;
+        begun = F .begun;
         short = S .short;
         within = omega arith;
         fits = omega (arith, T .place, F .size, F .fits, few, ap length (T .bytes), length-sets out at (p .out));
@@ -154,7 +157,7 @@ module _ {w₀ input out₀ w out : List ℕ} {used at : ℕ} (F : Feeding w₀ 
       next T few =
           let z : length out₀ - at - length (taken (view w) (getD input used 0) .out) ≡ length out₀ - r = omega (arith, T .place) in
           ap (fedWithin (length out₀ - at) (view w)) (drop-cons input used 0 lt) ∙
-          (one-more (length out₀ - at) (view w) (getD input used 0) (drop (suc used) input) room ∙
+          (one-more (length out₀ - at) (view w) (getD input used 0) (drop (suc used) input) (omega (arith, room, F .size)) ∙
           rw (z, T .reader, add-one used))
 
       regroup : (T : Takes out at (taken (view w) (getD input used 0)) w′ out′ r) →
@@ -174,8 +177,8 @@ module _ {w₀ input out₀ w out : List ℕ} {used at : ℕ} (F : Feeding w₀ 
       let g : fedWithin (length out₀) (view w₀) input ≡ record { now = view w; out = F .printed; used = used } = f ∙ (λ i. record { now = view w; out = append-nil (F .printed) i; used = z i }) in
       record { answer = rw (g, F .place); reader = rw g; again = F .valid; bytes = rw g (F .bytes) }
 
-  pub feeding-short : length out₀ - at < 52 → FedAs w₀ input out₀ w out (Took used at)
-  feeding-short h = stopped (stop-room (length out₀ - at) (view w) (drop used input) h)
+  pub feeding-short : length out - at < 52 → FedAs w₀ input out₀ w out (Took used at)
+  feeding-short h = stopped (stop-room (length out₀ - at) (view w) (drop used input) (omega (arith, h, F .size)))
 
   pub feeding-all : length input ≤ used → FedAs w₀ input out₀ w out (Took used at)
   feeding-all h =
@@ -252,12 +255,12 @@ module _ (w out : List ℕ) (S : Sound w) (room : 104 ≤ length out) where
          stored-on out out₁ out₂ (lastLine (view w) .out) (ended (lastLine (view w) .now)) 0 at (D .bytes) o (D .place))
 
   -- a script that has ended
-  pub closed-words : (w₁ : List ℕ) → Sound w₁ → (view (set (set w₁ 0 2) 4 0) ≡ record { stage = closed; line = [] }) × (valid (set (set w₁ 0 2) 4 0) ≡ true)
+  pub closed-words : (w₁ w₂ : List ℕ) → Sound w₁ → w₂ ≡ set (set w₁ 0 2) 4 0 → (view w₂ ≡ record { stage = closed; line = [] }) × (valid w₂ ≡ true)
   unfolding stageOf
-  closed-words w₁ K =
+  closed-words w₁ w₂ K p =
       let I = store-length (store-stage (itself-is w₁ (K .long)) 2) 0 in
       let F = known w₁ (K .valid) in
-      (view-is I, valid-is I ∙ from-facts _ (keptIn w₁) (simulationIn w₁) (omega arith) (omega arith) (F .bytes) (λ q. absurd (omega (arith, q))))
+      rw p (view-is I, valid-is I ∙ from-facts _ (keptIn w₁) (simulationIn w₁) (omega arith) (omega arith) (F .bytes) (λ q. absurd (omega (arith, q))))
 
 module _ (w out : List ℕ) (x : Bool) (e : x ≡ valid w) where
   abbrev Finishes : List ℕ → List ℕ → Progress → Type 0

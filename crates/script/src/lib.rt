@@ -304,11 +304,10 @@ fn take_all(w: &mut [u32], input: &[u8], out: &mut [u8]) -> Progress
     requires { ⌜ Sound (now w) ⌝ }
     ensures { λ r. ⌜ FedAs (now (w .entry)) (now (input .entry)) (now (out .entry)) (now (w .exit)) (now (out .exit)) r ⌝ }
 {
-    let room = out.len();
     let mut used: usize = 0;
     let mut at: usize = 0;
     while used < input.len() {
-        if room - at < 52 {
+        if out.len() - at < 52 {
             return Progress::Took(used, at);
         }
         at = take(w, out, at, input[used]);
@@ -355,14 +354,22 @@ fn end(w: &[u32], out: &mut [u8], at: usize) -> usize
     at
 }
 
+// Nothing is read or printed any more.
+fn seal(w: &mut [u32])
+    requires { ⌜ length (now w) ≡ 6399 ⌝ }
+    ensures { λ _. ⌜ now (w .exit) ≡ set (set (now (w .entry)) 0 2) 4 0 ⌝ }
+{
+    w[0] = 2;
+    w[4] = 0;
+}
+
 fn close(w: &mut [u32], out: &mut [u8]) -> usize
     requires { ⌜ Sound (now w) × (104 ≤ length (now out)) ⌝ }
     ensures { λ r. ⌜ (r ≡ length (finished (view (now (w .entry))))) × (view (now (w .exit)) ≡ record { stage = closed; line = [] }) × (isValid (now (w .exit)) ≡ true) × (now (out .exit) ≡ sets (now (out .entry)) 0 (finished (view (now (w .entry))))) ⌝ }
 {
     let at = last(w, out);
     let wrote = end(w, out, at);
-    w[0] = 2;
-    w[4] = 0;
+    seal(w);
     wrote
 }
 

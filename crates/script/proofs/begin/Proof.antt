@@ -18,7 +18,7 @@ part-new-end : tie.Need-part-new-end
 part-new-end c = search needs
 
 new-requires : tie.Need-new-requires
-new-requires c κs = ?
+new-requires c κs = search needs
 
 enum-known-made : tie.Need-enum-known-made
 enum-known-made c = search needs

@@ -1,46 +1,38 @@
+-- `script::finish` meets its contract: 21, 6, or the end.
+use denote.Ref.{now}
+use Rattle.script.proofs.FeedLaws.{finish-invalid, finish-sound, finish-short, finish-done}
 use borrow.Author.Needs.{needs}
 use Rattle.script.proofs.finish.Statement.{statement}
 use Rattle.script.proofs.finish.Tie as tie
-use Rattle.script.proofs.finish.Reads as reads
-use Rattle.script.proofs.finish.Lts as lts
 use Rattle.script.proofs.close.Reads as close-reads
 use Rattle.script.proofs.valid.Reads as valid-reads
 
--- src/lib.rt:373:9
 valid-requires : tie.Need-valid-requires
 valid-requires c κs = search needs
 
--- src/lib.rt:374:9
 same-length : tie.Need-same-length
 same-length c = search needs
 
--- src/lib.rt:374:9
 returns : tie.Need-returns
-returns c = search needs
+returns c = finish-invalid (now (c .before .before .before .before .before .args .w)) (now (c .before .before .before .before .before .args .out)) _ (c .before .valid .ensures) (c .if1 .taken)
 
--- src/lib.rt:377:9
 same-length-2 : tie.Need-same-length-2
 same-length-2 c = search needs
 
--- src/lib.rt:377:9
 returns-2 : tie.Need-returns-2
-returns-2 c = search needs
+returns-2 c = finish-short (now (c .before .before .before .before .before .before .args .w)) (now (c .before .before .before .before .before .before .args .out)) _ (c .before .before .valid .ensures) (c .before .if1 .left) (c .if2 .taken)
 
--- src/lib.rt:379:9
 close-requires : tie.Need-close-requires
-close-requires c κs = search needs
+close-requires c κs = (finish-sound (now (c .before .before .before .before .before .before .before .before .args .w)) (now (c .before .before .before .before .before .before .before .before .args .out)) _ (c .before .before .before .before .valid .ensures) (c .before .before .before .if1 .left), c .before .before .if2 .left)
 
--- src/lib.rt:370:1
 same-length-3 : tie.Need-same-length-3
 same-length-3 c = search needs
 
--- src/lib.rt:370:1
 same-length-4 : tie.Need-same-length-4
 same-length-4 c = search needs
 
--- src/lib.rt:370:1
 returns-3 : tie.Need-returns-3
-returns-3 c = search needs
+returns-3 c = finish-done (now (c .before .before .before .before .before .before .before .before .before .before .before .before .before .args .w)) (now (c .before .before .before .before .before .before .before .before .before .before .before .before .before .args .out)) _ (c .before .before .before .before .before .before .before .before .before .valid .ensures) (c .before .before .before .before .before .before .before .before .if1 .left) (c .before .before .before .before .before .before .before .if2 .left) _ _ _ (c .before .before .before .before .close .ensures)
 
 pub finish-spec : {M : Type 1} → statement M
 finish-spec =

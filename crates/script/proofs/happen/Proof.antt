@@ -23,7 +23,7 @@ part-happen-end : tie.Need-part-happen-end
 part-happen-end c = search needs
 
 happen-requires : tie.Need-happen-requires
-happen-requires c κs = (simulation-valid (now (c .before .before .before .before .args .w)) (now (c .before .before .before .before .args .out)) (c .before .before .before .before .args .at) (c .before .before .before .before .pre .0) (c .before .before .before .before .pre .1), ?)
+happen-requires c κs = simulation-valid (now (c .before .before .before .before .args .w)) (now (c .before .before .before .before .args .out)) (c .before .before .before .before .args .at) (c .before .before .before .before .pre .0) (c .before .before .before .before .pre .1)
 
 slice-write-w : tie.Need-slice-write-w
 slice-write-w c = search needs

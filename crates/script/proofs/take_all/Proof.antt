@@ -1,67 +1,58 @@
+-- `script::take_all` meets its contract. The invariant: what is left of the part prints behind what is printed.
+use denote.Ref.{now}
+use Prim.Native.Nat.{_-_}
+use native.Mathlib.Omega.{arith}
+use lib.ListN.{length}
+use Rattle.script.proofs.FeedLaws.{Feeding, feeding-none, feeding-ready, feeding-more, feeding-short, feeding-all}
 use borrow.Author.Needs.{needs}
 use Rattle.script.proofs.take_all.Statement.{statement}
 use Rattle.script.proofs.take_all.Tie as tie
-use Rattle.script.proofs.take_all.Reads as reads
-use Rattle.script.proofs.take_all.Lts as lts
 use Rattle.script.proofs.take.Reads as take-reads
 
 abbrev Inv-loop : tie.InvT-loop
-Inv-loop w₀ input out₀ room used₀ at₀ w out used at = ?
+Inv-loop w₀ input out₀ used₀ at₀ w out used at = Feeding w₀ input out₀ w out used at
 
 abbrev μ-loop : tie.MeasureT-loop
-μ-loop w₀ input out₀ room used₀ at₀ w out used at = ?
+μ-loop w₀ input out₀ used₀ at₀ w out used at = length input - used
 
--- src/lib.rt:310:5
 loop-holds : tie.Need-loop-holds Inv-loop μ-loop
-loop-holds c = search needs
+loop-holds c = feeding-none (now (c .before .before .before .args .w)) (now (c .before .before .before .args .input)) (now (c .before .before .before .args .out)) (c .before .before .before .pre)
 
--- src/lib.rt:311:12
 sub-if1 : tie.Need-sub-if1 Inv-loop μ-loop
 sub-if1 c = search needs
 
--- src/lib.rt:312:13
 same-length : tie.Need-same-length Inv-loop μ-loop
 same-length c = search needs
 
--- src/lib.rt:312:13
 same-length-2 : tie.Need-same-length-2 Inv-loop μ-loop
 same-length-2 c = search needs
 
--- src/lib.rt:312:13
 returns : tie.Need-returns Inv-loop μ-loop
-returns c = search needs
+returns c = feeding-short (c .before .before .loop .inv) (c .if1 .taken)
 
--- src/lib.rt:314:31
 shared-slice-read-take : tie.Need-shared-slice-read-take Inv-loop μ-loop
 shared-slice-read-take c = search needs
 
--- src/lib.rt:314:9
 take-requires : tie.Need-take-requires Inv-loop μ-loop
-take-requires c κs = search needs
+take-requires c κs = feeding-ready (c .before .before .before .before .before .loop .inv) (c .before .before .before .if1 .left)
 
--- src/lib.rt:315:9
 add-used : tie.Need-add-used Inv-loop μ-loop
 add-used c = search needs
 
--- src/lib.rt:310:5
 loop-less : tie.Need-loop-less Inv-loop μ-loop
-loop-less c = search needs
+loop-less c = omega arith
 
--- src/lib.rt:310:5
 loop-again : tie.Need-loop-again Inv-loop μ-loop
-loop-again c = search needs
+loop-again c = feeding-more (c .before .before .before .before .before .before .before .before .before .before .loop .inv) (omega arith) (c .before .before .before .before .before .before .before .before .if1 .left) _ _ _ (c .before .before .before .before .take .ensures)
 
--- src/lib.rt:303:1
 same-length-3 : tie.Need-same-length-3 Inv-loop μ-loop
 same-length-3 c = search needs
 
--- src/lib.rt:303:1
 same-length-4 : tie.Need-same-length-4 Inv-loop μ-loop
 same-length-4 c = search needs
 
--- src/lib.rt:303:1
 returns-2 : tie.Need-returns-2 Inv-loop μ-loop
-returns-2 c = search needs
+returns-2 c = feeding-all (c .before .loop .inv) (omega arith)
 
 pub take-all-spec : {M : Type 1} → statement M
 take-all-spec =
