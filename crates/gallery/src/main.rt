@@ -6,7 +6,8 @@ ghost use mathlib.Core.Path.{_≡_};
 ghost use mathlib.Core.Bool.{true};
 ghost use Prim.Native.Nat.{_≤_};
 ghost use lib.ListN.{length};
-ghost use Rattle.script.specs.State.{valid};
+ghost use Rattle.script.specs.State.{valid, view};
+ghost use Rattle.gallery.specs.Over.{Over};
 use libc::STDIN_FILENO;
 use libc::STDOUT_FILENO;
 use script::Progress;
@@ -85,13 +86,37 @@ fn finish(w: &mut [u32], out: &mut [u8])
     }
 }
 
+// Whether nothing more need be read: the first line was refused, or all event lines that are read are answered.
+fn over(w: &[u32]) -> bool
+    requires { ⌜ valid (now w) ≡ true ⌝ }
+    ensures { λ r. ⌜ (r ≡ true → Over (view (now (w .entry)))) ⌝ }
+{
+    if w[0] == 2 {
+        return true;
+    }
+    if w[0] == 0 {
+        return false;
+    }
+    1000000 <= w[1]
+}
+
+// The next part, as `read` answers; 0 too where nothing more need be read.
+fn read_part(w: &[u32], part: &mut [u8]) -> isize
+    requires { ⌜ valid (now w) ≡ true ⌝ }
+{
+    if over(w) {
+        return 0;
+    }
+    libc::read(STDIN_FILENO, part)
+}
+
 // Part by part. A proved loop has to end, and nothing says that the input does: so it counts down from a number that no run uses up.
 fn run(w: &mut [u32], part: &mut [u8], out: &mut [u8])
     requires { ⌜ (valid (now w) ≡ true) × (104 ≤ length (now out)) ⌝ }
 {
     let mut turns = u64::MAX;
     while turns > 0 {
-        let got = libc::read(STDIN_FILENO, part);
+        let got = read_part(w, part);
         if got == 0 {
             finish(w, out);
             return;

@@ -2,6 +2,7 @@ pub mod Print
 pub mod Whole
 pub mod Cuts
 pub mod StateLaws
+pub mod NewLaws
 pub mod LineLaws
 pub mod TestLaws
 pub mod StepLaws
