@@ -8,20 +8,18 @@ ghost use lib.ListN.{length, set};
 ghost use Rattle.ids.specs.Choice.{if_then_else_};
 ghost use Rattle.ids.specs.Limits.{within};
 ghost use Rattle.quorum.specs.Check.{inRange};
-ghost use Rattle.wire.specs.Format as format;
 ghost use Rattle.wire.specs.declared.Message.the-variants.{Response as RESPONSE, Check as CHECK};
 ghost use Rattle.system.specs.Numbered.{put};
 ghost use Rattle.system.specs.Transit.{replaced, keeping, gone, again};
 ghost use Rattle.system.specs.Places.{clientAt, serverAt, inEpoch, downFrom, downed, worst};
-ghost use Rattle.transit.specs.Slots.{messagesIn, slotAt, names};
+ghost use Rattle.transit.specs.Slots.{messagesIn, slotAt};
 ghost use Rattle.system.specs.declared.Event.the-variants.{Try, Exit, Fall, Down, Up, Take, Drop, Miss, Check};
 ghost use Rattle.places.specs.Blocks.{serverPlace};
 ghost use Rattle.layout.specs.Layout.{settingOf, lengthOf, mostOf, transitWords, view, valid};
 ghost use Rattle.layout.specs.Parts.{serverBlockOf, ClientIn, ServerIn};
 ghost use Rattle.simulation.specs.Happens.{happens, Leaves, movedOf, replyOf, EventLeaves, eventReply, opens, newReply, Starts, NewLeaves};
 ghost use Rattle.simulation.specs.Opening.{Cleared, newClient, newServer, inTurn};
-ghost use Rattle.simulation.specs.Changes.{Becomes, HasClient, HasServer, HasSlot, withClient, withServer, withTransit, withClients, sending, hasRoom, Sendable, Missing, Pends, numberAt, tagged};
-use client::Client;
+ghost use Rattle.simulation.specs.Changes.{Becomes, HasClient, HasServer, HasSlot, withClient, withTransit, withClients, sending, hasRoom, Sendable, Missing, Pends, numberAt, tagged};
 use ids::ClientId;
 use ids::Owner;
 use ids::Refusal;
@@ -410,6 +408,7 @@ fn suspect(w: &mut [u32], j: ServerId) -> Moved
     }
 }
 
+// The owner in server `j`'s record.
 fn owner_of(w: &[u32], j: ServerId) -> Owner
     requires { ⌜ HasServer (now w) (j .0) ⌝ }
     ensures { λ r. ⌜ r ≡ serverAt (view (now (w .entry))) (j .0) .state .owner ⌝ }
