@@ -1,2 +1,8 @@
 pub mod Print
 pub mod Whole
+pub mod Cuts
+pub mod StateLaws
+pub mod LineLaws
+pub mod TestLaws
+pub mod StepLaws
+pub mod FeedLaws

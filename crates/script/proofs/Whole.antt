@@ -1,16 +1,16 @@
 -- However a script comes in, what is printed for its bytes and at the end is `output` of the whole: bytes make lines, lines are
 -- answered one by one, and the counts that the reader keeps are those of the run so far.
 use mathlib.Core.Path.{_≡_, refl, sym, ap, _∙_}
-use Prim.Native.Nat.{ℕ, suc, _+_, _-_, _≤_, _<_, max}
+use Prim.Native.Nat.{ℕ, zero, suc, _+_, _-_, _≤_, _<_, max}
 use native.Mathlib.Omega.{arith}
 use mathlib.Core.Bool.{true, false}
 use mathlib.Core.Option.{Option, none, some}
 use mathlib.Core.Logic.{inl, inr, ⊎-elim}
 use mathlib.Core.List.{List, [], _∷_, _++_, append-assoc, append-nil}
-use lib.Dec.{eqb, ltb}
-use lib.ListN.{length, take}
-use lib.Seq.{take-nil}
-use borrow.Author.Tests.{ltb-true, ltb-false, lt-ltb, le-ltb, ne-eqb}
+use lib.Dec.{eqb, ltb, leb}
+use lib.ListN.{length, take, length-take}
+use lib.Seq.{take-nil, take-all}
+use borrow.Author.Tests.{leb-true, leb-false, lt-leb, ltb-true, ltb-false, lt-ltb, le-ltb, ne-eqb}
 use Rattle.ids.specs.Choice.{if_then_else_, maybe}
 use Rattle.ids.specs.declared.Refusal.the-variants.{BadLine, ParameterOutOfRange}
 use Rattle.ids.proofs.Choice.{decided, Test}
@@ -23,7 +23,7 @@ use Rattle.language.specs.Lines.{eventIn, settingIn}
 use Rattle.language.specs.Printed.{headerLine, noLine, endLine, refusedLine}
 use Rattle.language.specs.declared.Setting.{Setting}
 use Rattle.script.specs.Output.{maxLines, continued, linesOf, happens, answerLine, answers, eventsIn, fresh, endOf, runs, played, printedFor, output}
-use Rattle.script.specs.Reader.{Run, Stage, opening, running, closed, Reader, Printed, started, opened, moved, passed, lineTaken, worked, taken, fed, ended, finished, empty}
+use Rattle.script.specs.Reader.{Run, Stage, opening, running, closed, Reader, Printed, started, opened, moved, passed, lineTaken, worked, maxKept, behind, taken, fed, ended, finished, empty}
 
 -- lines one after another
 workedAll : Stage → List (List ℕ) → Printed Stage
@@ -54,15 +54,50 @@ told-cons : (st : Stage) (l : List ℕ) (ls : List (List ℕ)) → told st (l �
 unfolding workedAll
 told-cons st l ls = append-assoc (worked st l .out) (workedAll (worked st l .now) ls .out) (ended (workedAll (worked st l .now) ls .now))
 
+-- of a line, the first 41 bytes decide
+clip-behind : (n : ℕ) (l r : List ℕ) → take n (take n l ++ r) ≡ take n (l ++ r)
+clip-behind zero l r = refl
+clip-behind (suc n) [] r = refl
+clip-behind (suc n) (a ∷ l) r = ap (λ (x : List ℕ). a ∷ x) (clip-behind n l r)
+
+clip-long : (l : List ℕ) → leb (length l) 40 ≡ false → leb (length (take maxKept l)) 40 ≡ false
+clip-long l e = lt-leb (length (take maxKept l)) 40 (omega (arith, length-take maxKept l, leb-false (length l) 40 e))
+
+long-event : (l : List ℕ) → leb (length l) 40 ≡ false → eventIn l ≡ none
+unfolding eventIn
+long-event l e = rw e
+
+long-setting : (l : List ℕ) → leb (length l) 40 ≡ false → settingIn l ≡ none
+unfolding settingIn
+long-setting l e = rw e
+
+clipped : {A : Type 0} (f : List ℕ → Option A) → ((l : List ℕ) → leb (length l) 40 ≡ false → f l ≡ none) → (l : List ℕ) → f (take maxKept l) ≡ f l
+clipped f long l =
+    ⊎-elim
+    (λ (e : leb (length l) 40 ≡ true). ap f (take-all maxKept l (omega (arith, leb-true (length l) 40 e))))
+    (λ (e : leb (length l) 40 ≡ false). long (take maxKept l) (clip-long l e) ∙ sym (long l e))
+    (decided (leb (length l) 40))
+
+worked-clipped : (st : Stage) (l : List ℕ) → worked st (take maxKept l) ≡ worked st l
+unfolding worked lineTaken
+worked-clipped opening l = rw (clipped settingIn long-setting l)
+worked-clipped (running r) l = rw (clipped eventIn long-event l)
+worked-clipped closed l = refl
+
 -- bytes are lines
 abbrev rest : Reader → List ℕ → List ℕ
 rest r s = fed r s .out ++ finished (fed r s .now)
 
-last-told : (st : Stage) (l : List ℕ) → finished (record { stage = st; line = l }) ≡ told st (begun l [])
+abbrev reader : Stage → List ℕ → Reader
+reader st l = record { stage = st; line = take maxKept l }
+
+last-told : (st : Stage) (l : List ℕ) → finished (reader st l) ≡ told st (begun l [])
 unfolding finished workedAll
 last-told st [] = refl
 last-told st (b ∷ l) =
-    rw (ne-eqb (length (b ∷ l)) 0 (λ e. omega arith)) (sym (ap (λ (x : List ℕ). x ++ ended (worked st (b ∷ l) .now)) (append-nil (worked st (b ∷ l) .out))))
+    let some : 0 < length (take maxKept (b ∷ l)) = omega (arith, length-take maxKept (b ∷ l)) in
+    rw (ne-eqb (length (take maxKept (b ∷ l))) 0 (λ e. omega (arith, some)), worked-clipped st (b ∷ l))
+    (sym (ap (λ (x : List ℕ). x ++ ended (worked st (b ∷ l) .now)) (append-nil (worked st (b ∷ l) .out))))
 
 rest-cons : (r : Reader) (b : ℕ) (s : List ℕ) → rest r (b ∷ s) ≡ taken r b .out ++ rest (taken r b .now) s
 unfolding fed
@@ -73,25 +108,31 @@ at-newline : (r : Reader) (b : ℕ) → eqb b newline ≡ true →
 unfolding taken
 at-newline r b e = rw e
 
-in-line : (r : Reader) (b : ℕ) → eqb b newline ≡ false → taken r b ≡ record { now = record { stage = r .stage; line = r .line ++ (b ∷ []) }; out = [] }
+in-line : (r : Reader) (b : ℕ) → eqb b newline ≡ false → taken r b ≡ record { now = record { stage = r .stage; line = behind (r .line) b }; out = [] }
 unfolding taken
 in-line r b e = rw e
 
-bytes-told : (s : List ℕ) (st : Stage) (l : List ℕ) → rest (record { stage = st; line = l }) s ≡ told st (begun l (linesOf s))
+bytes-told : (s : List ℕ) (st : Stage) (l : List ℕ) → rest (reader st l) s ≡ told st (begun l (linesOf s))
 unfolding fed linesOf
 bytes-told [] st l = last-told st l
-bytes-told (b ∷ s) st l = rest-cons (record { stage = st; line = l }) b s ∙ go (bytes-told s) (decided (eqb b newline))
+bytes-told (b ∷ s) st l = rest-cons (reader st l) b s ∙ go (bytes-told s) (decided (eqb b newline))
   where
-    go : ((st : Stage) (l : List ℕ) → rest (record { stage = st; line = l }) s ≡ told st (begun l (linesOf s))) → Test (eqb b newline) →
-        taken (record { stage = st; line = l }) b .out ++ rest (taken (record { stage = st; line = l }) b .now) s ≡ told st (begun l (linesOf (b ∷ s)))
+    nothing-kept : take {A = ℕ} maxKept [] ≡ []
+    nothing-kept = take-nil maxKept
+
+    go : ((st : Stage) (l : List ℕ) → rest (reader st l) s ≡ told st (begun l (linesOf s))) → Test (eqb b newline) →
+        taken (reader st l) b .out ++ rest (taken (reader st l) b .now) s ≡ told st (begun l (linesOf (b ∷ s)))
     go f (inl e) =
-        ap (λ (p : Printed Reader). p .out ++ rest (p .now) s) (at-newline (record { stage = st; line = l }) b e) ∙
+        ap (λ (p : Printed Reader). p .out ++ rest (p .now) s) (at-newline (reader st l) b e) ∙
+        (ap (λ (p : Printed Stage). p .out ++ rest (record { stage = p .now; line = [] }) s) (worked-clipped st l) ∙
+        (ap (λ (x : List ℕ). worked st l .out ++ rest (record { stage = worked st l .now; line = x }) s) (sym nothing-kept) ∙
         (ap (λ (x : List ℕ). worked st l .out ++ x) (f (worked st l .now) []) ∙
         (sym (told-cons st l (linesOf s)) ∙
-        (ap (λ (x : List (List ℕ)). told st x) (sym (begun-line l [] (linesOf s) ∙ ap (λ (y : List ℕ). y ∷ linesOf s) (append-nil l))) ∙ rw e)))
+        (ap (λ (x : List (List ℕ)). told st x) (sym (begun-line l [] (linesOf s) ∙ ap (λ (y : List ℕ). y ∷ linesOf s) (append-nil l))) ∙ rw e)))))
     go f (inr e) =
-        ap (λ (p : Printed Reader). p .out ++ rest (p .now) s) (in-line (record { stage = st; line = l }) b e) ∙
-        (f st (l ++ (b ∷ [])) ∙ (ap (λ (x : List (List ℕ)). told st x) (begun-more l b (linesOf s)) ∙ rw e))
+        ap (λ (p : Printed Reader). p .out ++ rest (p .now) s) (in-line (reader st l) b e) ∙
+        (ap (λ (x : List ℕ). rest (record { stage = st; line = x }) s) (clip-behind maxKept l (b ∷ [])) ∙
+        (f st (l ++ (b ∷ [])) ∙ (ap (λ (x : List (List ℕ)). told st x) (begun-more l b (linesOf s)) ∙ rw e)))
 
 -- the run so far: the reader's counts and those of the events to come are the whole's
 module _ (s : Setting) where
@@ -255,7 +296,7 @@ lines-told (l ∷ ls) = told-cons opening l ls ∙ opened-told (settingIn l) ls
 -- The whole script, byte by byte.
 pub whole : (input : List ℕ) → fed empty input .out ++ finished (fed empty input .now) ≡ output input
 unfolding output
-whole input = bytes-told input opening [] ∙ lines-told (linesOf input)
+whole input = ap (λ (x : List ℕ). rest (record { stage = opening; line = x }) input) (sym (take-nil maxKept)) ∙ (bytes-told input opening [] ∙ lines-told (linesOf input))
 
 -- In two parts, and so in any: what the first prints, then what the second prints behind it.
 pub in-parts : (r : Reader) (a b : List ℕ) → fed r (a ++ b) ≡ record { now = fed (fed r a .now) b .now; out = fed r a .out ++ fed (fed r a .now) b .out }

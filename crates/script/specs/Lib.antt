@@ -1,3 +1,5 @@
 pub mod Output
-pub mod Samples
 pub mod Reader
+pub mod Samples
+pub mod State
+pub mod Calls

@@ -12,23 +12,16 @@ use Rattle.client.specs.Figure1.{enough}
 use Rattle.quorum.specs.Check.{inRange}
 use Rattle.system.specs.declared.Event.{Event}
 use Rattle.system.specs.Places.{System, holders}
-use Rattle.system.specs.Events.{Result, event, withPlaces}
+use Rattle.system.specs.Events.{Result}
 use Rattle.system.specs.Runs.{after, start, runBy, acceptedEvents, mostHolders}
+use Rattle.layout.specs.Layout.{maxClients}
+use Rattle.simulation.specs.Happens.{bounded}
 use Rattle.language.specs.Words.{newline}
 use Rattle.language.specs.Lines.{eventIn, settingIn}
 use Rattle.language.specs.Printed.{headerLine, okLine, noLine, endLine, refusedLine}
 use Rattle.language.specs.declared.Setting.{Setting}
 
--- how much the simulation holds, and how much of a script it reads
-abbrev pub maxTransit : ℕ
-maxTransit = 512
-
-abbrev pub maxNumber : ℕ
-maxNumber = 4294967295
-
-abbrev pub maxClients : ℕ
-maxClients = 16
-
+-- how many event lines of a script are read
 abbrev pub maxLines : ℕ
 maxLines = 1000000
 
@@ -46,7 +39,7 @@ linesOf (b ∷ s) = if eqb b newline then [] ∷ linesOf s else continued b (lin
 
 -- an event of the simulation: the system's, with refusal 19
 abbrev pub happens : Setting → System → Event → Result
-happens s w e = withPlaces maxTransit maxNumber (event (s .n) (enough (s .m)) w e)
+happens s w e = bounded (s .n) (s .m) w e
 
 -- the answer to event number i, which gave o
 unfoldable pub answerLine : ℕ → System → Result → List ℕ

@@ -1,10 +1,10 @@
 -- The same byte by byte: what a reader of a script has taken in so far, and what it prints for each byte and at the end.
 -- proofs/Whole shows that it prints `output` of the whole script, however the script comes in.
-use Prim.Native.Nat.{ℕ, suc, _+_, max}
+use Prim.Native.Nat.{ℕ, suc, _+_, _-_, max}
 use mathlib.Core.Option.{Option}
 use mathlib.Core.List.{List, [], _∷_, _++_}
 use lib.Dec.{eqb, ltb}
-use lib.ListN.{length}
+use lib.ListN.{length, take, drop}
 use Rattle.ids.specs.Choice.{if_then_else_, maybe}
 use Rattle.ids.specs.declared.Refusal.the-variants.{BadLine, ParameterOutOfRange}
 use Rattle.system.specs.Places.{System, holders}
@@ -82,15 +82,40 @@ worked opening l = opened (settingIn l)
 worked (running r) l = record { now = running (lineTaken r l .now); out = lineTaken r l .out }
 worked closed l = record { now = closed; out = [] }
 
+-- a byte behind a line; of a longer line than any that is read, no more is kept
+abbrev pub maxKept : ℕ
+maxKept = 41
+
+abbrev pub behind : List ℕ → ℕ → List ℕ
+behind l b = take maxKept (l ++ (b ∷ []))
+
 -- a byte, and bytes one after another
 unfoldable pub taken : Reader → ℕ → Printed Reader
 taken r b =
     if eqb b newline then record { now = record { stage = worked (r .stage) (r .line) .now; line = [] }; out = worked (r .stage) (r .line) .out }
-    else record { now = record { stage = r .stage; line = r .line ++ (b ∷ []) }; out = [] }
+    else record { now = record { stage = r .stage; line = behind (r .line) b }; out = [] }
 
 unfoldable pub fed : Reader → List ℕ → Printed Reader
 fed r [] = record { now = r; out = [] }
 fed r (b ∷ s) = record { now = fed (taken r b .now) s .now; out = taken r b .out ++ fed (taken r b .now) s .out }
+
+-- bytes one after another while there is room for one more line; how many were taken in
+abbrev pub maxPrinted : ℕ
+maxPrinted = 52
+
+pub record Fed : Type 0 where
+  pub now : Reader
+  pub out : List ℕ
+  pub used : ℕ
+
+abbrev pub followed : Printed Reader → Fed → Fed
+followed p q = record { now = q .now; out = p .out ++ q .out; used = suc (q .used) }
+
+unfoldable pub fedWithin : ℕ → Reader → List ℕ → Fed
+fedWithin room r [] = record { now = r; out = []; used = 0 }
+fedWithin room r (b ∷ s) =
+    if ltb room maxPrinted then record { now = r; out = []; used = 0 }
+    else followed (taken r b) (fedWithin (room - length (taken r b .out)) (taken r b .now) s)
 
 -- at the end: a last line without its newline, and the end line
 unfoldable pub ended : Stage → List ℕ
@@ -106,3 +131,21 @@ finished r = lastLine r .out ++ ended (lastLine r .now)
 
 abbrev pub empty : Reader
 empty = record { stage = opening; line = [] }
+
+-- Calls one after another on the same input: each has room for so many bytes and is given so many of those that are left.
+pub record Call : Type 0 where
+  pub room : ℕ
+  pub given : ℕ
+
+-- what they leave of the input
+pub record Session : Type 0 where
+  pub now : Reader
+  pub out : List ℕ
+  pub left : List ℕ
+
+unfoldable pub session : Reader → List ℕ → List Call → Session
+session r s [] = record { now = r; out = []; left = s }
+session r s (c ∷ cs) =
+    let q = fedWithin (c .room) r (take (c .given) s) in
+    let t = session (q .now) (drop (q .used) s) cs in
+    record { now = t .now; out = q .out ++ t .out; left = t .left }

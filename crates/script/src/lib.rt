@@ -1,1 +1,390 @@
-// No code yet: what the gallery program prints for a script, as one definition.
+// A script of events run on the simulation, from bytes to bytes: document 01, 'The gallery script'.
+// The input comes in parts of any size, and what it prints goes into lent buffers; between the calls the state is words that the
+// caller lends.
+ghost use mathlib.Core.Path.{_≡_};
+ghost use mathlib.Core.Bool.{true, _&&_};
+ghost use Prim.Native.Nat.{_≤_, _<_, _+_, max};
+ghost use mathlib.Core.List.{[]};
+ghost use lib.ListN.{length, getD, set, replicate};
+ghost use mathlib.Core.Option.{some};
+ghost use lib.Seq.{sets};
+ghost use Rattle.ids.specs.Lists.{every};
+ghost use Rattle.language.specs.Lines.{eventIn, lineOf, settingIn, firstOf};
+ghost use Rattle.language.specs.Printed.{refusedLine};
+ghost use Rattle.script.specs.Reader.{closed, opened, worked, behind, taken, ended, lastLine, finished};
+ghost use Rattle.script.specs.State.{headIn, keptIn, simulationIn, runIn, byteWord, validRun, view, valid as isValid};
+ghost use Rattle.script.specs.Calls.{newAnswer, newWords, feedAnswer, FeedLeaves, finishAnswer, FinishLeaves, Sound, Ready, Reads, Does, Takes, FedAs, happened, passing};
+use ids::Refusal;
+use language::First;
+use language::Line;
+use language::Setting;
+use simulation::Moved;
+use simulation::Reply;
+use system::Event;
+
+// The words of a script's state, the bytes that any line printed fits in, and the event lines that are read.
+pub const SIZE: usize = 6399;
+
+pub const MAX_PRINTED: usize = 52;
+
+pub const MAX_ENDING: usize = 104;
+
+// Bytes used and bytes written, or the refusal.
+pub enum Progress {
+    Took(usize, usize),
+    Refused(Refusal),
+}
+
+// Whether the words of the line are bytes.
+fn bytes_valid(w: &[u32]) -> bool
+    requires { ⌜ length (now w) ≡ 6399 ⌝ }
+    ensures { λ r. ⌜ r ≡ every byteWord (keptIn (now (w .entry))) ⌝ }
+{
+    let mut i: usize = 0;
+    while i < 41 {
+        if 255 < w[5 + i] {
+            return false;
+        }
+        i += 1;
+    }
+    true
+}
+
+// Whether the simulation and the counts are those of a script that runs.
+fn run_valid(w: &[u32]) -> bool
+    requires { ⌜ length (now w) ≡ 6399 ⌝ }
+    ensures { λ r. ⌜ r ≡ validRun (headIn (now (w .entry))) (simulationIn (now (w .entry))) ⌝ }
+{
+    let s = &w[46..6399];
+    if !layout::valid(s) {
+        return false;
+    }
+    if 1000000 < w[1] {
+        return false;
+    }
+    if w[1] < w[2] {
+        return false;
+    }
+    let clients = s[3];
+    if w[3] < layout::count_inside(s, clients as u16) {
+        return false;
+    }
+    w[3] <= 16
+}
+
+// Whether the words are the state of a script.
+pub fn valid(w: &[u32]) -> bool
+    ensures { λ r. ⌜ r ≡ isValid (now (w .entry)) ⌝ }
+{
+    if w.len() != 6399 {
+        return false;
+    }
+    if 2 < w[0] {
+        return false;
+    }
+    if 41 < w[4] {
+        return false;
+    }
+    if !bytes_valid(w) {
+        return false;
+    }
+    if w[0] != 1 {
+        return true;
+    }
+    run_valid(w)
+}
+
+// A byte behind the line so far.
+fn keep(w: &mut [u32], b: u8)
+    requires { ⌜ Sound (now w) ⌝ }
+    ensures { λ _. ⌜ (view (now (w .exit)) ≡ record { stage = view (now (w .entry)) .stage; line = behind (view (now (w .entry)) .line) b }) × (isValid (now (w .exit)) ≡ true) ⌝ }
+{
+    let len = w[4];
+    if 40 < len {
+        return;
+    }
+    let at = 5 + len as usize;
+    w[at] = b as u32;
+    w[4] = len + 1;
+}
+
+// The line so far, as bytes at the start of the buffer.
+fn copy_line(w: &[u32], line: &mut [u8])
+    requires { ⌜ Sound (now w) × (length (now line) ≡ 41) ⌝ }
+    ensures { λ _. ⌜ now (line .exit) ≡ sets (now (line .entry)) 0 (view (now (w .entry)) .line) ⌝ }
+{
+    let len = w[4] as usize;
+    let mut i: usize = 0;
+    while i < len {
+        line[i] = w[5 + i] as u8;
+        i += 1;
+    }
+}
+
+fn read_setting(w: &[u32]) -> First
+    requires { ⌜ Sound (now w) ⌝ }
+    ensures { λ r. ⌜ r ≡ firstOf (settingIn (view (now (w .entry)) .line)) ⌝ }
+{
+    let mut line = [0u8; 41];
+    copy_line(w, &mut line);
+    let len = w[4] as usize;
+    language::parse_setting(&line[0..len])
+}
+
+fn read_event(w: &[u32]) -> Line
+    requires { ⌜ Sound (now w) ⌝ }
+    ensures { λ r. ⌜ r ≡ lineOf (eventIn (view (now (w .entry)) .line)) ⌝ }
+{
+    let mut line = [0u8; 41];
+    copy_line(w, &mut line);
+    let len = w[4] as usize;
+    language::parse_event(&line[0..len])
+}
+
+// The first line is refused.
+fn refuse(w: &mut [u32], out: &mut [u8], at: usize, x: Refusal) -> usize
+    requires { ⌜ Ready (now w) (now out) at ⌝ }
+    ensures { λ r. ⌜ Does (now (w .entry)) (now (out .entry)) at (record { now = closed; out = refusedLine x }) (now (w .exit)) (now (out .exit)) r ⌝ }
+{
+    w[0] = 2;
+    language::put_refused(out, at, x)
+}
+
+// The script runs, and nothing is counted yet.
+fn start_counts(w: &mut [u32])
+    requires { ⌜ length (now w) ≡ 6399 ⌝ }
+    ensures { λ _. ⌜ now (w .exit) ≡ set (set (set (set (now (w .entry)) 0 1) 1 0) 2 0) 3 0 ⌝ }
+{
+    w[0] = 1;
+    w[1] = 0;
+    w[2] = 0;
+    w[3] = 0;
+}
+
+// The first line is a setting.
+fn begin(w: &mut [u32], out: &mut [u8], at: usize, s: Setting) -> usize
+    requires { ⌜ Ready (now w) (now out) at × (getD (now w) 0 0 ≡ 0) ⌝ }
+    ensures { λ r. ⌜ Does (now (w .entry)) (now (out .entry)) at (opened (some s)) (now (w .exit)) (now (out .exit)) r ⌝ }
+{
+    let made = simulation::new(&mut w[46..6399], s.n, s.m, s.f, s.clients);
+    match made {
+        Moved::Refused(x) => refuse(w, out, at, x),
+        Moved::Sent(_) => {
+            start_counts(w);
+            language::put_header(out, at, s)
+        }
+    }
+}
+
+// The first line.
+fn open(w: &mut [u32], out: &mut [u8], at: usize) -> usize
+    requires { ⌜ Ready (now w) (now out) at × (getD (now w) 0 0 ≡ 0) ⌝ }
+    ensures { λ r. ⌜ Does (now (w .entry)) (now (out .entry)) at (opened (settingIn (view (now (w .entry)) .line))) (now (w .exit)) (now (out .exit)) r ⌝ }
+{
+    let first = read_setting(w);
+    match first {
+        First::Bad => refuse(w, out, at, Refusal::BadLine),
+        First::Setting(s) => begin(w, out, at, s),
+    }
+}
+
+fn larger(a: u32, b: u32) -> u32
+    ensures { λ r. ⌜ r ≡ max a b ⌝ }
+{
+    if a < b {
+        return b;
+    }
+    a
+}
+
+// An accepted event is counted, and the living holders after it.
+fn count_accepted(w: &mut [u32], holders: u32)
+    requires { ⌜ (length (now w) ≡ 6399) × (getD (now w) 2 0 ≤ 1000000) ⌝ }
+    ensures { λ _. ⌜ now (w .exit) ≡ set (set (now (w .entry)) 2 (getD (now (w .entry)) 2 0 + 1)) 3 (max (getD (now (w .entry)) 3 0) holders) ⌝ }
+{
+    let accepted = w[2] + 1;
+    let most = larger(w[3], holders);
+    w[2] = accepted;
+    w[3] = most;
+}
+
+// An event of a script that runs.
+fn happen(w: &mut [u32], out: &mut [u8], at: usize, e: Event) -> usize
+    requires { ⌜ Ready (now w) (now out) at × Reads (now w) ⌝ }
+    ensures { λ r. ⌜ Does (now (w .entry)) (now (out .entry)) at (happened (runIn (headIn (now (w .entry))) (simulationIn (now (w .entry)))) e) (now (w .exit)) (now (out .exit)) r ⌝ }
+{
+    let number = w[1] + 1;
+    let reply = simulation::happen(&mut w[46..6399], e);
+    w[1] = number;
+    match reply {
+        Reply::Refused(x) => language::put_no(out, at, number, x),
+        Reply::Accepted(sent, holders) => {
+            count_accepted(w, holders);
+            language::put_ok(out, at, number, sent, holders)
+        }
+    }
+}
+
+// A line that changes nothing.
+fn pass(w: &mut [u32], out: &mut [u8], at: usize, x: Refusal) -> usize
+    requires { ⌜ Ready (now w) (now out) at × Reads (now w) ⌝ }
+    ensures { λ r. ⌜ Does (now (w .entry)) (now (out .entry)) at (passing (runIn (headIn (now (w .entry))) (simulationIn (now (w .entry)))) x) (now (w .exit)) (now (out .exit)) r ⌝ }
+{
+    let number = w[1] + 1;
+    w[1] = number;
+    language::put_no(out, at, number, x)
+}
+
+// An event line.
+fn answer(w: &mut [u32], out: &mut [u8], at: usize) -> usize
+    requires { ⌜ Ready (now w) (now out) at × (getD (now w) 0 0 ≡ 1) ⌝ }
+    ensures { λ r. ⌜ Does (now (w .entry)) (now (out .entry)) at (worked (view (now (w .entry)) .stage) (view (now (w .entry)) .line)) (now (w .exit)) (now (out .exit)) r ⌝ }
+{
+    if 1000000 <= w[1] {
+        return at;
+    }
+    let line = read_event(w);
+    match line {
+        Line::Bad => pass(w, out, at, Refusal::BadLine),
+        Line::Unknown => pass(w, out, at, Refusal::NoSuchParty),
+        Line::Event(e) => happen(w, out, at, e),
+    }
+}
+
+// The line is whole.
+fn work(w: &mut [u32], out: &mut [u8], at: usize) -> usize
+    requires { ⌜ Ready (now w) (now out) at ⌝ }
+    ensures { λ r. ⌜ Does (now (w .entry)) (now (out .entry)) at (worked (view (now (w .entry)) .stage) (view (now (w .entry)) .line)) (now (w .exit)) (now (out .exit)) r ⌝ }
+{
+    if w[0] == 0 {
+        return open(w, out, at);
+    }
+    if w[0] == 1 {
+        return answer(w, out, at);
+    }
+    at
+}
+
+// One byte of the input.
+fn take(w: &mut [u32], out: &mut [u8], at: usize, b: u8) -> usize
+    requires { ⌜ Ready (now w) (now out) at ⌝ }
+    ensures { λ r. ⌜ Takes (now (out .entry)) at (taken (view (now (w .entry))) b) (now (w .exit)) (now (out .exit)) r ⌝ }
+{
+    if b == b'\n' {
+        let end = work(w, out, at);
+        w[4] = 0;
+        return end;
+    }
+    keep(w, b);
+    at
+}
+
+// A new script.
+pub fn new(w: &mut [u32]) -> Progress
+    ensures { λ r. ⌜ (r ≡ newAnswer (now (w .entry))) × (now (w .exit) ≡ newWords (now (w .entry))) ⌝ }
+{
+    if w.len() != 6399 {
+        return Progress::Refused(Refusal::ParameterOutOfRange);
+    }
+    clear(w);
+    Progress::Took(0, 0)
+}
+
+fn clear(w: &mut [u32])
+    requires { ⌜ length (now w) ≡ 6399 ⌝ }
+    ensures { λ _. ⌜ now (w .exit) ≡ sets (now (w .entry)) 0 (replicate 46 0) ⌝ }
+{
+    let mut i: usize = 0;
+    while i < 46 {
+        w[i] = 0;
+        i += 1;
+    }
+}
+
+// The bytes of the input, one after another, while there is room for a line.
+fn take_all(w: &mut [u32], input: &[u8], out: &mut [u8]) -> Progress
+    requires { ⌜ Sound (now w) ⌝ }
+    ensures { λ r. ⌜ FedAs (now (w .entry)) (now (input .entry)) (now (out .entry)) (now (w .exit)) (now (out .exit)) r ⌝ }
+{
+    let mut used: usize = 0;
+    let mut at: usize = 0;
+    while used < input.len() {
+        if out.len() - at < 52 {
+            return Progress::Took(used, at);
+        }
+        at = take(w, out, at, input[used]);
+        used += 1;
+    }
+    Progress::Took(used, at)
+}
+
+// The next part of the input. Refused 21, 6.
+pub fn feed(w: &mut [u32], input: &[u8], out: &mut [u8]) -> Progress
+    ensures { λ r. ⌜ (r ≡ feedAnswer (now (w .entry)) (now (input .entry)) (length (now (out .entry)))) × FeedLeaves (now (w .entry)) (now (input .entry)) (now (out .entry)) (now (w .exit)) (now (out .exit)) ⌝ }
+{
+    if !valid(w) {
+        return Progress::Refused(Refusal::InvalidRecord);
+    }
+    if out.len() < 52 {
+        return Progress::Refused(Refusal::RoomShort);
+    }
+    take_all(w, input, out)
+}
+
+// The last line, where its newline is missing.
+fn last(w: &mut [u32], out: &mut [u8]) -> usize
+    requires { ⌜ Ready (now w) (now out) 0 ⌝ }
+    ensures { λ r. ⌜ Does (now (w .entry)) (now (out .entry)) 0 (lastLine (view (now (w .entry)))) (now (w .exit)) (now (out .exit)) r ⌝ }
+{
+    if w[4] == 0 {
+        return 0;
+    }
+    work(w, out, 0)
+}
+
+// What the end prints.
+fn end(w: &[u32], out: &mut [u8], at: usize) -> usize
+    requires { ⌜ Ready (now w) (now out) at ⌝ }
+    ensures { λ r. ⌜ (r ≡ at + length (ended (view (now (w .entry)) .stage))) × (now (out .exit) ≡ sets (now (out .entry)) at (ended (view (now (w .entry)) .stage))) ⌝ }
+{
+    if w[0] == 0 {
+        return language::put_refused(out, at, Refusal::BadLine);
+    }
+    if w[0] == 1 {
+        return language::put_end(out, at, w[2], w[3], w[46 + 6]);
+    }
+    at
+}
+
+// Nothing is read or printed any more.
+fn seal(w: &mut [u32])
+    requires { ⌜ length (now w) ≡ 6399 ⌝ }
+    ensures { λ _. ⌜ now (w .exit) ≡ set (set (now (w .entry)) 0 2) 4 0 ⌝ }
+{
+    w[0] = 2;
+    w[4] = 0;
+}
+
+fn close(w: &mut [u32], out: &mut [u8]) -> usize
+    requires { ⌜ Sound (now w) × (104 ≤ length (now out)) ⌝ }
+    ensures { λ r. ⌜ (r ≡ length (finished (view (now (w .entry))))) × (view (now (w .exit)) ≡ record { stage = closed; line = [] }) × (isValid (now (w .exit)) ≡ true) × (now (out .exit) ≡ sets (now (out .entry)) 0 (finished (view (now (w .entry))))) ⌝ }
+{
+    let at = last(w, out);
+    let wrote = end(w, out, at);
+    seal(w);
+    wrote
+}
+
+// The end of the input. Refused 21, 6.
+pub fn finish(w: &mut [u32], out: &mut [u8]) -> Progress
+    ensures { λ r. ⌜ (r ≡ finishAnswer (now (w .entry)) (length (now (out .entry)))) × FinishLeaves (now (w .entry)) (now (out .entry)) (now (w .exit)) (now (out .exit)) ⌝ }
+{
+    if !valid(w) {
+        return Progress::Refused(Refusal::InvalidRecord);
+    }
+    if out.len() < 104 {
+        return Progress::Refused(Refusal::RoomShort);
+    }
+    let wrote = close(w, out);
+    Progress::Took(0, wrote)
+}

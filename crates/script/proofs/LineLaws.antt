@@ -1,0 +1,137 @@
+-- The line so far: a byte joins it while it has at most 40, and its words are copied out as its bytes.
+use mathlib.Core.Path.{_≡_, refl, sym, ap, _∙_}
+use Prim.Native.Nat.{ℕ, zero, suc, _+_, _-_, _≤_, _<_}
+use native.Mathlib.Numerals.{add-one}
+use native.Mathlib.Omega.{arith}
+use mathlib.Core.Bool.{Bool, true, false}
+use mathlib.Core.List.{List, [], _∷_, _++_}
+use lib.ListN.{length, getD, set, take, drop, length-take, length-drop, length-set}
+use lib.Seq.{sets, sets-eq, take-all, take-suc, take-set-le, getD-set-same, getD-take, getD-drop, length-take-le}
+use borrow.Author.Tests.{eqb-true, le-leb, lt-leb, leb-true}
+use Rattle.ids.specs.Choice.{if_then_else_}
+use Rattle.ids.specs.Lists.{every}
+use Rattle.ids.proofs.Choice.{both}
+use lib.Dec.{eqb}
+use Rattle.places.proofs.Fronts.{Passing, passing-none, passing-failed, passing-more, passing-all}
+use Rattle.language.proofs.PutLaws.{Copied, copied-more, copied-all}
+use Rattle.script.specs.Reader.{Reader, maxKept, behind}
+use Rattle.script.specs.State.{size, Head, headIn, keptIn, simulationIn, stageOf, lineOf, view, validRun, byteWord, validParts, valid}
+use Rattle.script.specs.Calls.{Sound}
+use Rattle.script.proofs.StateLaws.{Is, itself-is, kept-long, view-is, valid-is, store-kept, store-length, Facts, facts, from-facts}
+
+-- what a valid state is handed on as
+valid-sized : (w : List ℕ) → valid w ≡ true → (length w ≡ size) × (validParts (headIn w) (keptIn w) (simulationIn w) ≡ true)
+unfolding valid
+valid-sized w e = let (a, b) = both (eqb (length w) size) (validParts (headIn w) (keptIn w) (simulationIn w)) e in (eqb-true (length w) size a, b)
+
+pub known : (w : List ℕ) → valid w ≡ true → Facts (headIn w) (keptIn w) (simulationIn w)
+known w e = facts (headIn w) (keptIn w) (simulationIn w) (valid-sized w e .1)
+
+pub sound : (w : List ℕ) → valid w ≡ true → Sound w
+unfolding headIn
+sound w e = record { valid = e; long = valid-sized w e .0; short = known w e .few }
+
+-- a validity that only the line's part changes
+still-valid : (w w′ : List ℕ) (h′ : Head) (l′ : List ℕ) → valid w ≡ true → Is w′ h′ l′ (simulationIn w) → h′ .stage ≡ headIn w .stage → validRun h′ (simulationIn w) ≡ validRun (headIn w) (simulationIn w) →
+    h′ .length ≤ 41 → every byteWord l′ ≡ true → valid w′ ≡ true
+still-valid w w′ h′ l′ v p e r few bytes =
+    let f = known w v in
+    valid-is p ∙ from-facts h′ l′ (simulationIn w) (omega (arith, e, f .stage)) few bytes (λ q. r ∙ f .runs (sym e ∙ q))
+
+-- a line of 41 bytes keeps no more
+take-left : (n : ℕ) (a r : List ℕ) → n ≤ length a → take n (a ++ r) ≡ take n a
+take-left zero a r h = refl
+take-left (suc n) [] r h = absurd (omega arith)
+take-left (suc n) (x ∷ a) r h = ap (λ (y : List ℕ). x ∷ y) (take-left n a r (omega arith))
+
+behind-full : (l : List ℕ) (b : ℕ) → length l ≡ 41 → behind (take 41 l) b ≡ take 41 l
+behind-full l b e =
+    let z : take 41 l ≡ l = take-all 41 l (omega arith) in
+    ap (λ (x : List ℕ). take 41 (x ++ (b ∷ []))) z ∙ take-left 41 l (b ∷ []) (omega arith)
+
+behind-more : (l : List ℕ) (i b : ℕ) → i < 41 → length l ≡ 41 → take (i + 1) (set l i b) ≡ behind (take i l) b
+behind-more l i b lt e =
+    let a : take (suc i) (set l i b) ≡ take i l ++ (b ∷ []) = rw (take-suc (set l i b) i 0 (omega (arith, length-set l i b)), getD-set-same l i b 0 (omega arith), take-set-le i l i b (omega arith)) in
+    ap (λ (n : ℕ). take n (set l i b)) (add-one i) ∙ (a ∙ sym (take-all 41 (take i l ++ (b ∷ [])) (omega (arith, ap length (sym a), length-take (suc i) (set l i b)))))
+
+every-set : (f : ℕ → Bool) (l : List ℕ) (i v : ℕ) → every f l ≡ true → f v ≡ true → every f (set l i v) ≡ true
+every-set f [] i v h g = h
+every-set f (x ∷ l) zero v h g = rw g (both (f x) (every f l) h .1)
+every-set f (x ∷ l) (suc i) v h g = let (a, b) = both (f x) (every f l) h in rw a (every-set f l i v b g)
+
+module _ (w : List ℕ) (b : ℕ) (S : Sound w) where
+  abbrev Keeps : List ℕ → Type 0
+  Keeps w′ = (view w′ ≡ record { stage = view w .stage; line = behind (view w .line) b }) × (valid w′ ≡ true)
+
+  pub keep-full : 40 < getD w 4 0 → Keeps w
+  unfolding view headIn
+  keep-full h =
+      let e : getD w 4 0 ≡ 41 = omega (arith, S .short) in
+      let l : List ℕ = keptIn w in
+      let z : behind (take (getD w 4 0) l) b ≡ take (getD w 4 0) l = rw e (behind-full l b (kept-long w (S .long))) in
+      ((λ i. record { stage = stageOf (headIn w) (simulationIn w); line = sym z i }), S .valid)
+
+  pub keep-more : getD w 4 0 ≤ 40 → b ≤ 255 → Keeps (set (set w (5 + getD w 4 0) b) 4 (getD w 4 0 + 1))
+  unfolding view headIn stageOf validRun
+  keep-more h small =
+      let i : ℕ = getD w 4 0 in
+      let p = store-length (store-kept (itself-is w (S .long)) i b (omega (arith, h))) (i + 1) in
+      let z : take (i + 1) (set (keptIn w) i b) ≡ behind (take i (keptIn w)) b = behind-more (keptIn w) i b (omega (arith, h)) (kept-long w (S .long)) in (
+        view-is p ∙ (λ j. record { stage = stageOf (headIn w) (simulationIn w); line = z j }),
+        still-valid w _ _ _ (S .valid) p refl refl (omega (arith, h)) (every-set byteWord (keptIn w) i b (known w (S .valid) .bytes) (le-leb b 255 small)),
+      )
+
+-- the words of the line, tested one by one
+every-at : (f : ℕ → Bool) (l : List ℕ) (i : ℕ) → every f l ≡ true → i < length l → f (getD l i 0) ≡ true
+every-at f [] i h lt = absurd (omega arith)
+every-at f (x ∷ l) zero h lt = both (f x) (every f l) h .0
+every-at f (x ∷ l) (suc i) h lt = every-at f l i (both (f x) (every f l) h .1) (omega arith)
+
+module _ (w : List ℕ) where
+  pub bytes-none : length w ≡ 6399 → Passing byteWord 0 (drop 5 w) 41 0
+  bytes-none e = passing-none byteWord 0 (drop 5 w) 41 (omega (arith, length-drop 5 w))
+
+  module _ (i : ℕ) (S : Passing byteWord 0 (drop 5 w) 41 i) (lt : i < 41) where
+    pub bytes-failed : 255 < getD w (5 + i) 0 → false ≡ every byteWord (keptIn w)
+    unfolding keptIn
+    bytes-failed h = passing-failed byteWord 0 (drop 5 w) 41 i S lt (ap byteWord (getD-drop 5 w i 0) ∙ lt-leb (getD w (5 + i) 0) 255 h)
+
+    pub bytes-more : getD w (5 + i) 0 ≤ 255 → Passing byteWord 0 (drop 5 w) 41 (i + 1)
+    bytes-more h = passing-more byteWord 0 (drop 5 w) 41 i S lt (ap byteWord (getD-drop 5 w i 0) ∙ le-leb (getD w (5 + i) 0) 255 h)
+
+  pub bytes-all : (i : ℕ) → Passing byteWord 0 (drop 5 w) 41 i → 41 ≤ i → true ≡ every byteWord (keptIn w)
+  unfolding keptIn
+  bytes-all i S h = passing-all byteWord 0 (drop 5 w) 41 i S h
+
+-- the line's words, copied out
+module _ (w : List ℕ) (S : Sound w) where
+  pub line-long : length (view w .line) ≡ getD w 4 0
+  unfolding view headIn
+  line-long = length-take-le (getD w 4 0) (keptIn w) (omega (arith, S .short, kept-long w (S .long)))
+
+  line-word : (i : ℕ) → i < getD w 4 0 → getD (view w .line) i 0 ≡ getD w (5 + i) 0
+  unfolding view headIn keptIn
+  line-word i lt = getD-take (getD w 4 0) (take 41 (drop 5 w)) i 0 lt ∙ (getD-take 41 (drop 5 w) i 0 (omega (arith, lt, S .short)) ∙ getD-drop 5 w i 0)
+
+  pub word-small : (i : ℕ) → i < getD w 4 0 → getD w (5 + i) 0 ≤ 255
+  unfolding keptIn
+  word-small i lt =
+      let e : getD (take 41 (drop 5 w)) i 0 ≡ getD w (5 + i) 0 = getD-take 41 (drop 5 w) i 0 (omega (arith, lt, S .short)) ∙ getD-drop 5 w i 0 in
+      let t : byteWord (getD (take 41 (drop 5 w)) i 0) ≡ true = every-at byteWord (take 41 (drop 5 w)) i (known w (S .valid) .bytes) (omega (arith, lt, S .short, kept-long w (S .long))) in
+      leb-true (getD w (5 + i) 0) 255 (rw e at t)
+
+  pub copy-more : (o l : List ℕ) (i : ℕ) → Copied o l 0 (view w .line) i → i < getD w 4 0 → Copied o (set l i (getD w (5 + i) 0)) 0 (view w .line) (i + 1)
+  copy-more o l i C lt =
+      let z : 0 + i ≡ i = omega arith in
+      let d = copied-more o l 0 (view w .line) i C (omega (arith, lt, line-long)) in
+      rw (z, line-word i lt) at d
+
+  pub copy-all : (o l : List ℕ) (i : ℕ) → Copied o l 0 (view w .line) i → getD w 4 0 ≤ i → l ≡ sets o 0 (view w .line)
+  copy-all o l i C h = copied-all o l 0 (view w .line) i C (omega (arith, line-long)) .1
+
+  -- the bytes that are parsed
+  pub line-parsed : (o l : List ℕ) → length o ≡ 41 → l ≡ sets o 0 (view w .line) → take (getD w 4 0 - 0) (drop 0 l) ≡ view w .line
+  line-parsed o l e q =
+      let z : getD w 4 0 - 0 ≡ length (view w .line) = omega (arith, line-long) in
+      let f = sets-eq (view w .line) o 0 (omega (arith, line-long, S .short)) in
+      rw (z, q, f) (take-left (length (view w .line)) (view w .line) (drop (0 + length (view w .line)) o) (omega arith) ∙ take-all (length (view w .line)) (view w .line) (omega arith))

@@ -1,0 +1,215 @@
+-- The words of a script's state as three parts: a store changes one of them, and what the words are depends on the parts alone.
+use mathlib.Core.Path.{_≡_, refl, sym, ap, _∙_}
+use Prim.Native.Nat.{ℕ, _+_, _≤_, _<_}
+use native.Mathlib.Omega.{arith}
+use mathlib.Core.Bool.{true, _&&_}
+use mathlib.Core.List.{List}
+use lib.Dec.{eqb, leb}
+use lib.ListN.{length, getD, set, take, drop, length-set, length-drop}
+use lib.Seq.{sets, length-sets, length-take-le, getD-set-same, getD-set-other, getD-take, take-set-lt, take-set-le, drop-set-lt, drop-set-add}
+use borrow.Author.Tests.{eqb-true, eq-eqb, leb-true, le-leb}
+use Rattle.ids.specs.Choice.{if_then_else_}
+use Rattle.ids.specs.Lists.{every}
+use Rattle.ids.proofs.Choice.{both, decided, Test}
+use mathlib.Core.Logic.{inl, inr}
+use Rattle.regions.proofs.SetsLaws.{region-inside, region-behind, take-sets-after}
+use Rattle.places.proofs.BlockParts.{covered}
+use Rattle.layout.specs.Layout as layout
+use Rattle.system.specs.Places.{holders}
+use Rattle.script.specs.Output.{maxLines}
+use Rattle.script.specs.Reader.{Reader, maxKept}
+use Rattle.script.specs.State.{size, Head, headIn, keptIn, simulationIn, stageOf, lineOf, view, validRun, byteWord, validParts, valid}
+
+-- w is these parts
+pub record Is (w : List ℕ) (h : Head) (l s : List ℕ) : Type 0 where
+  pub long : length w ≡ size
+  pub head : headIn w ≡ h
+  pub kept : keptIn w ≡ l
+  pub simulation : simulationIn w ≡ s
+
+pub itself-is : (w : List ℕ) → length w ≡ size → Is w (headIn w) (keptIn w) (simulationIn w)
+itself-is w h = record { long = h; head = refl; kept = refl; simulation = refl }
+
+pub kept-long : (w : List ℕ) → length w ≡ size → length (keptIn w) ≡ 41
+unfolding keptIn
+kept-long w e = length-take-le 41 (drop 5 w) (omega (arith, length-drop 5 w))
+
+pub simulation-long : (w : List ℕ) → length w ≡ size → length (simulationIn w) ≡ 6353
+unfolding simulationIn
+simulation-long w e = length-take-le 6353 (drop 46 w) (omega (arith, length-drop 46 w))
+
+module _ {w : List ℕ} {h : Head} {l s : List ℕ} (p : Is w h l s) where
+  pub view-is : view w ≡ record { stage = stageOf h s; line = lineOf h l }
+  unfolding view
+  view-is = rw (p .head, p .kept, p .simulation)
+
+  pub valid-is : valid w ≡ validParts h l s
+  unfolding valid
+  valid-is = rw (eq-eqb (length w) size (p .long), p .head, p .kept, p .simulation)
+
+  -- stores in the head leave the line and the simulation
+  behind-kept : (i v : ℕ) → i < 5 → keptIn (set w i v) ≡ l
+  unfolding keptIn
+  behind-kept i v lt = ap (take 41) (drop-set-lt 5 w i v lt) ∙ p .kept
+
+  behind-simulation : (i v : ℕ) → i < 46 → simulationIn (set w i v) ≡ s
+  unfolding simulationIn
+  behind-simulation i v lt = ap (take 6353) (drop-set-lt 46 w i v lt) ∙ p .simulation
+
+  head-store : (i v : ℕ) (h′ : Head) → i < 5 → headIn (set w i v) ≡ h′ → Is (set w i v) h′ l s
+  head-store i v h′ lt e = record { long = length-set w i v ∙ p .long; head = e; kept = behind-kept i v lt; simulation = behind-simulation i v (omega arith) }
+
+  same : (i v : ℕ) → i < 5 → getD (set w i v) i 0 ≡ v
+  same i v lt = getD-set-same w i v 0 (omega (arith, p .long))
+
+  other : (i j v : ℕ) → (j ≡ i → ⊥) → getD (set w i v) j 0 ≡ getD w j 0
+  other i j v ne = getD-set-other w i j v 0 ne
+
+  pub store-stage : (v : ℕ) → Is (set w 0 v) (record { stage = v; answered = h .answered; accepted = h .accepted; holding = h .holding; length = h .length }) l s
+  unfolding headIn
+  store-stage v =
+      head-store 0 v _ (omega arith)
+      (let e = p .head in
+      let a = same 0 v (omega arith) in
+      let b = other 0 1 v (λ x. omega arith) ∙ ap (λ (y : Head). y .answered) e in
+      let c = other 0 2 v (λ x. omega arith) ∙ ap (λ (y : Head). y .accepted) e in
+      let d = other 0 3 v (λ x. omega arith) ∙ ap (λ (y : Head). y .holding) e in
+      let f = other 0 4 v (λ x. omega arith) ∙ ap (λ (y : Head). y .length) e in
+      λ i. record { stage = a i; answered = b i; accepted = c i; holding = d i; length = f i })
+
+  pub store-answered : (v : ℕ) → Is (set w 1 v) (record { stage = h .stage; answered = v; accepted = h .accepted; holding = h .holding; length = h .length }) l s
+  unfolding headIn
+  store-answered v =
+      head-store 1 v _ (omega arith)
+      (let e = p .head in
+      let a = other 1 0 v (λ x. omega arith) ∙ ap (λ (y : Head). y .stage) e in
+      let b = same 1 v (omega arith) in
+      let c = other 1 2 v (λ x. omega arith) ∙ ap (λ (y : Head). y .accepted) e in
+      let d = other 1 3 v (λ x. omega arith) ∙ ap (λ (y : Head). y .holding) e in
+      let f = other 1 4 v (λ x. omega arith) ∙ ap (λ (y : Head). y .length) e in
+      λ i. record { stage = a i; answered = b i; accepted = c i; holding = d i; length = f i })
+
+  pub store-accepted : (v : ℕ) → Is (set w 2 v) (record { stage = h .stage; answered = h .answered; accepted = v; holding = h .holding; length = h .length }) l s
+  unfolding headIn
+  store-accepted v =
+      head-store 2 v _ (omega arith)
+      (let e = p .head in
+      let a = other 2 0 v (λ x. omega arith) ∙ ap (λ (y : Head). y .stage) e in
+      let b = other 2 1 v (λ x. omega arith) ∙ ap (λ (y : Head). y .answered) e in
+      let c = same 2 v (omega arith) in
+      let d = other 2 3 v (λ x. omega arith) ∙ ap (λ (y : Head). y .holding) e in
+      let f = other 2 4 v (λ x. omega arith) ∙ ap (λ (y : Head). y .length) e in
+      λ i. record { stage = a i; answered = b i; accepted = c i; holding = d i; length = f i })
+
+  pub store-holding : (v : ℕ) → Is (set w 3 v) (record { stage = h .stage; answered = h .answered; accepted = h .accepted; holding = v; length = h .length }) l s
+  unfolding headIn
+  store-holding v =
+      head-store 3 v _ (omega arith)
+      (let e = p .head in
+      let a = other 3 0 v (λ x. omega arith) ∙ ap (λ (y : Head). y .stage) e in
+      let b = other 3 1 v (λ x. omega arith) ∙ ap (λ (y : Head). y .answered) e in
+      let c = other 3 2 v (λ x. omega arith) ∙ ap (λ (y : Head). y .accepted) e in
+      let d = same 3 v (omega arith) in
+      let f = other 3 4 v (λ x. omega arith) ∙ ap (λ (y : Head). y .length) e in
+      λ i. record { stage = a i; answered = b i; accepted = c i; holding = d i; length = f i })
+
+  pub store-length : (v : ℕ) → Is (set w 4 v) (record { stage = h .stage; answered = h .answered; accepted = h .accepted; holding = h .holding; length = v }) l s
+  unfolding headIn
+  store-length v =
+      head-store 4 v _ (omega arith)
+      (let e = p .head in
+      let a = other 4 0 v (λ x. omega arith) ∙ ap (λ (y : Head). y .stage) e in
+      let b = other 4 1 v (λ x. omega arith) ∙ ap (λ (y : Head). y .answered) e in
+      let c = other 4 2 v (λ x. omega arith) ∙ ap (λ (y : Head). y .accepted) e in
+      let d = other 4 3 v (λ x. omega arith) ∙ ap (λ (y : Head). y .holding) e in
+      let f = same 4 v (omega arith) in
+      λ i. record { stage = a i; answered = b i; accepted = c i; holding = d i; length = f i })
+
+  -- a store in the line
+  kept-head : (i v : ℕ) → headIn (set w (5 + i) v) ≡ h
+  unfolding headIn
+  kept-head i v =
+      let a = other (5 + i) 0 v (λ x. omega arith) in
+      let b = other (5 + i) 1 v (λ x. omega arith) in
+      let c = other (5 + i) 2 v (λ x. omega arith) in
+      let d = other (5 + i) 3 v (λ x. omega arith) in
+      let f = other (5 + i) 4 v (λ x. omega arith) in
+      (λ i. record { stage = a i; answered = b i; accepted = c i; holding = d i; length = f i }) ∙ p .head
+
+  kept-stored : (i v : ℕ) → i < 41 → keptIn (set w (5 + i) v) ≡ set l i v
+  unfolding keptIn
+  kept-stored i v lt = ap (take 41) (drop-set-add 5 w i v) ∙ (take-set-lt 41 (drop 5 w) i v lt ∙ ap (λ (x : List ℕ). set x i v) (p .kept))
+
+  pub store-kept : (i v : ℕ) → i < 41 → Is (set w (5 + i) v) h (set l i v) s
+  store-kept i v lt =
+      record { long = length-set w (5 + i) v ∙ p .long; head = kept-head i v; kept = kept-stored i v lt; simulation = behind-simulation (5 + i) v (omega arith) }
+
+  -- the simulation, stored whole
+  store-head : (v : List ℕ) → headIn (sets w 46 v) ≡ h
+  unfolding headIn
+  store-head v =
+      let word : (i : ℕ) → i < 46 → getD (sets w 46 v) i 0 ≡ getD w i 0 = λ i lt.
+      sym (getD-take 46 (sets w 46 v) i 0 lt) ∙ (ap (λ (x : List ℕ). getD x i 0) (take-sets-after 46 w 46 v (omega arith)) ∙ getD-take 46 w i 0 lt) in
+      let a = word 0 (omega arith) in
+      let b = word 1 (omega arith) in
+      let c = word 2 (omega arith) in
+      let d = word 3 (omega arith) in
+      let f = word 4 (omega arith) in
+      (λ i. record { stage = a i; answered = b i; accepted = c i; holding = d i; length = f i }) ∙ p .head
+
+  store-line : (v : List ℕ) → keptIn (sets w 46 v) ≡ l
+  unfolding keptIn
+  store-line v = region-behind 5 41 w 0 v ∙ p .kept
+
+  store-all : (v : List ℕ) → length v ≡ 6353 → simulationIn (sets w 46 v) ≡ v
+  unfolding simulationIn
+  store-all v e =
+      region-inside 46 6353 w 0 v (omega arith) ∙ covered (take 6353 (drop 46 w)) v (omega (arith, simulation-long w (p .long)))
+
+  pub store-simulation : (v : List ℕ) → length v ≡ 6353 → Is (sets w 46 v) h l v
+  store-simulation v e =
+      record { long = length-sets w 46 v ∙ p .long; head = store-head v; kept = store-line v; simulation = store-all v e }
+
+-- what a valid state says of its parts
+pub record Facts (h : Head) (l s : List ℕ) : Type 0 where
+  pub stage : h .stage ≤ 2
+  pub few : h .length ≤ maxKept
+  pub bytes : every byteWord l ≡ true
+  pub runs : h .stage ≡ 1 → validRun h s ≡ true
+
+pub facts : (h : Head) (l s : List ℕ) → validParts h l s ≡ true → Facts h l s
+unfolding validParts
+facts h l s e =
+    let (a, x) = both (leb (h .stage) 2) (leb (h .length) maxKept && (every byteWord l && (if eqb (h .stage) 1 then validRun h s else true))) e in
+    let (b, y) = both (leb (h .length) maxKept) (every byteWord l && (if eqb (h .stage) 1 then validRun h s else true)) x in
+    let (c, z) = both (every byteWord l) (if eqb (h .stage) 1 then validRun h s else true) y in
+    record { stage = leb-true _ _ a; few = leb-true _ _ b; bytes = c; runs = λ q. rw (eq-eqb (h .stage) 1 q) at z }
+
+pub record RunFacts (h : Head) (s : List ℕ) : Type 0 where
+  pub simulation : layout.valid s ≡ true
+  pub answered : h .answered ≤ maxLines
+  pub accepted : h .accepted ≤ h .answered
+  pub holding : holders (layout.view s) ≤ h .holding
+  pub few : h .holding ≤ layout.maxClients
+
+pub run-facts : (h : Head) (s : List ℕ) → validRun h s ≡ true → RunFacts h s
+unfolding validRun
+run-facts h s e =
+    let (a, x) = both (layout.valid s) (leb (h .answered) maxLines && (leb (h .accepted) (h .answered) && (leb (holders (layout.view s)) (h .holding) && leb (h .holding) layout.maxClients))) e in
+    let (b, y) = both (leb (h .answered) maxLines) (leb (h .accepted) (h .answered) && (leb (holders (layout.view s)) (h .holding) && leb (h .holding) layout.maxClients)) x in
+    let (c, z) = both (leb (h .accepted) (h .answered)) (leb (holders (layout.view s)) (h .holding) && leb (h .holding) layout.maxClients) y in
+    let (d, f) = both (leb (holders (layout.view s)) (h .holding)) (leb (h .holding) layout.maxClients) z in
+    record { simulation = a; answered = leb-true _ _ b; accepted = leb-true _ _ c; holding = leb-true _ _ d; few = leb-true _ _ f }
+
+pub from-run : (h : Head) (s : List ℕ) → RunFacts h s → validRun h s ≡ true
+unfolding validRun
+from-run h s f =
+    rw (f .simulation, le-leb (h .answered) maxLines (f .answered), le-leb (h .accepted) (h .answered) (f .accepted), le-leb (holders (layout.view s)) (h .holding) (f .holding), le-leb (h .holding) layout.maxClients (f .few))
+
+pub from-facts : (h : Head) (l s : List ℕ) → h .stage ≤ 2 → h .length ≤ maxKept → every byteWord l ≡ true → (h .stage ≡ 1 → validRun h s ≡ true) → validParts h l s ≡ true
+unfolding validParts
+from-facts h l s a b c d = rw (le-leb (h .stage) 2 a, le-leb (h .length) maxKept b, c) (by-stage (decided (eqb (h .stage) 1)))
+  where
+    by-stage : Test (eqb (h .stage) 1) → (if eqb (h .stage) 1 then validRun h s else true) ≡ true
+    by-stage (inl e) = rw e (d (eqb-true (h .stage) 1 e))
+    by-stage (inr e) = rw e

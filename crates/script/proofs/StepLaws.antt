@@ -1,0 +1,606 @@
+-- What a line does to the state: each store changes one of the counts or the simulation, and the stage is what the definition says.
+use mathlib.Core.Path.{_≡_, refl, sym, ap, _∙_}
+use Prim.Native.Nat.{ℕ, zero, suc, _+_, _-_, _≤_, _<_, max}
+use native.Mathlib.Numerals.{add-one}
+use native.Mathlib.Omega.{arith}
+use mathlib.Core.Bool.{Bool, true, false, _&&_}
+use mathlib.Core.List.{List, [], _∷_, map}
+use mathlib.Core.Option.{Option, none, some}
+use mathlib.Core.Logic.{inl, inr}
+use lib.Dec.{eqb, leb}
+use lib.ListN.{length, getD, set, take, drop, replicate, length-map, length-set}
+use lib.Seq.{sets, length-sets, getD-take, getD-drop}
+use borrow.Rule.Slice.PartMut.{putMid}
+use borrow.Author.Tests.{eq-eqb, eqb-true, eqb-false, ne-eqb, le-leb, lt-leb, leb-true, leb-false, lt-ltb, le-ltb}
+use Rattle.ids.specs.Choice.{if_then_else_, maybe}
+use Rattle.ids.specs.Limits.{within}
+use Rattle.ids.specs.declared.Refusal.{Refusal}
+use Rattle.ids.specs.declared.Refusal.the-variants.{BadLine, ParameterOutOfRange, NoSuchParty}
+use Rattle.ids.proofs.Choice.{both, decided, Test}
+use Rattle.ids.proofs.LimitsLaws.{within-range}
+use Rattle.client.specs.Figure1.{enough, count, fresh as freshClient}
+use Rattle.quorum.proofs.CheckLaws.{range}
+use Rattle.system.specs.declared.Event.{Event}
+use Rattle.system.specs.declared.Event.the-variants.{Try, Exit, Fall, Down, Up, Take, Drop, Miss, Check}
+use Rattle.system.specs.Numbered.{has}
+use Rattle.system.specs.Places.{System, ClientPlace, isInside, holders}
+use Rattle.system.specs.Events.{Result, withPlaces}
+use Rattle.system.specs.Runs.{after, isStepped, start}
+use Rattle.regions.specs.Blocks.{blocks}
+use Rattle.regions.proofs.BlockLaws.{length-blocks}
+use Rattle.places.specs.Blocks.{clientPlace}
+use Rattle.wire.specs.Step.{refused, stepped}
+use Rattle.language.specs.declared.Setting.{Setting}
+use Rattle.language.specs.declared.First.the-variants.{Setting as Opens, Bad as NotOpening}
+use Rattle.language.specs.declared.Line.the-variants.{Event as Says, Unknown, Bad}
+use Rattle.language.specs.Lines.{eventIn, sixteenBits, lineOf, firstOf, settingIn as line-setting}
+use Rattle.language.specs.Printed.{headerLine, noLine, okLine, endLine, refusedLine}
+use Rattle.language.proofs.PrintedLaws.{refused-short, no-short, ok-short, header-short, end-short}
+use Rattle.places.proofs.Fronts.{Clearing, clearing-more}
+use Rattle.layout.specs.Layout as layout
+use Rattle.layout.proofs.ValidLaws as layout-laws
+use Rattle.layout.proofs.LendLaws.{came-back}
+use Rattle.layout.proofs.PlaceLaws.{client-there, server-there}
+use Rattle.simulation.proofs.Answers.{no-client-tries, no-client-exits, no-client-falls, no-server-downs, no-server-ups, no-server-misses, no-server-checks}
+use Rattle.simulation.specs.Happens as simulation
+use Rattle.simulation.specs.declared.Reply.the-variants as reply
+use Rattle.simulation.specs.declared.Moved.the-variants as made
+use Rattle.script.specs.Output.{maxLines, happens, answerLine, fresh, runs}
+use Rattle.script.specs.Reader.{Run, Stage, opening, running, closed, Reader, Printed, started, opened, moved, passed, lineTaken, worked, behind, taken, ended, lastLine, maxKept}
+use Rattle.script.specs.State.{size, Head, headIn, keptIn, simulationIn, settingIn, runIn, stageOf, view, validRun, byteWord, validParts, valid}
+use Rattle.script.specs.declared.Progress.the-variants.{Took, Refused}
+use Rattle.script.specs.Calls.{newAnswer, newWords, Sound, Ready, Reads, Does, Takes, happened, passing}
+use Rattle.script.proofs.StateLaws.{Is, itself-is, view-is, valid-is, store-length, store-stage, store-answered, store-accepted, store-holding, store-simulation, Facts, RunFacts, run-facts, from-run, from-facts}
+use Rattle.script.proofs.TestLaws.{few-clients, part-long}
+use Rattle.script.proofs.LineLaws.{known, sound, line-long, line-parsed}
+
+-- the line, parsed
+pub line-read : {A : Type 0} (f : List ℕ → A) (w : List ℕ) → Sound w → (o l : List ℕ) → length o ≡ 41 → l ≡ sets o 0 (view w .line) →
+    (r : A) → r ≡ f (take (getD w 4 0 - 0) (drop 0 l)) → r ≡ f (view w .line)
+line-read f w S o l e q r p = p ∙ ap f (line-parsed w S o l e q)
+
+-- the stage, by its word
+pub stage-opening : (w : List ℕ) → getD w 0 0 ≡ 0 → view w .stage ≡ opening
+unfolding view stageOf headIn
+stage-opening w e = rw e
+
+pub stage-running : (w : List ℕ) → getD w 0 0 ≡ 1 → view w .stage ≡ running (runIn (headIn w) (simulationIn w))
+unfolding view stageOf headIn
+stage-running w e = rw e
+
+pub stage-closed : (w : List ℕ) → (getD w 0 0 ≡ 0 → ⊥) → (getD w 0 0 ≡ 1 → ⊥) → view w .stage ≡ closed
+unfolding view stageOf headIn
+stage-closed w a b = rw (ne-eqb (getD w 0 0) 0 a, ne-eqb (getD w 0 0) 1 b)
+
+-- a count of at most one, and the holders of a simulation
+one-or-none : (b : Bool) → (if b then 1 else 0) ≤ 1
+one-or-none true = omega arith
+one-or-none false = omega arith
+
+count-few : (l : List Bool) → count l ≤ length l
+count-few [] = omega arith
+count-few (b ∷ l) = omega (arith, count-few l, one-or-none b)
+
+few-holders : (s : List ℕ) → layout.valid s ≡ true → holders (layout.view s) ≤ 16
+unfolding layout.view layout.settingOf
+few-holders s v =
+    let a = few-clients s v in
+    let b = length-blocks 99 clientPlace (getD s 3 0) (layout.clientWords s) in
+    let c = length-map (blocks 99 clientPlace (getD s 3 0) (layout.clientWords s)) isInside in
+    omega (arith, a, b, c, count-few (map isInside (blocks 99 clientPlace (getD s 3 0) (layout.clientWords s))))
+
+-- what the simulation replied, turned round
+pub reply-refused : (u : System) (o : Result) (x : Refusal) → reply.Refused x ≡ simulation.replyOf u o → o ≡ refused x
+unfolding simulation.replyOf
+reply-refused u (refused y) x e = let z : y ≡ x = cc in ap refused z
+reply-refused u (stepped s) x e = let z : _≡_ {A = ℕ} 0 1 = cc in absurd (omega arith)
+
+pub record Accepts (u : System) (o : Result) (sent holding : ℕ) : Type 0 where
+  pub stepped : isStepped o ≡ true
+  pub line : (i : ℕ) → answerLine i u o ≡ okLine i sent holding
+  pub holders : holders (after u o) ≡ holding
+
+pub reply-accepted : (u : System) (o : Result) (sent holding : ℕ) → reply.Accepted sent holding ≡ simulation.replyOf u o → Accepts u o sent holding
+unfolding simulation.replyOf answerLine
+reply-accepted u (refused y) sent holding e = let z : _≡_ {A = ℕ} 0 1 = cc in absurd (omega arith)
+reply-accepted u (stepped s) sent holding e =
+    let a : length (s .sent) ≡ sent = cc in
+    let b : holders (after u (stepped s)) ≡ holding = cc in
+    record { stepped = refl; line = λ i. rw (a, b); holders = b }
+
+stage-without : (w : List ℕ) → stageOf (record { stage = getD w 0 0; answered = getD w 1 0; accepted = getD w 2 0; holding = getD w 3 0; length = 0 }) (simulationIn w) ≡ view w .stage
+unfolding view stageOf headIn
+stage-without w = refl
+
+-- words that are these parts: the line of w, and a stage and a simulation that are valid
+module _ (w out : List ℕ) (at : ℕ) (R : Ready w out at) where
+  its : Facts (headIn w) (keptIn w) (simulationIn w)
+  its = known w (R .valid)
+
+  -- the general form: h has the length of w's line
+  pub does : (p : Printed Stage) (w′ : List ℕ) (h : Head) (s : List ℕ) → Is w′ h (keptIn w) s → h .length ≡ headIn w .length → stageOf h s ≡ p .now →
+      h .stage ≤ 2 → (h .stage ≡ 1 → validRun h s ≡ true) → (out′ : List ℕ) (r : ℕ) → (r ≡ at + length (p .out)) × (out′ ≡ sets out at (p .out)) → Does w out at p w′ out′ r
+  unfolding view
+  does p w′ h s I e q few run out′ r b =
+      record {
+        stage = ap (λ (x : Reader). x .stage) (view-is I) ∙ q;
+        line = ap (λ (x : Reader). x .line) (view-is I) ∙ ap (λ (n : ℕ). take n (keptIn w)) e;
+        again = valid-is I ∙ from-facts h (keptIn w) s few (omega (arith, e, its .few)) (its .bytes) run;
+        place = b .0;
+        bytes = b .1;
+      }
+
+  -- the first line is refused
+  pub refused-does : (x : Refusal) (out′ : List ℕ) (r : ℕ) → (r ≡ at + length (refusedLine x)) × (out′ ≡ sets out at (refusedLine x)) →
+      Does w out at (record { now = closed; out = refusedLine x }) (set w 0 2) out′ r
+  unfolding stageOf
+  refused-does x out′ r b = does (record { now = closed; out = refusedLine x }) (set w 0 2) _ (simulationIn w) (store-stage (itself-is w (R .long)) 2) refl refl (omega arith) (λ e. absurd (omega (arith, e))) out′ r b
+
+  -- nothing is done and nothing printed
+  pub stays : (p : Printed Stage) → p .now ≡ view w .stage → p .out ≡ [] → Does w out at p w out at
+  stays p e q =
+      record {
+        stage = sym e;
+        line = refl;
+        again = R .valid;
+        place = rw q (omega arith);
+        bytes = rw q;
+      }
+
+  module _ (N : Reads w) where
+    run-known : RunFacts (headIn w) (simulationIn w)
+    unfolding headIn
+    run-known = run-facts (headIn w) (simulationIn w) (its .runs (N .runs))
+
+    -- a line that changes nothing
+    pub passing-does : (x : Refusal) (out′ : List ℕ) (r : ℕ) → (r ≡ at + length (noLine (getD w 1 0 + 1) x)) × (out′ ≡ sets out at (noLine (getD w 1 0 + 1) x)) →
+        Does w out at (passing (runIn (headIn w) (simulationIn w)) x) (set w 1 (getD w 1 0 + 1)) out′ r
+    unfolding stageOf headIn
+    passing-does x out′ r b =
+        let F = run-known in
+        let z : getD w 1 0 + 1 ≡ suc (getD w 1 0) = add-one (getD w 1 0) in
+        does (passing (runIn (headIn w) (simulationIn w)) x) (set w 1 (getD w 1 0 + 1)) _ (simulationIn w) (store-answered (itself-is w (R .long)) (getD w 1 0 + 1)) refl
+        (rw (N .runs, z))
+        (omega (arith, N .runs))
+        (λ e. from-run _ (simulationIn w) (record { simulation = F .simulation; answered = omega (arith, N .more); accepted = omega (arith, F .accepted); holding = F .holding; few = F .few }))
+        out′ r (rw z at b)
+
+    -- an event, which left the simulation s′
+    module _ (e : Event) (s′ : List ℕ) (L : simulation.Leaves (simulationIn w) e s′) (acc hold : ℕ)
+        (acc-is : acc ≡ getD w 2 0 + (if isStepped (simulation.happens (simulationIn w) e) then 1 else 0))
+        (hold-is : hold ≡ max (getD w 3 0) (holders (after (layout.view (simulationIn w)) (simulation.happens (simulationIn w) e)))) where
+      now-holding : holders (layout.view s′) ≡ holders (after (layout.view (simulationIn w)) (simulation.happens (simulationIn w) e))
+      now-holding = ap holders (L .system)
+
+      counts-in-range : RunFacts (record { stage = getD w 0 0; answered = getD w 1 0 + 1; accepted = acc; holding = hold; length = getD w 4 0 }) s′
+      unfolding headIn
+      counts-in-range =
+          let F = run-known in
+          record {
+            simulation = L .again;
+            answered = omega (arith, N .more);
+            accepted = omega (arith, acc-is, F .accepted, one-or-none (isStepped (simulation.happens (simulationIn w) e)));
+            holding = omega (arith, hold-is, now-holding);
+            few = omega (arith, hold-is, now-holding, F .few, few-holders s′ (L .again));
+          }
+
+      moved-on : _≡_ {A = Run} (record { setting = settingIn s′; answered = getD w 1 0 + 1; system = layout.view s′; accepted = acc; holding = hold }) (moved (runIn (headIn w) (simulationIn w)) (simulation.happens (simulationIn w) e))
+      unfolding headIn
+      moved-on =
+          let z : getD w 1 0 + 1 ≡ suc (getD w 1 0) = add-one (getD w 1 0) in
+          let t : settingIn s′ ≡ settingIn (simulationIn w) = ap (λ (x : layout.Setting). record { n = x .n; m = x .m; f = x .f; clients = x .clients }) (L .setting) in
+          let u = L .system in
+          λ i. record { setting = t i; answered = z i; system = u i; accepted = acc-is i; holding = hold-is i }
+
+      pub happened-does : (w′ : List ℕ) → Is w′ (record { stage = getD w 0 0; answered = getD w 1 0 + 1; accepted = acc; holding = hold; length = getD w 4 0 }) (keptIn w) s′ → (out′ : List ℕ) (r : ℕ) →
+          (r ≡ at + length (answerLine (suc (getD w 1 0)) (layout.view (simulationIn w)) (simulation.happens (simulationIn w) e))) × (out′ ≡ sets out at (answerLine (suc (getD w 1 0)) (layout.view (simulationIn w)) (simulation.happens (simulationIn w) e))) →
+          Does w out at (happened (runIn (headIn w) (simulationIn w)) e) w′ out′ r
+      unfolding stageOf headIn
+      happened-does w′ I out′ r b =
+          does (happened (runIn (headIn w) (simulationIn w)) e) w′ _ s′ I refl (rw (N .runs) (ap running moved-on)) (omega (arith, N .runs))
+          (λ q. from-run _ s′ counts-in-range) out′ r b
+
+-- what the end prints
+module _ (w : List ℕ) (at : ℕ) (o : List ℕ) where
+  abbrev Ends : List ℕ → ℕ → Type 0
+  Ends o′ r = (r ≡ at + length (ended (view w .stage))) × (o′ ≡ sets o at (ended (view w .stage)))
+
+  pub end-opening : getD w 0 0 ≡ 0 → (o′ : List ℕ) (r : ℕ) → (r ≡ at + length (refusedLine BadLine)) × (o′ ≡ sets o at (refusedLine BadLine)) → Ends o′ r
+  unfolding ended
+  end-opening e o′ r b = rw (stage-opening w e) b
+
+  most-word : length w ≡ 6399 → layout.view (simulationIn w) .most ≡ getD w 52 0
+  unfolding layout.view simulationIn
+  most-word long = getD-take 6353 (drop 46 w) 6 0 (omega arith) ∙ getD-drop 46 w 6 0
+
+  pub end-running : length w ≡ 6399 → getD w 0 0 ≡ 1 → (o′ : List ℕ) (r : ℕ) → (r ≡ at + length (endLine (getD w 2 0) (getD w 3 0) (getD w 52 0))) × (o′ ≡ sets o at (endLine (getD w 2 0) (getD w 3 0) (getD w 52 0))) → Ends o′ r
+  unfolding ended headIn
+  end-running long e o′ r b = rw (stage-running w e, most-word long) b
+
+  pub end-closed : (getD w 0 0 ≡ 0 → ⊥) → (getD w 0 0 ≡ 1 → ⊥) → Ends o at
+  unfolding ended
+  end-closed a b = rw (stage-closed w a b) (omega arith, refl)
+
+-- words set to 0 from the first on
+pub cleared-more : (o l : List ℕ) (n i : ℕ) → Clearing o 0 n l i → i < n → Clearing o 0 n (set l i 0) (i + 1)
+cleared-more o l n i S h = let z : 0 + i ≡ i = omega arith in rw z at (clearing-more o 0 n l i S h)
+
+pub newly : (w w′ : List ℕ) → length w ≡ 6399 → w′ ≡ sets w 0 (replicate 46 0) → w′ ≡ newWords w
+unfolding newWords
+newly w w′ e p = rw (eq-eqb (length w) 6399 e) p
+
+pub newly-answered : (w : List ℕ) → length w ≡ 6399 → Took 0 0 ≡ newAnswer w
+unfolding newAnswer
+newly-answered w e = rw (eq-eqb (length w) 6399 e)
+
+pub not-new : (w : List ℕ) → (length w ≡ 6399 → ⊥) → (Refused ParameterOutOfRange ≡ newAnswer w) × (w ≡ newWords w)
+unfolding newAnswer newWords
+not-new w ne = (rw (ne-eqb (length w) 6399 ne), rw (ne-eqb (length w) 6399 ne))
+
+-- the first line ---------------------------------------------------------------------------------------------------------------
+
+holders-fresh : (n : ℕ) (c : ℕ) → count (map isInside (replicate c (record { living = true; state = freshClient n; downs = [] }))) ≡ 0
+holders-fresh n zero = refl
+holders-fresh n (suc c) = omega (arith, holders-fresh n c)
+
+no-holders : (s : Setting) → holders (fresh s) ≡ 0
+unfolding start
+no-holders s = holders-fresh (s .n) (s .clients)
+
+-- a new simulation is made or refused as the setting is in range
+pub opens-runs : (s : Setting) (l : ℕ) → l ≡ 6353 → simulation.opens l (s .n) (s .m) (s .f) (s .clients) ≡ runs s
+unfolding simulation.opens
+opens-runs s l e = rw (eq-eqb l 6353 e)
+
+pub made-refused : (b : Bool) (x : Refusal) → made.Refused x ≡ simulation.newReply b → (b ≡ false) × (x ≡ ParameterOutOfRange)
+unfolding simulation.newReply
+made-refused true x e = let z : _≡_ {A = ℕ} 0 1 = cc in absurd (omega arith)
+made-refused false x e = (refl, (cc))
+
+pub made-new : (b : Bool) (i : ℕ) → made.Sent i ≡ simulation.newReply b → b ≡ true
+unfolding simulation.newReply
+made-new true i e = refl
+made-new false i e = let z : _≡_ {A = ℕ} 0 1 = cc in absurd (omega arith)
+
+module _ (w out : List ℕ) (at : ℕ) (R : Ready w out at) (zeroth : getD w 0 0 ≡ 0) where
+  module _ (s′ : List ℕ) (long : length s′ ≡ 6353) where
+    lent-is : Is (sets w 46 s′) (headIn w) (keptIn w) s′
+    lent-is = store-simulation (itself-is w (R .long)) s′ long
+
+    -- before the first line the simulation's words do not matter
+    pub lent-ready : Ready (sets w 46 s′) out at
+    unfolding headIn
+    lent-ready =
+        let K = known w (R .valid) in
+        let v : valid (sets w 46 s′) ≡ true = valid-is lent-is ∙ from-facts (headIn w) (keptIn w) s′ (K .stage) (K .few) (K .bytes) (λ e. absurd (omega (arith, zeroth, e))) in
+        let S = sound (sets w 46 s′) v in
+        record { valid = v; long = S .long; short = S .short; room = R .room }
+
+    pub lent-line : view (sets w 46 s′) .line ≡ view w .line
+    unfolding view
+    lent-line = ap (λ (x : Reader). x .line) (view-is lent-is)
+
+  -- the setting is out of range
+  pub open-refused : (s : Setting) (s′ : List ℕ) → length s′ ≡ 6353 → runs s ≡ false → (x : Refusal) → x ≡ ParameterOutOfRange → (w′ out′ : List ℕ) (r : ℕ) →
+      Does (sets w 46 s′) out at (record { now = closed; out = refusedLine x }) w′ out′ r → Does w out at (opened (some s)) w′ out′ r
+  unfolding opened
+  open-refused s s′ long out-of x q w′ out′ r D =
+      rw (out-of, ← q) (record { stage = D .stage; line = D .line ∙ lent-line s′ long; again = D .again; place = D .place; bytes = D .bytes })
+
+  -- the setting is in range: the script runs
+  pub open-running : (s : Setting) (s′ : List ℕ) → runs s ≡ true → simulation.Starts (s .n) (s .m) (s .f) (s .clients) s′ → length s′ ≡ 6353 → (out′ : List ℕ) (r : ℕ) →
+      (r ≡ at + length (headerLine s)) × (out′ ≡ sets out at (headerLine s)) → Does w out at (opened (some s)) (set (set (set (set (sets w 46 s′) 0 1) 1 0) 2 0) 3 0) out′ r
+  unfolding opened stageOf
+  open-running s s′ in-it B long out′ r b =
+      let I = store-holding (store-accepted (store-answered (store-stage (lent-is s′ long) 1) 0) 0) 0 in
+      let none-in : holders (layout.view s′) ≡ 0 = ap holders (B .system) ∙ no-holders s in
+      let t : settingIn s′ ≡ s = ap (λ (x : layout.Setting). record { n = x .n; m = x .m; f = x .f; clients = x .clients }) (B .setting) in
+      let u = B .system in
+      let k = no-holders s in
+      let q : _≡_ {A = Run} (record { setting = settingIn s′; answered = 0; system = layout.view s′; accepted = 0; holding = 0 }) (started s) = λ i. record { setting = t i; answered = 0; system = u i; accepted = 0; holding = sym k i } in
+      rw in-it
+      (does w out at R (record { now = running (started s); out = headerLine s }) _ _ s′ I refl (ap running q) (omega arith)
+      (λ e. from-run _ s′ (record { simulation = B .again; answered = omega arith; accepted = omega arith; holding = omega (arith, none-in); few = omega arith }))
+      out′ r b)
+
+-- the line by its stage ----------------------------------------------------------------------------------------------------------
+
+module _ (w : List ℕ) where
+  abbrev Line : Printed Stage
+  Line = worked (view w .stage) (view w .line)
+
+  pub opening-line : getD w 0 0 ≡ 0 → worked (view w .stage) (view w .line) ≡ opened (line-setting (view w .line))
+  unfolding worked
+  opening-line e = rw (stage-opening w e)
+
+  pub closed-line : (getD w 0 0 ≡ 0 → ⊥) → (getD w 0 0 ≡ 1 → ⊥) → worked (view w .stage) (view w .line) ≡ record { now = closed; out = [] }
+  unfolding worked
+  closed-line a b = rw (stage-closed w a b)
+
+  module _ (one : getD w 0 0 ≡ 1) where
+    pub unread-line : 1000000 ≤ getD w 1 0 → worked (view w .stage) (view w .line) ≡ record { now = view w .stage; out = [] }
+    unfolding worked lineTaken headIn
+    unread-line h = rw (stage-running w one, le-ltb (getD w 1 0) 1000000 h)
+
+    module _ (more : getD w 1 0 < 1000000) where
+      pub bad-line : eventIn (view w .line) ≡ none → worked (view w .stage) (view w .line) ≡ passing (runIn (headIn w) (simulationIn w)) BadLine
+      unfolding worked lineTaken headIn
+      bad-line e = rw (stage-running w one, lt-ltb (getD w 1 0) 1000000 more, e)
+
+      pub event-line : (e : Event) → eventIn (view w .line) ≡ some e → worked (view w .stage) (view w .line) ≡ happened (runIn (headIn w) (simulationIn w)) e
+      unfolding worked lineTaken headIn
+      event-line e q = rw (stage-running w one, lt-ltb (getD w 1 0) 1000000 more, q)
+
+      -- an event of a party whose number is too large for its type
+      pub unknown-line : (e : Event) → eventIn (view w .line) ≡ some e → happens (settingIn (simulationIn w)) (layout.view (simulationIn w)) e ≡ refused NoSuchParty → holders (layout.view (simulationIn w)) ≤ getD w 3 0 →
+          worked (view w .stage) (view w .line) ≡ passing (runIn (headIn w) (simulationIn w)) NoSuchParty
+      unfolding headIn answerLine after
+      unknown-line e q nobody h =
+          event-line e q ∙
+          (let a : getD w 2 0 + 0 ≡ getD w 2 0 = omega arith in
+          let b : max (getD w 3 0) (holders (layout.view (simulationIn w))) ≡ getD w 3 0 = omega (arith, h) in
+          rw (nobody, a, b))
+
+-- what the parser said of the line
+pub parsed-bad : (o : Option Event) → Bad ≡ lineOf o → o ≡ none
+unfolding lineOf
+parsed-bad none e = refl
+parsed-bad (some x) e = absurd (by-bits (sixteenBits x) e)
+  where
+    by-bits : (b : Bool) → Bad ≡ (if b then Says x else Unknown) → ⊥
+    by-bits true e = let z : _≡_ {A = ℕ} 0 1 = cc in omega arith
+    by-bits false e = let z : _≡_ {A = ℕ} 0 1 = cc in omega arith
+
+pub parsed-event : (o : Option Event) (x : Event) → Says x ≡ lineOf o → o ≡ some x
+unfolding lineOf
+parsed-event none x e = let z : _≡_ {A = ℕ} 0 1 = cc in absurd (omega arith)
+parsed-event (some y) x e = by-bits (sixteenBits y) e
+  where
+    by-bits : (b : Bool) → Says x ≡ (if b then Says y else Unknown) → some y ≡ some x
+    by-bits true e = let z : y ≡ x = cc in ap some z
+    by-bits false e = let z : _≡_ {A = ℕ} 0 1 = cc in absurd (omega arith)
+
+pub record IsUnknown (o : Option Event) : Type 0 where
+  pub event : Event
+  pub read : o ≡ some event
+  pub wide : sixteenBits event ≡ false
+
+pub parsed-unknown : (o : Option Event) → Unknown ≡ lineOf o → IsUnknown o
+unfolding lineOf
+parsed-unknown none e = let z : _≡_ {A = ℕ} 0 1 = cc in absurd (omega arith)
+parsed-unknown (some y) e = by-bits (sixteenBits y) refl e
+  where
+    by-bits : (b : Bool) → sixteenBits y ≡ b → Unknown ≡ (if b then Says y else Unknown) → IsUnknown (some y)
+    by-bits true q e = let z : _≡_ {A = ℕ} 0 1 = cc in absurd (omega arith)
+    by-bits false q e = record { event = y; read = refl; wide = q }
+
+-- no party of a simulation has such a number
+module _ (s : List ℕ) (v : layout.valid s ≡ true) where
+  beyond : (k c : ℕ) → leb k 65535 ≡ false → c ≤ 65535 → within k c ≡ false
+  beyond k c e h = rw (le-leb 1 k (omega (arith, leb-false k 65535 e)), lt-leb k c (omega (arith, leb-false k 65535 e)))
+
+  few-servers : layout.settingOf s .n ≤ 31
+  few-servers = range _ _ _ (layout-laws.facts s v .range) .servers
+
+  no-client : (k : ℕ) → leb k 65535 ≡ false → has (layout.view s .clients) k ≡ false
+  no-client k e = client-there s k ∙ beyond k (layout.settingOf s .clients) e (omega (arith, within-range (layout.settingOf s .clients) 16 (layout-laws.facts s v .some) .1))
+
+  no-server : (j : ℕ) → leb j 65535 ≡ false → has (layout.view s .servers) j ≡ false
+  no-server j e = server-there s j ∙ beyond j (layout.settingOf s .n) e (omega (arith, few-servers))
+
+  pub nobody-such : (e : Event) → sixteenBits e ≡ false → simulation.happens s e ≡ refused NoSuchParty
+  unfolding sixteenBits withPlaces
+  nobody-such (Try k) h = rw (no-client-tries _ _ (layout.view s) k (no-client (k .0) h))
+  nobody-such (Exit k) h = rw (no-client-exits _ _ (layout.view s) k (no-client (k .0) h))
+  nobody-such (Fall k) h = rw (no-client-falls _ _ (layout.view s) k (no-client (k .0) h))
+  nobody-such (Down j) h = rw (no-server-downs _ _ (layout.view s) j (no-server (j .0) h))
+  nobody-such (Up j) h = rw (no-server-ups _ _ (layout.view s) j (no-server (j .0) h))
+  nobody-such (Take i) h = let z : _≡_ {A = ℕ} 0 1 = cc in absurd (omega arith)
+  nobody-such (Drop i) h = let z : _≡_ {A = ℕ} 0 1 = cc in absurd (omega arith)
+  nobody-such (Miss j) h = rw (no-server-misses _ _ (layout.view s) j (no-server (j .0) h))
+  nobody-such (Check j) h = rw (no-server-checks _ _ (layout.view s) j (no-server (j .0) h))
+
+-- the simulation, lent and come back -----------------------------------------------------------------------------------------------
+
+pub back : (w s′ : List ℕ) → length w ≡ 6399 → length s′ ≡ 6353 → putMid 46 6353 w s′ ≡ sets w 46 s′
+back w s′ e l = came-back w 46 6353 s′ l (omega arith)
+
+pub back-long : (w s′ : List ℕ) → length w ≡ 6399 → length s′ ≡ 6353 → length (putMid 46 6353 w s′) ≡ 6399
+back-long w s′ e l = ap length (back w s′ e l) ∙ (length-sets w 46 s′ ∙ e)
+
+pub valid-long : (s : List ℕ) → layout.valid s ≡ true → length s ≡ 6353
+valid-long s v = layout-laws.facts s v .long
+
+pub simulation-valid : (w out : List ℕ) (at : ℕ) (R : Ready w out at) → Reads w → layout.valid (take 6353 (drop 46 w)) ≡ true
+unfolding simulationIn
+simulation-valid w out at R N = run-known w out at R N .simulation
+
+-- the event's two ends
+module _ (w out : List ℕ) (at : ℕ) (R : Ready w out at) (N : Reads w) (e : Event) (s′ : List ℕ) (L : simulation.Leaves (take 6353 (drop 46 w)) e s′) where
+  long′ : length s′ ≡ 6353
+  long′ = valid-long s′ (L .again)
+
+  leaves : simulation.Leaves (simulationIn w) e s′
+  unfolding simulationIn
+  leaves = L
+
+  words : Is (set (putMid 46 6353 w s′) 1 (getD w 1 0 + 1)) (record { stage = getD w 0 0; answered = getD w 1 0 + 1; accepted = getD w 2 0; holding = getD w 3 0; length = getD w 4 0 }) (keptIn w) s′
+  unfolding headIn
+  words = rw (back w s′ (R .long) long′) (store-answered (store-simulation (itself-is w (R .long)) s′ long′) (getD w 1 0 + 1))
+
+  pub counted-long : length (set (putMid 46 6353 w s′) 1 (getD w 1 0 + 1)) ≡ 6399
+  counted-long = length-set (putMid 46 6353 w s′) 1 (getD w 1 0 + 1) ∙ back-long w s′ (R .long) long′
+
+  word-two : getD (set (putMid 46 6353 w s′) 1 (getD w 1 0 + 1)) 2 0 ≡ getD w 2 0
+  unfolding headIn
+  word-two = ap (λ (h : Head). h .accepted) (words .head)
+
+  word-three : getD (set (putMid 46 6353 w s′) 1 (getD w 1 0 + 1)) 3 0 ≡ getD w 3 0
+  unfolding headIn
+  word-three = ap (λ (h : Head). h .holding) (words .head)
+
+  pub counted-few : getD (set (putMid 46 6353 w s′) 1 (getD w 1 0 + 1)) 2 0 ≤ 1000000
+  counted-few = omega (arith, word-two, N .fewer, N .more)
+
+  pub accepted-same : (k : ℕ) (w′ : List ℕ) →
+      w′ ≡ set (set (set (putMid 46 6353 w s′) 1 (getD w 1 0 + 1)) 2 (getD (set (putMid 46 6353 w s′) 1 (getD w 1 0 + 1)) 2 0 + 1)) 3 (max (getD (set (putMid 46 6353 w s′) 1 (getD w 1 0 + 1)) 3 0) k) → length w′ ≡ length w
+  accepted-same k w′ p =
+      let x : List ℕ = set (putMid 46 6353 w s′) 1 (getD w 1 0 + 1) in
+      ap length p ∙ (length-set (set x 2 (getD x 2 0 + 1)) 3 (max (getD x 3 0) k) ∙ (length-set x 2 (getD x 2 0 + 1) ∙ (counted-long ∙ sym (R .long))))
+
+  holding-word : RunFacts (headIn w) (simulationIn w) → holders (layout.view (simulationIn w)) ≤ getD w 3 0
+  unfolding headIn
+  holding-word F = F .holding
+
+  pub event-refused : (x : Refusal) → reply.Refused x ≡ simulation.replyOf (layout.view (take 6353 (drop 46 w))) (simulation.happens (take 6353 (drop 46 w)) e) → (out′ : List ℕ) (r : ℕ) →
+      (r ≡ at + length (noLine (getD w 1 0 + 1) x)) × (out′ ≡ sets out at (noLine (getD w 1 0 + 1) x)) →
+      Does w out at (happened (runIn (headIn w) (simulationIn w)) e) (set (putMid 46 6353 w s′) 1 (getD w 1 0 + 1)) out′ r
+  unfolding simulationIn answerLine after
+  event-refused x q out′ r b =
+      let o : simulation.happens (simulationIn w) e ≡ refused x = reply-refused _ _ x q in
+      let F = run-known w out at R N in
+      let z : getD w 1 0 + 1 ≡ suc (getD w 1 0) = add-one (getD w 1 0) in
+      happened-does w out at R N e s′ leaves (getD w 2 0) (getD w 3 0) (rw o (omega arith)) (rw o (omega (arith, holding-word F))) _ words out′ r (rw (o, ← z) b)
+
+  pub event-accepted : (sent k : ℕ) → reply.Accepted sent k ≡ simulation.replyOf (layout.view (take 6353 (drop 46 w))) (simulation.happens (take 6353 (drop 46 w)) e) → (w′ : List ℕ) →
+      w′ ≡ set (set (set (putMid 46 6353 w s′) 1 (getD w 1 0 + 1)) 2 (getD (set (putMid 46 6353 w s′) 1 (getD w 1 0 + 1)) 2 0 + 1)) 3 (max (getD (set (putMid 46 6353 w s′) 1 (getD w 1 0 + 1)) 3 0) k) → (out′ : List ℕ) (r : ℕ) →
+      (r ≡ at + length (okLine (getD w 1 0 + 1) sent k)) × (out′ ≡ sets out at (okLine (getD w 1 0 + 1) sent k)) →
+      Does w out at (happened (runIn (headIn w) (simulationIn w)) e) w′ out′ r
+  unfolding simulationIn
+  event-accepted sent k q w′ p out′ r b =
+      let A = reply-accepted _ _ sent k q in
+      let z : getD w 1 0 + 1 ≡ suc (getD w 1 0) = add-one (getD w 1 0) in
+      let I = store-holding (store-accepted words (getD w 2 0 + 1)) (max (getD w 3 0) k) in
+      let J : Is w′ (record { stage = getD w 0 0; answered = getD w 1 0 + 1; accepted = getD w 2 0 + 1; holding = max (getD w 3 0) k; length = getD w 4 0 }) (keptIn w) s′ = rw (p, word-two, word-three) I in
+      happened-does w out at R N e s′ leaves (getD w 2 0 + 1) (max (getD w 3 0) k) (rw (A .stepped)) (rw (A .holders)) w′ J out′ r (rw (A .line (suc (getD w 1 0)), ← z) b)
+
+-- a new simulation's two ends
+module _ (w out : List ℕ) (at : ℕ) (R : Ready w out at) (zeroth : getD w 0 0 ≡ 0) (s : Setting) (s′ : List ℕ) (N : simulation.NewLeaves (s .n) (s .m) (s .f) (s .clients) (take 6353 (drop 46 w)) s′) where
+  abbrev opens-it : Bool
+  opens-it = simulation.opens (length (take 6353 (drop 46 w))) (s .n) (s .m) (s .f) (s .clients)
+
+  lent-long : length (take 6353 (drop 46 w)) ≡ 6353
+  lent-long = part-long w (R .long)
+
+  as-runs : opens-it ≡ runs s
+  as-runs = opens-runs s (length (take 6353 (drop 46 w))) lent-long
+
+  module _ (x : Refusal) (e : made.Refused x ≡ simulation.newReply opens-it) where
+    kept-long′ : length s′ ≡ 6353
+    kept-long′ = ap length (N .kept (made-refused opens-it x e .0)) ∙ lent-long
+
+    pub begin-ready : Ready (putMid 46 6353 w s′) out at
+    begin-ready = rw (back w s′ (R .long) kept-long′) (lent-ready w out at R zeroth s′ kept-long′)
+
+    pub begin-refused : (w′ out′ : List ℕ) (r : ℕ) → Does (putMid 46 6353 w s′) out at (record { now = closed; out = refusedLine x }) w′ out′ r → Does w out at (opened (some s)) w′ out′ r
+    begin-refused w′ out′ r D =
+        let q = made-refused opens-it x e in
+        open-refused w out at R zeroth s s′ kept-long′ (sym as-runs ∙ q .0) x (q .1) w′ out′ r (rw (back w s′ (R .long) kept-long′) at D)
+
+  module _ (i : ℕ) (e : made.Sent i ≡ simulation.newReply opens-it) where
+    fresh-start : simulation.Starts (s .n) (s .m) (s .f) (s .clients) s′
+    fresh-start = N .starts (made-new opens-it i e)
+
+    fresh-long : length s′ ≡ 6353
+    fresh-long = valid-long s′ (fresh-start .again)
+
+    pub begin-long : length (putMid 46 6353 w s′) ≡ 6399
+    begin-long = back-long w s′ (R .long) fresh-long
+
+    pub begin-running : (w′ : List ℕ) → w′ ≡ set (set (set (set (putMid 46 6353 w s′) 0 1) 1 0) 2 0) 3 0 → (out′ : List ℕ) (r : ℕ) → (r ≡ at + length (headerLine s)) × (out′ ≡ sets out at (headerLine s)) →
+        Does w out at (opened (some s)) w′ out′ r
+    begin-running w′ p out′ r b = rw (p, back w s′ (R .long) fresh-long) (open-running w out at R zeroth s s′ (sym as-runs ∙ made-new opens-it i e) fresh-start fresh-long out′ r b)
+
+-- room for each line
+module _ (w out : List ℕ) (at : ℕ) (R : Ready w out at) where
+  pub no-room : (i : ℕ) (x : Refusal) → at + length (noLine i x) ≤ length out
+  no-room i x = omega (arith, no-short i x, R .room)
+
+  pub ok-room : (i sent k : ℕ) → at + length (okLine i sent k) ≤ length out
+  ok-room i sent k = omega (arith, ok-short i sent k, R .room)
+
+  pub header-room : (s : Setting) → at + length (headerLine s) ≤ length out
+  header-room s = omega (arith, header-short s, R .room)
+
+-- an event line, by what the parser said of it -------------------------------------------------------------------------------------
+
+pub first-bad : (o : Option Setting) → NotOpening ≡ firstOf o → o ≡ none
+first-bad none e = refl
+first-bad (some s) e = let z : _≡_ {A = ℕ} 0 1 = cc in absurd (omega arith)
+
+pub first-setting : (o : Option Setting) (s : Setting) → Opens s ≡ firstOf o → o ≡ some s
+first-setting none s e = let z : _≡_ {A = ℕ} 0 1 = cc in absurd (omega arith)
+first-setting (some t) s e = let z : t ≡ s = cc in ap some z
+
+module _ (w out : List ℕ) (at : ℕ) (R : Ready w out at) where
+  module _ (w′ out′ : List ℕ) (r : ℕ) where
+    pub swapped : (p q : Printed Stage) → p ≡ q → Does w out at q w′ out′ r → Does w out at p w′ out′ r
+    swapped p q e D = rw e D
+
+    pub bad-first : NotOpening ≡ firstOf (line-setting (view w .line)) → Does w out at (record { now = closed; out = refusedLine BadLine }) w′ out′ r → Does w out at (opened (line-setting (view w .line))) w′ out′ r
+    unfolding opened
+    bad-first e D = rw (first-bad (line-setting (view w .line)) e) D
+
+    pub setting-first : (s : Setting) → Opens s ≡ firstOf (line-setting (view w .line)) → Does w out at (opened (some s)) w′ out′ r → Does w out at (opened (line-setting (view w .line))) w′ out′ r
+    setting-first s e D = rw (first-setting (line-setting (view w .line)) s e) D
+
+    pub opening-does : getD w 0 0 ≡ 0 → Does w out at (opened (line-setting (view w .line))) w′ out′ r → Does w out at (worked (view w .stage) (view w .line)) w′ out′ r
+    opening-does e D = rw (opening-line w e) D
+
+    module _ (one : getD w 0 0 ≡ 1) (more : getD w 1 0 < 1000000) where
+      pub bad-does : Bad ≡ lineOf (eventIn (view w .line)) → Does w out at (passing (runIn (headIn w) (simulationIn w)) BadLine) w′ out′ r → Does w out at (worked (view w .stage) (view w .line)) w′ out′ r
+      bad-does e D = rw (bad-line w one more (parsed-bad (eventIn (view w .line)) e)) D
+
+      pub event-does : (x : Event) → Says x ≡ lineOf (eventIn (view w .line)) → Does w out at (happened (runIn (headIn w) (simulationIn w)) x) w′ out′ r → Does w out at (worked (view w .stage) (view w .line)) w′ out′ r
+      event-does x e D = rw (event-line w one more x (parsed-event (eventIn (view w .line)) x e)) D
+
+      pub unknown-does : Unknown ≡ lineOf (eventIn (view w .line)) → Does w out at (passing (runIn (headIn w) (simulationIn w)) NoSuchParty) w′ out′ r → Does w out at (worked (view w .stage) (view w .line)) w′ out′ r
+      unfolding headIn
+      unknown-does e D =
+          let K : IsUnknown (eventIn (view w .line)) = parsed-unknown (eventIn (view w .line)) e in
+          let F = run-facts (headIn w) (simulationIn w) (known w (R .valid) .runs one) in
+          rw (unknown-line w one more (K .event) (K .read) (nobody-such (simulationIn w) (F .simulation) (K .event) (K .wide)) (F .holding)) D
+
+  pub reading : getD w 0 0 ≡ 1 → getD w 1 0 < 1000000 → Reads w
+  unfolding headIn
+  reading one more = record { runs = one; more = more; fewer = run-facts (headIn w) (simulationIn w) (known w (R .valid) .runs one) .accepted }
+
+  pub unread-does : getD w 0 0 ≡ 1 → 1000000 ≤ getD w 1 0 → Does w out at (worked (view w .stage) (view w .line)) w out at
+  unread-does one h = let e = unread-line w one h in stays w out at R _ (ap (λ (p : Printed Stage). p .now) e) (ap (λ (p : Printed Stage). p .out) e)
+
+  pub closed-does : (getD w 0 0 ≡ 0 → ⊥) → (getD w 0 0 ≡ 1 → ⊥) → Does w out at (worked (view w .stage) (view w .line)) w out at
+  closed-does a b =
+      let e = closed-line w a b in
+      stays w out at R _ (ap (λ (p : Printed Stage). p .now) e ∙ sym (stage-closed w a b)) (ap (λ (p : Printed Stage). p .out) e)
+
+  -- a byte ----------------------------------------------------------------------------------------------------------------------------
+
+  pub line-taken : (b : ℕ) → b ≡ 10 → (w′ out′ : List ℕ) (r : ℕ) → Does w out at (worked (view w .stage) (view w .line)) w′ out′ r → Takes out at (taken (view w) b) (set w′ 4 0) out′ r
+  unfolding taken headIn validRun
+  line-taken b e w′ out′ r D =
+      let S = sound w′ (D .again) in
+      let I = store-length (itself-is w′ (S .long)) 0 in
+      rw (eq-eqb b 10 e)
+      (record {
+        reader = view-is I ∙ (λ i. record { stage = kept-stage i; line = [] });
+        again = valid-is I ∙ from-facts _ (keptIn w′) (simulationIn w′) (known w′ (D .again) .stage) (omega arith) (known w′ (D .again) .bytes) (known w′ (D .again) .runs);
+        place = D .place;
+        bytes = D .bytes;
+      })
+    where
+      kept-stage : stageOf (record { stage = getD w′ 0 0; answered = getD w′ 1 0; accepted = getD w′ 2 0; holding = getD w′ 3 0; length = 0 }) (simulationIn w′) ≡ worked (view w .stage) (view w .line) .now
+      kept-stage = stage-without w′ ∙ D .stage
+
+  pub byte-taken : (b : ℕ) → (b ≡ 10 → ⊥) → (w′ : List ℕ) → (view w′ ≡ record { stage = view w .stage; line = behind (view w .line) b }) × (valid w′ ≡ true) → Takes out at (taken (view w) b) w′ out at
+  unfolding taken
+  byte-taken b ne w′ e = rw (ne-eqb b 10 ne) (record { reader = e .0; again = e .1; place = omega arith; bytes = refl })
+
+  -- the last line
+  pub last-none : getD w 4 0 ≡ 0 → Does w out at (lastLine (view w)) w out at
+  last-none e =
+      let z : length (view w .line) ≡ 0 = line-long w (sound w (R .valid)) ∙ e in
+      rw (eq-eqb (length (view w .line)) 0 z) (stays w out at R (record { now = view w .stage; out = [] }) refl refl)
+
+  pub last-line : (getD w 4 0 ≡ 0 → ⊥) → (w′ out′ : List ℕ) (r : ℕ) → Does w out at (worked (view w .stage) (view w .line)) w′ out′ r → Does w out at (lastLine (view w)) w′ out′ r
+  last-line ne w′ out′ r D =
+      rw (ne-eqb (length (view w .line)) 0 (λ z. ne (sym (line-long w (sound w (R .valid))) ∙ z))) D

@@ -1,0 +1,60 @@
+-- `script::bytes_valid` meets its contract. The invariant: the words before word i are bytes.
+use denote.Ref.{now}
+use Prim.Native.Nat.{_-_}
+use native.Mathlib.Omega.{arith}
+use lib.ListN.{drop}
+use Rattle.places.proofs.Fronts.{Passing}
+use Rattle.script.specs.State.{byteWord}
+use Rattle.script.proofs.LineLaws.{bytes-none, bytes-failed, bytes-more, bytes-all}
+use borrow.Author.Needs.{needs}
+use Rattle.script.proofs.bytes_valid.Statement.{statement}
+use Rattle.script.proofs.bytes_valid.Tie as tie
+
+abbrev Inv-loop : tie.InvT-loop
+Inv-loop w i₀ i = Passing byteWord 0 (drop 5 w) 41 i
+
+abbrev μ-loop : tie.MeasureT-loop
+μ-loop w i₀ i = 41 - i
+
+loop-holds : tie.Need-loop-holds Inv-loop μ-loop
+loop-holds c = bytes-none (now (c .args .w)) (c .pre)
+
+add-if1 : tie.Need-add-if1 Inv-loop μ-loop
+add-if1 c = search needs
+
+mul-if1 : tie.Need-mul-if1 Inv-loop μ-loop
+mul-if1 c = search needs
+
+shared-slice-read-if1 : tie.Need-shared-slice-read-if1 Inv-loop μ-loop
+shared-slice-read-if1 c = search needs
+
+returns : tie.Need-returns Inv-loop μ-loop
+returns c = bytes-failed _ _ (c .before .before .before .loop .inv) (omega arith) (c .if1 .taken)
+
+add-i : tie.Need-add-i Inv-loop μ-loop
+add-i c = search needs
+
+loop-less : tie.Need-loop-less Inv-loop μ-loop
+loop-less c = omega arith
+
+loop-again : tie.Need-loop-again Inv-loop μ-loop
+loop-again c = bytes-more (now (c .before .before .before .before .args .w)) _ (c .before .before .before .loop .inv) (omega arith) (c .if1 .left)
+
+returns-2 : tie.Need-returns-2 Inv-loop μ-loop
+returns-2 c = bytes-all _ _ (c .before .loop .inv) (omega arith)
+
+pub bytes-valid-spec : {M : Type 1} → statement M
+bytes-valid-spec =
+    tie.close
+    (tie.spec
+    Inv-loop
+    μ-loop
+    loop-holds
+    add-if1
+    mul-if1
+    shared-slice-read-if1
+    returns
+    add-i
+    loop-less
+    loop-again
+    returns-2)

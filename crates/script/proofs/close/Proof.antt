@@ -1,0 +1,35 @@
+-- `script::close` meets its contract: the last line, the end, and nothing after it.
+use denote.Ref.{now}
+use Rattle.script.proofs.LineLaws.{sound}
+use Rattle.script.proofs.FeedLaws.{closing-ready, ending-ready, closing, closed-words}
+use borrow.Author.Needs.{needs}
+use Rattle.script.proofs.close.Statement.{statement}
+use Rattle.script.proofs.close.Tie as tie
+use Rattle.script.proofs.end.Reads as end-reads
+use Rattle.script.proofs.last.Reads as last-reads
+use Rattle.script.proofs.seal.Reads as seal-reads
+
+last-requires : tie.Need-last-requires
+last-requires c κs = closing-ready (now (c .before .before .before .before .args .w)) (now (c .before .before .before .before .args .out)) (c .before .before .before .before .pre .0) (c .before .before .before .before .pre .1)
+
+end-requires : tie.Need-end-requires
+end-requires c κs = ending-ready (now (c .before .before .before .before .before .before .before .before .before .before .before .args .w)) (now (c .before .before .before .before .before .before .before .before .before .before .before .args .out)) (c .before .before .before .before .before .before .before .before .before .before .before .pre .0) (c .before .before .before .before .before .before .before .before .before .before .before .pre .1) _ _ _ (c .before .before .before .before .before .before .last .ensures)
+
+seal-requires : tie.Need-seal-requires
+seal-requires c κs = sound _ (c .before .before .before .before .before .before .before .before .before .before .last .ensures .again) .long
+
+same-length : tie.Need-same-length
+same-length c = search needs
+
+same-length-2 : tie.Need-same-length-2
+same-length-2 c = search needs
+
+returns : tie.Need-returns
+returns c =
+    let a = closing (now (c .before .before .before .before .before .before .before .before .before .before .before .before .before .before .before .before .before .before .args .w)) (now (c .before .before .before .before .before .before .before .before .before .before .before .before .before .before .before .before .before .before .args .out)) (c .before .before .before .before .before .before .before .before .before .before .before .before .before .before .before .before .before .before .pre .0) (c .before .before .before .before .before .before .before .before .before .before .before .before .before .before .before .before .before .before .pre .1) _ _ _ (c .before .before .before .before .before .before .before .before .before .before .before .before .before .last .ensures) _ _ (c .before .before .before .before .before .before .end .ensures) in
+    let b = closed-words (now (c .before .before .before .before .before .before .before .before .before .before .before .before .before .before .before .before .before .before .args .w)) (now (c .before .before .before .before .before .before .before .before .before .before .before .before .before .before .before .before .before .before .args .out)) (c .before .before .before .before .before .before .before .before .before .before .before .before .before .before .before .before .before .before .pre .0) (c .before .before .before .before .before .before .before .before .before .before .before .before .before .before .before .before .before .before .pre .1) _ _ (sound _ (c .before .before .before .before .before .before .before .before .before .before .before .before .before .last .ensures .again)) (c .before .before .seal .ensures) in
+    (a .0, b .0, b .1, a .1)
+
+pub close-spec : {M : Type 1} → statement M
+close-spec =
+    tie.close (tie.spec last-requires end-requires seal-requires same-length same-length-2 returns)

@@ -1,0 +1,49 @@
+-- `script::feed` meets its contract: 21, 6, or the bytes one after another.
+use denote.Ref.{now}
+use Rattle.script.proofs.FeedLaws.{feed-invalid, feed-sound, feed-short, feed-done}
+use borrow.Author.Needs.{needs}
+use Rattle.script.proofs.feed.Statement.{statement}
+use Rattle.script.proofs.feed.Tie as tie
+use Rattle.script.proofs.take_all.Reads as take-all-reads
+use Rattle.script.proofs.valid.Reads as valid-reads
+
+valid-requires : tie.Need-valid-requires
+valid-requires c κs = search needs
+
+same-length : tie.Need-same-length
+same-length c = search needs
+
+returns : tie.Need-returns
+returns c = feed-invalid (now (c .before .before .before .before .before .before .args .w)) (now (c .before .before .before .before .before .before .args .input)) (now (c .before .before .before .before .before .before .args .out)) _ (c .before .valid .ensures) (c .if1 .taken)
+
+same-length-2 : tie.Need-same-length-2
+same-length-2 c = search needs
+
+returns-2 : tie.Need-returns-2
+returns-2 c = feed-short (now (c .before .before .before .before .before .before .before .args .w)) (now (c .before .before .before .before .before .before .before .args .input)) (now (c .before .before .before .before .before .before .before .args .out)) _ (c .before .before .valid .ensures) (c .before .if1 .left) (c .if2 .taken)
+
+take-all-requires : tie.Need-take-all-requires
+take-all-requires c κs = feed-sound (now (c .before .before .before .before .before .before .before .before .before .args .w)) (now (c .before .before .before .before .before .before .before .before .before .args .input)) (now (c .before .before .before .before .before .before .before .before .before .args .out)) _ (c .before .before .before .before .valid .ensures) (c .before .before .before .if1 .left)
+
+same-length-3 : tie.Need-same-length-3
+same-length-3 c = search needs
+
+same-length-4 : tie.Need-same-length-4
+same-length-4 c = search needs
+
+returns-3 : tie.Need-returns-3
+returns-3 c = feed-done (now (c .before .before .before .before .before .before .before .before .before .before .before .before .before .before .args .w)) (now (c .before .before .before .before .before .before .before .before .before .before .before .before .before .before .args .input)) (now (c .before .before .before .before .before .before .before .before .before .before .before .before .before .before .args .out)) _ (c .before .before .before .before .before .before .before .before .before .valid .ensures) (c .before .before .before .before .before .before .before .before .if1 .left) (c .before .before .before .before .before .before .before .if2 .left) _ _ _ (c .before .before .before .before .take-all .ensures)
+
+pub feed-spec : {M : Type 1} → statement M
+feed-spec =
+    tie.close
+    (tie.spec
+    valid-requires
+    same-length
+    returns
+    same-length-2
+    returns-2
+    take-all-requires
+    same-length-3
+    same-length-4
+    returns-3)

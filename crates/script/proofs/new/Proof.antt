@@ -1,0 +1,22 @@
+-- `script::new` meets its contract: words of the right number are cleared.
+use denote.Ref.{now}
+use Rattle.script.proofs.StepLaws.{not-new, newly, newly-answered}
+use borrow.Author.Needs.{needs}
+use Rattle.script.proofs.new.Statement.{statement}
+use Rattle.script.proofs.new.Tie as tie
+use Rattle.script.proofs.clear.Reads as clear-reads
+
+returns : tie.Need-returns
+returns c = not-new (now (c .before .before .args .w)) (c .if1 .taken)
+
+clear-requires : tie.Need-clear-requires
+clear-requires c κs = search needs
+
+same-length : tie.Need-same-length
+same-length c = search needs
+
+returns-2 : tie.Need-returns-2
+returns-2 c = (newly-answered (now (c .before .before .before .before .before .before .args .w)) (c .before .before .before .before .if1 .left), newly (now (c .before .before .before .before .before .before .args .w)) _ (c .before .before .before .before .if1 .left) (c .before .before .clear .ensures))
+
+pub new-spec : {M : Type 1} → statement M
+new-spec = tie.close (tie.spec returns clear-requires same-length returns-2)

@@ -1,0 +1,112 @@
+-- What the calls on a script's state give and leave, and what the functions inside do to it.
+use Prim.Native.Nat.{ℕ, suc, _+_, _≤_, _<_}
+use mathlib.Core.Path.{_≡_}
+use mathlib.Core.Bool.{Bool, true, false, _&&_}
+use mathlib.Core.List.{List, []}
+use lib.Dec.{eqb, ltb, leb}
+use lib.ListN.{length, getD, replicate}
+use lib.Seq.{sets}
+use Rattle.ids.specs.Choice.{if_then_else_}
+use Rattle.ids.specs.declared.Refusal.{Refusal}
+use Rattle.ids.specs.declared.Refusal.the-variants.{RoomShort, InvalidRecord, ParameterOutOfRange}
+use Rattle.script.specs.declared.Progress.{Progress}
+use Rattle.script.specs.declared.Progress.the-variants.{Took, Refused}
+use Rattle.system.specs.declared.Event.{Event}
+use Rattle.language.specs.Printed.{noLine}
+use Rattle.script.specs.Output.{happens, answerLine}
+use Rattle.script.specs.Reader.{Run, Stage, running, closed, Reader, Printed, moved, passed, maxPrinted, fedWithin, finished}
+use Rattle.script.specs.State.{size, view, valid}
+
+-- a new script: 7 if the words are too few or too many
+unfoldable pub newAnswer : List ℕ → Progress
+newAnswer w = if eqb (length w) size then Took 0 0 else Refused ParameterOutOfRange
+
+unfoldable pub newWords : List ℕ → List ℕ
+newWords w = if eqb (length w) size then sets w 0 (replicate 46 0) else w
+
+-- 21 an invalid state, 6 no room for a line
+unfoldable pub feedAnswer : List ℕ → List ℕ → ℕ → Progress
+feedAnswer w input room =
+    if valid w then
+    if ltb room maxPrinted then Refused RoomShort
+    else Took (fedWithin room (view w) input .used) (length (fedWithin room (view w) input .out))
+    else Refused InvalidRecord
+
+abbrev pub feeds : List ℕ → ℕ → Bool
+feeds w room = valid w && leb maxPrinted room
+
+pub record FeedLeaves (w input out w′ out′ : List ℕ) : Type 0 where
+  pub reader : feeds w (length out) ≡ true → view w′ ≡ fedWithin (length out) (view w) input .now
+  pub again : feeds w (length out) ≡ true → valid w′ ≡ true
+  pub bytes : feeds w (length out) ≡ true → out′ ≡ sets out 0 (fedWithin (length out) (view w) input .out)
+  pub kept : feeds w (length out) ≡ false → (w′ ≡ w) × (out′ ≡ out)
+
+-- the end: 21, 6 no room for two lines
+abbrev pub maxEnding : ℕ
+maxEnding = 104
+
+unfoldable pub finishAnswer : List ℕ → ℕ → Progress
+finishAnswer w room =
+    if valid w then if ltb room maxEnding then Refused RoomShort else Took 0 (length (finished (view w)))
+    else Refused InvalidRecord
+
+abbrev pub finishes : List ℕ → ℕ → Bool
+finishes w room = valid w && leb maxEnding room
+
+pub record FinishLeaves (w out w′ out′ : List ℕ) : Type 0 where
+  pub reader : finishes w (length out) ≡ true → view w′ ≡ record { stage = closed; line = [] }
+  pub again : finishes w (length out) ≡ true → valid w′ ≡ true
+  pub bytes : finishes w (length out) ≡ true → out′ ≡ sets out 0 (finished (view w))
+  pub kept : finishes w (length out) ≡ false → (w′ ≡ w) × (out′ ≡ out)
+
+-- Inside, what a valid state gives is handed on: its length, and the length of the line.
+pub record Sound (w : List ℕ) : Type 0 where
+  pub valid : valid w ≡ true
+  pub long : length w ≡ 6399
+  pub short : getD w 4 0 ≤ 41
+
+-- and there is room for one line from place `at` on
+pub record Ready (w out : List ℕ) (at : ℕ) : Type 0 where
+  pub valid : valid w ≡ true
+  pub long : length w ≡ 6399
+  pub short : getD w 4 0 ≤ 41
+  pub room : at + 52 ≤ length out
+
+-- a script that runs, with an event line still to be read
+pub record Reads (w : List ℕ) : Type 0 where
+  pub runs : getD w 0 0 ≡ 1
+  pub more : getD w 1 0 < 1000000
+  pub fewer : getD w 2 0 ≤ getD w 1 0
+
+-- the stage became and printed this, from place `at` on, and r is the place behind it; the line is as it was
+pub record Does (w out : List ℕ) (at : ℕ) (p : Printed Stage) (w′ out′ : List ℕ) (r : ℕ) : Type 0 where
+  pub stage : view w′ .stage ≡ p .now
+  pub line : view w′ .line ≡ view w .line
+  pub again : valid w′ ≡ true
+  pub place : r ≡ at + length (p .out)
+  pub bytes : out′ ≡ sets out at (p .out)
+
+-- the same of the whole reader
+pub record Takes (out : List ℕ) (at : ℕ) (p : Printed Reader) (w′ out′ : List ℕ) (r : ℕ) : Type 0 where
+  pub reader : view w′ ≡ p .now
+  pub again : valid w′ ≡ true
+  pub place : r ≡ at + length (p .out)
+  pub bytes : out′ ≡ sets out at (p .out)
+
+-- the bytes were taken in while there was room for a line
+pub record FedAs (w input out w′ out′ : List ℕ) (r : Progress) : Type 0 where
+  pub answer : r ≡ Took (fedWithin (length out) (view w) input .used) (length (fedWithin (length out) (view w) input .out))
+  pub reader : view w′ ≡ fedWithin (length out) (view w) input .now
+  pub again : valid w′ ≡ true
+  pub bytes : out′ ≡ sets out 0 (fedWithin (length out) (view w) input .out)
+
+-- an event of a script that runs, and a line that changes nothing
+abbrev pub happened : Run → Event → Printed Stage
+happened r e =
+    record {
+      now = running (moved r (happens (r .setting) (r .system) e));
+      out = answerLine (suc (r .answered)) (r .system) (happens (r .setting) (r .system) e);
+    }
+
+abbrev pub passing : Run → Refusal → Printed Stage
+passing r x = record { now = running (passed r); out = noLine (suc (r .answered)) x }
