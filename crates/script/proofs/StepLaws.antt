@@ -45,8 +45,8 @@ use Rattle.simulation.proofs.Answers.{no-client-tries, no-client-exits, no-clie
 use Rattle.simulation.specs.Happens as simulation
 use Rattle.simulation.specs.declared.Reply.the-variants as reply
 use Rattle.simulation.specs.declared.Moved.the-variants as made
-use Rattle.script.specs.Output.{maxLines, happens, answerLine, fresh, runs}
-use Rattle.script.specs.Reader.{Run, Stage, opening, running, closed, Reader, Printed, started, opened, moved, passed, lineTaken, worked, behind, taken, ended, lastLine, maxKept}
+use Rattle.output.specs.Output.{maxLines, happens, answerLine, fresh, runs}
+use Rattle.output.specs.Reader.{Run, Stage, opening, running, closed, Reader, Printed, started, opened, moved, passed, lineTaken, worked, behind, taken, ended, lastLine, maxKept}
 use Rattle.script.specs.State.{size, Head, headIn, keptIn, simulationIn, settingIn, runIn, stageOf, view, validRun, byteWord, validParts, valid}
 use Rattle.script.specs.declared.Progress.the-variants.{Took, Refused}
 use Rattle.script.specs.Calls.{newAnswer, newWords, Sound, Ready, Reads, Does, Takes, happened, passing}

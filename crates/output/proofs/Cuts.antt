@@ -11,9 +11,9 @@ use lib.ListN.{length, take, drop, length-take, take-append-drop}
 use lib.Seq.{take-take}
 use borrow.Author.Tests.{le-ltb}
 use Rattle.ids.proofs.Choice.{decided}
-use Rattle.script.specs.Output.{output}
-use Rattle.script.specs.Reader.{Reader, Printed, taken, fed, Fed, maxPrinted, followed, fedWithin, finished, empty, Call, Session, session}
-use Rattle.script.proofs.Whole.{whole, in-parts}
+use Rattle.output.specs.Output.{output}
+use Rattle.output.specs.Reader.{Reader, Printed, taken, fed, Fed, maxPrinted, followed, fedWithin, finished, empty, Call, Session, session}
+use Rattle.output.proofs.Whole.{whole, in-parts}
 
 -- a call takes in what it uses as `fed` does
 abbrev printedBy : Fed → Printed Reader

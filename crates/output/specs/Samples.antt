@@ -3,7 +3,7 @@ use mathlib.Core.Path.{_≡_}
 use Prim.Native.Nat.{ℕ}
 use mathlib.Core.List.{List, [], _∷_, _++_}
 use Rattle.language.specs.Words.{text, newline}
-use Rattle.script.specs.Output.{output}
+use Rattle.output.specs.Output.{output}
 
 -- lines, each with its newline
 unfoldable pub lines : List (List ℕ) → List ℕ

@@ -14,7 +14,7 @@ use Rattle.language.specs.Words.{newline}
 use Rattle.language.specs.Lines.{eventIn, settingIn}
 use Rattle.language.specs.Printed.{headerLine, noLine, endLine, refusedLine}
 use Rattle.language.specs.declared.Setting.{Setting}
-use Rattle.script.specs.Output.{maxLines, happens, answerLine, fresh, runs}
+use Rattle.output.specs.Output.{maxLines, happens, answerLine, fresh, runs}
 
 -- a script that runs: how many event lines are answered, how many of them were accepted, the most holders at once
 pub record Run : Type 0 where
