@@ -24,10 +24,10 @@ use Rattle.language.specs.declared.Setting.{Setting}
 use Rattle.language.specs.Words.{newline}
 use Rattle.language.specs.Lines.{eventIn, settingIn}
 use Rattle.language.proofs.PrintedLaws.{refused-short, no-short, ok-short, header-short, end-short}
-use Rattle.script.specs.Output.{maxLines, answerLine, runs}
+use Rattle.output.specs.Output.{maxLines, answerLine, runs}
 use Rattle.script.specs.declared.Progress.{Progress}
 use Rattle.script.specs.declared.Progress.the-variants.{Took, Refused}
-use Rattle.script.specs.Reader.{Run, Stage, opening, running, closed, Reader, Printed, opened, lineTaken, worked, taken, Fed, maxPrinted, followed, fedWithin, ended, lastLine, finished}
+use Rattle.output.specs.Reader.{Run, Stage, opening, running, closed, Reader, Printed, opened, lineTaken, worked, taken, Fed, maxPrinted, followed, fedWithin, ended, lastLine, finished}
 use Rattle.script.specs.State.{keptIn, simulationIn, stageOf, view, valid}
 use Rattle.script.specs.Calls.{feedAnswer, FeedLeaves, finishAnswer, FinishLeaves, Sound, Ready, Does, Takes, FedAs}
 use Rattle.script.proofs.StateLaws.{itself-is, view-is, valid-is, store-stage, store-length, from-facts}

@@ -1,6 +1,3 @@
-pub mod Print
-pub mod Whole
-pub mod Cuts
 pub mod StateLaws
 pub mod LineLaws
 pub mod TestLaws

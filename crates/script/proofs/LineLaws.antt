@@ -14,7 +14,7 @@ use Rattle.ids.proofs.Choice.{both}
 use lib.Dec.{eqb}
 use Rattle.places.proofs.Fronts.{Passing, passing-none, passing-failed, passing-more, passing-all}
 use Rattle.language.proofs.PutLaws.{Copied, copied-more, copied-all}
-use Rattle.script.specs.Reader.{Reader, maxKept, behind}
+use Rattle.output.specs.Reader.{Reader, maxKept, behind}
 use Rattle.script.specs.State.{size, Head, headIn, keptIn, simulationIn, stageOf, lineOf, view, validRun, byteWord, validParts, valid}
 use Rattle.script.specs.Calls.{Sound}
 use Rattle.script.proofs.StateLaws.{Is, itself-is, kept-long, view-is, valid-is, store-kept, store-length, Facts, facts, from-facts}

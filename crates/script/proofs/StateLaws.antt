@@ -16,8 +16,8 @@ use Rattle.regions.proofs.SetsLaws.{region-inside, region-behind, take-sets-aft
 use Rattle.places.proofs.BlockParts.{covered}
 use Rattle.layout.specs.Layout as layout
 use Rattle.system.specs.Places.{holders}
-use Rattle.script.specs.Output.{maxLines}
-use Rattle.script.specs.Reader.{Reader, maxKept}
+use Rattle.output.specs.Output.{maxLines}
+use Rattle.output.specs.Reader.{Reader, maxKept}
 use Rattle.script.specs.State.{size, Head, headIn, keptIn, simulationIn, stageOf, lineOf, view, validRun, byteWord, validParts, valid}
 
 -- w is these parts

@@ -11,7 +11,7 @@ ghost use lib.Seq.{sets};
 ghost use Rattle.ids.specs.Lists.{every};
 ghost use Rattle.language.specs.Lines.{eventIn, lineOf, settingIn, firstOf};
 ghost use Rattle.language.specs.Printed.{refusedLine};
-ghost use Rattle.script.specs.Reader.{closed, opened, worked, behind, taken, ended, lastLine, finished};
+ghost use Rattle.output.specs.Reader.{closed, opened, worked, behind, taken, ended, lastLine, finished};
 ghost use Rattle.script.specs.State.{headIn, keptIn, simulationIn, runIn, byteWord, validRun, view, valid as isValid};
 ghost use Rattle.script.specs.Calls.{newAnswer, newWords, feedAnswer, FeedLeaves, finishAnswer, FinishLeaves, Sound, Ready, Reads, Does, Takes, FedAs, happened, passing};
 use ids::Refusal;
