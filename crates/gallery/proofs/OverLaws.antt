@@ -11,8 +11,8 @@ use lib.ListN.{length, getD}
 use borrow.Author.Tests.{le-ltb, leb-true}
 use Rattle.ids.proofs.Choice.{decided, Test}
 use Rattle.language.specs.Words.{newline}
-use Rattle.script.specs.Output.{maxLines}
-use Rattle.script.specs.Reader.{Run, Stage, running, closed, Reader, Printed, lineTaken, worked, taken, fed, ended, lastLine, finished}
+use Rattle.output.specs.Output.{maxLines}
+use Rattle.output.specs.Reader.{Run, Stage, running, closed, Reader, Printed, lineTaken, worked, taken, fed, ended, lastLine, finished}
 use Rattle.script.specs.State.{headIn, stageOf, view, valid}
 use Rattle.script.proofs.LineLaws.{known}
 use Rattle.gallery.specs.Over.{Over}

@@ -8,13 +8,13 @@ use lib.Dec.{leb}
 use lib.ListN.{length}
 use lib.Seq.{length-sets}
 use borrow.Author.Tests.{le-ltb, le-leb}
-use Rattle.script.specs.Reader.{Fed, fedWithin, finished}
+use Rattle.output.specs.Reader.{Fed, fedWithin, finished}
 use Rattle.script.specs.State.{view, valid}
 use Rattle.script.specs.Calls.{newAnswer, newWords, feedAnswer, FeedLeaves, finishAnswer, FinishLeaves}
 use Rattle.script.specs.declared.Progress.{Progress}
 use Rattle.script.specs.declared.Progress.the-variants.{Took, Refused}
 use Rattle.script.proofs.NewLaws.{new-valid}
-use Rattle.script.proofs.Cuts.{used-few}
+use Rattle.output.proofs.Cuts.{used-few}
 use Rattle.script.proofs.FeedLaws.{wrote-few, finished-short}
 
 pub begun : (w w′ : List ℕ) (p : Progress) → 6399 ≡ length w → (p ≡ newAnswer w) × (w′ ≡ newWords w) → valid w′ ≡ true

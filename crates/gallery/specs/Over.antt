@@ -2,7 +2,7 @@
 use Prim.Native.Nat.{ℕ}
 use mathlib.Core.Path.{_≡_}
 use mathlib.Core.List.{List, []}
-use Rattle.script.specs.Reader.{Reader, fed, finished}
+use Rattle.output.specs.Reader.{Reader, fed, finished}
 
 pub record Over (r : Reader) : Type 0 where
   pub silent : (s : List ℕ) → fed r s .out ≡ []

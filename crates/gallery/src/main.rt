@@ -1,5 +1,5 @@
 // The gallery program: a script on standard input, what it prints on standard output. Document 01, 'The gallery script'.
-// What is printed is `script`'s promise: its parts and buffers may be of any size (script/proofs/Cuts). Here is only the reading and
+// What is printed is `script`'s promise: its parts and buffers may be of any size (output/proofs/Cuts). Here is only the reading and
 // writing, of which no contract can speak. The kit has no exit status: where reading or writing fails, standard error says so and
 // the program ends there.
 ghost use mathlib.Core.Path.{_≡_};

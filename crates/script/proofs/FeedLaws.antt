@@ -24,10 +24,10 @@ use Rattle.language.specs.declared.Setting.{Setting}
 use Rattle.language.specs.Words.{newline}
 use Rattle.language.specs.Lines.{eventIn, settingIn}
 use Rattle.language.proofs.PrintedLaws.{refused-short, no-short, ok-short, header-short, end-short}
-use Rattle.script.specs.Output.{maxLines, answerLine, runs}
+use Rattle.output.specs.Output.{maxLines, answerLine, runs}
 use Rattle.script.specs.declared.Progress.{Progress}
 use Rattle.script.specs.declared.Progress.the-variants.{Took, Refused}
-use Rattle.script.specs.Reader.{Run, Stage, opening, running, closed, Reader, Printed, opened, lineTaken, worked, taken, Fed, maxPrinted, followed, fedWithin, ended, lastLine, finished}
+use Rattle.output.specs.Reader.{Run, Stage, opening, running, closed, Reader, Printed, opened, lineTaken, worked, taken, Fed, maxPrinted, followed, fedWithin, ended, lastLine, finished}
 use Rattle.script.specs.State.{keptIn, simulationIn, stageOf, view, valid}
 use Rattle.script.specs.Calls.{feedAnswer, FeedLeaves, finishAnswer, FinishLeaves, Sound, Ready, Does, Takes, FedAs}
 use Rattle.script.proofs.StateLaws.{itself-is, view-is, valid-is, store-stage, store-length, from-facts}
@@ -267,9 +267,10 @@ module _ (w out : List ℕ) (S : Sound w) (room : 104 ≤ length out) where
     closing out₂ r b =
         let q = D .stage in
         let p : r ≡ at + length (ended (lastLine (view w) .now)) = rw q at (b .0) in
-        let o : out₂ ≡ sets out₁ at (ended (lastLine (view w) .now)) = rw q at (b .1) in
-        (omega (arith, p, its-place, length-append (lastLine (view w) .out) (ended (lastLine (view w) .now))),
-         stored-on out out₁ out₂ (lastLine (view w) .out) (ended (lastLine (view w) .now)) 0 at (D .bytes) o (D .place))
+        let o : out₂ ≡ sets out₁ at (ended (lastLine (view w) .now)) = rw q at (b .1) in (
+          omega (arith, p, its-place, length-append (lastLine (view w) .out) (ended (lastLine (view w) .now))),
+          stored-on out out₁ out₂ (lastLine (view w) .out) (ended (lastLine (view w) .now)) 0 at (D .bytes) o (D .place),
+        )
 
   -- a script that has ended
   pub closed-words : (w₁ w₂ : List ℕ) → Sound w₁ → w₂ ≡ set (set w₁ 0 2) 4 0 → (view w₂ ≡ record { stage = closed; line = [] }) × (valid w₂ ≡ true)

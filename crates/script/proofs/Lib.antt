@@ -1,6 +1,3 @@
-pub mod Print
-pub mod Whole
-pub mod Cuts
 pub mod StateLaws
 pub mod NewLaws
 pub mod LineLaws

@@ -14,7 +14,7 @@ use Rattle.ids.proofs.Choice.{both}
 use lib.Dec.{eqb}
 use Rattle.places.proofs.Fronts.{Passing, passing-none, passing-failed, passing-more, passing-all}
 use Rattle.language.proofs.PutLaws.{Copied, copied-more, copied-all}
-use Rattle.script.specs.Reader.{Reader, maxKept, behind}
+use Rattle.output.specs.Reader.{Reader, maxKept, behind}
 use Rattle.script.specs.State.{size, Head, headIn, keptIn, simulationIn, stageOf, lineOf, view, validRun, byteWord, validParts, valid}
 use Rattle.script.specs.Calls.{Sound}
 use Rattle.script.proofs.StateLaws.{Is, itself-is, kept-long, view-is, valid-is, store-kept, store-length, Facts, facts, from-facts}
@@ -76,9 +76,10 @@ module _ (w : List ℕ) (b : ℕ) (S : Sound w) where
   keep-more h small =
       let i : ℕ = getD w 4 0 in
       let p = store-length (store-kept (itself-is w (S .long)) i b (omega (arith, h))) (i + 1) in
-      let z : take (i + 1) (set (keptIn w) i b) ≡ behind (take i (keptIn w)) b = behind-more (keptIn w) i b (omega (arith, h)) (kept-long w (S .long)) in
-      (view-is p ∙ (λ j. record { stage = stageOf (headIn w) (simulationIn w); line = z j }),
-       still-valid w _ _ _ (S .valid) p refl refl (omega (arith, h)) (every-set byteWord (keptIn w) i b (known w (S .valid) .bytes) (le-leb b 255 small)))
+      let z : take (i + 1) (set (keptIn w) i b) ≡ behind (take i (keptIn w)) b = behind-more (keptIn w) i b (omega (arith, h)) (kept-long w (S .long)) in (
+        view-is p ∙ (λ j. record { stage = stageOf (headIn w) (simulationIn w); line = z j }),
+        still-valid w _ _ _ (S .valid) p refl refl (omega (arith, h)) (every-set byteWord (keptIn w) i b (known w (S .valid) .bytes) (le-leb b 255 small)),
+      )
 
 -- the words of the line, tested one by one
 every-at : (f : ℕ → Bool) (l : List ℕ) (i : ℕ) → every f l ≡ true → i < length l → f (getD l i 0) ≡ true

@@ -16,8 +16,8 @@ use Rattle.regions.proofs.SetsLaws.{region-inside, region-behind, take-sets-aft
 use Rattle.places.proofs.BlockParts.{covered}
 use Rattle.layout.specs.Layout as layout
 use Rattle.system.specs.Places.{holders}
-use Rattle.script.specs.Output.{maxLines}
-use Rattle.script.specs.Reader.{Reader, maxKept}
+use Rattle.output.specs.Output.{maxLines}
+use Rattle.output.specs.Reader.{Reader, maxKept}
 use Rattle.script.specs.State.{size, Head, headIn, keptIn, simulationIn, stageOf, lineOf, view, validRun, byteWord, validParts, valid}
 
 -- w is these parts
@@ -149,7 +149,7 @@ module _ {w : List ℕ} {h : Head} {l s : List ℕ} (p : Is w h l s) where
   unfolding headIn
   store-head v =
       let word : (i : ℕ) → i < 46 → getD (sets w 46 v) i 0 ≡ getD w i 0 = λ i lt.
-          sym (getD-take 46 (sets w 46 v) i 0 lt) ∙ (ap (λ (x : List ℕ). getD x i 0) (take-sets-after 46 w 46 v (omega arith)) ∙ getD-take 46 w i 0 lt) in
+      sym (getD-take 46 (sets w 46 v) i 0 lt) ∙ (ap (λ (x : List ℕ). getD x i 0) (take-sets-after 46 w 46 v (omega arith)) ∙ getD-take 46 w i 0 lt) in
       let a = word 0 (omega arith) in
       let b = word 1 (omega arith) in
       let c = word 2 (omega arith) in

@@ -45,14 +45,15 @@ use Rattle.simulation.proofs.Answers.{no-client-tries, no-client-exits, no-clie
 use Rattle.simulation.specs.Happens as simulation
 use Rattle.simulation.specs.declared.Reply.the-variants as reply
 use Rattle.simulation.specs.declared.Moved.the-variants as made
-use Rattle.script.specs.Output.{maxLines, happens, answerLine, fresh, runs}
-use Rattle.script.specs.Reader.{Run, Stage, opening, running, closed, Reader, Printed, started, opened, moved, passed, lineTaken, worked, behind, taken, ended, lastLine, maxKept}
+use Rattle.output.specs.Output.{maxLines, happens, answerLine, fresh, runs}
+use Rattle.output.specs.Reader.{Run, Stage, opening, running, closed, Reader, Printed, started, opened, moved, passed, lineTaken, worked, behind, taken, ended, lastLine, maxKept}
 use Rattle.script.specs.State.{size, Head, headIn, keptIn, simulationIn, settingIn, runIn, stageOf, view, validRun, byteWord, validParts, valid}
 use Rattle.script.specs.declared.Progress.the-variants.{Took, Refused}
 use Rattle.script.specs.Calls.{newAnswer, newWords, Sound, Ready, Reads, Does, Takes, happened, passing}
 use Rattle.script.proofs.StateLaws.{Is, itself-is, view-is, valid-is, store-length, store-stage, store-answered, store-accepted, store-holding, store-simulation, Facts, RunFacts, run-facts, from-run, from-facts}
 use Rattle.script.proofs.TestLaws.{few-clients, part-long}
 use Rattle.script.proofs.LineLaws.{known, sound, line-long, line-parsed}
+use Rattle.changes.specs.Opening.{Starts}
 
 -- the line, parsed
 pub line-read : {A : Type 0} (f : List ℕ → A) (w : List ℕ) → Sound w → (o l : List ℕ) → length o ≡ 41 → l ≡ sets o 0 (view w .line) →
@@ -164,7 +165,6 @@ module _ (w out : List ℕ) (at : ℕ) (R : Ready w out at) where
         (omega (arith, N .runs))
         (λ e. from-run _ (simulationIn w) (record { simulation = F .simulation; answered = omega (arith, N .more); accepted = omega (arith, F .accepted); holding = F .holding; few = F .few }))
         out′ r (rw z at b)
-
 
     -- an event, which left the simulation s′
     module _ (e : Event) (s′ : List ℕ) (L : simulation.Leaves (simulationIn w) e s′) (acc hold : ℕ)
@@ -289,7 +289,7 @@ module _ (w out : List ℕ) (at : ℕ) (R : Ready w out at) (zeroth : getD w 0 0
       rw (out-of, ← q) (record { stage = D .stage; line = D .line ∙ lent-line s′ long; again = D .again; place = D .place; bytes = D .bytes })
 
   -- the setting is in range: the script runs
-  pub open-running : (s : Setting) (s′ : List ℕ) → runs s ≡ true → simulation.Starts (s .n) (s .m) (s .f) (s .clients) s′ → length s′ ≡ 6353 → (out′ : List ℕ) (r : ℕ) →
+  pub open-running : (s : Setting) (s′ : List ℕ) → runs s ≡ true → Starts (s .n) (s .m) (s .f) (s .clients) s′ → length s′ ≡ 6353 → (out′ : List ℕ) (r : ℕ) →
       (r ≡ at + length (headerLine s)) × (out′ ≡ sets out at (headerLine s)) → Does w out at (opened (some s)) (set (set (set (set (sets w 46 s′) 0 1) 1 0) 2 0) 3 0) out′ r
   unfolding opened stageOf
   open-running s s′ in-it B long out′ r b =
@@ -499,7 +499,7 @@ module _ (w out : List ℕ) (at : ℕ) (R : Ready w out at) (zeroth : getD w 0 0
         open-refused w out at R zeroth s s′ kept-long′ (sym as-runs ∙ q .0) x (q .1) w′ out′ r (rw (back w s′ (R .long) kept-long′) at D)
 
   module _ (i : ℕ) (e : made.Sent i ≡ simulation.newReply opens-it) where
-    fresh-start : simulation.Starts (s .n) (s .m) (s .f) (s .clients) s′
+    fresh-start : Starts (s .n) (s .m) (s .f) (s .clients) s′
     fresh-start = N .starts (made-new opens-it i e)
 
     fresh-long : length s′ ≡ 6353

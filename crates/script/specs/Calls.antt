@@ -13,8 +13,8 @@ use Rattle.script.specs.declared.Progress.{Progress}
 use Rattle.script.specs.declared.Progress.the-variants.{Took, Refused}
 use Rattle.system.specs.declared.Event.{Event}
 use Rattle.language.specs.Printed.{noLine}
-use Rattle.script.specs.Output.{happens, answerLine}
-use Rattle.script.specs.Reader.{Run, Stage, running, closed, Reader, Printed, moved, passed, maxPrinted, fedWithin, finished}
+use Rattle.output.specs.Output.{happens, answerLine}
+use Rattle.output.specs.Reader.{Run, Stage, running, closed, Reader, Printed, moved, passed, maxPrinted, fedWithin, finished}
 use Rattle.script.specs.State.{size, view, valid}
 
 -- a new script: 7 if the words are too few or too many

@@ -1,5 +1,2 @@
-pub mod Output
-pub mod Reader
-pub mod Samples
 pub mod State
 pub mod Calls

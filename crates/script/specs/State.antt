@@ -13,8 +13,8 @@ use Rattle.regions.specs.Blocks.{region}
 use Rattle.system.specs.Places.{holders}
 use Rattle.language.specs.declared.Setting.{Setting}
 use Rattle.layout.specs.Layout as layout
-use Rattle.script.specs.Output.{maxLines}
-use Rattle.script.specs.Reader.{Run, Stage, opening, running, closed, Reader, maxKept}
+use Rattle.output.specs.Output.{maxLines}
+use Rattle.output.specs.Reader.{Run, Stage, opening, running, closed, Reader, maxKept}
 
 abbrev pub size : ℕ
 size = 6399

@@ -11,7 +11,7 @@ ghost use lib.Seq.{sets};
 ghost use Rattle.ids.specs.Lists.{every};
 ghost use Rattle.language.specs.Lines.{eventIn, lineOf, settingIn, firstOf};
 ghost use Rattle.language.specs.Printed.{refusedLine};
-ghost use Rattle.script.specs.Reader.{closed, opened, worked, behind, taken, ended, lastLine, finished};
+ghost use Rattle.output.specs.Reader.{closed, opened, worked, behind, taken, ended, lastLine, finished};
 ghost use Rattle.script.specs.State.{headIn, keptIn, simulationIn, runIn, byteWord, validRun, view, valid as isValid};
 ghost use Rattle.script.specs.Calls.{newAnswer, newWords, feedAnswer, FeedLeaves, finishAnswer, FinishLeaves, Sound, Ready, Reads, Does, Takes, FedAs, happened, passing};
 use ids::Refusal;
@@ -24,7 +24,9 @@ use system::Event;
 
 // The words of a script's state, the bytes that any line printed fits in, and the event lines that are read.
 pub const SIZE: usize = 6399;
+
 pub const MAX_PRINTED: usize = 52;
+
 pub const MAX_ENDING: usize = 104;
 
 // Bytes used and bytes written, or the refusal.

@@ -40,11 +40,11 @@ use Rattle.layout.specs.Parts.{clientBlockOf}
 use Rattle.layout.proofs.PlaceLaws.{client-there}
 use Rattle.simulation.specs.declared.Moved.the-variants.{Sent, Refused}
 use Rattle.simulation.specs.Happens.{happens, Leaves, movedOf}
-use Rattle.simulation.specs.Changes.{Becomes, HasClient, Sendable, hasRoom, withClient, withClients, withTransit, sending}
+use Rattle.changes.specs.Changes.{Becomes, HasClient, Sendable, hasRoom, withClient, withClients, withTransit, sending}
 use Rattle.simulation.proofs.Answers.{tries-twice, tries-spent, tries, exits-outside, exits}
 use Rattle.simulation.proofs.Leaving.{leaves-refused}
-use Rattle.simulation.proofs.SentLaws.{Sends, tries-sends, exits-sends}
-use Rattle.simulation.proofs.Storing.{client-block, client-is, tries-stored, exits-stored}
+use Rattle.changes.proofs.SentLaws.{Sends, tries-sends, exits-sends}
+use Rattle.changes.proofs.Storing.{client-block, client-is, tries-stored, exits-stored}
 use Rattle.simulation.proofs.Sending.{Call, call-refused, call-sendable, call-sent, call-noted, steps-by, called, roomy, view-all, and-then}
 
 -- Client k's call was accepted: its step p is event e, its messages join T, and d are the servers down in its epoch.

@@ -17,10 +17,10 @@ use Rattle.layout.specs.Layout.{settingOf, view, valid}
 use Rattle.layout.specs.Parts.{clientBlockOf, serverBlockOf}
 use Rattle.simulation.specs.declared.Moved.the-variants.{Refused}
 use Rattle.simulation.specs.Happens.{happens, Leaves, movedOf}
-use Rattle.simulation.specs.Changes.{HasClient, HasServer}
+use Rattle.changes.specs.Changes.{HasClient, HasServer}
 use Rattle.simulation.proofs.Answers.{no-client-tries, no-client-exits, fallen-tries, fallen-exits, no-server-misses, no-server-checks, misses-down, checks-down}
 use Rattle.simulation.proofs.Leaving.{leaves-refused}
-use Rattle.simulation.proofs.Parties.{client-missing, client-there-is, client-found, living-is, server-missing, server-there-is, server-found, up-is}
+use Rattle.changes.proofs.Parties.{client-missing, client-there-is, client-found, living-is, server-missing, server-there-is, server-found, up-is}
 
 module _ (w : List ℕ) (k : ClientId) (ok : valid w ≡ true) (a : Bool) (e : a ≡ within (k .0) (getD w 3 0)) where
   pub try-missing : not a ≡ true → Leaves w (Try k) w × (Refused NoSuchParty ≡ movedOf (happens w (Try k)))

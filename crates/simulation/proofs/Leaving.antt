@@ -16,7 +16,7 @@ use Rattle.layout.specs.Layout.{settingOf, view, valid}
 use Rattle.layout.proofs.ValidLaws.{facts}
 use Rattle.simulation.specs.declared.Moved.the-variants.{Sent, Refused}
 use Rattle.simulation.specs.Happens.{happens, Leaves, movedOf}
-use Rattle.simulation.specs.Changes.{Becomes}
+use Rattle.changes.specs.Changes.{Becomes}
 
 view-noted : (w : List ℕ) → valid w ≡ true → worst (view w .clients) ≤ view w .most
 unfolding view

@@ -25,7 +25,7 @@ use Rattle.server.specs.Calls.{serverAfter, result, suspectOutcome, checkOutcom
 use Rattle.server.specs.declared.Server.{Server}
 use Rattle.server.specs.declared.Stepped.{Stepped}
 use Rattle.client.specs.Figure1.{enough}
-use Rattle.words.specs.Records.{holdsServer, serverFrom, serverWords}
+use Rattle.words.specs.Records.{serverFrom, serverWords}
 use Rattle.system.specs.declared.Event.{Event}
 use Rattle.system.specs.declared.Event.the-variants.{Check, Miss}
 use Rattle.system.specs.Numbered.{has}
@@ -42,13 +42,13 @@ use Rattle.layout.specs.Parts.{clientBlockOf, serverBlockOf}
 use Rattle.layout.proofs.PlaceLaws.{server-there}
 use Rattle.simulation.specs.declared.Moved.the-variants.{Sent, Refused}
 use Rattle.simulation.specs.Happens.{happens, Leaves, movedOf}
-use Rattle.simulation.specs.Changes.{Becomes, HasClient, HasServer, Missing, Sendable, hasRoom, withServer, withTransit, sending}
+use Rattle.changes.specs.Changes.{Becomes, HasClient, HasServer, Missing, Sendable, hasRoom, withServer, withTransit, sending}
 use Rattle.simulation.proofs.Answers.{checks, misses, misses-nobody, misses-living}
-use Rattle.simulation.proofs.Becoming.{sound, few-clients}
+use Rattle.changes.proofs.Becoming.{sound, few-clients}
 use Rattle.simulation.proofs.Leaving.{leaves-refused}
-use Rattle.simulation.proofs.Parties.{living-is}
-use Rattle.simulation.proofs.SentLaws.{Sends, check-sends, suspect-sends}
-use Rattle.simulation.proofs.Storing.{server-block, server-is, check-stored, suspect-stored}
+use Rattle.changes.proofs.Parties.{living-is}
+use Rattle.changes.proofs.SentLaws.{Sends, check-sends, suspect-sends}
+use Rattle.changes.proofs.Storing.{server-block, server-is, check-stored, suspect-stored}
 use Rattle.simulation.proofs.Sending.{Steps, Call, call-sendable, call-sent, steps-by, called, roomy, view-all}
 
 -- Server j's call was accepted: its step p is event e, its messages join T.
@@ -76,9 +76,6 @@ module _ (w : List ℕ) (j : ServerId) (H : HasServer w (j .0)) where
 
   pub server-there-in : has (view w .servers) (j .0) ≡ true
   server-there-in = server-there w (j .0) ∙ rw (le-leb 1 (j .0) (H .first), le-leb (j .0) (settingOf w .n) (H .last))
-
-  pub record-held : holdsServer (serverRecord (serverBlockOf w (j .0))) ≡ true
-  record-held = server-facts (settingOf w .n) (settingOf w .clients) (j .0) (serverBlockOf w (j .0)) (server-block w (j .0) H) .held
 
   -- server j is up, and its step p is event e: its messages join T
   module _ (up : serverAt (view w) (j .0) .up ≡ true) (e : Event) (T : List InTransit) (o : Outcome votes.State) (p : Step votes.State)
@@ -138,11 +135,6 @@ module _ (w : List ℕ) (j : ServerId) (H : HasServer w (j .0)) where
     pub suspect-stored-in : (w₁ : List ℕ) → w₁ ≡ sets w (1591 + 38 * (j .0 - 1)) (sets (serverBlockOf w (j .0)) 1 (serverWords (r .server)))
         → Becomes w w₁ (withServer (view w) (j .0) (record { up = serverAt (view w) (j .0) .up; state = votes.suspect j (serverAt (view w) (j .0) .state) .state }))
     suspect-stored-in w₁ e = suspect-stored w (j .0) H (r .server) w₁ e (suspect-called .server)
-
-  -- the owner
-  pub owner-is : (s : Server) → s ≡ serverFrom (serverRecord (serverBlockOf w (j .0))) → s .votes .owner ≡ serverAt (view w) (j .0) .state .owner
-  unfolding serverPlace
-  owner-is s k = rw (k, server-is w (j .0) H)
 
   module _ (up : serverAt (view w) (j .0) .up ≡ true) (x : Owner) (e : x ≡ serverAt (view w) (j .0) .state .owner) where
     pub miss-nobody : x ≡ Nobody → Leaves w (Miss j) w × (Refused NoOwner ≡ movedOf (happens w (Miss j)))

@@ -1,7 +1,7 @@
 -- The events that send nothing: what their stores leave is the system's event.
 use mathlib.Core.Path.{_≡_, refl, sym, ap, _∙_}
 use mathlib.Core.Logic.{⊎-elim}
-use Prim.Native.Nat.{ℕ, zero-le, _+_, _*_, _-_, _≤_, _<_, max}
+use Prim.Native.Nat.{ℕ, zero-le, _+_, _*_, _-_, _≤_, _<_}
 use native.Mathlib.Omega.{arith}
 use mathlib.Core.Bool.{Bool, true, false, not}
 use mathlib.Core.List.{List, [], map}
@@ -22,29 +22,28 @@ use Rattle.system.specs.declared.Event.the-variants.{Fall, Down, Up, Drop}
 use Rattle.system.specs.declared.MessageNumber.{MessageNumber}
 use Rattle.system.specs.Numbered.{has}
 use Rattle.system.specs.Transit.{present, replaced, gone, again}
-use Rattle.system.specs.Places.{System, clientAt, serverAt, downed, worst}
+use Rattle.system.specs.Places.{System, clientAt, serverAt, downed}
 use Rattle.system.specs.Events.{fallen, cameUp, dropped, wentDown}
 use Rattle.system.specs.Runs.{after}
-use Rattle.regions.specs.Blocks.{blocks}
 use Rattle.places.specs.Blocks.{clientPlace, serverPlace, cleared, serverRecord, emptied}
 use Rattle.places.proofs.Facts.{server-facts}
 use Rattle.places.proofs.ClientLaws.{ClientIs}
 use Rattle.places.proofs.ServerLaws.{ServerIs, rise-block, sink-block}
-use Rattle.places.proofs.EpochLaws.{fall-block, cleared-block}
+use Rattle.places.proofs.EpochLaws.{fall-block}
 use Rattle.transit.specs.Slots.{slots, slotAt}
 use Rattle.transit.specs.Calls.{Valid, FindsPresent}
-use Rattle.layout.specs.Layout.{settingOf, lengthOf, sentOf, mostOf, clientWords, transitWords, view, valid}
+use Rattle.layout.specs.Layout.{settingOf, lengthOf, sentOf, transitWords, view, valid}
 use Rattle.layout.proofs.ValidLaws.{facts}
 use Rattle.layout.specs.Parts.{clientBlockOf, serverBlockOf, ServerIn}
 use Rattle.layout.proofs.PlaceLaws.{client-place, server-place}
 use Rattle.simulation.specs.declared.Moved.the-variants.{Sent, Refused}
 use Rattle.simulation.specs.Happens.{happens, Leaves, movedOf}
-use Rattle.simulation.specs.Changes.{Becomes, HasClient, HasServer, withClient, withServer, withTransit, withClients}
+use Rattle.changes.specs.Changes.{Becomes, HasClient, HasServer, withClient, withServer, withTransit, withClients}
 use Rattle.simulation.proofs.Answers.{no-client-falls, fallen-falls, falls, no-server-ups, ups-twice, ups, drops, drops-nothing, no-server-downs, downs-twice, downs}
-use Rattle.simulation.proofs.Becoming.{sound, client-valid, server-valid, client-becomes, server-becomes}
-use Rattle.simulation.proofs.Messages.{its-transit}
+use Rattle.changes.proofs.Becoming.{sound, client-valid, server-valid, client-becomes, server-becomes}
+use Rattle.changes.proofs.Messages.{its-transit}
 use Rattle.simulation.proofs.Leaving.{leaves-refused, leaves-silent, leaves-quiet}
-use Rattle.simulation.proofs.Parties.{client-missing, client-there-is, client-found, server-missing, server-there-is, server-found, living-is, up-is, server-in}
+use Rattle.changes.proofs.Parties.{client-missing, client-there-is, client-found, server-missing, server-there-is, server-found, living-is, up-is, server-in}
 
 below : (r n : ℕ) → r ≤ n → (r ≡ n → ⊥) → r < n
 below r n h ne = ⊎-elim (λ (t : ltb r n ≡ true). ltb-true r n t) (λ (t : ltb r n ≡ false). absurd (ne (omega (arith, ltb-false r n t)))) (decided (ltb r n))
@@ -53,22 +52,12 @@ module _ (w : List ℕ) (k : ℕ) (H : HasClient w k) where
   abbrev block : List ℕ
   block = clientBlockOf w k
 
-  -- the block of a client that falls, and of one whose epoch ends
+  -- the block of a client that falls
   falling : Becomes w (sets w (7 + 99 * (k - 1)) (cleared (set block 0 0))) (withClient (view w) k (record { living = false; state = clientAt (view w) k .state; downs = [] }))
   falling =
       let B : ClientIs (settingOf w .n) (settingOf w .m) (settingOf w .clients) k (cleared (set block 0 0)) (record { living = false; state = clientAt (view w) k .state; downs = [] }) =
       rw (client-place w k (H .first) (H .last)) (fall-block (settingOf w .n) (settingOf w .m) (settingOf w .clients) k block (client-valid w (sound w (H .valid)) k (H .first) (H .last))) in
       client-becomes w (H .valid) k (cleared (set block 0 0)) _ (H .first) (H .last) B zero-le
-
-  ending : Becomes w (sets w (7 + 99 * (k - 1)) (cleared block)) (withClient (view w) k (record { living = clientAt (view w) k .living; state = clientAt (view w) k .state; downs = [] }))
-  ending =
-      let B : ClientIs (settingOf w .n) (settingOf w .m) (settingOf w .clients) k (cleared block) (record { living = clientAt (view w) k .living; state = clientAt (view w) k .state; downs = [] }) =
-      rw (client-place w k (H .first) (H .last)) (cleared-block (settingOf w .n) (settingOf w .m) (settingOf w .clients) k block (client-valid w (sound w (H .valid)) k (H .first) (H .last))) in
-      client-becomes w (H .valid) k (cleared block) _ (H .first) (H .last) B zero-le
-
-pub epoch-ends : (w : List ℕ) (k : ℕ) → HasClient w k → (w′ : List ℕ) → w′ ≡ sets w (7 + 99 * (k - 1)) (cleared (clientBlockOf w k))
-    → Becomes w w′ (withClient (view w) k (record { living = clientAt (view w) k .living; state = clientAt (view w) k .state; downs = [] }))
-epoch-ends w k H w′ e = rw e (ending w k H)
 
 -- fall, test by test
 module _ (w : List ℕ) (k : ClientId) (ok : valid w ≡ true) (a : Bool) (e : a ≡ within (k .0) (getD w 3 0)) where
@@ -193,13 +182,3 @@ module _ (w : List ℕ) (i : MessageNumber) (ok : valid w ≡ true) (r : ℕ) (F
         leaves-quiet w (Drop i) (dropped (view w) (i .0)) refl
         (drops (settingOf w .n) (enough (settingOf w .m)) (view w) i (there-is true (F .found (settingOf w .n) (settingOf w .clients) (sentOf w) in-words used)))
         refl w′ (rw numbered-is at B)
-
--- what `note_most` stores
-pub few-word : (w : List ℕ) → settingOf w .clients ≤ 16 → getD w 3 0 ≤ 16
-unfolding settingOf
-few-word w h = h
-
-pub noted-words : (w : List ℕ) (x r : ℕ) → x ≡ worst (blocks 99 clientPlace (getD w 3 0) (clientWords w)) → r ≡ max (getD w 6 0) x
-    → set w 6 r ≡ set w 6 (max (mostOf w) (worst (view w .clients)))
-unfolding view settingOf
-noted-words w x r e g = rw (g, e)

@@ -60,15 +60,15 @@ use Rattle.layout.proofs.ValidLaws.{facts}
 use Rattle.simulation.specs.declared.Moved.{Moved}
 use Rattle.simulation.specs.declared.Moved.the-variants.{Refused}
 use Rattle.simulation.specs.Happens.{happens, Leaves, movedOf}
-use Rattle.simulation.specs.Changes.{Becomes, HasClient, HasServer, Pends, numberAt, tagged, withClient, withServer, withTransit}
+use Rattle.changes.specs.Changes.{Becomes, HasClient, HasServer, Pends, numberAt, tagged, withClient, withServer, withTransit}
 use Rattle.simulation.proofs.Answers.{takes, takes-nothing}
-use Rattle.simulation.proofs.Becoming.{sound, few-clients}
+use Rattle.changes.proofs.Becoming.{sound, few-clients}
 use Rattle.simulation.proofs.Leaving.{leaves-refused}
-use Rattle.simulation.proofs.Parties.{living-is, up-is}
-use Rattle.simulation.proofs.SentLaws.{Sends, receive-sends, responds-sends, checked-sends}
-use Rattle.simulation.proofs.Storing.{server-block, server-is, receive-stored, client-block, responds-stored, checked-stored}
+use Rattle.changes.proofs.Parties.{living-is, up-is}
+use Rattle.changes.proofs.SentLaws.{Sends, receive-sends, responds-sends, checked-sends}
+use Rattle.changes.proofs.Storing.{server-block, server-is, receive-stored, client-block, responds-stored, checked-stored}
 use Rattle.simulation.proofs.Sending.{and-then}
-use Rattle.simulation.proofs.Taking.{slot-message, length-kept, length-gone}
+use Rattle.changes.proofs.Taking.{slot-message, length-kept, length-gone}
 use Rattle.simulation.proofs.ServerEvents.{ServerCalled, server-called}
 use Rattle.simulation.proofs.ClientEvents.{ClientCalled, client-called, still-client, its-facts, its-state, place-state}
 

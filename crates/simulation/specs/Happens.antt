@@ -14,18 +14,14 @@ use Rattle.quorum.specs.Check.{inRange}
 use Rattle.system.specs.declared.Event.{Event}
 use Rattle.system.specs.Places.{System, holders}
 use Rattle.system.specs.Events.{Result, event, withPlaces}
-use Rattle.system.specs.Runs.{after, isStepped, start}
-use Rattle.layout.specs.Layout.{Setting, size, maxClients, settingOf, view, valid}
+use Rattle.system.specs.Runs.{after, isStepped}
+use Rattle.layout.specs.Layout.{size, maxClients, settingOf, view, valid}
+use Rattle.changes.specs.Changes.{maxTransit, maxNumber}
+use Rattle.changes.specs.Opening.{Starts}
 use Rattle.simulation.specs.declared.Moved.{Moved}
 use Rattle.simulation.specs.declared.Moved.the-variants as moved
 use Rattle.simulation.specs.declared.Reply.{Reply}
 use Rattle.simulation.specs.declared.Reply.the-variants as reply
-
-abbrev pub maxTransit : ℕ
-maxTransit = 512
-
-abbrev pub maxNumber : ℕ
-maxNumber = 4294967295
 
 -- an event with n servers and threshold m
 abbrev pub bounded : ℕ → ℕ → System → Event → Result
@@ -66,12 +62,6 @@ opens long n m f clients = eqb long size && (inRange n m f && within clients max
 
 unfoldable pub newReply : Bool → Moved
 newReply b = if b then moved.Sent 0 else moved.Refused ParameterOutOfRange
-
--- w′ is a fresh start
-pub record Starts (n m f clients : ℕ) (w′ : List ℕ) : Type 0 where
-  pub system : view w′ ≡ start n (enough m) clients
-  pub setting : settingOf w′ ≡ record { n = n; m = m; f = f; clients = clients }
-  pub again : valid w′ ≡ true
 
 pub record NewLeaves (n m f clients : ℕ) (w w′ : List ℕ) : Type 0 where
   pub starts : opens (length w) n m f clients ≡ true → Starts n m f clients w′

@@ -1,3 +1,1 @@
 pub mod Happens
-pub mod Changes
-pub mod Opening

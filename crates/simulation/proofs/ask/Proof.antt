@@ -4,9 +4,10 @@ use native.Mathlib.Omega.{arith}
 use Prim.Native.Nat.{zero-le}
 use mathlib.Core.Path.{refl}
 use lib.ListN.{replicate}
-use Rattle.simulation.proofs.Parties.{server-in}
+use Rattle.changes.proofs.Parties.{server-in}
 use Rattle.simulation.proofs.Sending.{call-refused, call-few, call-full}
-use Rattle.simulation.proofs.ServerEvents.{record-held, ask-called, ask-stored, server-sendable, server-sent}
+use Rattle.changes.proofs.Storing.{record-held}
+use Rattle.simulation.proofs.ServerEvents.{ask-called, ask-stored, server-sendable, server-sent}
 use borrow.Author.Needs.{needs}
 use Rattle.simulation.proofs.ask.Statement.{statement}
 use Rattle.simulation.proofs.ask.Tie as tie

@@ -4,7 +4,7 @@ use native.Mathlib.Omega.{arith}
 use Prim.Native.Nat.{zero-le}
 use mathlib.Core.Path.{refl}
 use lib.ListN.{replicate}
-use Rattle.simulation.proofs.Parties.{client-in}
+use Rattle.changes.proofs.Parties.{client-in}
 use Rattle.simulation.proofs.Sending.{call-few, call-full}
 use Rattle.simulation.proofs.ClientEvents.{client-held, begin-refused, begin-accepted, epoch-begins, begin-sendable, begin-sent}
 use borrow.Author.Needs.{needs}

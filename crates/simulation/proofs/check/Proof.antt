@@ -1,7 +1,7 @@
 -- `simulation::check` meets its contract: each return is one case of the event.
 use denote.Ref.{now}
 use native.Mathlib.Omega.{arith}
-use Rattle.simulation.proofs.Parties.{words-long, server-in, server-found}
+use Rattle.changes.proofs.Parties.{words-long, server-in, server-found}
 use Rattle.simulation.proofs.Guards.{check-missing, check-down, server-runs}
 use borrow.Author.Needs.{needs}
 use Rattle.simulation.proofs.check.Statement.{statement}

@@ -3,7 +3,7 @@ use denote.Ref.{now}
 use native.Mathlib.Omega.{arith}
 use mathlib.Core.Path.{refl}
 use lib.ListN.{replicate}
-use Rattle.simulation.proofs.Parties.{client-in}
+use Rattle.changes.proofs.Parties.{client-in}
 use Rattle.simulation.proofs.Sending.{call-refused, call-few, call-full}
 use Rattle.simulation.proofs.ClientEvents.{still-client, client-held, client-sendable, client-sent}
 use Rattle.simulation.proofs.TakeEvents.{taker-lives, check-client, check-fallen, check-asks, check-called, check-stored-in}

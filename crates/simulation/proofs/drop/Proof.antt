@@ -1,8 +1,8 @@
 -- `simulation::drop` meets its contract: each return is one case of the event.
 use denote.Ref.{now}
 use native.Mathlib.Omega.{arith}
-use Rattle.simulation.proofs.Parties.{words-long}
-use Rattle.simulation.proofs.Messages.{lent-sized}
+use Rattle.changes.proofs.Parties.{words-long}
+use Rattle.changes.proofs.Messages.{lent-sized}
 use Rattle.simulation.proofs.Silent.{drop-missing, drop-leaves}
 use borrow.Author.Needs.{needs}
 use Rattle.simulation.proofs.drop.Statement.{statement}

@@ -1,7 +1,7 @@
 -- `simulation::exit` meets its contract: each return is one case of the event.
 use denote.Ref.{now}
 use native.Mathlib.Omega.{arith}
-use Rattle.simulation.proofs.Parties.{words-long, client-in, client-found}
+use Rattle.changes.proofs.Parties.{words-long, client-in, client-found}
 use Rattle.simulation.proofs.Guards.{exit-missing, exit-fallen, client-lives}
 use borrow.Author.Needs.{needs}
 use Rattle.simulation.proofs.exit.Statement.{statement}

@@ -1,6 +1,6 @@
 -- `simulation::happen` meets its contract: what the event answers, with the holders of the words it leaves.
 use native.Mathlib.Omega.{arith}
-use Rattle.simulation.proofs.Parties.{words-long, clients-fit}
+use Rattle.changes.proofs.Parties.{words-long, clients-fit}
 use Rattle.simulation.proofs.Replies.{happened-refused, happened}
 use borrow.Author.Needs.{needs}
 use Rattle.simulation.proofs.happen.Statement.{statement}

@@ -1,6 +1,6 @@
 -- `simulation::new` meets its contract: each return is one case of the definition.
 use denote.Ref.{now}
-use Rattle.simulation.proofs.Opening.{new-size, new-range, new-clients, new-asks, new-starts}
+use Rattle.simulation.proofs.NewLaws.{new-size, new-range, new-clients, new-asks, new-starts}
 use borrow.Author.Needs.{needs}
 use Rattle.simulation.proofs.new.Statement.{statement}
 use Rattle.simulation.proofs.new.Tie as tie

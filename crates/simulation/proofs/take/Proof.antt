@@ -1,8 +1,8 @@
 -- `simulation::take` meets its contract: the message is found, and its kind says who takes it.
 use denote.Ref.{now}
 use native.Mathlib.Omega.{arith}
-use Rattle.simulation.proofs.Parties.{words-long}
-use Rattle.simulation.proofs.Messages.{lent-sized}
+use Rattle.changes.proofs.Parties.{words-long}
+use Rattle.changes.proofs.Messages.{lent-sized}
 use Rattle.simulation.proofs.TakeEvents.{take-nothing, take-used, take-pends, take-leaves}
 use borrow.Author.Needs.{needs}
 use Rattle.simulation.proofs.take.Statement.{statement}

@@ -1,7 +1,7 @@
 -- `simulation::try_enter` meets its contract: each return is one case of the event.
 use denote.Ref.{now}
 use native.Mathlib.Omega.{arith}
-use Rattle.simulation.proofs.Parties.{words-long, client-in, client-found}
+use Rattle.changes.proofs.Parties.{words-long, client-in, client-found}
 use Rattle.simulation.proofs.Guards.{try-missing, try-fallen, client-lives}
 use borrow.Author.Needs.{needs}
 use Rattle.simulation.proofs.try_enter.Statement.{statement}

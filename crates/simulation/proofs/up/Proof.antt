@@ -1,7 +1,7 @@
 -- `simulation::up` meets its contract: each return is one case of the event.
 use denote.Ref.{now}
 use native.Mathlib.Omega.{arith}
-use Rattle.simulation.proofs.Parties.{words-long, server-in, server-found}
+use Rattle.changes.proofs.Parties.{words-long, server-in, server-found}
 use Rattle.simulation.proofs.Silent.{up-missing, up-twice, up-leaves}
 use borrow.Author.Needs.{needs}
 use Rattle.simulation.proofs.up.Statement.{statement}

@@ -1,0 +1,10 @@
+pub mod Becoming
+pub mod Parties
+pub mod Messages
+pub mod SentLaws
+pub mod Storing
+pub mod Taking
+pub mod Posting
+pub mod Stores
+pub mod Epochs
+pub mod Opening

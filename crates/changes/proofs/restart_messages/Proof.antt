@@ -1,0 +1,60 @@
+-- `changes::restart_messages` meets its contract: the slots come back changed, and the words around them stay.
+use denote.Ref.{now}
+use native.Mathlib.Omega.{arith}
+use Rattle.changes.proofs.Parties.{words-long}
+use Rattle.changes.proofs.Messages.{lent-sized, restart-becomes}
+use borrow.Author.Needs.{needs}
+use Rattle.changes.proofs.restart_messages.Statement.{statement}
+use Rattle.changes.proofs.restart_messages.Tie as tie
+
+slice-read-len : tie.Need-slice-read-len
+slice-read-len c =
+    let d = c .before .before in
+    let a = d .args in
+    omega (arith, words-long (now (a .w)) (d .pre))
+
+cast-len : tie.Need-cast-len
+cast-len c =
+    let d = c .before .before in
+    let a = d .args in
+    record { fits = omega (arith, lent-sized (now (a .w)) (d .pre) .few) }
+
+sub-restart : tie.Need-sub-restart
+sub-restart c = search needs
+
+part-restart-start : tie.Need-part-restart-start
+part-restart-start c = search needs
+
+part-restart-end : tie.Need-part-restart-end
+part-restart-end c =
+    let d = c .before .before in
+    let a = d .args in
+    omega (arith, words-long (now (a .w)) (d .pre))
+
+restart-requires : tie.Need-restart-requires
+restart-requires c κs =
+    let d = c .before .before .before in
+    let a = d .args in
+    lent-sized (now (a .w)) (d .pre)
+
+same-length : tie.Need-same-length
+same-length c = search needs
+
+returns : tie.Need-returns
+returns c =
+    let d = c .before .before .before .before .before .before in
+    let a = d .args in
+    restart-becomes (now (a .w)) (d .pre) (a .j) _ (c .before .before .restart .ensures)
+
+pub restart-messages-spec : {M : Type 1} → statement M
+restart-messages-spec =
+    tie.close
+    (tie.spec
+    slice-read-len
+    cast-len
+    sub-restart
+    part-restart-start
+    part-restart-end
+    restart-requires
+    same-length
+    returns)

@@ -1,0 +1,38 @@
+-- What opens a new simulation, block by block: a living client with a new client's record, an up server with a new server's.
+use mathlib.Core.Path.{_≡_}
+use mathlib.Core.Bool.{true}
+use Prim.Native.Nat.{ℕ, zero, suc, _+_, _*_, _-_}
+use mathlib.Core.List.{List}
+use lib.ListN.{length, set}
+use lib.Seq.{sets}
+use Rattle.client.specs.Calls as client
+use Rattle.server.specs.Calls as server
+use Rattle.words.specs.Records.{clientWords, serverWords}
+use Rattle.client.specs.Figure1.{enough}
+use Rattle.system.specs.Runs.{start}
+use Rattle.layout.specs.Layout.{blank, settingOf, view, valid}
+use Rattle.layout.specs.Parts.{clientBlockOf, serverBlockOf}
+
+-- all words are 0, as many as before
+pub record Cleared (w w′ : List ℕ) : Type 0 where
+  pub same : length w′ ≡ length w
+  pub zeros : blank w′ ≡ true
+
+unfoldable pub newClient : ℕ → ℕ → ℕ → List ℕ → List ℕ
+newClient n m k w =
+    sets w (7 + 99 * (k - 1)) (sets (set (clientBlockOf w k) 0 1) 1 (clientWords (client.newResult n m (record { 0 = k }) .client)))
+
+unfoldable pub newServer : ℕ → ℕ → List ℕ → List ℕ
+newServer n j w =
+    sets w (1591 + 38 * (j - 1)) (sets (set (serverBlockOf w j) 0 1) 1 (serverWords (server.newResult n (record { 0 = j }) .server)))
+
+-- each of the first so many parties put, one after another
+unfoldable pub inTurn : (ℕ → List ℕ → List ℕ) → ℕ → List ℕ → List ℕ
+inTurn f zero w = w
+inTurn f (suc i) w = f (suc i) (inTurn f i w)
+
+-- w′ is a fresh start
+pub record Starts (n m f clients : ℕ) (w′ : List ℕ) : Type 0 where
+  pub system : view w′ ≡ start n (enough m) clients
+  pub setting : settingOf w′ ≡ record { n = n; m = m; f = f; clients = clients }
+  pub again : valid w′ ≡ true
