@@ -54,7 +54,12 @@ pub extern "C" fn sigma_script_new(state: &mut [u32]) -> u32
 
 // The next part of the input.
 #[no_mangle]
-pub extern "C" fn sigma_script_feed(state: &mut [u32], input: &[u8], out: &mut [u8], counts: &mut [usize]) -> u32
+pub extern "C" fn sigma_script_feed(
+    state: &mut [u32],
+    input: &[u8],
+    out: &mut [u8],
+    counts: &mut [usize],
+) -> u32
     ensures { λ r. ⌜ (r ≡ codeOf (fed (now (state .entry)) (now (input .entry)) (now (out .entry)) (now (counts .entry)))) × Leaves (FeedLeaves (now (state .entry)) (now (input .entry)) (now (out .entry)) (now (state .exit)) (now (out .exit))) (fed (now (state .entry)) (now (input .entry)) (now (out .entry)) (now (counts .entry))) (now (state .entry)) (now (out .entry)) (now (counts .entry)) (now (state .exit)) (now (out .exit)) (now (counts .exit)) ⌝ }
 {
     if counts.len() < 2 {
@@ -67,7 +72,11 @@ pub extern "C" fn sigma_script_feed(state: &mut [u32], input: &[u8], out: &mut [
 
 // The end of the input.
 #[no_mangle]
-pub extern "C" fn sigma_script_finish(state: &mut [u32], out: &mut [u8], counts: &mut [usize]) -> u32
+pub extern "C" fn sigma_script_finish(
+    state: &mut [u32],
+    out: &mut [u8],
+    counts: &mut [usize],
+) -> u32
     ensures { λ r. ⌜ (r ≡ codeOf (ended (now (state .entry)) (now (out .entry)) (now (counts .entry)))) × Leaves (FinishLeaves (now (state .entry)) (now (out .entry)) (now (state .exit)) (now (out .exit))) (ended (now (state .entry)) (now (out .entry)) (now (counts .entry))) (now (state .entry)) (now (out .entry)) (now (counts .entry)) (now (state .exit)) (now (out .exit)) (now (counts .exit)) ⌝ }
 {
     if counts.len() < 2 {

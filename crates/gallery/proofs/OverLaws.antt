@@ -1,18 +1,18 @@
 -- A stage is spent if a line changes nothing of it and prints nothing: after the first line was refused, and after the last event line
 -- that is read. Whatever comes then prints nothing, and the end is the same.
-use mathlib.Core.Path.{_≡_, refl, sym, ap, _∙_}
+use mathlib.Core.Path.{_≡_, refl, sym, _∙_}
 use Prim.Native.Nat.{ℕ, _≤_}
 use native.Mathlib.Omega.{arith}
-use mathlib.Core.Bool.{true, false}
-use mathlib.Core.List.{List, [], _∷_, _++_}
-use mathlib.Core.Logic.{inl, inr, ⊎-elim}
+use mathlib.Core.Bool.{true}
+use mathlib.Core.List.{List, [], _∷_}
+use mathlib.Core.Logic.{inl, inr}
 use lib.Dec.{eqb, leb}
 use lib.ListN.{length, getD}
 use borrow.Author.Tests.{le-ltb, leb-true}
 use Rattle.ids.proofs.Choice.{decided, Test}
 use Rattle.language.specs.Words.{newline}
 use Rattle.output.specs.Output.{maxLines}
-use Rattle.output.specs.Reader.{Run, Stage, running, closed, Reader, Printed, lineTaken, worked, taken, fed, ended, lastLine, finished}
+use Rattle.output.specs.Reader.{Run, Stage, running, closed, Reader, lineTaken, worked, taken, fed, ended, finished}
 use Rattle.script.specs.State.{headIn, stageOf, view, valid}
 use Rattle.script.proofs.LineLaws.{known}
 use Rattle.gallery.specs.Over.{Over}

@@ -2,7 +2,7 @@
 use mathlib.Core.Path.{_≡_, refl, sym, ap, _∙_}
 use Prim.Native.Nat.{ℕ, _≤_}
 use native.Mathlib.Omega.{arith}
-use mathlib.Core.Bool.{Bool, true, _&&_}
+use mathlib.Core.Bool.{true, _&&_}
 use mathlib.Core.List.{List}
 use lib.Dec.{leb}
 use lib.ListN.{length}
@@ -12,7 +12,7 @@ use Rattle.output.specs.Reader.{Fed, fedWithin, finished}
 use Rattle.script.specs.State.{view, valid}
 use Rattle.script.specs.Calls.{newAnswer, newWords, feedAnswer, FeedLeaves, finishAnswer, FinishLeaves}
 use Rattle.script.specs.declared.Progress.{Progress}
-use Rattle.script.specs.declared.Progress.the-variants.{Took, Refused}
+use Rattle.script.specs.declared.Progress.the-variants.{Took}
 use Rattle.script.proofs.NewLaws.{new-valid}
 use Rattle.output.proofs.Cuts.{used-few}
 use Rattle.script.proofs.FeedLaws.{wrote-few, finished-short}

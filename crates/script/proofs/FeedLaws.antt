@@ -1,6 +1,6 @@
 -- The bytes of a part one after another: what is left of the part prints behind what is printed, as the definition has it.
 use mathlib.Core.Path.{_≡_, refl, sym, ap, _∙_}
-use Prim.Native.Nat.{ℕ, zero, suc, _+_, _-_, _≤_, _<_}
+use Prim.Native.Nat.{ℕ, suc, _+_, _-_, _≤_, _<_}
 use native.Mathlib.Numerals.{add-one}
 use native.Mathlib.Omega.{arith}
 use mathlib.Core.Bool.{Bool, true, false, not, _&&_}
@@ -11,7 +11,6 @@ use lib.Dec.{eqb, ltb, leb}
 use lib.ListN.{length, getD, set, drop, length-append}
 use lib.Seq.{sets, drop-cons, drop-length, length-sets}
 use borrow.Author.Tests.{lt-ltb, le-ltb, ltb-false, le-leb, lt-leb, not-true, not-false}
-use Rattle.ids.specs.Choice.{if_then_else_, maybe}
 use Rattle.ids.specs.declared.Refusal.the-variants.{BadLine, ParameterOutOfRange, RoomShort, InvalidRecord}
 use Rattle.ids.proofs.Choice.{decided, Test}
 use Rattle.wire.specs.Step.{refused, stepped}
@@ -103,9 +102,9 @@ wrote-few room r (b ∷ s) =
     ⊎-elim
     (λ (e : ltb room maxPrinted ≡ true). rw e (omega arith))
     (λ (e : ltb room maxPrinted ≡ false).
-     let p : Printed Reader = taken r b in
-     let q : Fed = fedWithin (room - length (p .out)) (p .now) s in
-     rw e (omega (arith, ltb-false room maxPrinted e, taken-short r b, wrote-few (room - length (p .out)) (p .now) s, length-append (p .out) (q .out))))
+    let p : Printed Reader = taken r b in
+    let q : Fed = fedWithin (room - length (p .out)) (p .now) s in
+    rw e (omega (arith, ltb-false room maxPrinted e, taken-short r b, wrote-few (room - length (p .out)) (p .now) s, length-append (p .out) (q .out))))
     (decided (ltb room maxPrinted))
 
 -- what the loop knows before byte `used`
