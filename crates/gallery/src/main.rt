@@ -4,10 +4,12 @@
 // the program ends there.
 ghost use mathlib.Core.Path.{_≡_};
 ghost use mathlib.Core.Bool.{true};
-ghost use Prim.Native.Nat.{_≤_};
-ghost use lib.ListN.{length};
+ghost use Prim.Native.Nat.{_≤_, _<_};
+ghost use lib.ListN.{length, take};
+ghost use Rattle.io.specs.Counts.{clamped};
 ghost use Rattle.script.specs.State.{valid, view};
 ghost use Rattle.gallery.specs.Over.{Over};
+ghost use Rattle.gallery.specs.Taken.{Taken};
 use libc::STDIN_FILENO;
 use libc::STDOUT_FILENO;
 use script::Progress;
@@ -30,7 +32,7 @@ fn write_out(bytes: &[u8]) -> bool {
 // Works what fits of a part, and writes out what that printed. The bytes worked, or 0 where writing failed.
 fn answer_some(w: &mut [u32], part: &[u8], out: &mut [u8]) -> usize
     requires { ⌜ (valid (now w) ≡ true) × (52 ≤ length (now out)) ⌝ }
-    ensures { λ r. ⌜ (r ≤ length (now (part .entry))) × (valid (now (w .exit)) ≡ true) ⌝ }
+    ensures { λ r. ⌜ (r ≤ length (now (part .entry))) × (valid (now (w .exit)) ≡ true) × (0 < r → Taken (now (w .entry)) (take r (now (part .entry))) (now (w .exit))) ⌝ }
 {
     let p = script::feed(w, part, out);
     match p {
@@ -47,7 +49,7 @@ fn answer_some(w: &mut [u32], part: &[u8], out: &mut [u8]) -> usize
 // The whole part. Whether all of it was answered.
 fn answer_part(w: &mut [u32], part: &[u8], out: &mut [u8]) -> bool
     requires { ⌜ (valid (now w) ≡ true) × (52 ≤ length (now out)) ⌝ }
-    ensures { λ r. ⌜ valid (now (w .exit)) ≡ true ⌝ }
+    ensures { λ r. ⌜ (valid (now (w .exit)) ≡ true) × (r ≡ true → Taken (now (w .entry)) (now (part .entry)) (now (w .exit))) ⌝ }
 {
     let mut done: usize = 0;
     while done < part.len() {
@@ -63,7 +65,7 @@ fn answer_part(w: &mut [u32], part: &[u8], out: &mut [u8]) -> bool
 // What a read gave. Whether to go on.
 fn answer_read(w: &mut [u32], part: &[u8], got: isize, out: &mut [u8]) -> bool
     requires { ⌜ (valid (now w) ≡ true) × (52 ≤ length (now out)) ⌝ }
-    ensures { λ r. ⌜ valid (now (w .exit)) ≡ true ⌝ }
+    ensures { λ r. ⌜ (valid (now (w .exit)) ≡ true) × (r ≡ true → Taken (now (w .entry)) (take (clamped got (length (now (part .entry)))) (now (part .entry))) (now (w .exit))) ⌝ }
 {
     if got < 0 {
         os::fail(&[b'r', b'e', b'a', b'd']);

@@ -1,21 +1,25 @@
--- `gallery::answer_part` meets its contract: the state stays valid from call to call, and each uses a byte at least of those that are left.
-use mathlib.Core.Path.{_≡_}
-use mathlib.Core.Bool.{true}
+-- `gallery::answer_part` meets its contract: the state stays valid and has taken in the bytes that are done; each call uses a byte at least of those that are left.
+use denote.Ref.{now}
+use mathlib.Core.Path.{_≡_, refl}
+use mathlib.Core.Bool.{true, false≢true}
 use Prim.Native.Nat.{_≤_, _-_}
-use lib.ListN.{length}
+use native.Mathlib.Omega.{arith}
+use lib.ListN.{length, take}
 use Rattle.script.specs.State.{valid}
+use Rattle.gallery.specs.Taken.{Taken}
+use Rattle.gallery.proofs.ReadLaws.{taken-none, taken-more, taken-all}
 use borrow.Author.Needs.{needs}
 use Rattle.gallery.proofs.answer_part.Statement.{statement}
 use Rattle.gallery.proofs.answer_part.Tie as tie
 
 abbrev Inv-loop : tie.InvT-loop
-Inv-loop w₀ part out₀ done₀ w out done = (length w ≡ length w₀) × (length out ≡ length out₀) × (done ≤ length part) × (valid w ≡ true) × (52 ≤ length out)
+Inv-loop w₀ part out₀ done₀ w out done = (length w ≡ length w₀) × (length out ≡ length out₀) × (done ≤ length part) × (valid w ≡ true) × (52 ≤ length out) × Taken w₀ (take done part) w
 
 abbrev μ-loop : tie.MeasureT-loop
 μ-loop w₀ part out₀ done₀ w out done = length part - done
 
 loop-holds : tie.Need-loop-holds Inv-loop μ-loop
-loop-holds c = search needs
+loop-holds c = let a = c .before .before .before .args in let p = c .before .before .before .pre in (refl, refl, omega arith, p .0, p .1, taken-none (now (a .w)) (now (a .part)))
 
 sub-answer-some : tie.Need-sub-answer-some Inv-loop μ-loop
 sub-answer-some c = search needs
@@ -36,7 +40,7 @@ same-length-2 : tie.Need-same-length-2 Inv-loop μ-loop
 same-length-2 c = search needs
 
 returns : tie.Need-returns Inv-loop μ-loop
-returns c = search needs
+returns c = (c .before .before .before .before .before .answer-some .ensures .1, λ z. absurd (false≢true z))
 
 add-done : tie.Need-add-done Inv-loop μ-loop
 add-done c = search needs
@@ -45,7 +49,7 @@ loop-less : tie.Need-loop-less Inv-loop μ-loop
 loop-less c = search needs
 
 loop-again : tie.Need-loop-again Inv-loop μ-loop
-loop-again c = search needs
+loop-again c = let a = c .before .before .before .before .before .before .before .before .before .before .before .before .before .before .args in let l = c .before .before .before .before .before .before .before .before .before .before .loop in let s = c .before .before .before .before .before .answer-some .ensures in (search needs, search needs, search needs, s .1, search needs, taken-more (now (a .w)) (l .w) _ (now (a .part)) (l .done) (c .before .before .before .before .before .answer-some .result) (l .inv .5) (s .2 (omega (arith, c .if1 .left))))
 
 same-length-3 : tie.Need-same-length-3 Inv-loop μ-loop
 same-length-3 c = search needs
@@ -54,7 +58,7 @@ same-length-4 : tie.Need-same-length-4 Inv-loop μ-loop
 same-length-4 c = search needs
 
 returns-2 : tie.Need-returns-2 Inv-loop μ-loop
-returns-2 c = search needs
+returns-2 c = let a = c .before .before .before .before .before .args in let l = c .before .loop in (l .inv .3, λ z. taken-all (now (a .w)) (l .w) (now (a .part)) (l .done) (l .inv .5) (c .loop-test .left))
 
 pub answer-part-spec : {M : Type 1} → statement M
 answer-part-spec =

@@ -1,7 +1,7 @@
 -- `gallery::answer_some` meets its contract: the call is not refused, so what it wrote lies within the buffer.
 use denote.Ref.{now}
 use native.Mathlib.Omega.{arith}
-use Rattle.gallery.proofs.ReadLaws.{fed-valid, fed-used, fed-wrote}
+use Rattle.gallery.proofs.ReadLaws.{fed-valid, fed-used, fed-wrote, fed-taken}
 use borrow.Author.Needs.{needs}
 use Rattle.gallery.proofs.answer_some.Statement.{statement}
 use Rattle.gallery.proofs.answer_some.Tie as tie
@@ -34,7 +34,7 @@ same-length-2 : tie.Need-same-length-2
 same-length-2 c = search needs
 
 returns : tie.Need-returns
-returns c = let a = c .before .before .before .before .before .before .before .before .before .before .before .before .before .before .before .before .before .args in let p = c .before .before .before .before .before .before .before .before .before .before .before .before .before .before .before .before .before .pre in (fed-used (now (a .w)) (now (a .part)) (now (a .out)) _ _ _ (p .0) (p .1) (c .before .before .before .before .before .before .before .before .before .before .before .feed .ensures) _ _ (c .before .before .before .before .before .p .given .1), fed-valid (now (a .w)) (now (a .part)) (now (a .out)) _ _ _ (p .0) (p .1) (c .before .before .before .before .before .before .before .before .before .before .before .feed .ensures))
+returns c = let a = c .before .before .before .before .before .before .before .before .before .before .before .before .before .before .before .before .before .args in let p = c .before .before .before .before .before .before .before .before .before .before .before .before .before .before .before .before .before .pre in (fed-used (now (a .w)) (now (a .part)) (now (a .out)) _ _ _ (p .0) (p .1) (c .before .before .before .before .before .before .before .before .before .before .before .feed .ensures) _ _ (c .before .before .before .before .before .p .given .1), fed-valid (now (a .w)) (now (a .part)) (now (a .out)) _ _ _ (p .0) (p .1) (c .before .before .before .before .before .before .before .before .before .before .before .feed .ensures), λ z. fed-taken (now (a .w)) (now (a .part)) (now (a .out)) _ _ _ (p .0) (p .1) (c .before .before .before .before .before .before .before .before .before .before .before .feed .ensures) _ _ (c .before .before .before .before .before .p .given .1))
 
 same-length-3 : tie.Need-same-length-3
 same-length-3 c = search needs
@@ -43,7 +43,7 @@ same-length-4 : tie.Need-same-length-4
 same-length-4 c = search needs
 
 returns-2 : tie.Need-returns-2
-returns-2 c = (omega arith, let a = c .before .before .before .before .before .before .before .before .before .before .before .before .args in let p = c .before .before .before .before .before .before .before .before .before .before .before .before .pre in fed-valid (now (a .w)) (now (a .part)) (now (a .out)) _ _ _ (p .0) (p .1) (c .before .before .before .before .before .before .feed .ensures))
+returns-2 c = let a = c .before .before .before .before .before .before .before .before .before .before .before .before .args in let p = c .before .before .before .before .before .before .before .before .before .before .before .before .pre in (omega arith, fed-valid (now (a .w)) (now (a .part)) (now (a .out)) _ _ _ (p .0) (p .1) (c .before .before .before .before .before .before .feed .ensures), λ z. absurd (omega (arith, z)))
 
 same-length-5 : tie.Need-same-length-5
 same-length-5 c = search needs
@@ -52,7 +52,7 @@ same-length-6 : tie.Need-same-length-6
 same-length-6 c = search needs
 
 returns-3 : tie.Need-returns-3
-returns-3 c = (omega arith, let a = c .before .before .before .before .before .before .before .before .before .before .before .before .before .before .before .before .before .args in let p = c .before .before .before .before .before .before .before .before .before .before .before .before .before .before .before .before .before .pre in fed-valid (now (a .w)) (now (a .part)) (now (a .out)) _ _ _ (p .0) (p .1) (c .before .before .before .before .before .before .before .before .before .before .before .feed .ensures))
+returns-3 c = let a = c .before .before .before .before .before .before .before .before .before .before .before .before .before .before .before .before .before .args in let p = c .before .before .before .before .before .before .before .before .before .before .before .before .before .before .before .before .before .pre in (omega arith, fed-valid (now (a .w)) (now (a .part)) (now (a .out)) _ _ _ (p .0) (p .1) (c .before .before .before .before .before .before .before .before .before .before .before .feed .ensures), λ z. absurd (omega (arith, z)))
 
 pub answer-some-spec : {M : Type 1} → statement M
 answer-some-spec =
