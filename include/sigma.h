@@ -4,7 +4,8 @@
  * nothing it was lent. A slice is a pointer, then its length in elements: the pointer is aligned and not null
  * even where the length is 0, and a slice that a call may write overlaps no other.
  *
- * libcapi.a has the calls on messages and records, libcapi_quorum.a those on settings (the last three).
+ * libcapi.a has the calls on messages and records, libcapi_quorum.a those on settings (sigma_setting, sigma_run_event and
+ * sigma_default_threshold), libcapi_script.a those on scripts (sigma_script_*).
  */
 #ifndef SIGMA_H
 #define SIGMA_H
@@ -115,6 +116,30 @@ uint32_t sigma_run_event(uint32_t n, uint32_t m, uint32_t f, uint32_t i, uint32_
 /* The default threshold for n servers, two thirds of n rounded up, in the first word.
  * Refusals: 7 n out of range, 6 no word lent. */
 uint32_t sigma_default_threshold(uint32_t n, uint32_t *words, size_t words_len);
+
+/* A script of events, run on a simulated system: new, then feed for the input in parts of any size, then finish. The state is
+ * words that stay where the host put them. What is printed stands at the start of `out`, and the bytes behind it stay;
+ * `counts` takes the bytes of the input used and the bytes written. All that the calls write, joined, is the script's whole
+ * output, however the input is cut and however small the buffers are. */
+enum {
+    SIGMA_SCRIPT_WORDS = 6399,
+    SIGMA_SCRIPT_LINE = 52,
+    SIGMA_SCRIPT_END = 104,
+    SIGMA_SCRIPT_COUNTS = 2
+};
+
+/* A new script, before its first line. Refusal: 7 not 6399 words. */
+uint32_t sigma_script_new(uint32_t *state, size_t state_len);
+
+/* Takes in the input's bytes while there is room for one more line, which has at most 52 bytes: at least one byte, if there is
+ * one. A host feeds what was not used again.
+ * Refusals: 21 the state is not valid, 6 fewer than 52 bytes in `out` or two words in `counts`. */
+uint32_t sigma_script_feed(uint32_t *state, size_t state_len, const uint8_t *input, size_t input_len, uint8_t *out, size_t out_len,
+                           size_t *counts, size_t counts_len);
+
+/* The end of the input: a last line without its newline, and the end line. Afterwards nothing more is printed. The bytes used
+ * are 0. Refusals: 21, 6 fewer than 104 bytes in `out` or two words in `counts`. */
+uint32_t sigma_script_finish(uint32_t *state, size_t state_len, uint8_t *out, size_t out_len, size_t *counts, size_t counts_len);
 
 #ifdef __cplusplus
 }

@@ -1,5 +1,5 @@
-/* Shows that include/sigma.h is right: both examples of document 01, and one client's way into its critical section
- * and out of it, through the functions as it declares them. */
+/* Shows that include/sigma.h is right: both examples of document 01, one client's way into its critical section
+ * and out of it, and the example of a script, through the functions as it declares them. */
 #include "sigma.h"
 
 #include <stdio.h>
@@ -84,6 +84,37 @@ static void settings(void)
     expect(sigma_default_threshold(7, words, 1) == 0 && words[0] == 5, "two thirds of 7");
 }
 
+/* Document 01's example, in two parts and with room for one line at a time. */
+static void script(void)
+{
+    static const char input[] = "setting 2 1 0 2\ntry 1\ntake 1\ntake 3\ntry 2\ntake 5\ntake 6\n";
+    static const char expected[] = "gallery 2 1 0 2\n1 ok 2 0\n2 ok 1 0\n3 ok 0 1\n4 ok 2 1\n5 ok 1 1\n6 ok 0 2\nend 6 2 0\n";
+    static uint32_t state[SIGMA_SCRIPT_WORDS];
+    const uint8_t *bytes = (const uint8_t *)input;
+    uint8_t out[SIGMA_SCRIPT_END], joined[200];
+    size_t counts[SIGMA_SCRIPT_COUNTS], at = 0, used = 0, length = strlen(input), half = 20;
+    expect(sigma_script_new(state, SIGMA_SCRIPT_WORDS - 1) == 7, "too few words");
+    expect(sigma_script_new(state, SIGMA_SCRIPT_WORDS) == 0, "a new script");
+    expect(sigma_script_feed(state, SIGMA_SCRIPT_WORDS, bytes, length, out, SIGMA_SCRIPT_LINE - 1, counts, 2) == 6, "no room");
+    expect(sigma_script_feed(state, SIGMA_SCRIPT_WORDS, bytes, length, out, SIGMA_SCRIPT_LINE, counts, 1) == 6, "one word lent");
+    while (used < length) {
+        size_t given = used < half ? half - used : length - used;
+        uint32_t refusal = sigma_script_feed(state, SIGMA_SCRIPT_WORDS, bytes + used, given, out, SIGMA_SCRIPT_LINE, counts, 2);
+        expect(refusal == 0 && counts[0] > 0 && counts[0] <= given, "bytes are used");
+        if (refusal != 0 || counts[0] == 0)
+            return;
+        memcpy(joined + at, out, counts[1]);
+        at += counts[1];
+        used += counts[0];
+    }
+    expect(sigma_script_finish(state, SIGMA_SCRIPT_WORDS, out, SIGMA_SCRIPT_END - 1, counts, 2) == 6, "no room for the end");
+    expect(sigma_script_finish(state, SIGMA_SCRIPT_WORDS, out, SIGMA_SCRIPT_END, counts, 2) == 0 && counts[0] == 0, "the end");
+    memcpy(joined + at, out, counts[1]);
+    expect(at + counts[1] == strlen(expected) && memcmp(joined, expected, strlen(expected)) == 0, "the example's output");
+    state[0] = 3;
+    expect(sigma_script_finish(state, SIGMA_SCRIPT_WORDS, out, SIGMA_SCRIPT_END, counts, 2) == 21, "a broken state");
+}
+
 int main(void)
 {
     static const uint8_t request[] = {0x0C, 0, 1, 0, 5, 0, 1, 0, 3, 0, 0, 0};
@@ -94,6 +125,7 @@ int main(void)
     round_trip(response, sizeof response, response_words);
     enter_and_leave();
     settings();
+    script();
     puts(failures == 0 ? "header ok" : "header wrong");
     return failures != 0;
 }

@@ -1,8 +1,10 @@
 //! A model of document 01, written from the document alone, and the proved library beside it.
 //! The model speaks the document's words (kiosk, keeper, ticket), so that it can be held against the text.
 
+pub mod author;
 pub mod both;
 pub mod fault;
+pub mod files;
 pub mod gallery;
 pub mod keeper;
 pub mod kiosk;

@@ -32,6 +32,18 @@ extern "C" {
     fn sigma_setting(n: u32, m: u32, f: u32, words: *mut u32, words_len: usize) -> u32;
     fn sigma_run_event(n: u32, m: u32, f: u32, i: u32, words: *mut u32, words_len: usize) -> u32;
     fn sigma_default_threshold(n: u32, words: *mut u32, words_len: usize) -> u32;
+    fn sigma_script_new(state: *mut u32, state_len: usize) -> u32;
+    fn sigma_script_feed(
+        state: *mut u32,
+        state_len: usize,
+        input: *const u8,
+        input_len: usize,
+        out: *mut u8,
+        out_len: usize,
+        counts: *mut usize,
+        counts_len: usize,
+    ) -> u32;
+    fn sigma_script_finish(state: *mut u32, s: usize, out: *mut u8, o: usize, counts: *mut usize, c: usize) -> u32;
 }
 
 // No call has a `requires`: any slices that Rust can lend are in order.
@@ -92,4 +104,18 @@ pub fn run_event(n: u32, m: u32, f: u32, i: u32, words: &mut [u32]) -> u32 {
 
 pub fn default_threshold(n: u32, words: &mut [u32]) -> u32 {
     unsafe { sigma_default_threshold(n, words.as_mut_ptr(), words.len()) }
+}
+
+pub fn script_new(state: &mut [u32]) -> u32 {
+    unsafe { sigma_script_new(state.as_mut_ptr(), state.len()) }
+}
+
+pub fn script_feed(state: &mut [u32], input: &[u8], out: &mut [u8], counts: &mut [usize]) -> u32 {
+    let (s, i, o, c) = (state.as_mut_ptr(), input.as_ptr(), out.as_mut_ptr(), counts.as_mut_ptr());
+    unsafe { sigma_script_feed(s, state.len(), i, input.len(), o, out.len(), c, counts.len()) }
+}
+
+pub fn script_finish(state: &mut [u32], out: &mut [u8], counts: &mut [usize]) -> u32 {
+    let (s, o, c) = (state.as_mut_ptr(), out.as_mut_ptr(), counts.as_mut_ptr());
+    unsafe { sigma_script_finish(s, state.len(), o, out.len(), c, counts.len()) }
 }

@@ -18,6 +18,7 @@ fn compile_and_run(compiler: &str, language: &[&str], name: &str) {
         .args(["-x", "none"])
         .arg(root.join("target/staticlib/libcapi.a"))
         .arg(root.join("target/staticlib/libcapi_quorum.a"))
+        .arg(root.join("target/staticlib/libcapi_script.a"))
         .arg("-o")
         .arg(&program)
         .status()

@@ -2,25 +2,10 @@
 //! limits of a script.
 
 use sigma_tests::fault::Fault;
+use sigma_tests::files::{contents, names};
 use sigma_tests::script::{line_of, run, run_with};
 use sigma_tests::setting::Setting;
 use std::collections::BTreeSet;
-use std::fs;
-use std::path::{Path, PathBuf};
-
-fn folder() -> PathBuf {
-    Path::new(env!("CARGO_MANIFEST_DIR")).join("scripts")
-}
-
-fn names(extension: &str) -> BTreeSet<String> {
-    let files = fs::read_dir(folder()).expect("tests/scripts").map(|file| file.expect("a file").path());
-    let of_kind = files.filter(|path| path.extension().is_some_and(|e| e == extension));
-    of_kind.map(|path| path.file_stem().expect("a name").to_string_lossy().into_owned()).collect()
-}
-
-fn contents(name: &str) -> Vec<u8> {
-    fs::read(folder().join(name)).unwrap_or_else(|e| panic!("{name}: {e}"))
-}
 
 fn output(script: &[u8]) -> String {
     String::from_utf8(run(script)).expect("the output is plain text")

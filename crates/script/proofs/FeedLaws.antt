@@ -1,17 +1,16 @@
 -- The bytes of a part one after another: what is left of the part prints behind what is printed, as the definition has it.
 use mathlib.Core.Path.{_≡_, refl, sym, ap, _∙_}
-use Prim.Native.Nat.{ℕ, zero, suc, _+_, _-_, _≤_, _<_}
+use Prim.Native.Nat.{ℕ, suc, _+_, _-_, _≤_, _<_}
 use native.Mathlib.Numerals.{add-one}
 use native.Mathlib.Omega.{arith}
 use mathlib.Core.Bool.{Bool, true, false, not, _&&_}
 use mathlib.Core.Option.{Option, none, some}
 use mathlib.Core.List.{List, [], _∷_, _++_, append-nil, append-assoc}
-use mathlib.Core.Logic.{inl, inr}
+use mathlib.Core.Logic.{inl, inr, ⊎-elim}
 use lib.Dec.{eqb, ltb, leb}
 use lib.ListN.{length, getD, set, drop, length-append}
 use lib.Seq.{sets, drop-cons, drop-length, length-sets}
-use borrow.Author.Tests.{lt-ltb, le-ltb, le-leb, lt-leb, not-true, not-false}
-use Rattle.ids.specs.Choice.{if_then_else_, maybe}
+use borrow.Author.Tests.{lt-ltb, le-ltb, ltb-false, le-leb, lt-leb, not-true, not-false}
 use Rattle.ids.specs.declared.Refusal.the-variants.{BadLine, ParameterOutOfRange, RoomShort, InvalidRecord}
 use Rattle.ids.proofs.Choice.{decided, Test}
 use Rattle.wire.specs.Step.{refused, stepped}
@@ -94,6 +93,19 @@ stop-room room r (b ∷ s) h = rw (lt-ltb room 52 h)
 one-more : (room : ℕ) (r : Reader) (b : ℕ) (s : List ℕ) → 52 ≤ room → fedWithin room r (b ∷ s) ≡ followed (taken r b) (fedWithin (room - length (taken r b .out)) (taken r b .now) s)
 unfolding fedWithin
 one-more room r b s h = rw (le-ltb room 52 h)
+
+-- no more is printed than there is room for
+pub wrote-few : (room : ℕ) (r : Reader) (s : List ℕ) → length (fedWithin room r s .out) ≤ room
+unfolding fedWithin
+wrote-few room r [] = omega arith
+wrote-few room r (b ∷ s) =
+    ⊎-elim
+    (λ (e : ltb room maxPrinted ≡ true). rw e (omega arith))
+    (λ (e : ltb room maxPrinted ≡ false).
+    let p : Printed Reader = taken r b in
+    let q : Fed = fedWithin (room - length (p .out)) (p .now) s in
+    rw e (omega (arith, ltb-false room maxPrinted e, taken-short r b, wrote-few (room - length (p .out)) (p .now) s, length-append (p .out) (q .out))))
+    (decided (ltb room maxPrinted))
 
 -- what the loop knows before byte `used`
 pub record Feeding (w₀ input out₀ w out : List ℕ) (used at : ℕ) : Type 0 where
@@ -230,6 +242,10 @@ last-short r = by-length (decided (eqb (length (r .line)) 0))
     by-length : Test (eqb (length (r .line)) 0) → length (lastLine r .out) ≤ 52
     by-length (inl e) = rw e (omega arith)
     by-length (inr e) = rw e (worked-short (r .stage) (r .line))
+
+pub finished-short : (r : Reader) → length (finished r) ≤ 104
+unfolding finished
+finished-short r = omega (arith, last-short r, ended-short (lastLine r .now), length-append (lastLine r .out) (ended (lastLine r .now)))
 
 module _ (w out : List ℕ) (S : Sound w) (room : 104 ≤ length out) where
   pub closing-ready : Ready w out 0

@@ -1,4 +1,5 @@
 pub mod StateLaws
+pub mod NewLaws
 pub mod LineLaws
 pub mod TestLaws
 pub mod StepLaws

@@ -1,0 +1,148 @@
+//! Scripts that no person wrote: random ones, valid and malformed, and the long one of the benchmark.
+
+use crate::gallery::{Event, Gallery, Kind, GALLERY};
+use crate::random::Random;
+use crate::script::line_of;
+use crate::setting::Setting;
+
+const KINDS: [Kind; 9] =
+    [Kind::Try, Kind::Exit, Kind::Fall, Kind::Down, Kind::Up, Kind::Take, Kind::Drop, Kind::Miss, Kind::Check];
+
+/// The number of a message that waits, or one that may not be there.
+fn message(gallery: &Gallery, r: &mut Random) -> u64 {
+    let waiting: Vec<u64> = gallery.kept.iter().filter(|kept| !kept.taken).map(|kept| kept.number).collect();
+    if waiting.is_empty() || r.below(12) == 0 {
+        return r.below(gallery.last + 3);
+    }
+    r.one_of(&waiting)
+}
+
+fn any_event(gallery: &Gallery, r: &mut Random) -> Event {
+    let usual = [Kind::Take, Kind::Take, Kind::Take, Kind::Take, Kind::Take, Kind::Try, Kind::Exit];
+    let kind = if r.below(3) == 0 { r.one_of(&KINDS) } else { r.one_of(&usual) };
+    let number = match kind {
+        Kind::Take | Kind::Drop => message(gallery, r),
+        Kind::Try | Kind::Exit | Kind::Fall => r.below(gallery.clients.len() as u64 + 2),
+        _ => r.below(gallery.servers.len() as u64 + 2),
+    };
+    Event { kind, number }
+}
+
+/// A line that something happened to: most often it is a bad one then.
+fn damaged(line: &str, r: &mut Random) -> Vec<u8> {
+    let mut bytes = line.as_bytes().to_vec();
+    let at = r.below(bytes.len() as u64) as usize;
+    match r.below(10) {
+        0 => bytes[at] = r.damage(bytes[at]),
+        1 => drop(bytes.remove(at)),
+        2 => bytes.insert(at, r.one_of(b" 0159\r\tx")),
+        3 => bytes.push(b' '),
+        4 => bytes.clear(),
+        5 => bytes.extend(vec![b'7'; r.below(60) as usize]),
+        6 => bytes.resize(38 + r.below(5) as usize, b' '),
+        7 => bytes.push(b'\n'),
+        8 => bytes = b"take 4294967296".to_vec(),
+        _ => bytes = b"take 4294967295".to_vec(),
+    }
+    bytes
+}
+
+fn push_line(script: &mut Vec<u8>, line: &str, damage: u64, r: &mut Random) {
+    if r.below(100) < damage {
+        script.extend(damaged(line, r));
+    } else {
+        script.extend(line.as_bytes());
+    }
+    script.push(b'\n');
+}
+
+/// A setting and kiosks in range; now and then as many kiosks and keepers as a gallery can have, which fill it.
+fn any_setting(r: &mut Random) -> (Setting, u32) {
+    if r.below(12) == 0 {
+        return (Setting { n: 31, m: 21, f: 10 }, 16);
+    }
+    let most = r.one_of(&[3, 5, 9, 31]);
+    let n = 1 + r.below(most) as u32;
+    let setting = Setting { n, m: 1 + r.below(n.into()) as u32, f: r.below(u64::from(n) + 1) as u32 };
+    let kiosks = r.one_of(&[2, 3, 5, 16]);
+    (setting, 1 + r.below(kiosks) as u32)
+}
+
+/// A random script of up to 300 lines. Of every hundred lines `damage` are damaged.
+pub fn any_script(r: &mut Random) -> Vec<u8> {
+    let damage = r.one_of(&[0, 0, 0, 10, 30]);
+    let (setting, kiosks) = any_setting(r);
+    let Setting { n, m, f } = setting;
+    let mut script = vec![];
+    let out_of_range = [format!("setting 32 {m} {f} {kiosks}"), format!("setting {n} {m} {f} 17"), format!("setting {n} 0 {f} 1")];
+    let first = if r.below(20) == 0 { out_of_range[r.below(3) as usize].clone() } else { format!("setting {n} {m} {f} {kiosks}") };
+    push_line(&mut script, &first, damage / 3, r);
+    let mut gallery = Gallery::new(setting, kiosks, GALLERY).expect("in range");
+    for _ in 0..r.below(300) {
+        let event = any_event(&gallery, r);
+        // A refused event changes nothing.
+        let _ = gallery.event(event);
+        push_line(&mut script, &line_of(event), damage, r);
+    }
+    match r.below(8) {
+        0 | 1 => drop(script.pop()),
+        2 => script.truncate(r.below(script.len() as u64 + 1) as usize),
+        3 => script.push(b'\n'),
+        _ => (),
+    }
+    script
+}
+
+/// A script as it is written, of so many more event lines, all accepted.
+struct Author {
+    gallery: Gallery,
+    script: Vec<u8>,
+    left: usize,
+}
+
+impl Author {
+    fn give(&mut self, kind: Kind, number: u64) {
+        if self.left == 0 {
+            return;
+        }
+        let event = Event { kind, number };
+        self.gallery.event(event).unwrap_or_else(|refusal| panic!("{event:?} is refused {refusal}"));
+        self.script.extend(line_of(event).as_bytes());
+        self.script.push(b'\n');
+        self.left -= 1;
+    }
+
+    /// The waiting messages, in their order, and what they call forth.
+    fn take_all(&mut self) {
+        while let Some(next) = self.gallery.kept.iter().find(|kept| !kept.taken).map(|kept| kept.number) {
+            if self.left == 0 {
+                return;
+            }
+            self.give(Kind::Take, next);
+        }
+    }
+
+    fn drop_all(&mut self) {
+        for kept in self.gallery.kept.clone() {
+            self.give(Kind::Drop, kept.number);
+        }
+    }
+}
+
+/// So many event lines with 31 keepers, threshold 21 and 16 kiosks in turn, all accepted: a try, its requests and their
+/// answers taken, an exit, its releases taken, and all that the keepers took dropped.
+pub fn long_script(lines: usize) -> Vec<u8> {
+    let gallery = Gallery::new(Setting { n: 31, m: 21, f: 10 }, 16, GALLERY).expect("in range");
+    let mut author = Author { gallery, script: b"setting 31 21 10 16\n".to_vec(), left: lines };
+    for kiosk in (1..=16).cycle() {
+        if author.left == 0 {
+            break;
+        }
+        author.give(Kind::Try, kiosk);
+        author.take_all();
+        author.give(Kind::Exit, kiosk);
+        author.take_all();
+        author.drop_all();
+    }
+    author.script
+}
