@@ -8,3 +8,4 @@ pub mod Guards
 pub mod Silent
 pub mod Replies
 pub mod NewLaws
+pub mod NeverFull

@@ -399,3 +399,24 @@ pub fn new(w: &mut [u32], n: u32, m: u32, f: u32, clients: u32) -> Moved
     changes::start(w, n, m, f, clients);
     Moved::Sent(0)
 }
+
+// A simulation by value, for callers that keep one and go on from another: it costs a copy of its words at each event.
+pub struct Simulation {
+    pub words: [u32; 6353],
+}
+
+// A simulation after an event, and what the event did.
+pub struct Happened {
+    pub simulation: Simulation,
+    pub reply: Reply,
+}
+
+// An event of a simulation by value. Refused as `event` is, and then the simulation is as it was.
+pub fn event_of(s: Simulation, e: Event) -> Happened
+    ensures { λ r. ⌜ EventLeaves (s .words) e (r .simulation .words) × (r .reply ≡ eventReply (s .words) e) ⌝ }
+{
+    let mut words = s.words;
+    let reply = event(&mut words, e);
+    let simulation = Simulation { words };
+    Happened { simulation, reply }
+}
