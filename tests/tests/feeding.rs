@@ -215,7 +215,7 @@ fn file_of(name: &str, bytes: &[u8]) -> File {
 
 #[test]
 fn the_program_prints_the_same() {
-    let Some(program) = program() else { return println!("target/bin/gallery is not built") };
+    let program = program().expect("run `rt check gallery` first");
     let gallery = |script: &[u8]| {
         let run = Command::new(&program).stdin(file_of("script", script)).output().expect("it runs");
         assert!(run.status.success() && run.stderr.is_empty(), "{}", text(&run.stderr));
@@ -232,7 +232,7 @@ fn the_program_prints_the_same() {
 /// A pipe gives short reads. After 1,000,000 event lines the program ends, though its input goes on.
 #[test]
 fn the_program_reads_no_more_than_a_million_lines() {
-    let Some(program) = program() else { return println!("target/bin/gallery is not built") };
+    let program = program().expect("run `rt check gallery` first");
     let path = Path::new(env!("CARGO_TARGET_TMPDIR")).join("printed");
     let printed = File::create(&path).expect("a file for the output");
     let mut child = Command::new(program).stdin(Stdio::piped()).stdout(printed).spawn().expect("it runs");
@@ -256,7 +256,7 @@ fn the_program_reads_no_more_than_a_million_lines() {
 
 #[test]
 fn the_program_says_what_failed() {
-    let Some(program) = program() else { return println!("target/bin/gallery is not built") };
+    let program = program().expect("run `rt check gallery` first");
     let script = b"setting 1 1 0 1\ntry 1\n";
     let full = File::options().write(true).open("/dev/full").expect("/dev/full");
     let run = Command::new(&program).stdin(file_of("short", script)).stdout(full).output().expect("it runs");
