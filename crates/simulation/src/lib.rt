@@ -242,6 +242,21 @@ fn checks_client(w: &mut [u32], i: usize, k: ClientId, j: ServerId, t: Timestamp
     }
 }
 
+// The message in slot `i`, which is pending: its kind says who takes it.
+fn deliver(w: &mut [u32], i: usize, m: Message) -> Moved
+    requires { ⌜ Pends (now w) i m ⌝ }
+    ensures { λ r. ⌜ Leaves (now (w .entry)) (Take (numberAt (now (w .entry)) i)) (now (w .exit)) × (r ≡ movedOf (happens (now (w .entry)) (Take (numberAt (now (w .entry)) i)))) ⌝ }
+{
+    match m {
+        Message::Request(k, j, t) => to_server(w, i, Tag::Request, k, j, t),
+        Message::Yield(k, j, t) => to_server(w, i, Tag::Yield, k, j, t),
+        Message::Release(k, j, t) => to_server(w, i, Tag::Release, k, j, t),
+        Message::Inquiry(k, j, t) => to_server(w, i, Tag::Inquiry, k, j, t),
+        Message::Response(k, j, o) => to_client(w, i, k, j, o),
+        Message::Check(k, j, t) => checks_client(w, i, k, j, t),
+    }
+}
+
 // The receiver takes the message.
 fn take(w: &mut [u32], number: MessageNumber) -> Moved
     requires { ⌜ valid (now w) ≡ true ⌝ }
@@ -253,14 +268,7 @@ fn take(w: &mut [u32], number: MessageNumber) -> Moved
         return Moved::Refused(Refusal::NoSuchParty);
     }
     let m = transit::message_at(&w[2769..6353], i);
-    match m {
-        Message::Request(k, j, t) => to_server(w, i, Tag::Request, k, j, t),
-        Message::Yield(k, j, t) => to_server(w, i, Tag::Yield, k, j, t),
-        Message::Release(k, j, t) => to_server(w, i, Tag::Release, k, j, t),
-        Message::Inquiry(k, j, t) => to_server(w, i, Tag::Inquiry, k, j, t),
-        Message::Response(k, j, o) => to_client(w, i, k, j, o),
-        Message::Check(k, j, t) => checks_client(w, i, k, j, t),
-    }
+    deliver(w, i, m)
 }
 
 // The owner of server `j`, which is up, has fallen: document 01's missing owner.

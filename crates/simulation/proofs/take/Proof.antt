@@ -1,5 +1,6 @@
--- `simulation::take` meets its contract: the message is found, and its kind says who takes it.
+-- `simulation::take` meets its contract: the message is found, and handed on.
 use denote.Ref.{now}
+use mathlib.Core.Path.{refl}
 use native.Mathlib.Omega.{arith}
 use Rattle.changes.proofs.Parties.{words-long}
 use Rattle.changes.proofs.Messages.{lent-sized}
@@ -58,101 +59,14 @@ message-at-requires c κs =
     let d = c .before .before .before .before .before .before .before .before in
     (lent-sized (now (d .args .w)) (d .pre) .size, omega (arith, take-used (now (d .args .w)) (d .args .number) (d .pre) _ (c .before .before .before .find-pending .ensures) (c .before .before .if1 .left), lent-sized (now (d .args .w)) (d .pre) .few))
 
-enum-known-m : tie.Need-enum-known-m
-enum-known-m c = search needs
-
-to-server-requires : tie.Need-to-server-requires
-to-server-requires c κs =
-    let d = c .before .before .before .before .before .before .before .before .before .before .before .before .before in
-    take-pends (now (d .args .w)) (d .args .number) (d .pre) _ (c .before .before .before .before .before .before .before .before .find-pending .ensures) (c .before .before .before .before .before .before .before .if1 .left) _ (c .before .before .before .before .message-at .ensures) _ (c .before .before .m .given .1)
-
-enum-known-m-2 : tie.Need-enum-known-m-2
-enum-known-m-2 c = search needs
-
-to-server-requires-2 : tie.Need-to-server-requires-2
-to-server-requires-2 c κs =
-    let d = c .before .before .before .before .before .before .before .before .before .before .before .before .before in
-    take-pends (now (d .args .w)) (d .args .number) (d .pre) _ (c .before .before .before .before .before .before .before .before .find-pending .ensures) (c .before .before .before .before .before .before .before .if1 .left) _ (c .before .before .before .before .message-at .ensures) _ (c .before .before .m2 .given .1)
-
-enum-known-m-3 : tie.Need-enum-known-m-3
-enum-known-m-3 c = search needs
-
-to-server-requires-3 : tie.Need-to-server-requires-3
-to-server-requires-3 c κs =
-    let d = c .before .before .before .before .before .before .before .before .before .before .before .before .before in
-    take-pends (now (d .args .w)) (d .args .number) (d .pre) _ (c .before .before .before .before .before .before .before .before .find-pending .ensures) (c .before .before .before .before .before .before .before .if1 .left) _ (c .before .before .before .before .message-at .ensures) _ (c .before .before .m3 .given .1)
-
-enum-known-m-4 : tie.Need-enum-known-m-4
-enum-known-m-4 c = search needs
-
-to-server-requires-4 : tie.Need-to-server-requires-4
-to-server-requires-4 c κs =
-    let d = c .before .before .before .before .before .before .before .before .before .before .before .before .before in
-    take-pends (now (d .args .w)) (d .args .number) (d .pre) _ (c .before .before .before .before .before .before .before .before .find-pending .ensures) (c .before .before .before .before .before .before .before .if1 .left) _ (c .before .before .before .before .message-at .ensures) _ (c .before .before .m4 .given .1)
-
-enum-known-m-5 : tie.Need-enum-known-m-5
-enum-known-m-5 c = search needs
-
-to-client-requires : tie.Need-to-client-requires
-to-client-requires c κs =
-    let d = c .before .before .before .before .before .before .before .before .before .before .before .before .before in
-    take-pends (now (d .args .w)) (d .args .number) (d .pre) _ (c .before .before .before .before .before .before .before .before .find-pending .ensures) (c .before .before .before .before .before .before .before .if1 .left) _ (c .before .before .before .before .message-at .ensures) _ (c .before .before .m5 .given .1)
-
-enum-known-m-6 : tie.Need-enum-known-m-6
-enum-known-m-6 c = search needs
-
-checks-client-requires : tie.Need-checks-client-requires
-checks-client-requires c κs =
-    let d = c .before .before .before .before .before .before .before .before .before .before .before .before .before in
-    take-pends (now (d .args .w)) (d .args .number) (d .pre) _ (c .before .before .before .before .before .before .before .before .find-pending .ensures) (c .before .before .before .before .before .before .before .if1 .left) _ (c .before .before .before .before .message-at .ensures) _ (c .before .before .m6 .given .1)
+deliver-requires : tie.Need-deliver-requires
+deliver-requires c κs = take-pends (now (c .before .before .before .before .before .before .before .before .before .before .args .w)) (c .before .before .before .before .before .before .before .before .before .before .args .number) (c .before .before .before .before .before .before .before .before .before .before .pre) _ (c .before .before .before .before .before .find-pending .ensures) (c .before .before .before .before .if1 .left) _ (c .before .message-at .ensures) _ refl
 
 same-length-2 : tie.Need-same-length-2
 same-length-2 c = search needs
 
 returns-2 : tie.Need-returns-2
-returns-2 c =
-    let d = c .before .before .before .before .before .before .before .before .before .before .before .before .before .before .before .before in
-    take-leaves (now (d .args .w)) (d .args .number) (d .pre) _ (c .before .before .before .before .before .before .before .before .before .before .before .find-pending .ensures) (c .before .before .before .before .before .before .before .before .before .before .if1 .left) _ _ (c .before .before .to-server .ensures)
-
-same-length-3 : tie.Need-same-length-3
-same-length-3 c = search needs
-
-returns-3 : tie.Need-returns-3
-returns-3 c =
-    let d = c .before .before .before .before .before .before .before .before .before .before .before .before .before .before .before .before in
-    take-leaves (now (d .args .w)) (d .args .number) (d .pre) _ (c .before .before .before .before .before .before .before .before .before .before .before .find-pending .ensures) (c .before .before .before .before .before .before .before .before .before .before .if1 .left) _ _ (c .before .before .to-server2 .ensures)
-
-same-length-4 : tie.Need-same-length-4
-same-length-4 c = search needs
-
-returns-4 : tie.Need-returns-4
-returns-4 c =
-    let d = c .before .before .before .before .before .before .before .before .before .before .before .before .before .before .before .before in
-    take-leaves (now (d .args .w)) (d .args .number) (d .pre) _ (c .before .before .before .before .before .before .before .before .before .before .before .find-pending .ensures) (c .before .before .before .before .before .before .before .before .before .before .if1 .left) _ _ (c .before .before .to-server3 .ensures)
-
-same-length-5 : tie.Need-same-length-5
-same-length-5 c = search needs
-
-returns-5 : tie.Need-returns-5
-returns-5 c =
-    let d = c .before .before .before .before .before .before .before .before .before .before .before .before .before .before .before .before in
-    take-leaves (now (d .args .w)) (d .args .number) (d .pre) _ (c .before .before .before .before .before .before .before .before .before .before .before .find-pending .ensures) (c .before .before .before .before .before .before .before .before .before .before .if1 .left) _ _ (c .before .before .to-server4 .ensures)
-
-same-length-6 : tie.Need-same-length-6
-same-length-6 c = search needs
-
-returns-6 : tie.Need-returns-6
-returns-6 c =
-    let d = c .before .before .before .before .before .before .before .before .before .before .before .before .before .before .before .before in
-    take-leaves (now (d .args .w)) (d .args .number) (d .pre) _ (c .before .before .before .before .before .before .before .before .before .before .before .find-pending .ensures) (c .before .before .before .before .before .before .before .before .before .before .if1 .left) _ _ (c .before .before .to-client .ensures)
-
-same-length-7 : tie.Need-same-length-7
-same-length-7 c = search needs
-
-returns-7 : tie.Need-returns-7
-returns-7 c =
-    let d = c .before .before .before .before .before .before .before .before .before .before .before .before .before .before .before .before in
-    take-leaves (now (d .args .w)) (d .args .number) (d .pre) _ (c .before .before .before .before .before .before .before .before .before .before .before .find-pending .ensures) (c .before .before .before .before .before .before .before .before .before .before .if1 .left) _ _ (c .before .before .checks-client .ensures)
+returns-2 c = take-leaves (now (c .before .before .before .before .before .before .before .before .before .before .before .before .before .args .w)) (c .before .before .before .before .before .before .before .before .before .before .before .before .before .args .number) (c .before .before .before .before .before .before .before .before .before .before .before .before .before .pre) _ (c .before .before .before .before .before .before .before .before .find-pending .ensures) (c .before .before .before .before .before .before .before .if1 .left) _ _ (c .before .before .deliver .ensures)
 
 pub take-spec : {M : Type 1} → statement M
 take-spec =
@@ -170,27 +84,6 @@ take-spec =
     part-message-at-start
     part-message-at-end
     message-at-requires
-    enum-known-m
-    to-server-requires
-    enum-known-m-2
-    to-server-requires-2
-    enum-known-m-3
-    to-server-requires-3
-    enum-known-m-4
-    to-server-requires-4
-    enum-known-m-5
-    to-client-requires
-    enum-known-m-6
-    checks-client-requires
+    deliver-requires
     same-length-2
-    returns-2
-    same-length-3
-    returns-3
-    same-length-4
-    returns-4
-    same-length-5
-    returns-5
-    same-length-6
-    returns-6
-    same-length-7
-    returns-7)
+    returns-2)
