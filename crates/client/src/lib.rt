@@ -389,8 +389,8 @@ fn moved(c: Client, section: Section, timestamp: Timestamp) -> Stepped
     Stepped { client, answer }
 }
 
-// Lines 1 to 5 of a valid record in the remainder section with two timestamps left: for `begin`, and for callers that know as much.
-pub fn attempt(c: Client, out: &mut [u8]) -> Stepped
+// Lines 1 to 5 of a valid record in the remainder section with two timestamps left: for `begin`.
+fn attempt(c: Client, out: &mut [u8]) -> Stepped
     requires { ⌜ (c .n ≤ 31) × (c .timestamp .0 ≤ lastTry) ⌝ }
     ensures { λ r. ⌜ Answers c (stepped (tries (c .n) (c .id) (view c))) (now (out .entry)) r (now (out .exit)) ⌝ }
 {
@@ -404,8 +404,8 @@ pub fn attempt(c: Client, out: &mut [u8]) -> Stepped
     moved(c, section, t)
 }
 
-// Lines 19 to 23 of a valid record in the critical section: for `exit`, and for callers that know as much.
-pub fn leave(c: Client, out: &mut [u8]) -> Stepped
+// Lines 19 to 23 of a valid record in the critical section: for `exit`.
+fn leave(c: Client, out: &mut [u8]) -> Stepped
     requires { ⌜ (c .n ≤ 31) × (c .timestamp .0 < maxTimestamp) ⌝ }
     ensures { λ r. ⌜ Answers c (stepped (exits (c .n) (c .id) (view c))) (now (out .entry)) r (now (out .exit)) ⌝ }
 {
@@ -671,8 +671,8 @@ fn take_check(c: Client, k: ClientId, j: ServerId, t: Timestamp, out: &mut [u8])
     check(c, j, t, out)
 }
 
-// A message to a valid record, all its numbers in range: for `message`, and for callers that know as much.
-pub fn receive(c: Client, m: Message, out: &mut [u8]) -> Stepped
+// A message to a valid record, all its numbers in range: for `message`.
+fn receive(c: Client, m: Message, out: &mut [u8]) -> Stepped
     requires { ⌜ (valid c ≡ true) × (format.valid m ≡ true) ⌝ }
     ensures { λ r. ⌜ Answers c (received c m) (now (out .entry)) r (now (out .exit)) ⌝ }
 {
