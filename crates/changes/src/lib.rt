@@ -75,7 +75,7 @@ pub fn send(w: &mut [u32], bytes: &[u8], count: usize)
 }
 
 // The most servers down within an epoch are noted.
-pub fn note_most(w: &mut [u32])
+fn note_most(w: &mut [u32])
     requires { ⌜ (length (now w) ≡ 6353) × (settingOf (now w) .clients ≤ 16) ⌝ }
     ensures { λ _. ⌜ now (w .exit) ≡ set (now (w .entry)) 6 (max (mostOf (now (w .entry))) (worst (view (now (w .entry)) .clients))) ⌝ }
 {
@@ -100,7 +100,7 @@ pub fn note_down(w: &mut [u32], j: ServerId)
 }
 
 // 1 if the server is down.
-pub fn down_flag(w: &[u32], j: u16) -> u32
+fn down_flag(w: &[u32], j: u16) -> u32
     requires { ⌜ ServerIn (now w) j ⌝ }
     ensures { λ r. ⌜ r ≡ (if serverPlace (serverBlockOf (now (w .entry)) j) .up then 0 else 1) ⌝ }
 {
@@ -145,7 +145,7 @@ pub fn owner_of(w: &[u32], j: ServerId) -> Owner
 
 // A new simulation.
 
-pub fn clear_all(w: &mut [u32])
+fn clear_all(w: &mut [u32])
     ensures { λ _. ⌜ Cleared (now (w .entry)) (now (w .exit)) ⌝ }
 {
     let mut i: usize = 0;
@@ -155,7 +155,7 @@ pub fn clear_all(w: &mut [u32])
     }
 }
 
-pub fn new_client(w: &mut [u32], n: u16, m: u16, k: u16)
+fn new_client(w: &mut [u32], n: u16, m: u16, k: u16)
     requires { ⌜ ClientIn (now w) k ⌝ }
     ensures { λ _. ⌜ now (w .exit) ≡ newClient n m k (now (w .entry)) ⌝ }
 {
@@ -164,7 +164,7 @@ pub fn new_client(w: &mut [u32], n: u16, m: u16, k: u16)
     layout::put_client(w, k, s.client);
 }
 
-pub fn new_clients(w: &mut [u32], n: u16, m: u16, clients: u16)
+fn new_clients(w: &mut [u32], n: u16, m: u16, clients: u16)
     requires { ⌜ (length (now w) ≡ 6353) × (clients ≤ 16) ⌝ }
     ensures { λ _. ⌜ now (w .exit) ≡ inTurn (newClient n m) clients (now (w .entry)) ⌝ }
 {
@@ -175,7 +175,7 @@ pub fn new_clients(w: &mut [u32], n: u16, m: u16, clients: u16)
     }
 }
 
-pub fn new_server(w: &mut [u32], n: u16, j: u16)
+fn new_server(w: &mut [u32], n: u16, j: u16)
     requires { ⌜ ServerIn (now w) j ⌝ }
     ensures { λ _. ⌜ now (w .exit) ≡ newServer n j (now (w .entry)) ⌝ }
 {
@@ -184,7 +184,7 @@ pub fn new_server(w: &mut [u32], n: u16, j: u16)
     layout::put_server(w, j, s.server);
 }
 
-pub fn new_servers(w: &mut [u32], n: u16)
+fn new_servers(w: &mut [u32], n: u16)
     requires { ⌜ (length (now w) ≡ 6353) × (n ≤ 31) ⌝ }
     ensures { λ _. ⌜ now (w .exit) ≡ inTurn (newServer n) n (now (w .entry)) ⌝ }
 {
