@@ -2,7 +2,7 @@
 // The input comes in parts of any size, and what it prints goes into lent buffers; between the calls the state is words that the
 // caller lends.
 ghost use mathlib.Core.Path.{_≡_};
-ghost use mathlib.Core.Bool.{true, _&&_};
+ghost use mathlib.Core.Bool.{true};
 ghost use Prim.Native.Nat.{_≤_, _<_, _+_, max};
 ghost use mathlib.Core.List.{[]};
 ghost use lib.ListN.{length, getD, set, replicate};
@@ -21,13 +21,6 @@ use language::Setting;
 use simulation::Moved;
 use simulation::Reply;
 use system::Event;
-
-// The words of a script's state, the bytes that any line printed fits in, and the event lines that are read.
-pub const SIZE: usize = 6399;
-
-pub const MAX_PRINTED: usize = 52;
-
-pub const MAX_ENDING: usize = 104;
 
 // Bytes used and bytes written, or the refusal.
 pub enum Progress {
@@ -188,22 +181,13 @@ fn open(w: &mut [u32], out: &mut [u8], at: usize) -> usize
     }
 }
 
-fn larger(a: u32, b: u32) -> u32
-    ensures { λ r. ⌜ r ≡ max a b ⌝ }
-{
-    if a < b {
-        return b;
-    }
-    a
-}
-
 // An accepted event is counted, and the living holders after it.
 fn count_accepted(w: &mut [u32], holders: u32)
     requires { ⌜ (length (now w) ≡ 6399) × (getD (now w) 2 0 ≤ 1000000) ⌝ }
     ensures { λ _. ⌜ now (w .exit) ≡ set (set (now (w .entry)) 2 (getD (now (w .entry)) 2 0 + 1)) 3 (max (getD (now (w .entry)) 3 0) holders) ⌝ }
 {
     let accepted = w[2] + 1;
-    let most = larger(w[3], holders);
+    let most = layout::larger(w[3], holders);
     w[2] = accepted;
     w[3] = most;
 }

@@ -2,7 +2,6 @@
 use borrow.Author.Needs.{needs}
 use Rattle.script.proofs.count_accepted.Statement.{statement}
 use Rattle.script.proofs.count_accepted.Tie as tie
-use Rattle.script.proofs.larger.Reads as larger-reads
 
 slice-read-accepted : tie.Need-slice-read-accepted
 slice-read-accepted c = search needs
