@@ -1,11 +1,10 @@
-//! Speed of the proved gallery program beside the model's, both built for release: whole processes, from file to file. The model's
-//! is this program itself, with the argument `model`.
-//! The scripts are `author::long_script`: 31 keepers, threshold 21, 16 kiosks in turn, every event accepted. All lengths and
-//! both programs take turns and the best round of each counts, so that a busy neighbour of the machine slows none alone.
+//! The gallery program: whole processes, from file to file. The model's is this program itself, with the argument `model`.
+//! The scripts are `author::long_script`: 31 keepers, threshold 21, 16 kiosks in turn, every event accepted.
 
+use crate::row;
 use sigma_tests::author::long_script;
 use sigma_tests::files::program;
-use sigma_tests::script::run;
+use sigma_tests::script;
 use std::fs::{self, File};
 use std::io::{stdin, stdout, Read, Write};
 use std::path::{Path, PathBuf};
@@ -26,10 +25,15 @@ struct Course {
     theirs: Duration,
 }
 
-fn play_model() {
-    let mut script = vec![];
-    stdin().lock().read_to_end(&mut script).expect("the script");
-    stdout().lock().write_all(&run(&script)).expect("the output is written");
+/// Whether this process is to play the model's part.
+pub fn is_model() -> bool {
+    std::env::args().nth(1).is_some_and(|word| word == MODEL)
+}
+
+pub fn play_model() {
+    let mut bytes = vec![];
+    stdin().lock().read_to_end(&mut bytes).expect("the script");
+    stdout().lock().write_all(&script::run(&bytes)).expect("the output is written");
 }
 
 fn ready(program: &Path, script: &Path, output: &Path) -> Command {
@@ -60,10 +64,7 @@ fn memory(program: &Path, script: &Path, output: &Path) -> u64 {
     most
 }
 
-fn main() {
-    if std::env::args().nth(1).is_some_and(|word| word == MODEL) {
-        return play_model();
-    }
+pub fn run() {
     let gallery = program().expect("target/bin/gallery: run `rt check gallery` first");
     let model = std::env::current_exe().expect("this program");
     let folder = std::env::temp_dir().join(format!("bench-gallery-{}", std::process::id()));
@@ -87,16 +88,13 @@ fn main() {
         }
     }
 
-    let (empty, ms) = (courses[0].ours, |t: Duration| t.as_secs_f64() * 1e3);
-    println!("{:>9}{:>12}{:>12}{:>8}{:>12}", "lines", "gallery ms", "model ms", "ratio", "ns a line");
+    let (start, other) = (courses[0].ours, courses[0].theirs);
     for (c, lines) in courses[1..].iter().zip(LINES) {
-        let each = (c.ours - empty).as_nanos() as f64 / lines as f64;
-        let ratio = c.ours.as_secs_f64() / c.theirs.as_secs_f64();
-        println!("{lines:>9}{:>12.2}{:>12.2}{ratio:>8.2}{each:>12.1}", ms(c.ours), ms(c.theirs));
+        row(&format!("gallery program, an event of {lines}"), lines, c.ours - start, c.theirs - other);
     }
-    let last = &courses[LINES.len()].script;
-    let sizes = [last, &ours].map(|path| fs::metadata(path).expect("a file").len());
-    println!("{} bytes in, {} out; 'ns a line' is without the {:.2} ms that an empty script takes", sizes[0], sizes[1], ms(empty));
-    println!("resident at most {} KiB", memory(&gallery, last, &ours));
+    let last = &courses[LINES.len()];
+    let ms = |t: Duration| t.as_secs_f64() * 1e3;
+    println!("\ngallery program, {} events with its start: {:.0} ms, the model {:.0} ms", LINES[2], ms(last.ours), ms(last.theirs));
+    println!("an empty script takes it {:.2} ms; resident at most {} KiB", ms(start), memory(&gallery, &last.script, &ours));
     fs::remove_dir_all(&folder).expect("the files go");
 }

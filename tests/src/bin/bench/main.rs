@@ -1,0 +1,48 @@
+//! Speed of the proved library and the proved gallery program beside the model's, all built for release, in one run and on the
+//! same work; what both give is compared. A ratio is the proved code's time over the model's: below 1 it is the faster one.
+//! The library's calls go through C and are not inlined; nor are the model's. Both take turns, and the best round of each
+//! counts, so that a busy neighbour of the machine slows none alone.
+
+mod codec;
+mod gallery;
+mod steps;
+
+use std::time::{Duration, Instant};
+
+const ROUNDS: usize = 7;
+
+/// One line of the table: nanoseconds for each of `count` pieces of work.
+fn row(name: &str, count: usize, ours: Duration, theirs: Duration) {
+    let each = |t: Duration| t.as_nanos() as f64 / count as f64;
+    let ratio = ours.as_secs_f64() / theirs.as_secs_f64();
+    println!("{name:<42}{:>10.1}{:>10.1}{ratio:>8.2}", each(ours), each(theirs));
+}
+
+fn timed(work: &mut dyn FnMut() -> u64) -> (Duration, u64) {
+    let start = Instant::now();
+    let sum = work();
+    (start.elapsed(), sum)
+}
+
+/// The best of several rounds of each, taken in turns; each round gives a sum that both must agree on.
+fn compare(name: &str, count: usize, ours: &mut dyn FnMut() -> u64, theirs: &mut dyn FnMut() -> u64) {
+    let (mut a, mut b) = (Duration::MAX, Duration::MAX);
+    for _ in 0..ROUNDS {
+        let (time, sum) = timed(ours);
+        let (other, check) = timed(theirs);
+        assert_eq!(sum, check, "{name}: both did the same");
+        a = a.min(time);
+        b = b.min(other);
+    }
+    row(name, count, a, b);
+}
+
+fn main() {
+    if gallery::is_model() {
+        return gallery::play_model();
+    }
+    println!("{:<42}{:>10}{:>10}{:>8}", "nanoseconds each", "proved", "model", "ratio");
+    codec::run();
+    steps::run();
+    gallery::run();
+}
