@@ -6,9 +6,6 @@ use Rattle.script.proofs.StepLaws.{reading, unread-does, bad-does, unkn
 use borrow.Author.Needs.{needs}
 use Rattle.script.proofs.answer.Statement.{statement}
 use Rattle.script.proofs.answer.Tie as tie
-use Rattle.script.proofs.happen.Reads as happen-reads
-use Rattle.script.proofs.pass.Reads as pass-reads
-use Rattle.script.proofs.read_event.Reads as read-event-reads
 
 slice-read-if1 : tie.Need-slice-read-if1
 slice-read-if1 c = search needs

@@ -5,8 +5,6 @@ use Rattle.script.proofs.StepLaws.{begin-ready, begin-refused, begin-lo
 use borrow.Author.Needs.{needs}
 use Rattle.script.proofs.begin.Statement.{statement}
 use Rattle.script.proofs.begin.Tie as tie
-use Rattle.script.proofs.refuse.Reads as refuse-reads
-use Rattle.script.proofs.start_counts.Reads as start-counts-reads
 
 sub-new : tie.Need-sub-new
 sub-new c = search needs

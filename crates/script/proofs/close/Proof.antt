@@ -5,9 +5,6 @@ use Rattle.script.proofs.FeedLaws.{closing-ready, ending-ready, closing
 use borrow.Author.Needs.{needs}
 use Rattle.script.proofs.close.Statement.{statement}
 use Rattle.script.proofs.close.Tie as tie
-use Rattle.script.proofs.end.Reads as end-reads
-use Rattle.script.proofs.last.Reads as last-reads
-use Rattle.script.proofs.seal.Reads as seal-reads
 
 last-requires : tie.Need-last-requires
 last-requires c κs = closing-ready (now (c .before .before .before .before .args .w)) (now (c .before .before .before .before .args .out)) (c .before .before .before .before .pre .0) (c .before .before .before .before .pre .1)

@@ -4,8 +4,6 @@ use Rattle.script.proofs.FeedLaws.{feed-invalid, feed-sound, feed-short
 use borrow.Author.Needs.{needs}
 use Rattle.script.proofs.feed.Statement.{statement}
 use Rattle.script.proofs.feed.Tie as tie
-use Rattle.script.proofs.take_all.Reads as take-all-reads
-use Rattle.script.proofs.valid.Reads as valid-reads
 
 valid-requires : tie.Need-valid-requires
 valid-requires c κs = search needs

@@ -4,8 +4,6 @@ use Rattle.script.proofs.FeedLaws.{finish-invalid, finish-sound, finish
 use borrow.Author.Needs.{needs}
 use Rattle.script.proofs.finish.Statement.{statement}
 use Rattle.script.proofs.finish.Tie as tie
-use Rattle.script.proofs.close.Reads as close-reads
-use Rattle.script.proofs.valid.Reads as valid-reads
 
 valid-requires : tie.Need-valid-requires
 valid-requires c κs = search needs

@@ -5,7 +5,6 @@ use Rattle.script.proofs.StepLaws.{simulation-valid, no-room, ok-room, 
 use borrow.Author.Needs.{needs}
 use Rattle.script.proofs.happen.Statement.{statement}
 use Rattle.script.proofs.happen.Tie as tie
-use Rattle.script.proofs.count_accepted.Reads as count-accepted-reads
 
 slice-read-number : tie.Need-slice-read-number
 slice-read-number c = search needs

@@ -4,7 +4,6 @@ use Rattle.script.proofs.StepLaws.{last-none, last-line}
 use borrow.Author.Needs.{needs}
 use Rattle.script.proofs.last.Statement.{statement}
 use Rattle.script.proofs.last.Tie as tie
-use Rattle.script.proofs.work.Reads as work-reads
 
 slice-read-if1 : tie.Need-slice-read-if1
 slice-read-if1 c = search needs

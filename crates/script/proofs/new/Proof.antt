@@ -4,7 +4,6 @@ use Rattle.script.proofs.StepLaws.{not-new, newly, newly-answered}
 use borrow.Author.Needs.{needs}
 use Rattle.script.proofs.new.Statement.{statement}
 use Rattle.script.proofs.new.Tie as tie
-use Rattle.script.proofs.clear.Reads as clear-reads
 
 returns : tie.Need-returns
 returns c = not-new (now (c .before .before .args .w)) (c .if1 .taken)

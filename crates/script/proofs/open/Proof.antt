@@ -5,9 +5,6 @@ use Rattle.script.proofs.StepLaws.{bad-first, setting-first}
 use borrow.Author.Needs.{needs}
 use Rattle.script.proofs.open.Statement.{statement}
 use Rattle.script.proofs.open.Tie as tie
-use Rattle.script.proofs.begin.Reads as begin-reads
-use Rattle.script.proofs.read_setting.Reads as read-setting-reads
-use Rattle.script.proofs.refuse.Reads as refuse-reads
 
 read-setting-requires : tie.Need-read-setting-requires
 read-setting-requires c κs = search needs

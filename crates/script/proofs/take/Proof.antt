@@ -4,8 +4,6 @@ use Rattle.script.proofs.StepLaws.{line-taken, byte-taken}
 use borrow.Author.Needs.{needs}
 use Rattle.script.proofs.take.Statement.{statement}
 use Rattle.script.proofs.take.Tie as tie
-use Rattle.script.proofs.keep.Reads as keep-reads
-use Rattle.script.proofs.work.Reads as work-reads
 
 work-requires : tie.Need-work-requires
 work-requires c κs = search needs

@@ -7,7 +7,6 @@ use Rattle.script.proofs.FeedLaws.{Feeding, feeding-none, feeding-ready
 use borrow.Author.Needs.{needs}
 use Rattle.script.proofs.take_all.Statement.{statement}
 use Rattle.script.proofs.take_all.Tie as tie
-use Rattle.script.proofs.take.Reads as take-reads
 
 abbrev Inv-loop : tie.InvT-loop
 Inv-loop w₀ input out₀ used₀ at₀ w out used at = Feeding w₀ input out₀ w out used at

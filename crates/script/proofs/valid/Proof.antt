@@ -4,8 +4,6 @@ use Rattle.script.proofs.TestLaws.{size-wrong, stage-wrong, line-wrong,
 use borrow.Author.Needs.{needs}
 use Rattle.script.proofs.valid.Statement.{statement}
 use Rattle.script.proofs.valid.Tie as tie
-use Rattle.script.proofs.bytes_valid.Reads as bytes-valid-reads
-use Rattle.script.proofs.run_valid.Reads as run-valid-reads
 
 returns : tie.Need-returns
 returns c = size-wrong (now (c .before .before .args .w)) (c .if1 .taken)

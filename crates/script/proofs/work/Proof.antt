@@ -4,8 +4,6 @@ use Rattle.script.proofs.StepLaws.{opening-does, closed-does}
 use borrow.Author.Needs.{needs}
 use Rattle.script.proofs.work.Statement.{statement}
 use Rattle.script.proofs.work.Tie as tie
-use Rattle.script.proofs.answer.Reads as answer-reads
-use Rattle.script.proofs.open.Reads as open-reads
 
 slice-read-if1 : tie.Need-slice-read-if1
 slice-read-if1 c = search needs
