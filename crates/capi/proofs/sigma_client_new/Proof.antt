@@ -9,17 +9,8 @@ use borrow.Author.Needs.{needs}
 use Rattle.capi.proofs.sigma_client_new.Statement.{statement}
 use Rattle.capi.proofs.sigma_client_new.Tie as tie
 
-code-of-requires : tie.Need-code-of-requires
-code-of-requires c κs = search needs
-
 returns : tie.Need-returns
 returns c = client-new-room _ _ _ (now (c .before .before .before .args .state)) _ (c .before .if1 .taken) (c .code-of .ensures)
-
-fits-head-requires : tie.Need-fits-head-requires
-fits-head-requires c κs = search needs
-
-code-of-requires-2 : tie.Need-code-of-requires-2
-code-of-requires-2 c κs = search needs
 
 returns-2 : tie.Need-returns-2
 returns-2 c = client-new-wide _ _ _ (now (c .before .before .before .before .before .args .state)) (c .before .before .before .if1 .left) _ _ (c .before .before .fits-head .ensures) (c .before .if2 .taken) (c .code-of2 .ensures)
@@ -33,17 +24,8 @@ cast-new-2 c = let (a, b, d) = head-small _ _ _ (sym (c .before .fits-head .ensu
 cast-new-3 : tie.Need-cast-new-3
 cast-new-3 c = let (a, b, d) = head-small _ _ _ (sym (c .before .fits-head .ensures) ∙ not-false _ (c .if2 .left)) in omega arith
 
-new-requires : tie.Need-new-requires
-new-requires c κs = search needs
-
-slice-aggregate-client-finish : tie.Need-slice-aggregate-client-finish
-slice-aggregate-client-finish c = search needs
-
 client-finish-requires : tie.Need-client-finish-requires
 client-finish-requires c κs = (c .before .before .before .before .before .if1 .left, omega arith, client-new-storable _ _ _ _ (c .before .before .new .ensures))
-
-same-length : tie.Need-same-length
-same-length c = search needs
 
 returns-3 : tie.Need-returns-3
 returns-3 c = client-new-done _ _ _ (now (c .before .before .before .before .before .before .before .before .before .before .before .args .state)) (c .before .before .before .before .before .before .before .before .before .if1 .left) _ _ _ (c .before .before .before .before .before .before .new .ensures) (c .before .before .before .client-finish .ensures .0) (c .before .before .before .client-finish .ensures .1)
@@ -52,16 +34,16 @@ pub sigma-client-new-spec : {M : Type 1} → statement M
 sigma-client-new-spec =
     tie.close
     (tie.spec
-    code-of-requires
+    (λ c κs. search needs)
     returns
-    fits-head-requires
-    code-of-requires-2
+    (λ c κs. search needs)
+    (λ c κs. search needs)
     returns-2
     cast-new
     cast-new-2
     cast-new-3
-    new-requires
-    slice-aggregate-client-finish
+    (λ c κs. search needs)
+    (λ c. search needs)
     client-finish-requires
-    same-length
+    (λ c. search needs)
     returns-3)

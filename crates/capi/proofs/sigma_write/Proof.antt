@@ -4,27 +4,6 @@ use borrow.Author.Needs.{needs}
 use Rattle.capi.proofs.sigma_write.Statement.{statement}
 use Rattle.capi.proofs.sigma_write.Tie as tie
 
-cross-requires : tie.Need-cross-requires
-cross-requires c κs = search needs
-
-enum-known-g : tie.Need-enum-known-g
-enum-known-g c = search needs
-
-write-fields-requires : tie.Need-write-fields-requires
-write-fields-requires c κs = search needs
-
-written-code-requires : tie.Need-written-code-requires
-written-code-requires c κs = search needs
-
-enum-told : tie.Need-enum-told
-enum-told c = search needs
-
-code-of-requires : tie.Need-code-of-requires
-code-of-requires c κs = search needs
-
-same-length : tie.Need-same-length
-same-length c = search needs
-
 returns : tie.Need-returns
 returns c =
     let b = c .before .before .before .before .before .before in
@@ -37,12 +16,12 @@ pub sigma-write-spec : {M : Type 1} → statement M
 sigma-write-spec =
     tie.close
     (tie.spec
-    cross-requires
-    enum-known-g
-    write-fields-requires
-    written-code-requires
-    enum-told
-    code-of-requires
-    same-length
+    (λ c κs. search needs)
+    (λ c. search needs)
+    (λ c κs. search needs)
+    (λ c κs. search needs)
+    (λ c. search needs)
+    (λ c κs. search needs)
+    (λ c. search needs)
     returns
     returns-2)

@@ -6,30 +6,6 @@ use borrow.Author.Needs.{needs}
 use Rattle.capi_quorum.proofs.sigma_run_event.Statement.{statement}
 use Rattle.capi_quorum.proofs.sigma_run_event.Tie as tie
 
-run-event-requires : tie.Need-run-event-requires
-run-event-requires c κs = search needs
-
-enum-known-a : tie.Need-enum-known-a
-enum-known-a c = search needs
-
-kind-of-requires : tie.Need-kind-of-requires
-kind-of-requires c κs = search needs
-
-number-of-requires : tie.Need-number-of-requires
-number-of-requires c κs = search needs
-
-put-two-requires : tie.Need-put-two-requires
-put-two-requires c κs = search needs
-
-enum-known-a-2 : tie.Need-enum-known-a-2
-enum-known-a-2 c = search needs
-
-code-of-requires : tie.Need-code-of-requires
-code-of-requires c κs = search needs
-
-same-length : tie.Need-same-length
-same-length c = search needs
-
 returns : tie.Need-returns
 returns c =
     let d = c .before .before .before .before .before .before .before .before .before in
@@ -46,13 +22,13 @@ pub sigma-run-event-spec : {M : Type 1} → statement M
 sigma-run-event-spec =
     tie.close
     (tie.spec
-    run-event-requires
-    enum-known-a
-    kind-of-requires
-    number-of-requires
-    put-two-requires
-    enum-known-a-2
-    code-of-requires
-    same-length
+    (λ c κs. search needs)
+    (λ c. search needs)
+    (λ c κs. search needs)
+    (λ c κs. search needs)
+    (λ c κs. search needs)
+    (λ c. search needs)
+    (λ c κs. search needs)
+    (λ c. search needs)
     returns
     returns-2)

@@ -12,16 +12,10 @@ returns c =
     let d = c .before in
     room-none (now (d .args .w)) (d .args .gone) (d .args .count) (c .if1 .taken)
 
-cast-more : tie.Need-cast-more
-cast-more c = search needs
-
 shared-slice-read-if2 : tie.Need-shared-slice-read-if2
 shared-slice-read-if2 c =
     let d = c .before .before in
     omega (arith, words-long (now (d .args .w)) (d .pre .0))
-
-sub-if2 : tie.Need-sub-if2
-sub-if2 c = search needs
 
 add-if2 : tie.Need-add-if2
 add-if2 c =
@@ -38,9 +32,6 @@ shared-slice-read-result c =
     let d = c .before .before .before .before in
     omega (arith, words-long (now (d .args .w)) (d .pre .0))
 
-sub-result : tie.Need-sub-result
-sub-result c = search needs
-
 returns-3 : tie.Need-returns-3
 returns-3 c =
     let d = c .before .before .before .before in
@@ -51,11 +42,11 @@ has-room-spec =
     tie.close
     (tie.spec
     returns
-    cast-more
+    (λ c. search needs)
     shared-slice-read-if2
-    sub-if2
+    (λ c. search needs)
     add-if2
     returns-2
     shared-slice-read-result
-    sub-result
+    (λ c. search needs)
     returns-3)

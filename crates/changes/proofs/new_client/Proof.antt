@@ -7,27 +7,6 @@ use borrow.Author.Needs.{needs}
 use Rattle.changes.proofs.new_client.Statement.{statement}
 use Rattle.changes.proofs.new_client.Tie as tie
 
-sub-w : tie.Need-sub-w
-sub-w c = search needs
-
-mul-w : tie.Need-mul-w
-mul-w c = search needs
-
-add-w : tie.Need-add-w
-add-w c = search needs
-
-mul-w-2 : tie.Need-mul-w-2
-mul-w-2 c = search needs
-
-slice-write-w : tie.Need-slice-write-w
-slice-write-w c = search needs
-
-new-requires : tie.Need-new-requires
-new-requires c κs = search needs
-
-put-client-requires : tie.Need-put-client-requires
-put-client-requires c κs = search needs
-
 same-length : tie.Need-same-length
 same-length c =
     let d = c .before .before .before .before .before .before in
@@ -44,12 +23,12 @@ pub new-client-spec : {M : Type 1} → statement M
 new-client-spec =
     tie.close
     (tie.spec
-    sub-w
-    mul-w
-    add-w
-    mul-w-2
-    slice-write-w
-    new-requires
-    put-client-requires
+    (λ c. search needs)
+    (λ c. search needs)
+    (λ c. search needs)
+    (λ c. search needs)
+    (λ c. search needs)
+    (λ c κs. search needs)
+    (λ c κs. search needs)
     same-length
     returns)

@@ -6,9 +6,6 @@ use borrow.Author.Needs.{needs}
 use Rattle.changes.proofs.note_most.Statement.{statement}
 use Rattle.changes.proofs.note_most.Tie as tie
 
-slice-read-clients : tie.Need-slice-read-clients
-slice-read-clients c = search needs
-
 cast-worst-down : tie.Need-cast-worst-down
 cast-worst-down c =
     let d = c .before .before .before in
@@ -21,18 +18,6 @@ worst-down-requires c κs =
     let a = d .args in
     (d .pre .0, few-word (now (a .w)) (d .pre .1))
 
-slice-read-larger : tie.Need-slice-read-larger
-slice-read-larger c = search needs
-
-larger-requires : tie.Need-larger-requires
-larger-requires c κs = search needs
-
-slice-write-w : tie.Need-slice-write-w
-slice-write-w c = search needs
-
-same-length : tie.Need-same-length
-same-length c = search needs
-
 returns : tie.Need-returns
 returns c =
     let d = c .before .before .before .before .before .before in
@@ -43,11 +28,11 @@ pub note-most-spec : {M : Type 1} → statement M
 note-most-spec =
     tie.close
     (tie.spec
-    slice-read-clients
+    (λ c. search needs)
     cast-worst-down
     worst-down-requires
-    slice-read-larger
-    larger-requires
-    slice-write-w
-    same-length
+    (λ c. search needs)
+    (λ c κs. search needs)
+    (λ c. search needs)
+    (λ c. search needs)
     returns)

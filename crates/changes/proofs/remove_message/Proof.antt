@@ -19,12 +19,6 @@ cast-len c =
     let a = d .args in
     record { fits = omega (arith, lent-sized (now (a .w)) (d .pre .valid) .few) }
 
-sub-remove : tie.Need-sub-remove
-sub-remove c = search needs
-
-part-remove-start : tie.Need-part-remove-start
-part-remove-start c = search needs
-
 part-remove-end : tie.Need-part-remove-end
 part-remove-end c =
     let d = c .before .before in
@@ -36,9 +30,6 @@ remove-requires c κs =
     let d = c .before .before .before in
     let a = d .args in
     (lent-sized (now (a .w)) (d .pre .valid), d .pre .used)
-
-sub-w : tie.Need-sub-w
-sub-w c = search needs
 
 cast-w : tie.Need-cast-w
 cast-w c =
@@ -52,9 +43,6 @@ slice-write-w c =
     let a = d .args in
     omega (arith, removed-long (now (a .w)) (d .pre .valid) (a .i) _ (c .before .before .remove .ensures))
 
-same-length : tie.Need-same-length
-same-length c = search needs
-
 returns : tie.Need-returns
 returns c =
     let d = c .before .before .before .before .before .before in
@@ -67,12 +55,12 @@ remove-message-spec =
     (tie.spec
     slice-read-len
     cast-len
-    sub-remove
-    part-remove-start
+    (λ c. search needs)
+    (λ c. search needs)
     part-remove-end
     remove-requires
-    sub-w
+    (λ c. search needs)
     cast-w
     slice-write-w
-    same-length
+    (λ c. search needs)
     returns)

@@ -19,12 +19,6 @@ cast-len c =
     let a = d .args in
     record { fits = omega (arith, lent-sized (now (a .w)) (d .pre) .few) }
 
-sub-restart : tie.Need-sub-restart
-sub-restart c = search needs
-
-part-restart-start : tie.Need-part-restart-start
-part-restart-start c = search needs
-
 part-restart-end : tie.Need-part-restart-end
 part-restart-end c =
     let d = c .before .before in
@@ -36,9 +30,6 @@ restart-requires c κs =
     let d = c .before .before .before in
     let a = d .args in
     lent-sized (now (a .w)) (d .pre)
-
-same-length : tie.Need-same-length
-same-length c = search needs
 
 returns : tie.Need-returns
 returns c =
@@ -52,9 +43,9 @@ restart-messages-spec =
     (tie.spec
     slice-read-len
     cast-len
-    sub-restart
-    part-restart-start
+    (λ c. search needs)
+    (λ c. search needs)
     part-restart-end
     restart-requires
-    same-length
+    (λ c. search needs)
     returns)

@@ -24,12 +24,6 @@ slice-read-sent c =
     let d = c .before .before .before .before in
     omega (arith, words-long (now (d .args .w)) (d .pre .valid))
 
-sub-post : tie.Need-sub-post
-sub-post c = search needs
-
-part-post-start : tie.Need-part-post-start
-part-post-start c = search needs
-
 part-post-end : tie.Need-part-post-end
 part-post-end c =
     let d = c .before .before .before .before in
@@ -75,9 +69,6 @@ slice-write-w-2 c =
     let d = c .before .before .before .before .before .before .before .before in
     omega (arith, counted-long (now (d .args .w)) (d .args .count) (now (d .args .bytes)) (d .pre) _ (c .before .before .post .ensures) (lengthOf (now (d .args .w)) + d .args .count))
 
-same-length : tie.Need-same-length
-same-length c = search needs
-
 returns : tie.Need-returns
 returns c =
     let d = c .before .before .before .before .before .before .before .before in
@@ -90,8 +81,8 @@ send-spec =
     slice-read-len
     cast-len
     slice-read-sent
-    sub-post
-    part-post-start
+    (λ c. search needs)
+    (λ c. search needs)
     part-post-end
     post-requires
     add-w
@@ -100,5 +91,5 @@ send-spec =
     cast-w-2
     add-w-2
     slice-write-w-2
-    same-length
+    (λ c. search needs)
     returns)

@@ -6,15 +6,6 @@ use borrow.Author.Needs.{needs}
 use Rattle.changes.proofs.start.Statement.{statement}
 use Rattle.changes.proofs.start.Tie as tie
 
-clear-all-requires : tie.Need-clear-all-requires
-clear-all-requires c κs = search needs
-
-slice-write-w : tie.Need-slice-write-w
-slice-write-w c = search needs
-
-slice-write-w-2 : tie.Need-slice-write-w-2
-slice-write-w-2 c = search needs
-
 slice-write-w-3 : tie.Need-slice-write-w-3
 slice-write-w-3 c =
     let d = c .before .before .before .before .before in
@@ -79,9 +70,9 @@ pub start-spec : {M : Type 1} → statement M
 start-spec =
     tie.close
     (tie.spec
-    clear-all-requires
-    slice-write-w
-    slice-write-w-2
+    (λ c κs. search needs)
+    (λ c. search needs)
+    (λ c. search needs)
     slice-write-w-3
     slice-write-w-4
     cast-new-clients

@@ -4,28 +4,13 @@ use borrow.Author.Needs.{needs}
 use Rattle.client.proofs.begin.Statement.{statement}
 use Rattle.client.proofs.begin.Tie as tie
 
-valid-client-requires : tie.Need-valid-client-requires
-valid-client-requires c κs = search needs
-
-refuse-requires : tie.Need-refuse-requires
-refuse-requires c κs = search needs
-
 returns : tie.Need-returns
 returns c = answers-refused _ _ _ _ _ (begin-invalid _ _ (c .before .before .valid-client .ensures) (c .before .if1 .taken)) (c .refuse .ensures)
-
-is-remainder-requires : tie.Need-is-remainder-requires
-is-remainder-requires c κs = search needs
-
-refuse-requires-2 : tie.Need-refuse-requires-2
-refuse-requires-2 c κs = search needs
 
 returns-2 : tie.Need-returns-2
 returns-2 c =
     let d = c .before .before .before in
     answers-refused _ _ _ _ _ (begin-elsewhere _ _ (d .before .valid-client .ensures) _ (d .if1 .left) (c .before .before .is-remainder .ensures) (c .before .if2 .taken)) (c .refuse2 .ensures)
-
-refuse-requires-3 : tie.Need-refuse-requires-3
-refuse-requires-3 c κs = search needs
 
 returns-3 : tie.Need-returns-3
 returns-3 c =
@@ -38,9 +23,6 @@ attempt-requires c κs =
     let d = c .before .before .before .before .before in
     (valid-few _ _ (d .before .valid-client .ensures) (d .if1 .left), c .before .if3 .left)
 
-same-length : tie.Need-same-length
-same-length c = search needs
-
 returns-4 : tie.Need-returns-4
 returns-4 c =
     let a = c .before .before in
@@ -52,14 +34,14 @@ pub begin-spec : {M : Type 1} → statement M
 begin-spec =
     tie.close
     (tie.spec
-    valid-client-requires
-    refuse-requires
+    (λ c κs. search needs)
+    (λ c κs. search needs)
     returns
-    is-remainder-requires
-    refuse-requires-2
+    (λ c κs. search needs)
+    (λ c κs. search needs)
     returns-2
-    refuse-requires-3
+    (λ c κs. search needs)
     returns-3
     attempt-requires
-    same-length
+    (λ c. search needs)
     returns-4)

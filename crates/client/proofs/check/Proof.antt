@@ -7,17 +7,8 @@ use borrow.Author.Needs.{needs}
 use Rattle.client.proofs.check.Statement.{statement}
 use Rattle.client.proofs.check.Tie as tie
 
-sized-requires : tie.Need-sized-requires
-sized-requires c κs = search needs
-
-unchanged-requires : tie.Need-unchanged-requires
-unchanged-requires c κs = search needs
-
 returns : tie.Need-returns
 returns c = check-same _ (c .before .before .before .before .sized .ensures) (c .before .before .before .before .before .before .pre) _ _ _ _ (c .before .if1 .taken) (c .unchanged .ensures)
-
-refuse-requires : tie.Need-refuse-requires
-refuse-requires c κs = search needs
 
 returns-2 : tie.Need-returns-2
 returns-2 c = check-short _ (c .before .before .before .before .before .sized .ensures) (c .before .before .before .before .before .before .before .pre) _ _ _ _ (c .before .before .if1 .left) (c .before .if2 .taken) (c .refuse .ensures)
@@ -26,9 +17,6 @@ put-requires : tie.Need-put-requires
 put-requires c κs =
     let a = c .before .before .before .before .before .before .before .before .args in
     omega (arith, release-plain (a .c .id) (a .t) (a .j), c .before .before .if2 .left)
-
-same-length : tie.Need-same-length
-same-length c = search needs
 
 returns-3 : tie.Need-returns-3
 returns-3 c =
@@ -41,11 +29,11 @@ pub check-spec : {M : Type 1} → statement M
 check-spec =
     tie.close
     (tie.spec
-    sized-requires
-    unchanged-requires
+    (λ c κs. search needs)
+    (λ c κs. search needs)
     returns
-    refuse-requires
+    (λ c κs. search needs)
     returns-2
     put-requires
-    same-length
+    (λ c. search needs)
     returns-3)

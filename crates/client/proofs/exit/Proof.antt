@@ -4,20 +4,8 @@ use borrow.Author.Needs.{needs}
 use Rattle.client.proofs.exit.Statement.{statement}
 use Rattle.client.proofs.exit.Tie as tie
 
-valid-client-requires : tie.Need-valid-client-requires
-valid-client-requires c κs = search needs
-
-refuse-requires : tie.Need-refuse-requires
-refuse-requires c κs = search needs
-
 returns : tie.Need-returns
 returns c = answers-refused _ _ _ _ _ (exit-invalid _ _ (c .before .before .valid-client .ensures) (c .before .if1 .taken)) (c .refuse .ensures)
-
-is-critical-requires : tie.Need-is-critical-requires
-is-critical-requires c κs = search needs
-
-refuse-requires-2 : tie.Need-refuse-requires-2
-refuse-requires-2 c κs = search needs
 
 returns-2 : tie.Need-returns-2
 returns-2 c =
@@ -31,9 +19,6 @@ leave-requires c κs =
       critical-timestamp _ _ (d .before .valid-client .ensures) _ (d .if1 .left) (c .before .before .is-critical .ensures) (c .before .if2 .left),
     )
 
-same-length : tie.Need-same-length
-same-length c = search needs
-
 returns-3 : tie.Need-returns-3
 returns-3 c =
     let a = c .before .before in
@@ -44,12 +29,12 @@ pub exit-spec : {M : Type 1} → statement M
 exit-spec =
     tie.close
     (tie.spec
-    valid-client-requires
-    refuse-requires
+    (λ c κs. search needs)
+    (λ c κs. search needs)
     returns
-    is-critical-requires
-    refuse-requires-2
+    (λ c κs. search needs)
+    (λ c κs. search needs)
     returns-2
     leave-requires
-    same-length
+    (λ c. search needs)
     returns-3)

@@ -13,29 +13,11 @@ Inv-loop n places found₀ i₀ found i = Counting filled places n found i
 abbrev μ-loop : tie.MeasureT-loop
 μ-loop n places found₀ i₀ found i = n - i
 
-places-sized-requires : tie.Need-places-sized-requires Inv-loop μ-loop
-places-sized-requires c κs = search needs
-
 loop-holds : tie.Need-loop-holds Inv-loop μ-loop
 loop-holds c = search counting-none
 
-mul-is-filled : tie.Need-mul-is-filled Inv-loop μ-loop
-mul-is-filled c = search needs
-
-array-copy-out-is-filled : tie.Need-array-copy-out-is-filled Inv-loop μ-loop
-array-copy-out-is-filled c = search needs
-
-is-filled-requires : tie.Need-is-filled-requires Inv-loop μ-loop
-is-filled-requires c κs = search needs
-
-one-if-requires : tie.Need-one-if-requires Inv-loop μ-loop
-one-if-requires c κs = search needs
-
 add-found : tie.Need-add-found Inv-loop μ-loop
 add-found c = omega (arith, at-most-one (c .before .is-filled .result) _ (c .one-if .ensures))
-
-add-i : tie.Need-add-i Inv-loop μ-loop
-add-i c = search needs
 
 loop-less : tie.Need-loop-less Inv-loop μ-loop
 loop-less c = omega arith
@@ -52,14 +34,14 @@ filled-count-spec =
     (tie.spec
     Inv-loop
     μ-loop
-    places-sized-requires
+    (λ c κs. search needs)
     loop-holds
-    mul-is-filled
-    array-copy-out-is-filled
-    is-filled-requires
-    one-if-requires
+    (λ c. search needs)
+    (λ c. search needs)
+    (λ c κs. search needs)
+    (λ c κs. search needs)
     add-found
-    add-i
+    (λ c. search needs)
     loop-less
     loop-again
     returns)

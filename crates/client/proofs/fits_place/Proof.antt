@@ -5,23 +5,14 @@ use borrow.Author.Needs.{needs}
 use Rattle.client.proofs.fits_place.Statement.{statement}
 use Rattle.client.proofs.fits_place.Tie as tie
 
-is-empty-requires : tie.Need-is-empty-requires
-is-empty-requires c κs = search needs
-
 returns : tie.Need-returns
 returns c = fits-empty _ _ (c .before .is-empty .ensures) _ (c .if1 .taken)
-
-valid-request-requires : tie.Need-valid-request-requires
-valid-request-requires c κs = search needs
 
 returns-2 : tie.Need-returns-2
 returns-2 c = fits-invalid _ _ (c .before .before .before .is-empty .ensures) _ _ (c .before .before .if1 .left) (c .before .valid-request .ensures) (not-true _ (c .if2 .taken))
 
 returns-3 : tie.Need-returns-3
 returns-3 c = search (fits-other, not-false)
-
-same-request-requires : tie.Need-same-request-requires
-same-request-requires c κs = search needs
 
 returns-4 : tie.Need-returns-4
 returns-4 c = search (fits-own, not-false)
@@ -30,10 +21,10 @@ pub fits-place-spec : {M : Type 1} → statement M
 fits-place-spec =
     tie.close
     (tie.spec
-    is-empty-requires
+    (λ c κs. search needs)
     returns
-    valid-request-requires
+    (λ c κs. search needs)
     returns-2
     returns-3
-    same-request-requires
+    (λ c κs. search needs)
     returns-4)

@@ -4,29 +4,8 @@ use borrow.Author.Needs.{needs}
 use Rattle.client.proofs.judge.Statement.{statement}
 use Rattle.client.proofs.judge.Tie as tie
 
-cast-n : tie.Need-cast-n
-cast-n c = search needs
-
-filled-count-requires : tie.Need-filled-count-requires
-filled-count-requires c κs = search needs
-
-kept-requires : tie.Need-kept-requires
-kept-requires c κs = search needs
-
 returns : tie.Need-returns
 returns c = answers-stay _ _ _ _ _ (judge-waits _ _ _ _ _ (c .before .before .before .filled-count .ensures) (c .before .if1 .taken)) (c .kept .ensures)
-
-request-of-requires : tie.Need-request-of-requires
-request-of-requires c κs = search needs
-
-own-count-requires : tie.Need-own-count-requires
-own-count-requires c κs = search needs
-
-yield-round-requires : tie.Need-yield-round-requires
-yield-round-requires c κs = search needs
-
-same-length : tie.Need-same-length
-same-length c = search needs
 
 returns-2 : tie.Need-returns-2
 returns-2 c =
@@ -34,9 +13,6 @@ returns-2 c =
     let t = y .before .before in
     let f = t .before .before .before .before in
     rw (judge-yields _ _ _ _ _ (f .before .before .filled-count .ensures) _ (f .if1 .left) (rw (t .before .before .before .request-of .ensures) at (t .before .before .own-count .ensures)) (t .if2 .taken)) (y .yield-round .ensures)
-
-kept-requires-2 : tie.Need-kept-requires-2
-kept-requires-2 c κs = search needs
 
 returns-3 : tie.Need-returns-3
 returns-3 c =
@@ -48,14 +24,14 @@ pub judge-spec : {M : Type 1} → statement M
 judge-spec =
     tie.close
     (tie.spec
-    cast-n
-    filled-count-requires
-    kept-requires
+    (λ c. search needs)
+    (λ c κs. search needs)
+    (λ c κs. search needs)
     returns
-    request-of-requires
-    own-count-requires
-    yield-round-requires
-    same-length
+    (λ c κs. search needs)
+    (λ c κs. search needs)
+    (λ c κs. search needs)
+    (λ c. search needs)
     returns-2
-    kept-requires-2
+    (λ c κs. search needs)
     returns-3)

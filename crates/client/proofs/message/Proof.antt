@@ -5,20 +5,8 @@ use borrow.Author.Needs.{needs}
 use Rattle.client.proofs.message.Statement.{statement}
 use Rattle.client.proofs.message.Tie as tie
 
-valid-client-requires : tie.Need-valid-client-requires
-valid-client-requires c κs = search needs
-
-refuse-requires : tie.Need-refuse-requires
-refuse-requires c κs = search needs
-
 returns : tie.Need-returns
 returns c = answers-refused _ _ _ _ _ (message-invalid _ _ _ (c .before .before .valid-client .ensures) (c .before .if1 .taken)) (c .refuse .ensures)
-
-valid-message-requires : tie.Need-valid-message-requires
-valid-message-requires c κs = search needs
-
-refuse-requires-2 : tie.Need-refuse-requires-2
-refuse-requires-2 c κs = search needs
 
 returns-2 : tie.Need-returns-2
 returns-2 c =
@@ -29,9 +17,6 @@ receive-requires : tie.Need-receive-requires
 receive-requires c κs =
     let d = c .before .before .before in
     (holds _ _ (d .before .valid-client .ensures) (d .if1 .left), holds _ _ (c .before .before .valid-message .ensures) (c .before .if2 .left))
-
-same-length : tie.Need-same-length
-same-length c = search needs
 
 returns-3 : tie.Need-returns-3
 returns-3 c =
@@ -44,12 +29,12 @@ pub message-spec : {M : Type 1} → statement M
 message-spec =
     tie.close
     (tie.spec
-    valid-client-requires
-    refuse-requires
+    (λ c κs. search needs)
+    (λ c κs. search needs)
     returns
-    valid-message-requires
-    refuse-requires-2
+    (λ c κs. search needs)
+    (λ c κs. search needs)
     returns-2
     receive-requires
-    same-length
+    (λ c. search needs)
     returns-3)

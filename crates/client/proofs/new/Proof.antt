@@ -6,20 +6,8 @@ use borrow.Author.Needs.{needs}
 use Rattle.client.proofs.new.Statement.{statement}
 use Rattle.client.proofs.new.Tie as tie
 
-valid-sizes-requires : tie.Need-valid-sizes-requires
-valid-sizes-requires c κs = search needs
-
-no-client-requires : tie.Need-no-client-requires
-no-client-requires c κs = search needs
-
 returns : tie.Need-returns
 returns c = search new-sizes
-
-valid-client-requires : tie.Need-valid-client-requires
-valid-client-requires c κs = search needs
-
-no-client-requires-2 : tie.Need-no-client-requires-2
-no-client-requires-2 c κs = search needs
 
 returns-2 : tie.Need-returns-2
 returns-2 c = search new-id
@@ -36,11 +24,11 @@ pub new-spec : {M : Type 1} → statement M
 new-spec =
     tie.close
     (tie.spec
-    valid-sizes-requires
-    no-client-requires
+    (λ c κs. search needs)
+    (λ c κs. search needs)
     returns
-    valid-client-requires
-    no-client-requires-2
+    (λ c κs. search needs)
+    (λ c κs. search needs)
     returns-2
     emptied-requires
     returns-3)

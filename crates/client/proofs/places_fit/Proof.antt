@@ -18,26 +18,11 @@ Inv-loop r n places i₀ i = (length places ≡ 31) × Passing (fitting r) (show
 abbrev μ-loop : tie.MeasureT-loop
 μ-loop r n places i₀ i = n - i
 
-places-sized-requires : tie.Need-places-sized-requires Inv-loop μ-loop
-places-sized-requires c κs = search needs
-
 loop-holds : tie.Need-loop-holds Inv-loop μ-loop
 loop-holds c = (search needs, search fit-none)
 
-mul-fits-place : tie.Need-mul-fits-place Inv-loop μ-loop
-mul-fits-place c = search needs
-
-array-copy-out-fits-place : tie.Need-array-copy-out-fits-place Inv-loop μ-loop
-array-copy-out-fits-place c = search needs
-
-fits-place-requires : tie.Need-fits-place-requires Inv-loop μ-loop
-fits-place-requires c κs = search needs
-
 returns : tie.Need-returns Inv-loop μ-loop
 returns c = search fit-failed
-
-add-i : tie.Need-add-i Inv-loop μ-loop
-add-i c = search needs
 
 loop-less : tie.Need-loop-less Inv-loop μ-loop
 loop-less c = omega arith
@@ -54,13 +39,13 @@ places-fit-spec =
     (tie.spec
     Inv-loop
     μ-loop
-    places-sized-requires
+    (λ c κs. search needs)
     loop-holds
-    mul-fits-place
-    array-copy-out-fits-place
-    fits-place-requires
+    (λ c. search needs)
+    (λ c. search needs)
+    (λ c κs. search needs)
     returns
-    add-i
+    (λ c. search needs)
     loop-less
     loop-again
     returns-2)

@@ -16,9 +16,6 @@ abbrev μ-loop : tie.MeasureT-loop
 loop-holds : tie.Need-loop-holds Inv-loop μ-loop
 loop-holds c = sending-none _ (release-plain _ _) _ _ (search needs)
 
-add-j : tie.Need-add-j Inv-loop μ-loop
-add-j c = search needs
-
 put-requires : tie.Need-put-requires Inv-loop μ-loop
 put-requires c κs = sending-fits _ (release-plain _ _) _ _ _ _ _ (c .before .before .loop .inv) (search needs)
 
@@ -41,7 +38,7 @@ release-all-spec =
     Inv-loop
     μ-loop
     loop-holds
-    add-j
+    (λ c. search needs)
     put-requires
     loop-less
     loop-again

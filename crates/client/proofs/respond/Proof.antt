@@ -6,22 +6,10 @@ use borrow.Author.Needs.{needs}
 use Rattle.client.proofs.respond.Statement.{statement}
 use Rattle.client.proofs.respond.Tie as tie
 
-sized-requires : tie.Need-sized-requires
-sized-requires c κs = search needs
-
-is-trying-requires : tie.Need-is-trying-requires
-is-trying-requires c κs = search needs
-
-unchanged-requires : tie.Need-unchanged-requires
-unchanged-requires c κs = search needs
-
 returns : tie.Need-returns
 returns c =
     let z = c .before .before .before in
     respond-elsewhere _ (z .sized .ensures) (z .before .before .pre .0) _ _ _ (c .before .before .is-trying .ensures) _ _ (c .before .if1 .taken) (c .unchanged .ensures)
-
-request-of-requires : tie.Need-request-of-requires
-request-of-requires c κs = search needs
 
 hear-requires : tie.Need-hear-requires
 hear-requires c κs =
@@ -38,9 +26,6 @@ judge-requires c κs =
       respond-rest _ (z .sized .ensures) (a .pre .0) _ _ _ (t .before .is-trying .ensures) (a .pre .1) (a .pre .2) (a .pre .3) _ _ (t .if1 .left) (h .before .request-of .ensures) (h .hear .ensures),
     )
 
-same-length : tie.Need-same-length
-same-length c = search needs
-
 returns-2 : tie.Need-returns-2
 returns-2 c =
     let j = c .before .before in
@@ -54,12 +39,12 @@ pub respond-spec : {M : Type 1} → statement M
 respond-spec =
     tie.close
     (tie.spec
-    sized-requires
-    is-trying-requires
-    unchanged-requires
+    (λ c κs. search needs)
+    (λ c κs. search needs)
+    (λ c κs. search needs)
     returns
-    request-of-requires
+    (λ c κs. search needs)
     hear-requires
     judge-requires
-    same-length
+    (λ c. search needs)
     returns-2)

@@ -16,26 +16,11 @@ Inv-loop n places i₀ i = (length places ≡ 31) × Passing (same noRequest) pl
 abbrev μ-loop : tie.MeasureT-loop
 μ-loop n places i₀ i = 31 - i
 
-places-sized-requires : tie.Need-places-sized-requires Inv-loop μ-loop
-places-sized-requires c κs = search needs
-
 loop-holds : tie.Need-loop-holds Inv-loop μ-loop
 loop-holds c = (search needs, search empty-none)
 
-mul-is-empty : tie.Need-mul-is-empty Inv-loop μ-loop
-mul-is-empty c = search needs
-
-array-copy-out-is-empty : tie.Need-array-copy-out-is-empty Inv-loop μ-loop
-array-copy-out-is-empty c = search needs
-
-is-empty-requires : tie.Need-is-empty-requires Inv-loop μ-loop
-is-empty-requires c κs = search needs
-
 returns : tie.Need-returns Inv-loop μ-loop
 returns c = search empty-failed
-
-add-i : tie.Need-add-i Inv-loop μ-loop
-add-i c = search needs
 
 loop-less : tie.Need-loop-less Inv-loop μ-loop
 loop-less c = omega arith
@@ -52,13 +37,13 @@ rest-empty-spec =
     (tie.spec
     Inv-loop
     μ-loop
-    places-sized-requires
+    (λ c κs. search needs)
     loop-holds
-    mul-is-empty
-    array-copy-out-is-empty
-    is-empty-requires
+    (λ c. search needs)
+    (λ c. search needs)
+    (λ c κs. search needs)
     returns
-    add-i
+    (λ c. search needs)
     loop-less
     loop-again
     returns-2)

@@ -12,23 +12,8 @@ Inv-loop r n out₀ places at₀ i₀ out at i = Replying r places n out₀ out 
 abbrev μ-loop : tie.MeasureT-loop
 μ-loop r n out₀ places at₀ i₀ out at i = n - i
 
-places-sized-requires : tie.Need-places-sized-requires Inv-loop μ-loop
-places-sized-requires c κs = search needs
-
 loop-holds : tie.Need-loop-holds Inv-loop μ-loop
 loop-holds c = replying-none _ _ _ _ (c .places-sized .ensures) (search needs)
-
-cast-q : tie.Need-cast-q Inv-loop μ-loop
-cast-q c = search needs
-
-mul-q : tie.Need-mul-q Inv-loop μ-loop
-mul-q c = search needs
-
-array-copy-out-q : tie.Need-array-copy-out-q Inv-loop μ-loop
-array-copy-out-q c = search needs
-
-add-i : tie.Need-add-i Inv-loop μ-loop
-add-i c = search needs
 
 send-reply-requires : tie.Need-send-reply-requires Inv-loop μ-loop
 send-reply-requires c κs = replying-fits _ _ _ _ _ _ _ (search needs) (c .before .before .before .loop .inv) (search needs)
@@ -51,12 +36,12 @@ send-round-spec =
     (tie.spec
     Inv-loop
     μ-loop
-    places-sized-requires
+    (λ c κs. search needs)
     loop-holds
-    cast-q
-    mul-q
-    array-copy-out-q
-    add-i
+    (λ c. search needs)
+    (λ c. search needs)
+    (λ c. search needs)
+    (λ c. search needs)
     send-reply-requires
     loop-less
     loop-again

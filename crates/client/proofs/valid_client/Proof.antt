@@ -5,20 +5,11 @@ use borrow.Author.Needs.{needs}
 use Rattle.client.proofs.valid_client.Statement.{statement}
 use Rattle.client.proofs.valid_client.Tie as tie
 
-valid-sizes-requires : tie.Need-valid-sizes-requires
-valid-sizes-requires c κs = search needs
-
 returns : tie.Need-returns
 returns c = sizes-fail _ _ (c .before .valid-sizes .ensures) (c .if1 .taken)
 
-valid-client-requires : tie.Need-valid-client-requires
-valid-client-requires c κs = search needs
-
 returns-2 : tie.Need-returns-2
 returns-2 c = id-fails _ _ (c .before .before .before .valid-sizes .ensures) _ (c .before .before .if1 .left) (c .before .valid-client .ensures) (c .if2 .taken)
-
-fits-timestamp-requires : tie.Need-fits-timestamp-requires
-fits-timestamp-requires c κs = search needs
 
 returns-3 : tie.Need-returns-3
 returns-3 c =
@@ -39,11 +30,11 @@ pub valid-client-spec : {M : Type 1} → statement M
 valid-client-spec =
     tie.close
     (tie.spec
-    valid-sizes-requires
+    (λ c κs. search needs)
     returns
-    valid-client-requires
+    (λ c κs. search needs)
     returns-2
-    fits-timestamp-requires
+    (λ c κs. search needs)
     returns-3
     valid-places-requires
     returns-4)

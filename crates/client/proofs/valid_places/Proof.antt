@@ -4,26 +4,11 @@ use borrow.Author.Needs.{needs}
 use Rattle.client.proofs.valid_places.Statement.{statement}
 use Rattle.client.proofs.valid_places.Tie as tie
 
-request-of-requires : tie.Need-request-of-requires
-request-of-requires c κs = search needs
-
-cast-n : tie.Need-cast-n
-cast-n c = search needs
-
-places-fit-requires : tie.Need-places-fit-requires
-places-fit-requires c κs = search needs
-
 returns : tie.Need-returns
 returns c = places-fail _ _ _ (c .before .before .before .before .request-of .ensures) (c .before .places-fit .ensures) (c .if1 .taken)
 
-fits-section-requires : tie.Need-fits-section-requires
-fits-section-requires c κs = search needs
-
 returns-2 : tie.Need-returns-2
 returns-2 c = section-fails _ _ _ (c .before .before .before .before .before .before .request-of .ensures) (c .before .before .before .places-fit .ensures) _ (c .before .before .if1 .left) (c .before .fits-section .ensures) (c .if2 .taken)
-
-rest-empty-requires : tie.Need-rest-empty-requires
-rest-empty-requires c κs = search needs
 
 returns-3 : tie.Need-returns-3
 returns-3 c = rest-decides _ _ _ (c .before .before .before .before .before .before .before .request-of .ensures) (c .before .before .before .before .places-fit .ensures) _ (c .before .before .before .if1 .left) (c .before .before .fits-section .ensures) _ (c .before .if2 .left) (c .rest-empty .ensures)
@@ -32,11 +17,11 @@ pub valid-places-spec : {M : Type 1} → statement M
 valid-places-spec =
     tie.close
     (tie.spec
-    request-of-requires
-    cast-n
-    places-fit-requires
+    (λ c κs. search needs)
+    (λ c. search needs)
+    (λ c κs. search needs)
     returns
-    fits-section-requires
+    (λ c κs. search needs)
     returns-2
-    rest-empty-requires
+    (λ c κs. search needs)
     returns-3)

@@ -4,29 +4,8 @@ use borrow.Author.Needs.{needs}
 use Rattle.client.proofs.yield_round.Statement.{statement}
 use Rattle.client.proofs.yield_round.Tie as tie
 
-mul-size : tie.Need-mul-size
-mul-size c = search needs
-
-refuse-requires : tie.Need-refuse-requires
-refuse-requires c κs = search needs
-
 returns : tie.Need-returns
 returns c = yields-short _ _ _ _ (c .before .before .before .pre .1) _ (c .before .if1 .taken) (c .refuse .ensures)
-
-request-of-requires : tie.Need-request-of-requires
-request-of-requires c κs = search needs
-
-send-round-requires : tie.Need-send-round-requires
-send-round-requires c κs = search needs
-
-no-places-requires : tie.Need-no-places-requires
-no-places-requires c κs = search needs
-
-with-places-requires : tie.Need-with-places-requires
-with-places-requires c κs = search needs
-
-same-length : tie.Need-same-length
-same-length c = search needs
 
 returns-2 : tie.Need-returns-2
 returns-2 c =
@@ -39,12 +18,12 @@ pub yield-round-spec : {M : Type 1} → statement M
 yield-round-spec =
     tie.close
     (tie.spec
-    mul-size
-    refuse-requires
+    (λ c. search needs)
+    (λ c κs. search needs)
     returns
-    request-of-requires
-    send-round-requires
-    no-places-requires
-    with-places-requires
-    same-length
+    (λ c κs. search needs)
+    (λ c κs. search needs)
+    (λ c κs. search needs)
+    (λ c κs. search needs)
+    (λ c. search needs)
     returns-2)

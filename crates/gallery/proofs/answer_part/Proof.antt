@@ -21,41 +21,11 @@ abbrev μ-loop : tie.MeasureT-loop
 loop-holds : tie.Need-loop-holds Inv-loop μ-loop
 loop-holds c = let a = c .before .before .before .args in let p = c .before .before .before .pre in (refl, refl, omega arith, p .0, p .1, taken-none (now (a .w)) (now (a .part)))
 
-sub-answer-some : tie.Need-sub-answer-some Inv-loop μ-loop
-sub-answer-some c = search needs
-
-part-answer-some-start : tie.Need-part-answer-some-start Inv-loop μ-loop
-part-answer-some-start c = search needs
-
-part-answer-some-end : tie.Need-part-answer-some-end Inv-loop μ-loop
-part-answer-some-end c = search needs
-
-answer-some-requires : tie.Need-answer-some-requires Inv-loop μ-loop
-answer-some-requires c κs = search needs
-
-same-length : tie.Need-same-length Inv-loop μ-loop
-same-length c = search needs
-
-same-length-2 : tie.Need-same-length-2 Inv-loop μ-loop
-same-length-2 c = search needs
-
 returns : tie.Need-returns Inv-loop μ-loop
 returns c = (c .before .before .before .before .before .answer-some .ensures .1, λ z. absurd (false≢true z))
 
-add-done : tie.Need-add-done Inv-loop μ-loop
-add-done c = search needs
-
-loop-less : tie.Need-loop-less Inv-loop μ-loop
-loop-less c = search needs
-
 loop-again : tie.Need-loop-again Inv-loop μ-loop
 loop-again c = let a = c .before .before .before .before .before .before .before .before .before .before .before .before .before .before .args in let l = c .before .before .before .before .before .before .before .before .before .before .loop in let s = c .before .before .before .before .before .answer-some .ensures in (search needs, search needs, search needs, s .1, search needs, taken-more (now (a .w)) (l .w) _ (now (a .part)) (l .done) (c .before .before .before .before .before .answer-some .result) (l .inv .5) (s .2 (omega (arith, c .if1 .left))))
-
-same-length-3 : tie.Need-same-length-3 Inv-loop μ-loop
-same-length-3 c = search needs
-
-same-length-4 : tie.Need-same-length-4 Inv-loop μ-loop
-same-length-4 c = search needs
 
 returns-2 : tie.Need-returns-2 Inv-loop μ-loop
 returns-2 c = let a = c .before .before .before .before .before .args in let l = c .before .loop in (l .inv .3, λ z. taken-all (now (a .w)) (l .w) (now (a .part)) (l .done) (l .inv .5) (c .loop-test .left))
@@ -67,16 +37,16 @@ answer-part-spec =
     Inv-loop
     μ-loop
     loop-holds
-    sub-answer-some
-    part-answer-some-start
-    part-answer-some-end
-    answer-some-requires
-    same-length
-    same-length-2
+    (λ c. search needs)
+    (λ c. search needs)
+    (λ c. search needs)
+    (λ c κs. search needs)
+    (λ c. search needs)
+    (λ c. search needs)
     returns
-    add-done
-    loop-less
+    (λ c. search needs)
+    (λ c. search needs)
     loop-again
-    same-length-3
-    same-length-4
+    (λ c. search needs)
+    (λ c. search needs)
     returns-2)

@@ -6,50 +6,14 @@ use borrow.Author.Needs.{needs}
 use Rattle.gallery.proofs.answer_some.Statement.{statement}
 use Rattle.gallery.proofs.answer_some.Tie as tie
 
-feed-requires : tie.Need-feed-requires
-feed-requires c κs = search needs
-
-enum-told : tie.Need-enum-told
-enum-told c = search needs
-
-enum-known-p : tie.Need-enum-known-p
-enum-known-p c = search needs
-
-sub-write-out : tie.Need-sub-write-out
-sub-write-out c = search needs
-
-part-write-out-start : tie.Need-part-write-out-start
-part-write-out-start c = search needs
-
 part-write-out-end : tie.Need-part-write-out-end
 part-write-out-end c = let a = c .before .before .before .before .before .before .before .before .before .before .before .before .before .before .args in let p = c .before .before .before .before .before .before .before .before .before .before .before .before .before .before .pre in fed-wrote (now (a .w)) (now (a .part)) (now (a .out)) _ _ _ (p .0) (p .1) (c .before .before .before .before .before .before .before .before .feed .ensures) _ _ (c .before .before .p .given .1)
-
-write-out-requires : tie.Need-write-out-requires
-write-out-requires c κs = search needs
-
-same-length : tie.Need-same-length
-same-length c = search needs
-
-same-length-2 : tie.Need-same-length-2
-same-length-2 c = search needs
 
 returns : tie.Need-returns
 returns c = let a = c .before .before .before .before .before .before .before .before .before .before .before .before .before .before .before .before .before .args in let p = c .before .before .before .before .before .before .before .before .before .before .before .before .before .before .before .before .before .pre in (fed-used (now (a .w)) (now (a .part)) (now (a .out)) _ _ _ (p .0) (p .1) (c .before .before .before .before .before .before .before .before .before .before .before .feed .ensures) _ _ (c .before .before .before .before .before .p .given .1), fed-valid (now (a .w)) (now (a .part)) (now (a .out)) _ _ _ (p .0) (p .1) (c .before .before .before .before .before .before .before .before .before .before .before .feed .ensures), λ z. fed-taken (now (a .w)) (now (a .part)) (now (a .out)) _ _ _ (p .0) (p .1) (c .before .before .before .before .before .before .before .before .before .before .before .feed .ensures) _ _ (c .before .before .before .before .before .p .given .1))
 
-same-length-3 : tie.Need-same-length-3
-same-length-3 c = search needs
-
-same-length-4 : tie.Need-same-length-4
-same-length-4 c = search needs
-
 returns-2 : tie.Need-returns-2
 returns-2 c = let a = c .before .before .before .before .before .before .before .before .before .before .before .before .args in let p = c .before .before .before .before .before .before .before .before .before .before .before .before .pre in (omega arith, fed-valid (now (a .w)) (now (a .part)) (now (a .out)) _ _ _ (p .0) (p .1) (c .before .before .before .before .before .before .feed .ensures), λ z. absurd (omega (arith, z)))
-
-same-length-5 : tie.Need-same-length-5
-same-length-5 c = search needs
-
-same-length-6 : tie.Need-same-length-6
-same-length-6 c = search needs
 
 returns-3 : tie.Need-returns-3
 returns-3 c = let a = c .before .before .before .before .before .before .before .before .before .before .before .before .before .before .before .before .before .args in let p = c .before .before .before .before .before .before .before .before .before .before .before .before .before .before .before .before .before .pre in (omega arith, fed-valid (now (a .w)) (now (a .part)) (now (a .out)) _ _ _ (p .0) (p .1) (c .before .before .before .before .before .before .before .before .before .before .before .feed .ensures), λ z. absurd (omega (arith, z)))
@@ -58,19 +22,19 @@ pub answer-some-spec : {M : Type 1} → statement M
 answer-some-spec =
     tie.close
     (tie.spec
-    feed-requires
-    enum-told
-    enum-known-p
-    sub-write-out
-    part-write-out-start
+    (λ c κs. search needs)
+    (λ c. search needs)
+    (λ c. search needs)
+    (λ c. search needs)
+    (λ c. search needs)
     part-write-out-end
-    write-out-requires
-    same-length
-    same-length-2
+    (λ c κs. search needs)
+    (λ c. search needs)
+    (λ c. search needs)
     returns
-    same-length-3
-    same-length-4
+    (λ c. search needs)
+    (λ c. search needs)
     returns-2
-    same-length-5
-    same-length-6
+    (λ c. search needs)
+    (λ c. search needs)
     returns-3)

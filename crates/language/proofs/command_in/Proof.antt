@@ -5,33 +5,15 @@ use borrow.Author.Needs.{needs}
 use Rattle.language.proofs.command_in.Statement.{statement}
 use Rattle.language.proofs.command_in.Tie as tie
 
-slice-aggregate-equal : tie.Need-slice-aggregate-equal
-slice-aggregate-equal c = search needs
-
-equal-requires : tie.Need-equal-requires
-equal-requires c κs = search needs
-
 returns : tie.Need-returns
 unfolding commandIn
 returns c = simp (yes (c .before .equal .ensures) (c .if1 .taken))
-
-slice-aggregate-equal-2 : tie.Need-slice-aggregate-equal-2
-slice-aggregate-equal-2 c = search needs
-
-equal-requires-2 : tie.Need-equal-requires-2
-equal-requires-2 c κs = search needs
 
 returns-2 : tie.Need-returns-2
 unfolding commandIn
 returns-2 c =
     let d₁ = c .before .before .before in
     simp (no (d₁ .before .equal .ensures) (d₁ .if1 .left), yes (c .before .equal2 .ensures) (c .if2 .taken))
-
-slice-aggregate-equal-3 : tie.Need-slice-aggregate-equal-3
-slice-aggregate-equal-3 c = search needs
-
-equal-requires-3 : tie.Need-equal-requires-3
-equal-requires-3 c κs = search needs
 
 returns-3 : tie.Need-returns-3
 unfolding commandIn
@@ -40,12 +22,6 @@ returns-3 c =
     let d₁ = d₂ .before .before .before in
     simp (no (d₁ .before .equal .ensures) (d₁ .if1 .left), no (d₂ .before .equal2 .ensures) (d₂ .if2 .left), yes (c .before .equal3 .ensures) (c .if3 .taken))
 
-slice-aggregate-equal-4 : tie.Need-slice-aggregate-equal-4
-slice-aggregate-equal-4 c = search needs
-
-equal-requires-4 : tie.Need-equal-requires-4
-equal-requires-4 c κs = search needs
-
 returns-4 : tie.Need-returns-4
 unfolding commandIn
 returns-4 c =
@@ -53,12 +29,6 @@ returns-4 c =
     let d₂ = d₃ .before .before .before in
     let d₁ = d₂ .before .before .before in
     simp (no (d₁ .before .equal .ensures) (d₁ .if1 .left), no (d₂ .before .equal2 .ensures) (d₂ .if2 .left), no (d₃ .before .equal3 .ensures) (d₃ .if3 .left), yes (c .before .equal4 .ensures) (c .if4 .taken))
-
-slice-aggregate-equal-5 : tie.Need-slice-aggregate-equal-5
-slice-aggregate-equal-5 c = search needs
-
-equal-requires-5 : tie.Need-equal-requires-5
-equal-requires-5 c κs = search needs
 
 returns-5 : tie.Need-returns-5
 unfolding commandIn
@@ -69,12 +39,6 @@ returns-5 c =
     let d₁ = d₂ .before .before .before in
     simp (no (d₁ .before .equal .ensures) (d₁ .if1 .left), no (d₂ .before .equal2 .ensures) (d₂ .if2 .left), no (d₃ .before .equal3 .ensures) (d₃ .if3 .left), no (d₄ .before .equal4 .ensures) (d₄ .if4 .left), yes (c .before .equal5 .ensures) (c .if5 .taken))
 
-slice-aggregate-equal-6 : tie.Need-slice-aggregate-equal-6
-slice-aggregate-equal-6 c = search needs
-
-equal-requires-6 : tie.Need-equal-requires-6
-equal-requires-6 c κs = search needs
-
 returns-6 : tie.Need-returns-6
 unfolding commandIn
 returns-6 c =
@@ -84,12 +48,6 @@ returns-6 c =
     let d₂ = d₃ .before .before .before in
     let d₁ = d₂ .before .before .before in
     simp (no (d₁ .before .equal .ensures) (d₁ .if1 .left), no (d₂ .before .equal2 .ensures) (d₂ .if2 .left), no (d₃ .before .equal3 .ensures) (d₃ .if3 .left), no (d₄ .before .equal4 .ensures) (d₄ .if4 .left), no (d₅ .before .equal5 .ensures) (d₅ .if5 .left), yes (c .before .equal6 .ensures) (c .if6 .taken))
-
-slice-aggregate-equal-7 : tie.Need-slice-aggregate-equal-7
-slice-aggregate-equal-7 c = search needs
-
-equal-requires-7 : tie.Need-equal-requires-7
-equal-requires-7 c κs = search needs
 
 returns-7 : tie.Need-returns-7
 unfolding commandIn
@@ -102,12 +60,6 @@ returns-7 c =
     let d₁ = d₂ .before .before .before in
     simp (no (d₁ .before .equal .ensures) (d₁ .if1 .left), no (d₂ .before .equal2 .ensures) (d₂ .if2 .left), no (d₃ .before .equal3 .ensures) (d₃ .if3 .left), no (d₄ .before .equal4 .ensures) (d₄ .if4 .left), no (d₅ .before .equal5 .ensures) (d₅ .if5 .left), no (d₆ .before .equal6 .ensures) (d₆ .if6 .left), yes (c .before .equal7 .ensures) (c .if7 .taken))
 
-slice-aggregate-equal-8 : tie.Need-slice-aggregate-equal-8
-slice-aggregate-equal-8 c = search needs
-
-equal-requires-8 : tie.Need-equal-requires-8
-equal-requires-8 c κs = search needs
-
 returns-8 : tie.Need-returns-8
 unfolding commandIn
 returns-8 c =
@@ -119,12 +71,6 @@ returns-8 c =
     let d₂ = d₃ .before .before .before in
     let d₁ = d₂ .before .before .before in
     simp (no (d₁ .before .equal .ensures) (d₁ .if1 .left), no (d₂ .before .equal2 .ensures) (d₂ .if2 .left), no (d₃ .before .equal3 .ensures) (d₃ .if3 .left), no (d₄ .before .equal4 .ensures) (d₄ .if4 .left), no (d₅ .before .equal5 .ensures) (d₅ .if5 .left), no (d₆ .before .equal6 .ensures) (d₆ .if6 .left), no (d₇ .before .equal7 .ensures) (d₇ .if7 .left), yes (c .before .equal8 .ensures) (c .if8 .taken))
-
-slice-aggregate-equal-9 : tie.Need-slice-aggregate-equal-9
-slice-aggregate-equal-9 c = search needs
-
-equal-requires-9 : tie.Need-equal-requires-9
-equal-requires-9 c κs = search needs
 
 returns-9 : tie.Need-returns-9
 unfolding commandIn
@@ -156,31 +102,31 @@ pub command-in-spec : {M : Type 1} → statement M
 command-in-spec =
     tie.close
     (tie.spec
-    slice-aggregate-equal
-    equal-requires
+    (λ c. search needs)
+    (λ c κs. search needs)
     returns
-    slice-aggregate-equal-2
-    equal-requires-2
+    (λ c. search needs)
+    (λ c κs. search needs)
     returns-2
-    slice-aggregate-equal-3
-    equal-requires-3
+    (λ c. search needs)
+    (λ c κs. search needs)
     returns-3
-    slice-aggregate-equal-4
-    equal-requires-4
+    (λ c. search needs)
+    (λ c κs. search needs)
     returns-4
-    slice-aggregate-equal-5
-    equal-requires-5
+    (λ c. search needs)
+    (λ c κs. search needs)
     returns-5
-    slice-aggregate-equal-6
-    equal-requires-6
+    (λ c. search needs)
+    (λ c κs. search needs)
     returns-6
-    slice-aggregate-equal-7
-    equal-requires-7
+    (λ c. search needs)
+    (λ c κs. search needs)
     returns-7
-    slice-aggregate-equal-8
-    equal-requires-8
+    (λ c. search needs)
+    (λ c κs. search needs)
     returns-8
-    slice-aggregate-equal-9
-    equal-requires-9
+    (λ c. search needs)
+    (λ c κs. search needs)
     returns-9
     returns-10)

@@ -18,38 +18,17 @@ three : (c : tie.After-known-told3) → let d = c .before .before .before .befor
     Found (now (a .line)) (d .before .m .given .0 .1 .0) (f .0) (f .1 .0)
 three c = found _ _ _ _ _ (two (c .before .before .before .before) .within) (c .before .before .before .read-field3 .ensures) (c .before .f .given .1)
 
-read-field-requires : tie.Need-read-field-requires
-read-field-requires c κs = search needs
-
-enum-known-n : tie.Need-enum-known-n
-enum-known-n c = search needs
-
-enum-told : tie.Need-enum-told
-enum-told c = search needs
-
 returns : tie.Need-returns
 returns c = no-first _ _ _ (c .before .before .read-field .ensures) (c .enum-told .given .1)
 
 read-field-requires-2 : tie.Need-read-field-requires-2
 read-field-requires-2 c κs = one c .within
 
-enum-known-m : tie.Need-enum-known-m
-enum-known-m c = search needs
-
-enum-told-2 : tie.Need-enum-told-2
-enum-told-2 c = search needs
-
 returns-2 : tie.Need-returns-2
 returns-2 c = no-second _ _ _ _ (one (c .before .before .before)) _ (c .before .before .read-field2 .ensures) (c .enum-told2 .given .1)
 
 read-field-requires-3 : tie.Need-read-field-requires-3
 read-field-requires-3 c κs = two c .within
-
-enum-known-f : tie.Need-enum-known-f
-enum-known-f c = search needs
-
-enum-told-3 : tie.Need-enum-told-3
-enum-told-3 c = search needs
 
 returns-3 : tie.Need-returns-3
 returns-3 c =
@@ -61,18 +40,6 @@ sub-read-number c = omega (arith, three c .within)
 
 part-read-number-start : tie.Need-part-read-number-start
 part-read-number-start c = omega (arith, three c .within)
-
-part-read-number-end : tie.Need-part-read-number-end
-part-read-number-end c = search needs
-
-read-number-requires : tie.Need-read-number-requires
-read-number-requires c κs = search needs
-
-enum-known-clients : tie.Need-enum-known-clients
-enum-known-clients c = search needs
-
-enum-told-4 : tie.Need-enum-told-4
-enum-told-4 c = search needs
 
 returns-4 : tie.Need-returns-4
 returns-4 c =
@@ -90,23 +57,23 @@ pub four-from-spec : {M : Type 1} → statement M
 four-from-spec =
     tie.close
     (tie.spec
-    read-field-requires
-    enum-known-n
-    enum-told
+    (λ c κs. search needs)
+    (λ c. search needs)
+    (λ c. search needs)
     returns
     read-field-requires-2
-    enum-known-m
-    enum-told-2
+    (λ c. search needs)
+    (λ c. search needs)
     returns-2
     read-field-requires-3
-    enum-known-f
-    enum-told-3
+    (λ c. search needs)
+    (λ c. search needs)
     returns-3
     sub-read-number
     part-read-number-start
-    part-read-number-end
-    read-number-requires
-    enum-known-clients
-    enum-told-4
+    (λ c. search needs)
+    (λ c κs. search needs)
+    (λ c. search needs)
+    (λ c. search needs)
     returns-4
     returns-5)

@@ -7,37 +7,13 @@ use Rattle.language.proofs.parse_setting.Tie as tie
 returns : tie.Need-returns
 returns c = setting-long _ (c .if1 .taken)
 
-word-end-requires : tie.Need-word-end-requires
-word-end-requires c κs = search needs
-
 returns-2 : tie.Need-returns-2
 returns-2 c = setting-one-word _ _ (c .before .before .if1 .left) (c .before .word-end .ensures) (c .if2 .taken)
-
-sub-equal : tie.Need-sub-equal
-sub-equal c = search needs
-
-part-equal-start : tie.Need-part-equal-start
-part-equal-start c = search needs
-
-part-equal-end : tie.Need-part-equal-end
-part-equal-end c = search needs
-
-slice-aggregate-equal : tie.Need-slice-aggregate-equal
-slice-aggregate-equal c = search needs
-
-equal-requires : tie.Need-equal-requires
-equal-requires c κs = search needs
 
 returns-3 : tie.Need-returns-3
 returns-3 c =
     let b = c .before .before .before .before in
     setting-other _ _ (b .before .before .if1 .left) (b .before .word-end .ensures) (b .if2 .left) _ (c .before .equal .ensures) (c .if3 .taken)
-
-add-four-from : tie.Need-add-four-from
-add-four-from c = search needs
-
-four-from-requires : tie.Need-four-from-requires
-four-from-requires c κs = search needs
 
 returns-4 : tie.Need-returns-4
 returns-4 c =
@@ -49,14 +25,14 @@ parse-setting-spec =
     tie.close
     (tie.spec
     returns
-    word-end-requires
+    (λ c κs. search needs)
     returns-2
-    sub-equal
-    part-equal-start
-    part-equal-end
-    slice-aggregate-equal
-    equal-requires
+    (λ c. search needs)
+    (λ c. search needs)
+    (λ c. search needs)
+    (λ c. search needs)
+    (λ c κs. search needs)
     returns-3
-    add-four-from
-    four-from-requires
+    (λ c. search needs)
+    (λ c κs. search needs)
     returns-4)

@@ -9,9 +9,6 @@ use borrow.Author.Needs.{needs}
 use Rattle.language.proofs.put_end.Statement.{statement}
 use Rattle.language.proofs.put_end.Tie as tie
 
-slice-aggregate-put-word : tie.Need-slice-aggregate-put-word
-slice-aggregate-put-word c = search needs
-
 put-word-requires : tie.Need-put-word-requires
 put-word-requires c κs = let a = c .before .before .before .args in omega (arith, length-end (a .accepted) (a .holders) (a .downs))
 
@@ -23,9 +20,6 @@ put-number-requires-2 c κs = let a = c .before .before .before .before .before 
 
 put-number-requires-3 : tie.Need-put-number-requires-3
 put-number-requires-3 c κs = let a = c .before .before .before .before .before .before .before .before .before .before .before .before .before .before .before .args in omega (arith, length-end (a .accepted) (a .holders) (a .downs))
-
-same-length : tie.Need-same-length
-same-length c = search needs
 
 returns : tie.Need-returns
 unfolding endLine
@@ -44,10 +38,10 @@ pub put-end-spec : {M : Type 1} → statement M
 put-end-spec =
     tie.close
     (tie.spec
-    slice-aggregate-put-word
+    (λ c. search needs)
     put-word-requires
     put-number-requires
     put-number-requires-2
     put-number-requires-3
-    same-length
+    (λ c. search needs)
     returns)

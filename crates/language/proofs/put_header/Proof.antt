@@ -9,9 +9,6 @@ use borrow.Author.Needs.{needs}
 use Rattle.language.proofs.put_header.Statement.{statement}
 use Rattle.language.proofs.put_header.Tie as tie
 
-slice-aggregate-put-word : tie.Need-slice-aggregate-put-word
-slice-aggregate-put-word c = search needs
-
 put-word-requires : tie.Need-put-word-requires
 put-word-requires c κs = let a = c .before .before .before .args in omega (arith, length-header (a .s))
 
@@ -26,9 +23,6 @@ put-number-requires-3 c κs = let a = c .before .before .before .before .before 
 
 put-number-requires-4 : tie.Need-put-number-requires-4
 put-number-requires-4 c κs = let a = c .before .before .before .before .before .before .before .before .before .before .before .before .before .before .before .before .before .before .before .args in omega (arith, length-header (a .s))
-
-same-length : tie.Need-same-length
-same-length c = search needs
 
 returns : tie.Need-returns
 unfolding headerLine
@@ -49,11 +43,11 @@ pub put-header-spec : {M : Type 1} → statement M
 put-header-spec =
     tie.close
     (tie.spec
-    slice-aggregate-put-word
+    (λ c. search needs)
     put-word-requires
     put-number-requires
     put-number-requires-2
     put-number-requires-3
     put-number-requires-4
-    same-length
+    (λ c. search needs)
     returns)

@@ -14,20 +14,11 @@ use Rattle.language.proofs.put_no.Tie as tie
 put-number-requires : tie.Need-put-number-requires
 put-number-requires c κs = let a = c .before .before .args in omega (arith, length-no (a .number) (a .refusal))
 
-slice-aggregate-put-word : tie.Need-slice-aggregate-put-word
-slice-aggregate-put-word c = search needs
-
 put-word-requires : tie.Need-put-word-requires
 put-word-requires c κs = let a = c .before .before .before .before .before .before .before .args in omega (arith, length-no (a .number) (a .refusal))
 
-code-of-requires : tie.Need-code-of-requires
-code-of-requires c κs = search needs
-
 put-number-requires-2 : tie.Need-put-number-requires-2
 put-number-requires-2 c κs = let a = c .before .before .before .before .before .before .before .before .before .before .before .before .args in omega (arith, length-no (a .number) (a .refusal), ap (λ x. length (decimal x)) (c .code-of .ensures))
-
-same-length : tie.Need-same-length
-same-length c = search needs
 
 returns : tie.Need-returns
 unfolding noLine
@@ -45,9 +36,9 @@ put-no-spec =
     tie.close
     (tie.spec
     put-number-requires
-    slice-aggregate-put-word
+    (λ c. search needs)
     put-word-requires
-    code-of-requires
+    (λ c κs. search needs)
     put-number-requires-2
-    same-length
+    (λ c. search needs)
     returns)

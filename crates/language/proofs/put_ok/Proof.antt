@@ -12,9 +12,6 @@ use Rattle.language.proofs.put_ok.Tie as tie
 put-number-requires : tie.Need-put-number-requires
 put-number-requires c κs = let a = c .before .before .args in omega (arith, length-ok (a .number) (a .sent) (a .holders))
 
-slice-aggregate-put-word : tie.Need-slice-aggregate-put-word
-slice-aggregate-put-word c = search needs
-
 put-word-requires : tie.Need-put-word-requires
 put-word-requires c κs = let a = c .before .before .before .before .before .before .before .args in omega (arith, length-ok (a .number) (a .sent) (a .holders))
 
@@ -23,9 +20,6 @@ put-number-requires-2 c κs = let a = c .before .before .before .before .before 
 
 put-number-requires-3 : tie.Need-put-number-requires-3
 put-number-requires-3 c κs = let a = c .before .before .before .before .before .before .before .before .before .before .before .before .before .before .before .args in omega (arith, length-ok (a .number) (a .sent) (a .holders))
-
-same-length : tie.Need-same-length
-same-length c = search needs
 
 returns : tie.Need-returns
 unfolding okLine
@@ -45,9 +39,9 @@ put-ok-spec =
     tie.close
     (tie.spec
     put-number-requires
-    slice-aggregate-put-word
+    (λ c. search needs)
     put-word-requires
     put-number-requires-2
     put-number-requires-3
-    same-length
+    (λ c. search needs)
     returns)

@@ -11,20 +11,11 @@ use borrow.Author.Needs.{needs}
 use Rattle.language.proofs.put_refused.Statement.{statement}
 use Rattle.language.proofs.put_refused.Tie as tie
 
-slice-aggregate-put-word : tie.Need-slice-aggregate-put-word
-slice-aggregate-put-word c = search needs
-
 put-word-requires : tie.Need-put-word-requires
 put-word-requires c κs = let a = c .before .before .before .args in omega (arith, length-refused (a .refusal))
 
-code-of-requires : tie.Need-code-of-requires
-code-of-requires c κs = search needs
-
 put-number-requires : tie.Need-put-number-requires
 put-number-requires c κs = let a = c .before .before .before .before .before .before .before .before .args in omega (arith, length-refused (a .refusal), ap (λ x. length (decimal x)) (c .code-of .ensures))
-
-same-length : tie.Need-same-length
-same-length c = search needs
 
 returns : tie.Need-returns
 unfolding refusedLine
@@ -39,9 +30,9 @@ pub put-refused-spec : {M : Type 1} → statement M
 put-refused-spec =
     tie.close
     (tie.spec
-    slice-aggregate-put-word
+    (λ c. search needs)
     put-word-requires
-    code-of-requires
+    (λ c κs. search needs)
     put-number-requires
-    same-length
+    (λ c. search needs)
     returns)

@@ -5,23 +5,11 @@ use borrow.Author.Needs.{needs}
 use Rattle.layout.proofs.blocks_valid.Statement.{statement}
 use Rattle.layout.proofs.blocks_valid.Tie as tie
 
-clients-valid-requires : tie.Need-clients-valid-requires
-clients-valid-requires c κs = search needs
-
 returns : tie.Need-returns
 returns c =
     let d = c .before .before .before in
     let a = d .args in
     clients-bad (a .n) (a .m) (a .clients) (now (a .w)) (d .pre) _ (c .before .clients-valid .ensures) (c .if1 .taken)
-
-mul-is-blank : tie.Need-mul-is-blank
-mul-is-blank c = search needs
-
-add-is-blank : tie.Need-add-is-blank
-add-is-blank c = search needs
-
-is-blank-requires : tie.Need-is-blank-requires
-is-blank-requires c κs = search needs
 
 returns-2 : tie.Need-returns-2
 returns-2 c =
@@ -29,23 +17,11 @@ returns-2 c =
     let a = d .args in
     behind-clients (a .n) (a .m) (a .clients) (now (a .w)) (d .pre) _ (c .before .before .before .clients-valid .ensures) (c .before .before .if1 .left) _ (c .before .is-blank .ensures) (c .if2 .taken)
 
-servers-valid-requires : tie.Need-servers-valid-requires
-servers-valid-requires c κs = search needs
-
 returns-3 : tie.Need-returns-3
 returns-3 c =
     let d = c .before .before .before .before .before .before .before in
     let a = d .args in
     servers-bad (a .n) (a .m) (a .clients) (now (a .w)) (d .pre) _ (c .before .before .before .before .before .clients-valid .ensures) (c .before .before .before .before .if1 .left) _ (c .before .before .before .is-blank .ensures) (c .before .before .if2 .left) _ (c .before .servers-valid .ensures) (c .if3 .taken)
-
-mul-is-blank-2 : tie.Need-mul-is-blank-2
-mul-is-blank-2 c = search needs
-
-add-is-blank-2 : tie.Need-add-is-blank-2
-add-is-blank-2 c = search needs
-
-is-blank-requires-2 : tie.Need-is-blank-requires-2
-is-blank-requires-2 c κs = search needs
 
 returns-4 : tie.Need-returns-4
 returns-4 c =
@@ -57,15 +33,15 @@ pub blocks-valid-spec : {M : Type 1} → statement M
 blocks-valid-spec =
     tie.close
     (tie.spec
-    clients-valid-requires
+    (λ c κs. search needs)
     returns
-    mul-is-blank
-    add-is-blank
-    is-blank-requires
+    (λ c. search needs)
+    (λ c. search needs)
+    (λ c κs. search needs)
     returns-2
-    servers-valid-requires
+    (λ c κs. search needs)
     returns-3
-    mul-is-blank-2
-    add-is-blank-2
-    is-blank-requires-2
+    (λ c. search needs)
+    (λ c. search needs)
+    (λ c κs. search needs)
     returns-4)

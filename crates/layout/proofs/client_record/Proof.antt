@@ -8,30 +8,6 @@ use borrow.Author.Needs.{needs}
 use Rattle.layout.proofs.client_record.Statement.{statement}
 use Rattle.layout.proofs.client_record.Tie as tie
 
-sub-a : tie.Need-sub-a
-sub-a c = search needs
-
-mul-a : tie.Need-mul-a
-mul-a c = search needs
-
-add-a : tie.Need-add-a
-add-a c = search needs
-
-add-e : tie.Need-add-e
-add-e c = search needs
-
-mul-client-record : tie.Need-mul-client-record
-mul-client-record c = search needs
-
-sub-client-record : tie.Need-sub-client-record
-sub-client-record c = search needs
-
-part-client-record-start : tie.Need-part-client-record-start
-part-client-record-start c = search needs
-
-part-client-record-end : tie.Need-part-client-record-end
-part-client-record-end c = search needs
-
 client-record-requires : tie.Need-client-record-requires
 client-record-requires c κs =
     let d = c .before .before in
@@ -50,13 +26,13 @@ pub client-record-spec : {M : Type 1} → statement M
 client-record-spec =
     tie.close
     (tie.spec
-    sub-a
-    mul-a
-    add-a
-    add-e
-    mul-client-record
-    sub-client-record
-    part-client-record-start
-    part-client-record-end
+    (λ c. search needs)
+    (λ c. search needs)
+    (λ c. search needs)
+    (λ c. search needs)
+    (λ c. search needs)
+    (λ c. search needs)
+    (λ c. search needs)
+    (λ c. search needs)
     client-record-requires
     returns)

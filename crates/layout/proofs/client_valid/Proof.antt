@@ -6,33 +6,6 @@ use borrow.Author.Needs.{needs}
 use Rattle.layout.proofs.client_valid.Statement.{statement}
 use Rattle.layout.proofs.client_valid.Tie as tie
 
-sub-a : tie.Need-sub-a
-sub-a c = search needs
-
-mul-a : tie.Need-mul-a
-mul-a c = search needs
-
-add-a : tie.Need-add-a
-add-a c = search needs
-
-add-e : tie.Need-add-e
-add-e c = search needs
-
-mul-valid-client-block : tie.Need-mul-valid-client-block
-mul-valid-client-block c = search needs
-
-sub-valid-client-block : tie.Need-sub-valid-client-block
-sub-valid-client-block c = search needs
-
-part-valid-client-block-start : tie.Need-part-valid-client-block-start
-part-valid-client-block-start c = search needs
-
-part-valid-client-block-end : tie.Need-part-valid-client-block-end
-part-valid-client-block-end c = search needs
-
-valid-client-block-requires : tie.Need-valid-client-block-requires
-valid-client-block-requires c κs = search needs
-
 returns : tie.Need-returns
 returns c =
     let a = c .before .before .before .args in
@@ -42,13 +15,13 @@ pub client-valid-spec : {M : Type 1} → statement M
 client-valid-spec =
     tie.close
     (tie.spec
-    sub-a
-    mul-a
-    add-a
-    add-e
-    mul-valid-client-block
-    sub-valid-client-block
-    part-valid-client-block-start
-    part-valid-client-block-end
-    valid-client-block-requires
+    (λ c. search needs)
+    (λ c. search needs)
+    (λ c. search needs)
+    (λ c. search needs)
+    (λ c. search needs)
+    (λ c. search needs)
+    (λ c. search needs)
+    (λ c. search needs)
+    (λ c κs. search needs)
     returns)

@@ -19,23 +19,11 @@ loop-holds c =
     let a = c .before .args in
     passed-none (validClientBlock (a .n) (a .m) (a .clients)) 99 (a .clients) (clientWords (now (a .w)))
 
-add-client-valid : tie.Need-add-client-valid Inv-loop μ-loop
-add-client-valid c = search needs
-
-client-valid-requires : tie.Need-client-valid-requires Inv-loop μ-loop
-client-valid-requires c κs = search needs
-
 returns : tie.Need-returns Inv-loop μ-loop
 returns c =
     let d = c .before .before .before in
     let a = d .before .before .args in
     passed-fails (validClientBlock (a .n) (a .m) (a .clients)) 99 (a .clients) (clientWords (now (a .w))) _ (d .loop .inv) _ (c .before .before .loop-test .taken) (c .before .client-valid .ensures) (c .if1 .taken)
-
-add-i : tie.Need-add-i Inv-loop μ-loop
-add-i c = search needs
-
-loop-less : tie.Need-loop-less Inv-loop μ-loop
-loop-less c = search needs
 
 loop-again : tie.Need-loop-again Inv-loop μ-loop
 loop-again c =
@@ -55,10 +43,10 @@ clients-valid-spec =
     Inv-loop
     μ-loop
     loop-holds
-    add-client-valid
-    client-valid-requires
+    (λ c. search needs)
+    (λ c κs. search needs)
     returns
-    add-i
-    loop-less
+    (λ c. search needs)
+    (λ c. search needs)
     loop-again
     returns-2)

@@ -7,33 +7,6 @@ use borrow.Author.Needs.{needs}
 use Rattle.layout.proofs.downs_of.Statement.{statement}
 use Rattle.layout.proofs.downs_of.Tie as tie
 
-sub-a : tie.Need-sub-a
-sub-a c = search needs
-
-mul-a : tie.Need-mul-a
-mul-a c = search needs
-
-add-a : tie.Need-add-a
-add-a c = search needs
-
-add-e : tie.Need-add-e
-add-e c = search needs
-
-mul-count-flags : tie.Need-mul-count-flags
-mul-count-flags c = search needs
-
-sub-count-flags : tie.Need-sub-count-flags
-sub-count-flags c = search needs
-
-part-count-flags-start : tie.Need-part-count-flags-start
-part-count-flags-start c = search needs
-
-part-count-flags-end : tie.Need-part-count-flags-end
-part-count-flags-end c = search needs
-
-count-flags-requires : tie.Need-count-flags-requires
-count-flags-requires c κs = search needs
-
 returns : tie.Need-returns
 returns c =
     let a = c .before .before .before .args in
@@ -43,13 +16,13 @@ pub downs-of-spec : {M : Type 1} → statement M
 downs-of-spec =
     tie.close
     (tie.spec
-    sub-a
-    mul-a
-    add-a
-    add-e
-    mul-count-flags
-    sub-count-flags
-    part-count-flags-start
-    part-count-flags-end
-    count-flags-requires
+    (λ c. search needs)
+    (λ c. search needs)
+    (λ c. search needs)
+    (λ c. search needs)
+    (λ c. search needs)
+    (λ c. search needs)
+    (λ c. search needs)
+    (λ c. search needs)
+    (λ c κs. search needs)
     returns)

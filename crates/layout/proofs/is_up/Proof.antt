@@ -6,33 +6,6 @@ use borrow.Author.Needs.{needs}
 use Rattle.layout.proofs.is_up.Statement.{statement}
 use Rattle.layout.proofs.is_up.Tie as tie
 
-sub-a : tie.Need-sub-a
-sub-a c = search needs
-
-mul-a : tie.Need-mul-a
-mul-a c = search needs
-
-add-a : tie.Need-add-a
-add-a c = search needs
-
-add-e : tie.Need-add-e
-add-e c = search needs
-
-mul-is-up : tie.Need-mul-is-up
-mul-is-up c = search needs
-
-sub-is-up : tie.Need-sub-is-up
-sub-is-up c = search needs
-
-part-is-up-start : tie.Need-part-is-up-start
-part-is-up-start c = search needs
-
-part-is-up-end : tie.Need-part-is-up-end
-part-is-up-end c = search needs
-
-is-up-requires : tie.Need-is-up-requires
-is-up-requires c κs = search needs
-
 returns : tie.Need-returns
 returns c =
     let a = c .before .before .before .args in
@@ -42,13 +15,13 @@ pub is-up-spec : {M : Type 1} → statement M
 is-up-spec =
     tie.close
     (tie.spec
-    sub-a
-    mul-a
-    add-a
-    add-e
-    mul-is-up
-    sub-is-up
-    part-is-up-start
-    part-is-up-end
-    is-up-requires
+    (λ c. search needs)
+    (λ c. search needs)
+    (λ c. search needs)
+    (λ c. search needs)
+    (λ c. search needs)
+    (λ c. search needs)
+    (λ c. search needs)
+    (λ c. search needs)
+    (λ c κs. search needs)
     returns)

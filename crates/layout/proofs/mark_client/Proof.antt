@@ -13,36 +13,6 @@ use borrow.Author.Needs.{needs}
 use Rattle.layout.proofs.mark_client.Statement.{statement}
 use Rattle.layout.proofs.mark_client.Tie as tie
 
-sub-a : tie.Need-sub-a
-sub-a c = search needs
-
-mul-a : tie.Need-mul-a
-mul-a c = search needs
-
-add-a : tie.Need-add-a
-add-a c = search needs
-
-add-e : tie.Need-add-e
-add-e c = search needs
-
-mul-mark-down : tie.Need-mul-mark-down
-mul-mark-down c = search needs
-
-sub-mark-down : tie.Need-sub-mark-down
-sub-mark-down c = search needs
-
-part-mark-down-start : tie.Need-part-mark-down-start
-part-mark-down-start c = search needs
-
-part-mark-down-end : tie.Need-part-mark-down-end
-part-mark-down-end c = search needs
-
-mark-down-requires : tie.Need-mark-down-requires
-mark-down-requires c κs = search needs
-
-same-length : tie.Need-same-length
-same-length c = search needs
-
 length-either : (x : Bool) (b : List ℕ) (i : ℕ) → length (if x then set b i 1 else b) ≡ length b
 length-either true b i = length-set b i 1
 length-either false b i = refl
@@ -57,14 +27,14 @@ pub mark-client-spec : {M : Type 1} → statement M
 mark-client-spec =
     tie.close
     (tie.spec
-    sub-a
-    mul-a
-    add-a
-    add-e
-    mul-mark-down
-    sub-mark-down
-    part-mark-down-start
-    part-mark-down-end
-    mark-down-requires
-    same-length
+    (λ c. search needs)
+    (λ c. search needs)
+    (λ c. search needs)
+    (λ c. search needs)
+    (λ c. search needs)
+    (λ c. search needs)
+    (λ c. search needs)
+    (λ c. search needs)
+    (λ c κs. search needs)
+    (λ c. search needs)
     returns)

@@ -5,17 +5,11 @@ use borrow.Author.Needs.{needs}
 use Rattle.layout.proofs.parts_valid.Statement.{statement}
 use Rattle.layout.proofs.parts_valid.Tie as tie
 
-blocks-valid-requires : tie.Need-blocks-valid-requires
-blocks-valid-requires c κs = search needs
-
 returns : tie.Need-returns
 returns c =
     let d = c .before .before .before in
     let a = d .args in
     blocks-bad (a .n) (a .m) (a .clients) (now (a .w)) _ (c .before .blocks-valid .ensures) (c .if1 .taken)
-
-transit-valid-requires : tie.Need-transit-valid-requires
-transit-valid-requires c κs = search needs
 
 returns-2 : tie.Need-returns-2
 returns-2 c =
@@ -23,17 +17,11 @@ returns-2 c =
     let a = d .args in
     transit-bad (a .n) (a .m) (a .clients) (now (a .w)) _ (c .before .before .before .blocks-valid .ensures) (c .before .before .if1 .left) _ (c .before .transit-valid .ensures) (c .if2 .taken)
 
-shared-slice-read-most : tie.Need-shared-slice-read-most
-shared-slice-read-most c = search needs
-
 returns-3 : tie.Need-returns-3
 returns-3 c =
     let d = c .before .before .before .before .before .before .before in
     let a = d .args in
     most-high (a .n) (a .m) (a .clients) (now (a .w)) _ (c .before .before .before .before .before .blocks-valid .ensures) (c .before .before .before .before .if1 .left) _ (c .before .before .before .transit-valid .ensures) (c .before .before .if2 .left) (c .if3 .taken)
-
-worst-down-requires : tie.Need-worst-down-requires
-worst-down-requires c κs = search needs
 
 returns-4 : tie.Need-returns-4
 returns-4 c =
@@ -45,11 +33,11 @@ pub parts-valid-spec : {M : Type 1} → statement M
 parts-valid-spec =
     tie.close
     (tie.spec
-    blocks-valid-requires
+    (λ c κs. search needs)
     returns
-    transit-valid-requires
+    (λ c κs. search needs)
     returns-2
-    shared-slice-read-most
+    (λ c. search needs)
     returns-3
-    worst-down-requires
+    (λ c κs. search needs)
     returns-4)

@@ -7,36 +7,6 @@ use borrow.Author.Needs.{needs}
 use Rattle.layout.proofs.put_flag.Statement.{statement}
 use Rattle.layout.proofs.put_flag.Tie as tie
 
-sub-a : tie.Need-sub-a
-sub-a c = search needs
-
-mul-a : tie.Need-mul-a
-mul-a c = search needs
-
-add-a : tie.Need-add-a
-add-a c = search needs
-
-add-e : tie.Need-add-e
-add-e c = search needs
-
-mul-put-flag : tie.Need-mul-put-flag
-mul-put-flag c = search needs
-
-sub-put-flag : tie.Need-sub-put-flag
-sub-put-flag c = search needs
-
-part-put-flag-start : tie.Need-part-put-flag-start
-part-put-flag-start c = search needs
-
-part-put-flag-end : tie.Need-part-put-flag-end
-part-put-flag-end c = search needs
-
-put-flag-requires : tie.Need-put-flag-requires
-put-flag-requires c κs = search needs
-
-same-length : tie.Need-same-length
-same-length c = search needs
-
 returns : tie.Need-returns
 returns c =
     let d = c .before .before .before .before .before in
@@ -47,14 +17,14 @@ pub put-flag-spec : {M : Type 1} → statement M
 put-flag-spec =
     tie.close
     (tie.spec
-    sub-a
-    mul-a
-    add-a
-    add-e
-    mul-put-flag
-    sub-put-flag
-    part-put-flag-start
-    part-put-flag-end
-    put-flag-requires
-    same-length
+    (λ c. search needs)
+    (λ c. search needs)
+    (λ c. search needs)
+    (λ c. search needs)
+    (λ c. search needs)
+    (λ c. search needs)
+    (λ c. search needs)
+    (λ c. search needs)
+    (λ c κs. search needs)
+    (λ c. search needs)
     returns)

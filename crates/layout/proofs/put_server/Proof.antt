@@ -7,36 +7,6 @@ use borrow.Author.Needs.{needs}
 use Rattle.layout.proofs.put_server.Statement.{statement}
 use Rattle.layout.proofs.put_server.Tie as tie
 
-sub-a : tie.Need-sub-a
-sub-a c = search needs
-
-mul-a : tie.Need-mul-a
-mul-a c = search needs
-
-add-a : tie.Need-add-a
-add-a c = search needs
-
-add-e : tie.Need-add-e
-add-e c = search needs
-
-mul-put-server : tie.Need-mul-put-server
-mul-put-server c = search needs
-
-sub-put-server : tie.Need-sub-put-server
-sub-put-server c = search needs
-
-part-put-server-start : tie.Need-part-put-server-start
-part-put-server-start c = search needs
-
-part-put-server-end : tie.Need-part-put-server-end
-part-put-server-end c = search needs
-
-put-server-requires : tie.Need-put-server-requires
-put-server-requires c κs = search needs
-
-same-length : tie.Need-same-length
-same-length c = search needs
-
 returns : tie.Need-returns
 returns c =
     let d = c .before .before .before .before .before in
@@ -47,14 +17,14 @@ pub put-server-spec : {M : Type 1} → statement M
 put-server-spec =
     tie.close
     (tie.spec
-    sub-a
-    mul-a
-    add-a
-    add-e
-    mul-put-server
-    sub-put-server
-    part-put-server-start
-    part-put-server-end
-    put-server-requires
-    same-length
+    (λ c. search needs)
+    (λ c. search needs)
+    (λ c. search needs)
+    (λ c. search needs)
+    (λ c. search needs)
+    (λ c. search needs)
+    (λ c. search needs)
+    (λ c. search needs)
+    (λ c κs. search needs)
+    (λ c. search needs)
     returns)

@@ -8,30 +8,6 @@ use borrow.Author.Needs.{needs}
 use Rattle.layout.proofs.server_record.Statement.{statement}
 use Rattle.layout.proofs.server_record.Tie as tie
 
-sub-a : tie.Need-sub-a
-sub-a c = search needs
-
-mul-a : tie.Need-mul-a
-mul-a c = search needs
-
-add-a : tie.Need-add-a
-add-a c = search needs
-
-add-e : tie.Need-add-e
-add-e c = search needs
-
-mul-server-record : tie.Need-mul-server-record
-mul-server-record c = search needs
-
-sub-server-record : tie.Need-sub-server-record
-sub-server-record c = search needs
-
-part-server-record-start : tie.Need-part-server-record-start
-part-server-record-start c = search needs
-
-part-server-record-end : tie.Need-part-server-record-end
-part-server-record-end c = search needs
-
 server-record-requires : tie.Need-server-record-requires
 server-record-requires c κs =
     let d = c .before .before in
@@ -50,13 +26,13 @@ pub server-record-spec : {M : Type 1} → statement M
 server-record-spec =
     tie.close
     (tie.spec
-    sub-a
-    mul-a
-    add-a
-    add-e
-    mul-server-record
-    sub-server-record
-    part-server-record-start
-    part-server-record-end
+    (λ c. search needs)
+    (λ c. search needs)
+    (λ c. search needs)
+    (λ c. search needs)
+    (λ c. search needs)
+    (λ c. search needs)
+    (λ c. search needs)
+    (λ c. search needs)
     server-record-requires
     returns)

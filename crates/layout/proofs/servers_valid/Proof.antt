@@ -19,23 +19,11 @@ loop-holds c =
     let a = c .before .args in
     passed-none (validServerBlock (a .n) (a .clients)) 38 (a .n) (serverWords (now (a .w)))
 
-add-server-valid : tie.Need-add-server-valid Inv-loop μ-loop
-add-server-valid c = search needs
-
-server-valid-requires : tie.Need-server-valid-requires Inv-loop μ-loop
-server-valid-requires c κs = search needs
-
 returns : tie.Need-returns Inv-loop μ-loop
 returns c =
     let d = c .before .before .before in
     let a = d .before .before .args in
     passed-fails (validServerBlock (a .n) (a .clients)) 38 (a .n) (serverWords (now (a .w))) _ (d .loop .inv) _ (c .before .before .loop-test .taken) (c .before .server-valid .ensures) (c .if1 .taken)
-
-add-i : tie.Need-add-i Inv-loop μ-loop
-add-i c = search needs
-
-loop-less : tie.Need-loop-less Inv-loop μ-loop
-loop-less c = search needs
 
 loop-again : tie.Need-loop-again Inv-loop μ-loop
 loop-again c =
@@ -55,10 +43,10 @@ servers-valid-spec =
     Inv-loop
     μ-loop
     loop-holds
-    add-server-valid
-    server-valid-requires
+    (λ c. search needs)
+    (λ c κs. search needs)
     returns
-    add-i
-    loop-less
+    (λ c. search needs)
+    (λ c. search needs)
     loop-again
     returns-2)

@@ -12,30 +12,6 @@ use borrow.Author.Needs.{needs}
 use Rattle.layout.proofs.sink_server.Statement.{statement}
 use Rattle.layout.proofs.sink_server.Tie as tie
 
-sub-a : tie.Need-sub-a
-sub-a c = search needs
-
-mul-a : tie.Need-mul-a
-mul-a c = search needs
-
-add-a : tie.Need-add-a
-add-a c = search needs
-
-add-e : tie.Need-add-e
-add-e c = search needs
-
-mul-sink : tie.Need-mul-sink
-mul-sink c = search needs
-
-sub-sink : tie.Need-sub-sink
-sub-sink c = search needs
-
-part-sink-start : tie.Need-part-sink-start
-part-sink-start c = search needs
-
-part-sink-end : tie.Need-part-sink-end
-part-sink-end c = search needs
-
 sink-requires : tie.Need-sink-requires
 sink-requires c κs =
     let d = c .before .before in
@@ -44,9 +20,6 @@ sink-requires c κs =
       server-lent (now (a .w)) (a .j) i length 38 (server-block-long (now (a .w)) (a .j) (i .long) (i .first) (i .last)),
       server-lent (now (a .w)) (a .j) i (λ b. holdsServer (serverRecord b)) _ (d .pre .1),
     )
-
-same-length : tie.Need-same-length
-same-length c = search needs
 
 abbrev sunk : List ℕ → List ℕ
 sunk b = set (sets b 1 (serverWords (emptied (serverFrom (serverRecord b))))) 0 0
@@ -64,14 +37,14 @@ pub sink-server-spec : {M : Type 1} → statement M
 sink-server-spec =
     tie.close
     (tie.spec
-    sub-a
-    mul-a
-    add-a
-    add-e
-    mul-sink
-    sub-sink
-    part-sink-start
-    part-sink-end
+    (λ c. search needs)
+    (λ c. search needs)
+    (λ c. search needs)
+    (λ c. search needs)
+    (λ c. search needs)
+    (λ c. search needs)
+    (λ c. search needs)
+    (λ c. search needs)
     sink-requires
-    same-length
+    (λ c. search needs)
     returns)

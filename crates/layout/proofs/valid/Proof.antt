@@ -12,29 +12,11 @@ returns c =
     let a = d .args in
     size-wrong (now (a .w)) (c .if1 .taken)
 
-shared-slice-read-n : tie.Need-shared-slice-read-n
-shared-slice-read-n c = search needs
-
-shared-slice-read-m : tie.Need-shared-slice-read-m
-shared-slice-read-m c = search needs
-
-shared-slice-read-f : tie.Need-shared-slice-read-f
-shared-slice-read-f c = search needs
-
-in-range-requires : tie.Need-in-range-requires
-in-range-requires c κs = search needs
-
 returns-2 : tie.Need-returns-2
 returns-2 c =
     let d = c .before .before .before .before .before .before .before in
     let a = d .args in
     range-wrong (now (a .w)) (c .before .before .before .before .before .if1 .left) _ (c .before .in-range .ensures) (c .if2 .taken)
-
-shared-slice-read-clients : tie.Need-shared-slice-read-clients
-shared-slice-read-clients c = search needs
-
-within-limit-requires : tie.Need-within-limit-requires
-within-limit-requires c κs = search needs
 
 returns-3 : tie.Need-returns-3
 returns-3 c =
@@ -71,13 +53,13 @@ valid-spec =
     tie.close
     (tie.spec
     returns
-    shared-slice-read-n
-    shared-slice-read-m
-    shared-slice-read-f
-    in-range-requires
+    (λ c. search needs)
+    (λ c. search needs)
+    (λ c. search needs)
+    (λ c κs. search needs)
     returns-2
-    shared-slice-read-clients
-    within-limit-requires
+    (λ c. search needs)
+    (λ c κs. search needs)
     returns-3
     cast-parts-valid
     cast-parts-valid-2

@@ -22,21 +22,6 @@ loop-holds : tie.Need-loop-holds Inv-loop μ-loop
 loop-holds c =
     (zero-le, worst-start clientPlace (clientWords (now (c .before .args .w))))
 
-add-downs-of : tie.Need-add-downs-of Inv-loop μ-loop
-add-downs-of c = search needs
-
-downs-of-requires : tie.Need-downs-of-requires Inv-loop μ-loop
-downs-of-requires c κs = search needs
-
-larger-requires : tie.Need-larger-requires Inv-loop μ-loop
-larger-requires c κs = search needs
-
-add-i : tie.Need-add-i Inv-loop μ-loop
-add-i c = search needs
-
-loop-less : tie.Need-loop-less Inv-loop μ-loop
-loop-less c = search needs
-
 loop-again : tie.Need-loop-again Inv-loop μ-loop
 loop-again c =
     let d = c .before .before .before in
@@ -57,10 +42,10 @@ worst-down-spec =
     Inv-loop
     μ-loop
     loop-holds
-    add-downs-of
-    downs-of-requires
-    larger-requires
-    add-i
-    loop-less
+    (λ c. search needs)
+    (λ c κs. search needs)
+    (λ c κs. search needs)
+    (λ c. search needs)
+    (λ c. search needs)
     loop-again
     returns)

@@ -7,15 +7,6 @@ use borrow.Author.Needs.{needs}
 use Rattle.places.proofs.fits_client_block.Statement.{statement}
 use Rattle.places.proofs.fits_client_block.Tie as tie
 
-sub-fits-client : tie.Need-sub-fits-client
-sub-fits-client c = search needs
-
-part-fits-client-start : tie.Need-part-fits-client-start
-part-fits-client-start c = search needs
-
-part-fits-client-end : tie.Need-part-fits-client-end
-part-fits-client-end c = search needs
-
 fits-client-requires : tie.Need-fits-client-requires
 fits-client-requires c κs = c .before .before .pre .1
 
@@ -24,15 +15,6 @@ returns c = record-unfit _ _ _ _ (now (c .before .before .before .before .args .
 
 in-epoch-requires : tie.Need-in-epoch-requires
 in-epoch-requires c κs = c .before .before .before .before .pre .0
-
-sub-fits-flags : tie.Need-sub-fits-flags
-sub-fits-flags c = search needs
-
-part-fits-flags-start : tie.Need-part-fits-flags-start
-part-fits-flags-start c = search needs
-
-part-fits-flags-end : tie.Need-part-fits-flags-end
-part-fits-flags-end c = search needs
 
 fits-flags-requires : tie.Need-fits-flags-requires
 fits-flags-requires c κs = (simp (length-take, length-drop) (omega arith), record-few _ (c .before .before .before .before .before .before .args .m) (c .before .before .before .before .before .before .args .clients) (c .before .before .before .before .before .before .args .k) (now (c .before .before .before .before .before .before .args .b)) _ (c .before .before .before .fits-client .ensures) (c .before .before .if1 .left))
@@ -44,14 +26,14 @@ pub fits-client-block-spec : {M : Type 1} → statement M
 fits-client-block-spec =
     tie.close
     (tie.spec
-    sub-fits-client
-    part-fits-client-start
-    part-fits-client-end
+    (λ c. search needs)
+    (λ c. search needs)
+    (λ c. search needs)
     fits-client-requires
     returns
     in-epoch-requires
-    sub-fits-flags
-    part-fits-flags-start
-    part-fits-flags-end
+    (λ c. search needs)
+    (λ c. search needs)
+    (λ c. search needs)
     fits-flags-requires
     returns-2)

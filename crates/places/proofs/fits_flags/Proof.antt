@@ -12,18 +12,6 @@ at-most-requires c κs = tt
 returns : tie.Need-returns
 returns c = flags-large _ _ _ _ (c .before .at-most .ensures) (c .if1 .taken)
 
-mul-at-most : tie.Need-mul-at-most
-mul-at-most c = search needs
-
-sub-at-most : tie.Need-sub-at-most
-sub-at-most c = search needs
-
-part-at-most-start : tie.Need-part-at-most-start
-part-at-most-start c = search needs
-
-part-at-most-end : tie.Need-part-at-most-end
-part-at-most-end c = search needs
-
 at-most-requires-2 : tie.Need-at-most-requires-2
 at-most-requires-2 c κs = tt
 
@@ -45,10 +33,10 @@ fits-flags-spec =
     (tie.spec
     at-most-requires
     returns
-    mul-at-most
-    sub-at-most
-    part-at-most-start
-    part-at-most-end
+    (λ c. search needs)
+    (λ c. search needs)
+    (λ c. search needs)
+    (λ c. search needs)
     at-most-requires-2
     returns-2
     returns-3

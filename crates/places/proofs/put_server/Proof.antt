@@ -7,24 +7,6 @@ use borrow.Author.Needs.{needs}
 use Rattle.places.proofs.put_server.Statement.{statement}
 use Rattle.places.proofs.put_server.Tie as tie
 
-sized-requires : tie.Need-sized-requires
-sized-requires c κs = search needs
-
-sub-store-server : tie.Need-sub-store-server
-sub-store-server c = search needs
-
-part-store-server-start : tie.Need-part-store-server-start
-part-store-server-start c = search needs
-
-part-store-server-end : tie.Need-part-store-server-end
-part-store-server-end c = search needs
-
-store-server-requires : tie.Need-store-server-requires
-store-server-requires c κs = search needs
-
-same-length : tie.Need-same-length
-same-length c = search needs
-
 returns : tie.Need-returns
 returns c = part-stored (now (c .before .before .before .before .before .before .before .before .args .b)) _ (serverWords (c .before .before .before .before .before .before .before .before .args .s)) 1 37 (omega (arith, c .before .before .before .before .before .before .before .before .pre .0)) (server-long (c .before .before .before .before .before .before .before .before .args .s) (c .before .before .before .before .sized .ensures)) (c .before .before .store-server .ensures)
 
@@ -32,10 +14,10 @@ pub put-server-spec : {M : Type 1} → statement M
 put-server-spec =
     tie.close
     (tie.spec
-    sized-requires
-    sub-store-server
-    part-store-server-start
-    part-store-server-end
-    store-server-requires
-    same-length
+    (λ c κs. search needs)
+    (λ c. search needs)
+    (λ c. search needs)
+    (λ c. search needs)
+    (λ c κs. search needs)
+    (λ c. search needs)
     returns)

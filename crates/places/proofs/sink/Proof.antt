@@ -13,12 +13,6 @@ forgetful-requires c κs = tt
 put-server-requires : tie.Need-put-server-requires
 put-server-requires c κs = (c .before .before .before .before .before .pre .0, empty-queue (c .before .before .server-record .result) _ (c .before .forgetful .ensures))
 
-slice-write-b : tie.Need-slice-write-b
-slice-write-b c = search needs
-
-same-length : tie.Need-same-length
-same-length c = search needs
-
 returns : tie.Need-returns
 returns c = sunk _ _ _ _ (c .before .before .before .before .before .server-record .ensures) (c .before .before .before .before .forgetful .ensures) (c .before .before .put-server .ensures)
 
@@ -29,6 +23,6 @@ sink-spec =
     server-record-requires
     forgetful-requires
     put-server-requires
-    slice-write-b
-    same-length
+    (λ c. search needs)
+    (λ c. search needs)
     returns)

@@ -16,15 +16,6 @@ shared-slice-read-if2 c = omega arith
 returns-2 : tie.Need-returns-2
 returns-2 c = client-bit _ _ _ _ _ (c .before .before .if1 .left) (c .if2 .taken)
 
-sub-holds-client : tie.Need-sub-holds-client
-sub-holds-client c = search needs
-
-part-holds-client-start : tie.Need-part-holds-client-start
-part-holds-client-start c = search needs
-
-part-holds-client-end : tie.Need-part-holds-client-end
-part-holds-client-end c = search needs
-
 holds-client-requires : tie.Need-holds-client-requires
 holds-client-requires c κs = tt
 
@@ -44,9 +35,9 @@ valid-client-block-spec =
     returns
     shared-slice-read-if2
     returns-2
-    sub-holds-client
-    part-holds-client-start
-    part-holds-client-end
+    (λ c. search needs)
+    (λ c. search needs)
+    (λ c. search needs)
     holds-client-requires
     returns-3
     fits-client-block-requires

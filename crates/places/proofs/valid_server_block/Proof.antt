@@ -16,15 +16,6 @@ shared-slice-read-if2 c = omega arith
 returns-2 : tie.Need-returns-2
 returns-2 c = server-bit _ _ _ _ (c .before .before .if1 .left) (c .if2 .taken)
 
-sub-words : tie.Need-sub-words
-sub-words c = search needs
-
-part-words-start : tie.Need-part-words-start
-part-words-start c = search needs
-
-part-words-end : tie.Need-part-words-end
-part-words-end c = search needs
-
 holds-server-requires : tie.Need-holds-server-requires
 holds-server-requires c κs = tt
 
@@ -44,9 +35,9 @@ valid-server-block-spec =
     returns
     shared-slice-read-if2
     returns-2
-    sub-words
-    part-words-start
-    part-words-end
+    (λ c. search needs)
+    (λ c. search needs)
+    (λ c. search needs)
     holds-server-requires
     returns-3
     fits-server-requires

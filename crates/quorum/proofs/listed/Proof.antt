@@ -4,20 +4,8 @@ use borrow.Author.Needs.{needs}
 use Rattle.quorum.proofs.listed.Statement.{statement}
 use Rattle.quorum.proofs.listed.Tie as tie
 
-add-if1 : tie.Need-add-if1
-add-if1 c = search needs
-
-mul-if1 : tie.Need-mul-if1
-mul-if1 c = search needs
-
 returns : tie.Need-returns
 returns c = search not-unsafe
-
-events-requires : tie.Need-events-requires
-events-requires c κs = search needs
-
-within-limit-requires : tie.Need-within-limit-requires
-within-limit-requires c κs = search needs
 
 returns-2 : tie.Need-returns-2
 returns-2 c = search outside-run
@@ -35,11 +23,11 @@ pub listed-spec : {M : Type 1} → statement M
 listed-spec =
     tie.close
     (tie.spec
-    add-if1
-    mul-if1
+    (λ c. search needs)
+    (λ c. search needs)
     returns
-    events-requires
-    within-limit-requires
+    (λ c κs. search needs)
+    (λ c κs. search needs)
     returns-2
     event-at-requires
     returns-3)

@@ -9,41 +9,14 @@ use borrow.Author.Needs.{needs}
 use Rattle.script.proofs.end.Statement.{statement}
 use Rattle.script.proofs.end.Tie as tie
 
-shared-slice-read-if1 : tie.Need-shared-slice-read-if1
-shared-slice-read-if1 c = search needs
-
 put-refused-requires : tie.Need-put-refused-requires
 put-refused-requires c κs = omega (arith, refused-short BadLine, c .before .before .before .before .before .pre .room)
-
-same-length : tie.Need-same-length
-same-length c = search needs
 
 returns : tie.Need-returns
 returns c = end-opening (now (c .before .before .before .before .before .before .before .before .args .w)) (c .before .before .before .before .before .before .before .before .args .at) (now (c .before .before .before .before .before .before .before .before .args .out)) (c .before .before .before .before .if1 .taken) _ _ (c .before .before .put-refused .ensures)
 
-shared-slice-read-if2 : tie.Need-shared-slice-read-if2
-shared-slice-read-if2 c = search needs
-
-shared-slice-read-put-end : tie.Need-shared-slice-read-put-end
-shared-slice-read-put-end c = search needs
-
-shared-slice-read-put-end-2 : tie.Need-shared-slice-read-put-end-2
-shared-slice-read-put-end-2 c = search needs
-
-add-put-end : tie.Need-add-put-end
-add-put-end c = search needs
-
-mul-put-end : tie.Need-mul-put-end
-mul-put-end c = search needs
-
-shared-slice-read-put-end-3 : tie.Need-shared-slice-read-put-end-3
-shared-slice-read-put-end-3 c = search needs
-
 put-end-requires : tie.Need-put-end-requires
 put-end-requires c κs = omega (arith, end-short (getD (now (c .before .before .before .before .before .before .before .before .before .before .args .w)) 2 0) (getD (now (c .before .before .before .before .before .before .before .before .before .before .args .w)) 3 0) (getD (now (c .before .before .before .before .before .before .before .before .before .before .args .w)) 52 0), c .before .before .before .before .before .before .before .before .before .before .pre .room)
-
-same-length-2 : tie.Need-same-length-2
-same-length-2 c = search needs
 
 returns-2 : tie.Need-returns-2
 returns-2 c = end-running (now (c .before .before .before .before .before .before .before .before .before .before .before .before .before .args .w)) (c .before .before .before .before .before .before .before .before .before .before .before .before .before .args .at) (now (c .before .before .before .before .before .before .before .before .before .before .before .before .before .args .out)) (c .before .before .before .before .before .before .before .before .before .before .before .before .before .pre .long) (c .before .before .before .before .before .before .before .if2 .taken) _ _ (c .before .before .put-end .ensures)
@@ -55,17 +28,17 @@ pub end-spec : {M : Type 1} → statement M
 end-spec =
     tie.close
     (tie.spec
-    shared-slice-read-if1
+    (λ c. search needs)
     put-refused-requires
-    same-length
+    (λ c. search needs)
     returns
-    shared-slice-read-if2
-    shared-slice-read-put-end
-    shared-slice-read-put-end-2
-    add-put-end
-    mul-put-end
-    shared-slice-read-put-end-3
+    (λ c. search needs)
+    (λ c. search needs)
+    (λ c. search needs)
+    (λ c. search needs)
+    (λ c. search needs)
+    (λ c. search needs)
     put-end-requires
-    same-length-2
+    (λ c. search needs)
     returns-2
     returns-3)

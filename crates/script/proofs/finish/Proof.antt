@@ -5,29 +5,14 @@ use borrow.Author.Needs.{needs}
 use Rattle.script.proofs.finish.Statement.{statement}
 use Rattle.script.proofs.finish.Tie as tie
 
-valid-requires : tie.Need-valid-requires
-valid-requires c κs = search needs
-
-same-length : tie.Need-same-length
-same-length c = search needs
-
 returns : tie.Need-returns
 returns c = finish-invalid (now (c .before .before .before .before .before .args .w)) (now (c .before .before .before .before .before .args .out)) _ (c .before .valid .ensures) (c .if1 .taken)
-
-same-length-2 : tie.Need-same-length-2
-same-length-2 c = search needs
 
 returns-2 : tie.Need-returns-2
 returns-2 c = finish-short (now (c .before .before .before .before .before .before .args .w)) (now (c .before .before .before .before .before .before .args .out)) _ (c .before .before .valid .ensures) (c .before .if1 .left) (c .if2 .taken)
 
 close-requires : tie.Need-close-requires
 close-requires c κs = (finish-sound (now (c .before .before .before .before .before .before .before .before .args .w)) (now (c .before .before .before .before .before .before .before .before .args .out)) _ (c .before .before .before .before .valid .ensures) (c .before .before .before .if1 .left), c .before .before .if2 .left)
-
-same-length-3 : tie.Need-same-length-3
-same-length-3 c = search needs
-
-same-length-4 : tie.Need-same-length-4
-same-length-4 c = search needs
 
 returns-3 : tie.Need-returns-3
 returns-3 c = finish-done (now (c .before .before .before .before .before .before .before .before .before .before .before .before .before .args .w)) (now (c .before .before .before .before .before .before .before .before .before .before .before .before .before .args .out)) _ (c .before .before .before .before .before .before .before .before .before .valid .ensures) (c .before .before .before .before .before .before .before .before .if1 .left) (c .before .before .before .before .before .before .before .if2 .left) _ _ _ (c .before .before .before .before .close .ensures)
@@ -36,12 +21,12 @@ pub finish-spec : {M : Type 1} → statement M
 finish-spec =
     tie.close
     (tie.spec
-    valid-requires
-    same-length
+    (λ c κs. search needs)
+    (λ c. search needs)
     returns
-    same-length-2
+    (λ c. search needs)
     returns-2
     close-requires
-    same-length-3
-    same-length-4
+    (λ c. search needs)
+    (λ c. search needs)
     returns-3)

@@ -9,23 +9,8 @@ use borrow.Author.Needs.{needs}
 use Rattle.script.proofs.pass.Statement.{statement}
 use Rattle.script.proofs.pass.Tie as tie
 
-slice-read-number : tie.Need-slice-read-number
-slice-read-number c = search needs
-
-add-number : tie.Need-add-number
-add-number c = search needs
-
-slice-write-w : tie.Need-slice-write-w
-slice-write-w c = search needs
-
 put-no-requires : tie.Need-put-no-requires
 put-no-requires c κs = omega (arith, no-short (getD (now (c .before .before .before .before .args .w)) 1 0 + 1) (c .before .before .before .before .args .x), c .before .before .before .before .pre .0 .room)
-
-same-length : tie.Need-same-length
-same-length c = search needs
-
-same-length-2 : tie.Need-same-length-2
-same-length-2 c = search needs
 
 returns : tie.Need-returns
 returns c = passing-does (now (c .before .before .before .before .before .before .before .args .w)) (now (c .before .before .before .before .before .before .before .args .out)) (c .before .before .before .before .before .before .before .args .at) (c .before .before .before .before .before .before .before .pre .0) (c .before .before .before .before .before .before .before .pre .1) (c .before .before .before .before .before .before .before .args .x) _ _ (c .before .before .put-no .ensures)
@@ -34,10 +19,10 @@ pub pass-spec : {M : Type 1} → statement M
 pass-spec =
     tie.close
     (tie.spec
-    slice-read-number
-    add-number
-    slice-write-w
+    (λ c. search needs)
+    (λ c. search needs)
+    (λ c. search needs)
     put-no-requires
-    same-length
-    same-length-2
+    (λ c. search needs)
+    (λ c. search needs)
     returns)

@@ -17,38 +17,17 @@ abbrev μ-loop : tie.MeasureT-loop
 loop-holds : tie.Need-loop-holds Inv-loop μ-loop
 loop-holds c = feeding-none (now (c .before .before .before .args .w)) (now (c .before .before .before .args .input)) (now (c .before .before .before .args .out)) (c .before .before .before .pre)
 
-sub-if1 : tie.Need-sub-if1 Inv-loop μ-loop
-sub-if1 c = search needs
-
-same-length : tie.Need-same-length Inv-loop μ-loop
-same-length c = search needs
-
-same-length-2 : tie.Need-same-length-2 Inv-loop μ-loop
-same-length-2 c = search needs
-
 returns : tie.Need-returns Inv-loop μ-loop
 returns c = feeding-short (c .before .before .loop .inv) (c .if1 .taken)
 
-shared-slice-read-take : tie.Need-shared-slice-read-take Inv-loop μ-loop
-shared-slice-read-take c = search needs
-
 take-requires : tie.Need-take-requires Inv-loop μ-loop
 take-requires c κs = feeding-ready (c .before .before .before .before .before .loop .inv) (c .before .before .before .if1 .left)
-
-add-used : tie.Need-add-used Inv-loop μ-loop
-add-used c = search needs
 
 loop-less : tie.Need-loop-less Inv-loop μ-loop
 loop-less c = omega arith
 
 loop-again : tie.Need-loop-again Inv-loop μ-loop
 loop-again c = feeding-more (c .before .before .before .before .before .before .before .before .before .before .loop .inv) (omega arith) (c .before .before .before .before .before .before .before .before .if1 .left) _ _ _ (c .before .before .before .before .take .ensures)
-
-same-length-3 : tie.Need-same-length-3 Inv-loop μ-loop
-same-length-3 c = search needs
-
-same-length-4 : tie.Need-same-length-4 Inv-loop μ-loop
-same-length-4 c = search needs
 
 returns-2 : tie.Need-returns-2 Inv-loop μ-loop
 returns-2 c = feeding-all (c .before .loop .inv) (omega arith)
@@ -60,15 +39,15 @@ take-all-spec =
     Inv-loop
     μ-loop
     loop-holds
-    sub-if1
-    same-length
-    same-length-2
+    (λ c. search needs)
+    (λ c. search needs)
+    (λ c. search needs)
     returns
-    shared-slice-read-take
+    (λ c. search needs)
     take-requires
-    add-used
+    (λ c. search needs)
     loop-less
     loop-again
-    same-length-3
-    same-length-4
+    (λ c. search needs)
+    (λ c. search needs)
     returns-2)

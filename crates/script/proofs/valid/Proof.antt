@@ -8,32 +8,17 @@ use Rattle.script.proofs.valid.Tie as tie
 returns : tie.Need-returns
 returns c = size-wrong (now (c .before .before .args .w)) (c .if1 .taken)
 
-shared-slice-read-if2 : tie.Need-shared-slice-read-if2
-shared-slice-read-if2 c = search needs
-
 returns-2 : tie.Need-returns-2
 returns-2 c = stage-wrong (now (c .before .before .before .before .args .w)) (c .before .before .if1 .left) (c .if2 .taken)
-
-shared-slice-read-if3 : tie.Need-shared-slice-read-if3
-shared-slice-read-if3 c = search needs
 
 returns-3 : tie.Need-returns-3
 returns-3 c = line-wrong (now (c .before .before .before .before .before .before .args .w)) (c .before .before .before .before .if1 .left) (c .before .before .if2 .left) (c .if3 .taken)
 
-bytes-valid-requires : tie.Need-bytes-valid-requires
-bytes-valid-requires c κs = search needs
-
 returns-4 : tie.Need-returns-4
 returns-4 c = bytes-wrong (now (c .before .before .before .before .before .before .before .before .args .w)) (c .before .before .before .before .before .before .if1 .left) (c .before .before .before .before .if2 .left) (c .before .before .if3 .left) _ (c .before .bytes-valid .ensures) (c .if4 .taken)
 
-shared-slice-read-if5 : tie.Need-shared-slice-read-if5
-shared-slice-read-if5 c = search needs
-
 returns-5 : tie.Need-returns-5
 returns-5 c = no-run (now (c .before .before .before .before .before .before .before .before .before .before .args .w)) (c .before .before .before .before .before .before .before .before .if1 .left) (c .before .before .before .before .before .before .if2 .left) (c .before .before .before .before .if3 .left) _ (c .before .before .before .bytes-valid .ensures) (c .before .before .if4 .left) (c .if5 .taken)
-
-run-valid-requires : tie.Need-run-valid-requires
-run-valid-requires c κs = search needs
 
 returns-6 : tie.Need-returns-6
 returns-6 c = run-decides (now (c .before .before .before .before .before .before .before .before .before .before .before .args .w)) (c .before .before .before .before .before .before .before .before .before .if1 .left) (c .before .before .before .before .before .before .before .if2 .left) (c .before .before .before .before .before .if3 .left) _ (c .before .before .before .before .bytes-valid .ensures) (c .before .before .before .if4 .left) (c .before .if5 .left) _ (c .run-valid .ensures)
@@ -43,13 +28,13 @@ valid-spec =
     tie.close
     (tie.spec
     returns
-    shared-slice-read-if2
+    (λ c. search needs)
     returns-2
-    shared-slice-read-if3
+    (λ c. search needs)
     returns-3
-    bytes-valid-requires
+    (λ c κs. search needs)
     returns-4
-    shared-slice-read-if5
+    (λ c. search needs)
     returns-5
-    run-valid-requires
+    (λ c κs. search needs)
     returns-6)

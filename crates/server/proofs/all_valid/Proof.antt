@@ -15,31 +15,13 @@ Inv-loop places len i₀ i = (length places ≡ 16) × ((len ≤ 16) × Passing 
 abbrev μ-loop : tie.MeasureT-loop
 μ-loop places len i₀ i = len - i
 
-sized-requires : tie.Need-sized-requires Inv-loop μ-loop
-sized-requires c κs = search needs
-
 loop-holds : tie.Need-loop-holds Inv-loop μ-loop
 loop-holds c = (c .before .sized .ensures, (c .before .before .pre, places-start _ _ (c .before .sized .ensures) (c .before .before .pre) (every validRequest)))
-
-mul-valid-request : tie.Need-mul-valid-request Inv-loop μ-loop
-mul-valid-request c = search needs
-
-array-copy-out-valid-request : tie.Need-array-copy-out-valid-request Inv-loop μ-loop
-array-copy-out-valid-request c = search needs
-
-valid-request-requires : tie.Need-valid-request-requires Inv-loop μ-loop
-valid-request-requires c κs = search needs
 
 returns : tie.Need-returns Inv-loop μ-loop
 returns c =
     let v = c .before .before .before .before .loop .inv in
     valid-stops _ _ (v .0) (v .1 .0) _ (c .before .before .before .loop-test .taken) _ _ (c .before .valid-request .ensures) (v .1 .1) (c .if1 .taken)
-
-add-i : tie.Need-add-i Inv-loop μ-loop
-add-i c = search needs
-
-loop-less : tie.Need-loop-less Inv-loop μ-loop
-loop-less c = search needs
 
 loop-again : tie.Need-loop-again Inv-loop μ-loop
 loop-again c =
@@ -57,13 +39,13 @@ all-valid-spec =
     (tie.spec
     Inv-loop
     μ-loop
-    sized-requires
+    (λ c κs. search needs)
     loop-holds
-    mul-valid-request
-    array-copy-out-valid-request
-    valid-request-requires
+    (λ c. search needs)
+    (λ c. search needs)
+    (λ c κs. search needs)
     returns
-    add-i
-    loop-less
+    (λ c. search needs)
+    (λ c. search needs)
     loop-again
     returns-2)

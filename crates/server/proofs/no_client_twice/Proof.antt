@@ -14,25 +14,13 @@ Inv-loop q len i₀ i = (length (q .places) ≡ 16) × ((q .len ≤ 16) × ((len
 abbrev μ-loop : tie.MeasureT-loop
 μ-loop q len i₀ i = len - i
 
-sized-requires : tie.Need-sized-requires Inv-loop μ-loop
-sized-requires c κs = search needs
-
 loop-holds : tie.Need-loop-holds Inv-loop μ-loop
 loop-holds c = (c .sized .ensures, (c .before .pre, (refl, places-start _ _ (c .sized .ensures) (c .before .pre) once)))
-
-repeated-requires : tie.Need-repeated-requires Inv-loop μ-loop
-repeated-requires c κs = search needs
 
 returns : tie.Need-returns Inv-loop μ-loop
 returns c =
     let v = c .before .before .before .loop .inv in
     single-stops _ _ (v .0) (v .1 .0) _ (c .before .before .loop-test .taken) _ (c .before .repeated .ensures) (v .1 .1 .1) (c .if1 .taken)
-
-add-i : tie.Need-add-i Inv-loop μ-loop
-add-i c = search needs
-
-loop-less : tie.Need-loop-less Inv-loop μ-loop
-loop-less c = search needs
 
 loop-again : tie.Need-loop-again Inv-loop μ-loop
 loop-again c =
@@ -50,11 +38,11 @@ no-client-twice-spec =
     (tie.spec
     Inv-loop
     μ-loop
-    sized-requires
+    (λ c κs. search needs)
     loop-holds
-    repeated-requires
+    (λ c κs. search needs)
     returns
-    add-i
-    loop-less
+    (λ c. search needs)
+    (λ c. search needs)
     loop-again
     returns-2)

@@ -16,34 +16,13 @@ Inv-loop places none i₀ i = (length places ≡ 16) × ((none ≡ noRequest) ×
 abbrev μ-loop : tie.MeasureT-loop
 μ-loop places none i₀ i = 16 - i
 
-sized-requires : tie.Need-sized-requires Inv-loop μ-loop
-sized-requires c κs = search needs
-
-nobody-requires : tie.Need-nobody-requires Inv-loop μ-loop
-nobody-requires c κs = search needs
-
 loop-holds : tie.Need-loop-holds Inv-loop μ-loop
 loop-holds c = (c .before .before .sized .ensures, (c .nobody .ensures, (omega arith, rest-start _ _ _ (c .before .before .sized .ensures) (c .before .before .before .pre))))
-
-mul-same-request : tie.Need-mul-same-request Inv-loop μ-loop
-mul-same-request c = search needs
-
-array-copy-out-same-request : tie.Need-array-copy-out-same-request Inv-loop μ-loop
-array-copy-out-same-request c = search needs
-
-same-request-requires : tie.Need-same-request-requires Inv-loop μ-loop
-same-request-requires c κs = search needs
 
 returns : tie.Need-returns Inv-loop μ-loop
 returns c =
     let v = c .before .before .before .before .loop .inv in
     rest-stops _ _ _ (v .0) _ (c .before .before .before .loop-test .taken) _ (rw (v .1 .0) at (c .before .same-request .ensures)) (v .1 .1 .1) (c .if1 .taken)
-
-add-i : tie.Need-add-i Inv-loop μ-loop
-add-i c = search needs
-
-loop-less : tie.Need-loop-less Inv-loop μ-loop
-loop-less c = search needs
 
 loop-again : tie.Need-loop-again Inv-loop μ-loop
 loop-again c =
@@ -61,14 +40,14 @@ rest-empty-spec =
     (tie.spec
     Inv-loop
     μ-loop
-    sized-requires
-    nobody-requires
+    (λ c κs. search needs)
+    (λ c κs. search needs)
     loop-holds
-    mul-same-request
-    array-copy-out-same-request
-    same-request-requires
+    (λ c. search needs)
+    (λ c. search needs)
+    (λ c κs. search needs)
     returns
-    add-i
-    loop-less
+    (λ c. search needs)
+    (λ c. search needs)
     loop-again
     returns-2)

@@ -5,17 +5,8 @@ use borrow.Author.Needs.{needs}
 use Rattle.server.proofs.sizes.Statement.{statement}
 use Rattle.server.proofs.sizes.Tie as tie
 
-mail-size-requires : tie.Need-mail-size-requires
-mail-size-requires c κs = search needs
-
-mail-size-requires-2 : tie.Need-mail-size-requires-2
-mail-size-requires-2 c κs = search needs
-
 add-result : tie.Need-add-result
 add-result c = omega (arith, mail-small (c .before .before .args .first), mail-small (c .before .before .args .second))
-
-mail-size-requires-3 : tie.Need-mail-size-requires-3
-mail-size-requires-3 c κs = search needs
 
 add-result-2 : tie.Need-add-result-2
 add-result-2 c = omega (arith, mail-small (c .before .before .before .args .first), mail-small (c .before .before .before .args .second), mail-small (c .before .before .before .args .third))
@@ -27,9 +18,9 @@ pub sizes-spec : {M : Type 1} → statement M
 sizes-spec =
     tie.close
     (tie.spec
-    mail-size-requires
-    mail-size-requires-2
+    (λ c κs. search needs)
+    (λ c κs. search needs)
     add-result
-    mail-size-requires-3
+    (λ c κs. search needs)
     add-result-2
     returns)

@@ -5,42 +5,18 @@ use borrow.Author.Needs.{needs}
 use Rattle.server.proofs.suspect.Statement.{statement}
 use Rattle.server.proofs.suspect.Tie as tie
 
-sized-requires : tie.Need-sized-requires
-sized-requires c κs = search needs
-
-valid-server-requires : tie.Need-valid-server-requires
-valid-server-requires c κs = search needs
-
-refuse-requires : tie.Need-refuse-requires
-refuse-requires c κs = search needs
-
 returns : tie.Need-returns
 returns c =
     let e = suspect-broken (c .before .before .before .before .before .before .args .s) _ _ _ (c .before .before .valid-server .ensures) (c .before .if1 .taken) (c .refuse .ensures) in
     (e .answered, e .buffered)
 
-enum-told : tie.Need-enum-told
-enum-told c = search needs
-
-refuse-requires-2 : tie.Need-refuse-requires-2
-refuse-requires-2 c κs = search needs
-
-enum-known-owner : tie.Need-enum-known-owner
-enum-known-owner c = search needs
-
 delete-requires : tie.Need-delete-requires
 delete-requires c κs = (server-padded (c .before .before .before .before .before .before .before .before .before .args .s) _ (c .before .before .before .before .before .before .sized .ensures) (c .before .before .before .before .before .valid-server .ensures) (c .before .before .before .before .if1 .left))
-
-finish-requires : tie.Need-finish-requires
-finish-requires c κs = search needs
 
 returns-2 : tie.Need-returns-2
 returns-2 c =
     let e = suspect-nobody (c .before .before .before .before .before .before .before .before .before .args .s) _ _ _ (c .before .before .before .before .before .valid-server .ensures) (c .before .before .before .before .if1 .left) (c .before .enum-told .given .1) (c .refuse2 .ensures) in
     (e .answered, e .buffered)
-
-same-length : tie.Need-same-length
-same-length c = search needs
 
 returns-3 : tie.Need-returns-3
 returns-3 c =
@@ -51,15 +27,15 @@ pub suspect-spec : {M : Type 1} → statement M
 suspect-spec =
     tie.close
     (tie.spec
-    sized-requires
-    valid-server-requires
-    refuse-requires
+    (λ c κs. search needs)
+    (λ c κs. search needs)
+    (λ c κs. search needs)
     returns
-    enum-told
-    refuse-requires-2
-    enum-known-owner
+    (λ c. search needs)
+    (λ c κs. search needs)
+    (λ c. search needs)
     delete-requires
-    finish-requires
+    (λ c κs. search needs)
     returns-2
-    same-length
+    (λ c. search needs)
     returns-3)

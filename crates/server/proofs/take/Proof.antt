@@ -4,30 +4,15 @@ use borrow.Author.Needs.{needs}
 use Rattle.server.proofs.take.Statement.{statement}
 use Rattle.server.proofs.take.Tie as tie
 
-refuse-requires : tie.Need-refuse-requires
-refuse-requires c κs = search needs
-
 returns : tie.Need-returns
 returns c =
     let e = takes-not (c .before .before .before .before .before .before .args .s) (c .before .before .before .before .before .before .args .tag) (c .before .before .before .before .before .before .args .k) (c .before .before .before .before .before .before .args .j) (c .before .before .before .before .before .before .args .t) _ _ (c .before .if1 .taken) (c .refuse .ensures) in
     (e .answered, e .buffered)
 
-receive-requires : tie.Need-receive-requires
-receive-requires c κs = search needs
-
-refuse-requires-2 : tie.Need-refuse-requires-2
-refuse-requires-2 c κs = search needs
-
 returns-2 : tie.Need-returns-2
 returns-2 c =
     let e = takes-full (c .before .before .before .before .before .before .before .before .args .s) (c .before .before .before .before .before .before .before .before .args .tag) (c .before .before .before .before .before .before .before .before .args .k) (c .before .before .before .before .before .before .before .before .args .j) (c .before .before .before .before .before .before .before .before .args .t) _ _ _ (c .before .before .before .if1 .left) (c .before .before .receive .ensures) (c .before .if2 .taken) (c .refuse2 .ensures) in
     (e .answered, e .buffered)
-
-finish-requires : tie.Need-finish-requires
-finish-requires c κs = search needs
-
-same-length : tie.Need-same-length
-same-length c = search needs
 
 returns-3 : tie.Need-returns-3
 returns-3 c =
@@ -38,11 +23,11 @@ pub take-spec : {M : Type 1} → statement M
 take-spec =
     tie.close
     (tie.spec
-    refuse-requires
+    (λ c κs. search needs)
     returns
-    receive-requires
-    refuse-requires-2
+    (λ c κs. search needs)
+    (λ c κs. search needs)
     returns-2
-    finish-requires
-    same-length
+    (λ c κs. search needs)
+    (λ c. search needs)
     returns-3)

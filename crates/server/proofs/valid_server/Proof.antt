@@ -4,29 +4,11 @@ use borrow.Author.Needs.{needs}
 use Rattle.server.proofs.valid_server.Statement.{statement}
 use Rattle.server.proofs.valid_server.Tie as tie
 
-cast-within-limit : tie.Need-cast-within-limit
-cast-within-limit c = search needs
-
-within-limit-requires : tie.Need-within-limit-requires
-within-limit-requires c κs = search needs
-
 returns : tie.Need-returns
 returns c = server-1 (c .before .before .before .before .before .before .args .s) _ (c .before .within-limit .ensures) (c .if1 .taken)
 
-cast-within-limit-2 : tie.Need-cast-within-limit-2
-cast-within-limit-2 c = search needs
-
-cast-within-limit-3 : tie.Need-cast-within-limit-3
-cast-within-limit-3 c = search needs
-
-within-limit-requires-2 : tie.Need-within-limit-requires-2
-within-limit-requires-2 c κs = search needs
-
 returns-2 : tie.Need-returns-2
 returns-2 c = server-2 (c .before .before .before .before .before .before .before .before .before .before .args .s) _ (c .before .before .before .before .before .within-limit .ensures) (c .before .before .before .before .if1 .left) _ (c .before .within-limit2 .ensures) (c .if2 .taken)
-
-valid-queue-requires : tie.Need-valid-queue-requires
-valid-queue-requires c κs = search needs
 
 returns-3 : tie.Need-returns-3
 returns-3 c = server-3 (c .before .before .before .before .before .before .before .before .before .before .before .before .args .s) _ (c .before .before .before .before .before .before .before .within-limit .ensures) (c .before .before .before .before .before .before .if1 .left) _ (c .before .before .before .within-limit2 .ensures) (c .before .before .if2 .left) _ (c .before .valid-queue .ensures) (c .if3 .taken)
@@ -41,14 +23,14 @@ pub valid-server-spec : {M : Type 1} → statement M
 valid-server-spec =
     tie.close
     (tie.spec
-    cast-within-limit
-    within-limit-requires
+    (λ c. search needs)
+    (λ c κs. search needs)
     returns
-    cast-within-limit-2
-    cast-within-limit-3
-    within-limit-requires-2
+    (λ c. search needs)
+    (λ c. search needs)
+    (λ c κs. search needs)
     returns-2
-    valid-queue-requires
+    (λ c κs. search needs)
     returns-3
     valid-votes-requires
     returns-4)

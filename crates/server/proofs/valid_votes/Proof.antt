@@ -4,32 +4,17 @@ use borrow.Author.Needs.{needs}
 use Rattle.server.proofs.valid_votes.Statement.{statement}
 use Rattle.server.proofs.valid_votes.Tie as tie
 
-valid-owner-requires : tie.Need-valid-owner-requires
-valid-owner-requires c κs = search needs
-
 returns : tie.Need-returns
 returns c = votes-1 (c .before .before .before .args .v) _ (c .before .valid-owner .ensures) (c .if1 .taken)
-
-all-valid-requires : tie.Need-all-valid-requires
-all-valid-requires c κs = search needs
 
 returns-2 : tie.Need-returns-2
 returns-2 c = votes-2 (c .before .before .before .before .before .args .v) _ (c .before .before .before .valid-owner .ensures) (c .before .before .if1 .left) _ (c .before .all-valid .ensures) (c .if2 .taken)
 
-owner-fits-requires : tie.Need-owner-fits-requires
-owner-fits-requires c κs = search needs
-
 returns-3 : tie.Need-returns-3
 returns-3 c = votes-3 (c .before .before .before .before .before .before .before .args .v) _ (c .before .before .before .before .before .valid-owner .ensures) (c .before .before .before .before .if1 .left) _ (c .before .before .before .all-valid .ensures) (c .before .before .if2 .left) _ (c .before .owner-fits .ensures) (c .if3 .taken)
 
-in-order-requires : tie.Need-in-order-requires
-in-order-requires c κs = search needs
-
 returns-4 : tie.Need-returns-4
 returns-4 c = votes-4 (c .before .before .before .before .before .before .before .before .before .args .v) _ (c .before .before .before .before .before .before .before .valid-owner .ensures) (c .before .before .before .before .before .before .if1 .left) _ (c .before .before .before .before .before .all-valid .ensures) (c .before .before .before .before .if2 .left) _ (c .before .before .before .owner-fits .ensures) (c .before .before .if3 .left) _ (c .before .in-order .ensures) (c .if4 .taken)
-
-no-client-twice-requires : tie.Need-no-client-twice-requires
-no-client-twice-requires c κs = search needs
 
 returns-5 : tie.Need-returns-5
 returns-5 c = votes-5 (c .before .before .before .before .before .before .before .before .before .before .args .v) _ (c .before .before .before .before .before .before .before .before .valid-owner .ensures) (c .before .before .before .before .before .before .before .if1 .left) _ (c .before .before .before .before .before .before .all-valid .ensures) (c .before .before .before .before .before .if2 .left) _ (c .before .before .before .before .owner-fits .ensures) (c .before .before .before .if3 .left) _ (c .before .before .in-order .ensures) _ (c .before .if4 .left) (c .no-client-twice .ensures)
@@ -38,13 +23,13 @@ pub valid-votes-spec : {M : Type 1} → statement M
 valid-votes-spec =
     tie.close
     (tie.spec
-    valid-owner-requires
+    (λ c κs. search needs)
     returns
-    all-valid-requires
+    (λ c κs. search needs)
     returns-2
-    owner-fits-requires
+    (λ c κs. search needs)
     returns-3
-    in-order-requires
+    (λ c κs. search needs)
     returns-4
-    no-client-twice-requires
+    (λ c κs. search needs)
     returns-5)

@@ -12,74 +12,38 @@ use Rattle.simulation.proofs.deliver.Tie as tie
 as-sent : (w : List ℕ) (i : ℕ) (m m′ : Message) → m ≡ m′ → Pends w i m → Pends w i m′
 as-sent w i m m′ e P = rw e at P
 
-enum-known-m : tie.Need-enum-known-m
-enum-known-m c = search needs
-
 to-server-requires : tie.Need-to-server-requires
 to-server-requires c κs = as-sent (now (c .before .before .before .before .before .args .w)) (c .before .before .before .before .before .args .i) _ _ (c .before .before .m .given .1) (c .before .before .before .before .before .pre)
-
-enum-known-m-2 : tie.Need-enum-known-m-2
-enum-known-m-2 c = search needs
 
 to-server-requires-2 : tie.Need-to-server-requires-2
 to-server-requires-2 c κs = as-sent (now (c .before .before .before .before .before .args .w)) (c .before .before .before .before .before .args .i) _ _ (c .before .before .m2 .given .1) (c .before .before .before .before .before .pre)
 
-enum-known-m-3 : tie.Need-enum-known-m-3
-enum-known-m-3 c = search needs
-
 to-server-requires-3 : tie.Need-to-server-requires-3
 to-server-requires-3 c κs = as-sent (now (c .before .before .before .before .before .args .w)) (c .before .before .before .before .before .args .i) _ _ (c .before .before .m3 .given .1) (c .before .before .before .before .before .pre)
-
-enum-known-m-4 : tie.Need-enum-known-m-4
-enum-known-m-4 c = search needs
 
 to-server-requires-4 : tie.Need-to-server-requires-4
 to-server-requires-4 c κs = as-sent (now (c .before .before .before .before .before .args .w)) (c .before .before .before .before .before .args .i) _ _ (c .before .before .m4 .given .1) (c .before .before .before .before .before .pre)
 
-enum-known-m-5 : tie.Need-enum-known-m-5
-enum-known-m-5 c = search needs
-
 to-client-requires : tie.Need-to-client-requires
 to-client-requires c κs = as-sent (now (c .before .before .before .before .before .args .w)) (c .before .before .before .before .before .args .i) _ _ (c .before .before .m5 .given .1) (c .before .before .before .before .before .pre)
-
-enum-known-m-6 : tie.Need-enum-known-m-6
-enum-known-m-6 c = search needs
 
 checks-client-requires : tie.Need-checks-client-requires
 checks-client-requires c κs = as-sent (now (c .before .before .before .before .before .args .w)) (c .before .before .before .before .before .args .i) _ _ (c .before .before .m6 .given .1) (c .before .before .before .before .before .pre)
 
-same-length : tie.Need-same-length
-same-length c = search needs
-
 returns : tie.Need-returns
 returns c = c .before .before .to-server .ensures
-
-same-length-2 : tie.Need-same-length-2
-same-length-2 c = search needs
 
 returns-2 : tie.Need-returns-2
 returns-2 c = c .before .before .to-server2 .ensures
 
-same-length-3 : tie.Need-same-length-3
-same-length-3 c = search needs
-
 returns-3 : tie.Need-returns-3
 returns-3 c = c .before .before .to-server3 .ensures
-
-same-length-4 : tie.Need-same-length-4
-same-length-4 c = search needs
 
 returns-4 : tie.Need-returns-4
 returns-4 c = c .before .before .to-server4 .ensures
 
-same-length-5 : tie.Need-same-length-5
-same-length-5 c = search needs
-
 returns-5 : tie.Need-returns-5
 returns-5 c = c .before .before .to-client .ensures
-
-same-length-6 : tie.Need-same-length-6
-same-length-6 c = search needs
 
 returns-6 : tie.Need-returns-6
 returns-6 c = c .before .before .checks-client .ensures
@@ -88,27 +52,27 @@ pub deliver-spec : {M : Type 1} → statement M
 deliver-spec =
     tie.close
     (tie.spec
-    enum-known-m
+    (λ c. search needs)
     to-server-requires
-    enum-known-m-2
+    (λ c. search needs)
     to-server-requires-2
-    enum-known-m-3
+    (λ c. search needs)
     to-server-requires-3
-    enum-known-m-4
+    (λ c. search needs)
     to-server-requires-4
-    enum-known-m-5
+    (λ c. search needs)
     to-client-requires
-    enum-known-m-6
+    (λ c. search needs)
     checks-client-requires
-    same-length
+    (λ c. search needs)
     returns
-    same-length-2
+    (λ c. search needs)
     returns-2
-    same-length-3
+    (λ c. search needs)
     returns-3
-    same-length-4
+    (λ c. search needs)
     returns-4
-    same-length-5
+    (λ c. search needs)
     returns-5
-    same-length-6
+    (λ c. search needs)
     returns-6)

@@ -7,17 +7,11 @@ use borrow.Author.Needs.{needs}
 use Rattle.simulation.proofs.down.Statement.{statement}
 use Rattle.simulation.proofs.down.Tie as tie
 
-cast-within-limit : tie.Need-cast-within-limit
-cast-within-limit c = search needs
-
 slice-read-within-limit : tie.Need-slice-read-within-limit
 slice-read-within-limit c =
     let d = c .before .before .before in
     let a = d .args in
     omega (arith, words-long (now (a .w)) (d .pre))
-
-within-limit-requires : tie.Need-within-limit-requires
-within-limit-requires c κs = search needs
 
 returns : tie.Need-returns
 returns c =
@@ -30,9 +24,6 @@ is-up-requires c κs =
     let d = c .before .before .before .before .before .before in
     let a = d .args in
     sinkable (now (a .w)) (a .j) (d .pre) _ (c .before .before .within-limit .ensures) (c .before .if1 .left) .0
-
-same-length : tie.Need-same-length
-same-length c = search needs
 
 returns-2 : tie.Need-returns-2
 returns-2 c =
@@ -58,9 +49,6 @@ note-down-requires c κs =
     let a = d .args in
     still-server (now (a .w)) (a .j) (d .pre) _ (c .before .before .before .before .before .before .before .before .before .before .before .before .before .within-limit .ensures) (c .before .before .before .before .before .before .before .before .before .before .before .before .if1 .left) _ (c .before .before .before .before .before .before .before .sink-server .ensures) _ (c .before .before .before .restart-messages .ensures)
 
-same-length-2 : tie.Need-same-length-2
-same-length-2 c = search needs
-
 returns-3 : tie.Need-returns-3
 returns-3 c =
     let d = c .before .before .before .before .before .before .before .before .before .before .before .before .before .before .before .before .before .before .before .before in
@@ -71,15 +59,15 @@ pub down-spec : {M : Type 1} → statement M
 down-spec =
     tie.close
     (tie.spec
-    cast-within-limit
+    (λ c. search needs)
     slice-read-within-limit
-    within-limit-requires
+    (λ c κs. search needs)
     returns
     is-up-requires
-    same-length
+    (λ c. search needs)
     returns-2
     sink-server-requires
     restart-messages-requires
     note-down-requires
-    same-length-2
+    (λ c. search needs)
     returns-3)

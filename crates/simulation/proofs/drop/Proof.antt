@@ -20,12 +20,6 @@ cast-len c =
     let a = d .args in
     record { fits = omega (arith, lent-sized (now (a .w)) (d .pre) .few) }
 
-sub-find-present : tie.Need-sub-find-present
-sub-find-present c = search needs
-
-part-find-present-start : tie.Need-part-find-present-start
-part-find-present-start c = search needs
-
 part-find-present-end : tie.Need-part-find-present-end
 part-find-present-end c =
     let d = c .before .before .before in
@@ -38,20 +32,11 @@ find-present-requires c κs =
     let a = d .args in
     lent-sized (now (a .w)) (d .pre)
 
-same-length : tie.Need-same-length
-same-length c = search needs
-
 returns : tie.Need-returns
 returns c =
     let d = c .before .before .before .before .before .before in
     let a = d .args in
     drop-missing (now (a .w)) (a .number) (d .pre) _ (c .before .find-present .ensures) (c .if1 .taken)
-
-remove-message-requires : tie.Need-remove-message-requires
-remove-message-requires c κs = search needs
-
-same-length-2 : tie.Need-same-length-2
-same-length-2 c = search needs
 
 returns-2 : tie.Need-returns-2
 returns-2 c =
@@ -65,12 +50,12 @@ drop-spec =
     (tie.spec
     slice-read-len
     cast-len
-    sub-find-present
-    part-find-present-start
+    (λ c. search needs)
+    (λ c. search needs)
     part-find-present-end
     find-present-requires
-    same-length
+    (λ c. search needs)
     returns
-    remove-message-requires
-    same-length-2
+    (λ c κs. search needs)
+    (λ c. search needs)
     returns-2)

@@ -7,17 +7,11 @@ use borrow.Author.Needs.{needs}
 use Rattle.simulation.proofs.fall.Statement.{statement}
 use Rattle.simulation.proofs.fall.Tie as tie
 
-cast-within-limit : tie.Need-cast-within-limit
-cast-within-limit c = search needs
-
 slice-read-within-limit : tie.Need-slice-read-within-limit
 slice-read-within-limit c =
     let d = c .before .before .before in
     let a = d .args in
     omega (arith, words-long (now (a .w)) (d .pre))
-
-within-limit-requires : tie.Need-within-limit-requires
-within-limit-requires c κs = search needs
 
 returns : tie.Need-returns
 returns c =
@@ -31,9 +25,6 @@ is-living-requires c κs =
     let a = d .args in
     client-in (now (a .w)) (a .k .0) (client-found (now (a .w)) (d .pre) (a .k .0) _ (c .before .before .within-limit .ensures) (c .before .if1 .left))
 
-same-length : tie.Need-same-length
-same-length c = search needs
-
 returns-2 : tie.Need-returns-2
 returns-2 c =
     let d = c .before .before .before .before .before .before .before .before in
@@ -46,9 +37,6 @@ fall-client-requires c κs =
     let a = d .args in
     client-in (now (a .w)) (a .k .0) (client-found (now (a .w)) (d .pre) (a .k .0) _ (c .before .before .before .before .before .within-limit .ensures) (c .before .before .before .before .if1 .left))
 
-same-length-2 : tie.Need-same-length-2
-same-length-2 c = search needs
-
 returns-3 : tie.Need-returns-3
 returns-3 c =
     let d = c .before .before .before .before .before .before .before .before .before .before .before .before in
@@ -59,13 +47,13 @@ pub fall-spec : {M : Type 1} → statement M
 fall-spec =
     tie.close
     (tie.spec
-    cast-within-limit
+    (λ c. search needs)
     slice-read-within-limit
-    within-limit-requires
+    (λ c κs. search needs)
     returns
     is-living-requires
-    same-length
+    (λ c. search needs)
     returns-2
     fall-client-requires
-    same-length-2
+    (λ c. search needs)
     returns-3)

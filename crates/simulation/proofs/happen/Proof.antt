@@ -6,15 +6,6 @@ use borrow.Author.Needs.{needs}
 use Rattle.simulation.proofs.happen.Statement.{statement}
 use Rattle.simulation.proofs.happen.Tie as tie
 
-work-requires : tie.Need-work-requires
-work-requires c κs = search needs
-
-enum-known-moved : tie.Need-enum-known-moved
-enum-known-moved c = search needs
-
-enum-known-moved-2 : tie.Need-enum-known-moved-2
-enum-known-moved-2 c = search needs
-
 slice-read-clients : tie.Need-slice-read-clients
 slice-read-clients c = omega (arith, words-long _ (c .before .before .before .before .before .before .work .ensures .0 .again))
 
@@ -24,14 +15,8 @@ cast-count-inside c = record { fits = omega (arith, clients-fit _ (c .before .be
 count-inside-requires : tie.Need-count-inside-requires
 count-inside-requires c κs = (words-long _ (c .before .before .before .before .before .before .before .work .ensures .0 .again), clients-fit _ (c .before .before .before .before .before .before .before .work .ensures .0 .again))
 
-same-length : tie.Need-same-length
-same-length c = search needs
-
 returns : tie.Need-returns
 returns c = happened-refused _ _ _ _ (c .before .before .before .before .before .work .ensures) _ (c .before .moved .given .1)
-
-same-length-2 : tie.Need-same-length-2
-same-length-2 c = search needs
 
 returns-2 : tie.Need-returns-2
 returns-2 c = happened _ _ _ _ (c .before .before .before .before .before .before .before .before .work .ensures) _ _ (c .before .before .before .before .moved2 .given .1) (c .count-inside .ensures)
@@ -40,13 +25,13 @@ pub happen-spec : {M : Type 1} → statement M
 happen-spec =
     tie.close
     (tie.spec
-    work-requires
-    enum-known-moved
-    enum-known-moved-2
+    (λ c κs. search needs)
+    (λ c. search needs)
+    (λ c. search needs)
     slice-read-clients
     cast-count-inside
     count-inside-requires
-    same-length
+    (λ c. search needs)
     returns
-    same-length-2
+    (λ c. search needs)
     returns-2)

@@ -16,26 +16,11 @@ client-record-requires c κs =
     let d = c .before .before in
     (client-in (now (d .args .w)) (d .args .k .0) (d .pre .0), client-held (now (d .args .w)) (d .args .k) (d .pre .0))
 
-slice-aggregate-exit : tie.Need-slice-aggregate-exit
-slice-aggregate-exit c = search needs
-
-exit-requires : tie.Need-exit-requires
-exit-requires c κs = search needs
-
-enum-known-answer : tie.Need-enum-known-answer
-enum-known-answer c = search needs
-
-enum-known-answer-2 : tie.Need-enum-known-answer-2
-enum-known-answer-2 c = search needs
-
 has-room-requires : tie.Need-has-room-requires
 has-room-requires c κs =
     let d = c .before .before .before .before .before .before .before .before .before .before in
     let C = exit-accepted (now (d .args .w)) (d .args .k) (d .pre .0) (d .pre .1) _ (c .before .before .before .before .before .before .before .client-record .ensures) _ (replicate 512 0) _ refl (c .before .before .before .before .before .exit .ensures .0) (c .before .before .before .before .before .exit .ensures .1) _ _ (c .before .before .answer2 .given .1) in
     (d .pre .0 .valid, zero-le, omega (arith, call-few (C .call) _ _ (c .before .before .answer2 .given .1)))
-
-same-length : tie.Need-same-length
-same-length c = search needs
 
 returns : tie.Need-returns
 returns c =
@@ -53,9 +38,6 @@ put-client-requires c κs =
     let d = c .before .before .before .before .before .before .before .before .before .before .before .before .before .before .before .before .before in
     client-in _ (d .args .k .0) (still-client (c .before .before .before .end-epoch .ensures) (d .pre .0))
 
-slice-aggregate-send : tie.Need-slice-aggregate-send
-slice-aggregate-send c = search needs
-
 send-requires : tie.Need-send-requires
 send-requires c κs =
     let d = c .before .before .before .before .before .before .before .before .before .before .before .before .before .before .before .before .before .before .before .before .before .before in
@@ -69,16 +51,10 @@ cast-t28 c =
     let C = exit-accepted (now (d .args .w)) (d .args .k) (d .pre .0) (d .pre .1) _ (c .before .before .before .before .before .before .before .before .before .before .before .before .before .before .before .before .before .before .before .before .before .before .client-record .ensures) _ (replicate 512 0) _ refl (c .before .before .before .before .before .before .before .before .before .before .before .before .before .before .before .before .before .before .before .before .exit .ensures .0) (c .before .before .before .before .before .before .before .before .before .before .before .before .before .before .before .before .before .before .before .before .exit .ensures .1) _ _ (c .before .before .before .before .before .before .before .before .before .before .before .before .before .before .before .before .before .answer2 .given .1) in
     record { fits = omega (arith, call-few (C .call) _ _ (c .before .before .before .before .before .before .before .before .before .before .before .before .before .before .before .before .before .answer2 .given .1)) }
 
-same-length-2 : tie.Need-same-length-2
-same-length-2 c = search needs
-
 returns-2 : tie.Need-returns-2
 returns-2 c =
     let d = c .before .before .before .before .before .before .before .before .before in
     exit-refused (now (d .args .w)) (d .args .k) (d .pre .0) (d .pre .1) _ (c .before .before .before .before .before .before .client-record .ensures) _ (replicate 512 0) _ refl (c .before .before .before .before .exit .ensures .0) (c .before .before .before .before .exit .ensures .1) _ (c .before .answer .given .1)
-
-same-length-3 : tie.Need-same-length-3
-same-length-3 c = search needs
 
 returns-3 : tie.Need-returns-3
 returns-3 c =
@@ -92,19 +68,19 @@ leave-spec =
     tie.close
     (tie.spec
     client-record-requires
-    slice-aggregate-exit
-    exit-requires
-    enum-known-answer
-    enum-known-answer-2
+    (λ c. search needs)
+    (λ c κs. search needs)
+    (λ c. search needs)
+    (λ c. search needs)
     has-room-requires
-    same-length
+    (λ c. search needs)
     returns
     end-epoch-requires
     put-client-requires
-    slice-aggregate-send
+    (λ c. search needs)
     send-requires
     cast-t28
-    same-length-2
+    (λ c. search needs)
     returns-2
-    same-length-3
+    (λ c. search needs)
     returns-3)

@@ -8,16 +8,10 @@ use borrow.Author.Needs.{needs}
 use Rattle.simulation.proofs.miss.Statement.{statement}
 use Rattle.simulation.proofs.miss.Tie as tie
 
-cast-within-limit : tie.Need-cast-within-limit
-cast-within-limit c = search needs
-
 slice-read-within-limit : tie.Need-slice-read-within-limit
 slice-read-within-limit c =
     let d = c .before .before .before in
     omega (arith, words-long (now (d .args .w)) (d .pre))
-
-within-limit-requires : tie.Need-within-limit-requires
-within-limit-requires c κs = search needs
 
 returns : tie.Need-returns
 returns c =
@@ -29,9 +23,6 @@ is-up-requires c κs =
     let d = c .before .before .before .before .before .before in
     server-in (now (d .args .w)) (d .args .j .0) (server-found (now (d .args .w)) (d .pre) (d .args .j .0) _ (c .before .before .within-limit .ensures) (c .before .if1 .left))
 
-same-length : tie.Need-same-length
-same-length c = search needs
-
 returns-2 : tie.Need-returns-2
 returns-2 c =
     let d = c .before .before .before .before .before .before .before .before in
@@ -42,19 +33,10 @@ owner-of-requires c κs =
     let d = c .before .before .before .before .before .before .before .before .before in
     (server-runs (now (d .args .w)) (d .args .j) (d .pre) _ (c .before .before .before .before .before .within-limit .ensures) (c .before .before .before .before .if1 .left) _ (c .before .before .is-up .ensures) (c .before .if2 .left)) .0
 
-enum-told : tie.Need-enum-told
-enum-told c = search needs
-
-enum-known-owner : tie.Need-enum-known-owner
-enum-known-owner c = search needs
-
 is-living-requires : tie.Need-is-living-requires
 is-living-requires c κs =
     let d = c .before .before .before .before .before .before .before .before .before .before .before .before .before .before .before in
     client-in (now (d .args .w)) _ (owner-client (now (d .args .w)) (d .args .j) ((server-runs (now (d .args .w)) (d .args .j) (d .pre) _ (c .before .before .before .before .before .before .before .before .before .before .before .within-limit .ensures) (c .before .before .before .before .before .before .before .before .before .before .if1 .left) _ (c .before .before .before .before .before .before .before .before .is-up .ensures) (c .before .before .before .before .before .before .before .if2 .left)) .0) ((server-runs (now (d .args .w)) (d .args .j) (d .pre) _ (c .before .before .before .before .before .before .before .before .before .before .before .within-limit .ensures) (c .before .before .before .before .before .before .before .before .before .before .if1 .left) _ (c .before .before .before .before .before .before .before .before .is-up .ensures) (c .before .before .before .before .before .before .before .if2 .left)) .1) _ (c .before .before .before .before .before .owner-of .ensures) _ (c .before .before .before .owner .given .1))
-
-same-length-2 : tie.Need-same-length-2
-same-length-2 c = search needs
 
 returns-3 : tie.Need-returns-3
 returns-3 c =
@@ -66,39 +48,30 @@ suspect-requires c κs =
     let d = c .before .before .before .before .before .before .before .before .before .before .before .before .before .before .before .before .before .before in
     owner-missing (now (d .args .w)) (d .args .j) ((server-runs (now (d .args .w)) (d .args .j) (d .pre) _ (c .before .before .before .before .before .before .before .before .before .before .before .before .before .before .within-limit .ensures) (c .before .before .before .before .before .before .before .before .before .before .before .before .before .if1 .left) _ (c .before .before .before .before .before .before .before .before .before .before .before .is-up .ensures) (c .before .before .before .before .before .before .before .before .before .before .if2 .left)) .0) ((server-runs (now (d .args .w)) (d .args .j) (d .pre) _ (c .before .before .before .before .before .before .before .before .before .before .before .before .before .before .within-limit .ensures) (c .before .before .before .before .before .before .before .before .before .before .before .before .before .if1 .left) _ (c .before .before .before .before .before .before .before .before .before .before .before .is-up .ensures) (c .before .before .before .before .before .before .before .before .before .before .if2 .left)) .1) _ (c .before .before .before .before .before .before .before .before .owner-of .ensures) _ (c .before .before .before .before .before .before .owner .given .1) _ (c .before .before .is-living .ensures) (c .before .if3 .left)
 
-same-length-3 : tie.Need-same-length-3
-same-length-3 c = search needs
-
 returns-4 : tie.Need-returns-4
 returns-4 c =
     let d = c .before .before .before .before .before .before .before .before .before .before .before .before in
     miss-nobody (now (d .args .w)) (d .args .j) ((server-runs (now (d .args .w)) (d .args .j) (d .pre) _ (c .before .before .before .before .before .before .before .before .within-limit .ensures) (c .before .before .before .before .before .before .before .if1 .left) _ (c .before .before .before .before .before .is-up .ensures) (c .before .before .before .before .if2 .left)) .0) ((server-runs (now (d .args .w)) (d .args .j) (d .pre) _ (c .before .before .before .before .before .before .before .before .within-limit .ensures) (c .before .before .before .before .before .before .before .if1 .left) _ (c .before .before .before .before .before .is-up .ensures) (c .before .before .before .before .if2 .left)) .1) _ (c .before .before .owner-of .ensures) (c .enum-told .given .1)
 
-same-length-4 : tie.Need-same-length-4
-same-length-4 c = search needs
-
-returns-5 : tie.Need-returns-5
-returns-5 c = search needs
-
 pub miss-spec : {M : Type 1} → statement M
 miss-spec =
     tie.close
     (tie.spec
-    cast-within-limit
+    (λ c. search needs)
     slice-read-within-limit
-    within-limit-requires
+    (λ c κs. search needs)
     returns
     is-up-requires
-    same-length
+    (λ c. search needs)
     returns-2
     owner-of-requires
-    enum-told
-    enum-known-owner
+    (λ c. search needs)
+    (λ c. search needs)
     is-living-requires
-    same-length-2
+    (λ c. search needs)
     returns-3
     suspect-requires
-    same-length-3
+    (λ c. search needs)
     returns-4
-    same-length-4
-    returns-5)
+    (λ c. search needs)
+    (λ c. search needs))

@@ -11,17 +11,11 @@ returns c =
     let a = d .args in
     new-size (a .n) (a .m) (a .f) (a .clients) (now (a .w)) (c .if1 .taken)
 
-in-range-requires : tie.Need-in-range-requires
-in-range-requires c κs = search needs
-
 returns-2 : tie.Need-returns-2
 returns-2 c =
     let d = c .before .before .before .before in
     let a = d .args in
     new-range (a .n) (a .m) (a .f) (a .clients) (now (a .w)) (c .before .before .if1 .left) _ (c .before .in-range .ensures) (c .if2 .taken)
-
-within-limit-requires : tie.Need-within-limit-requires
-within-limit-requires c κs = search needs
 
 returns-3 : tie.Need-returns-3
 returns-3 c =
@@ -35,9 +29,6 @@ start-requires c κs =
     let a = d .args in
     new-asks (a .n) (a .m) (a .f) (a .clients) (now (a .w)) (c .before .before .before .before .before .if1 .left) _ (c .before .before .before .before .in-range .ensures) (c .before .before .before .if2 .left) _ (c .before .before .within-limit .ensures) (c .before .if3 .left)
 
-same-length : tie.Need-same-length
-same-length c = search needs
-
 returns-4 : tie.Need-returns-4
 returns-4 c =
     let d = c .before .before .before .before .before .before .before .before .before .before in
@@ -49,10 +40,10 @@ new-spec =
     tie.close
     (tie.spec
     returns
-    in-range-requires
+    (λ c κs. search needs)
     returns-2
-    within-limit-requires
+    (λ c κs. search needs)
     returns-3
     start-requires
-    same-length
+    (λ c. search needs)
     returns-4)

@@ -17,26 +17,11 @@ server-record-requires c κs =
     let d = c .before .before in
     (server-in (now (d .args .w)) (d .args .j .0) (d .pre .there), record-held (now (d .args .w)) (d .args .j) (d .pre .there))
 
-slice-aggregate-suspect : tie.Need-slice-aggregate-suspect
-slice-aggregate-suspect c = search needs
-
-suspect-requires : tie.Need-suspect-requires
-suspect-requires c κs = search needs
-
-enum-known-answer : tie.Need-enum-known-answer
-enum-known-answer c = search needs
-
-enum-known-answer-2 : tie.Need-enum-known-answer-2
-enum-known-answer-2 c = search needs
-
 has-room-requires : tie.Need-has-room-requires
 has-room-requires c κs =
     let d = c .before .before .before .before .before .before .before .before .before .before in
     let C = suspect-called (now (d .args .w)) (d .args .j) (d .pre .there) (d .pre) _ (c .before .before .before .before .before .before .before .server-record .ensures) _ (replicate 512 0) _ refl (c .before .before .before .before .before .suspect .ensures .0) (c .before .before .before .before .before .suspect .ensures .1) in
     (d .pre .there .valid, zero-le, omega (arith, call-few (C .call) _ _ (c .before .before .answer2 .given .1)))
-
-same-length : tie.Need-same-length
-same-length c = search needs
 
 returns : tie.Need-returns
 returns c =
@@ -49,9 +34,6 @@ put-server-requires c κs =
     let d = c .before .before .before .before .before .before .before .before .before .before .before .before .before in
     let C = suspect-called (now (d .args .w)) (d .args .j) (d .pre .there) (d .pre) _ (c .before .before .before .before .before .before .before .before .before .before .server-record .ensures) _ (replicate 512 0) _ refl (c .before .before .before .before .before .before .before .before .suspect .ensures .0) (c .before .before .before .before .before .before .before .before .suspect .ensures .1) in
     (server-in (now (d .args .w)) (d .args .j .0) (d .pre .there), C .short)
-
-slice-aggregate-send : tie.Need-slice-aggregate-send
-slice-aggregate-send c = search needs
 
 send-requires : tie.Need-send-requires
 send-requires c κs =
@@ -66,17 +48,11 @@ cast-t26 c =
     let C = suspect-called (now (d .args .w)) (d .args .j) (d .pre .there) (d .pre) _ (c .before .before .before .before .before .before .before .before .before .before .before .before .before .before .before .before .before .before .server-record .ensures) _ (replicate 512 0) _ refl (c .before .before .before .before .before .before .before .before .before .before .before .before .before .before .before .before .suspect .ensures .0) (c .before .before .before .before .before .before .before .before .before .before .before .before .before .before .before .before .suspect .ensures .1) in
     record { fits = omega (arith, call-few (C .call) _ _ (c .before .before .before .before .before .before .before .before .before .before .before .before .before .answer2 .given .1)) }
 
-same-length-2 : tie.Need-same-length-2
-same-length-2 c = search needs
-
 returns-2 : tie.Need-returns-2
 returns-2 c =
     let d = c .before .before .before .before .before .before .before .before .before in
     let C = suspect-called (now (d .args .w)) (d .args .j) (d .pre .there) (d .pre) _ (c .before .before .before .before .before .before .server-record .ensures) _ (replicate 512 0) _ refl (c .before .before .before .before .suspect .ensures .0) (c .before .before .before .before .suspect .ensures .1) in
     call-refused (C .call) _ (c .before .answer .given .1)
-
-same-length-3 : tie.Need-same-length-3
-same-length-3 c = search needs
 
 returns-3 : tie.Need-returns-3
 returns-3 c =
@@ -90,18 +66,18 @@ suspect-spec =
     tie.close
     (tie.spec
     server-record-requires
-    slice-aggregate-suspect
-    suspect-requires
-    enum-known-answer
-    enum-known-answer-2
+    (λ c. search needs)
+    (λ c κs. search needs)
+    (λ c. search needs)
+    (λ c. search needs)
     has-room-requires
-    same-length
+    (λ c. search needs)
     returns
     put-server-requires
-    slice-aggregate-send
+    (λ c. search needs)
     send-requires
     cast-t26
-    same-length-2
+    (λ c. search needs)
     returns-2
-    same-length-3
+    (λ c. search needs)
     returns-3)

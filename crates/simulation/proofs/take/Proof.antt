@@ -19,12 +19,6 @@ cast-len c =
     let d = c .before .before in
     record { fits = omega (arith, lent-sized (now (d .args .w)) (d .pre) .few) }
 
-sub-find-pending : tie.Need-sub-find-pending
-sub-find-pending c = search needs
-
-part-find-pending-start : tie.Need-part-find-pending-start
-part-find-pending-start c = search needs
-
 part-find-pending-end : tie.Need-part-find-pending-end
 part-find-pending-end c =
     let d = c .before .before .before in
@@ -35,19 +29,10 @@ find-pending-requires c κs =
     let d = c .before .before .before .before in
     lent-sized (now (d .args .w)) (d .pre)
 
-same-length : tie.Need-same-length
-same-length c = search needs
-
 returns : tie.Need-returns
 returns c =
     let d = c .before .before .before .before .before .before in
     take-nothing (now (d .args .w)) (d .args .number) (d .pre) _ (c .before .find-pending .ensures) (c .if1 .taken)
-
-sub-message-at : tie.Need-sub-message-at
-sub-message-at c = search needs
-
-part-message-at-start : tie.Need-part-message-at-start
-part-message-at-start c = search needs
 
 part-message-at-end : tie.Need-part-message-at-end
 part-message-at-end c =
@@ -62,9 +47,6 @@ message-at-requires c κs =
 deliver-requires : tie.Need-deliver-requires
 deliver-requires c κs = take-pends (now (c .before .before .before .before .before .before .before .before .before .before .args .w)) (c .before .before .before .before .before .before .before .before .before .before .args .number) (c .before .before .before .before .before .before .before .before .before .before .pre) _ (c .before .before .before .before .before .find-pending .ensures) (c .before .before .before .before .if1 .left) _ (c .before .message-at .ensures) _ refl
 
-same-length-2 : tie.Need-same-length-2
-same-length-2 c = search needs
-
 returns-2 : tie.Need-returns-2
 returns-2 c = take-leaves (now (c .before .before .before .before .before .before .before .before .before .before .before .before .before .args .w)) (c .before .before .before .before .before .before .before .before .before .before .before .before .before .args .number) (c .before .before .before .before .before .before .before .before .before .before .before .before .before .pre) _ (c .before .before .before .before .before .before .before .before .find-pending .ensures) (c .before .before .before .before .before .before .before .if1 .left) _ _ (c .before .before .deliver .ensures)
 
@@ -74,16 +56,16 @@ take-spec =
     (tie.spec
     slice-read-len
     cast-len
-    sub-find-pending
-    part-find-pending-start
+    (λ c. search needs)
+    (λ c. search needs)
     part-find-pending-end
     find-pending-requires
-    same-length
+    (λ c. search needs)
     returns
-    sub-message-at
-    part-message-at-start
+    (λ c. search needs)
+    (λ c. search needs)
     part-message-at-end
     message-at-requires
     deliver-requires
-    same-length-2
+    (λ c. search needs)
     returns-2)

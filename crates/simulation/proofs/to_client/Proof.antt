@@ -16,9 +16,6 @@ is-living-requires c κs =
     let d = c .before .before in
     client-in (now (d .args .w)) (d .args .k .0) (response-client (now (d .args .w)) (d .args .i) (d .args .k) (d .args .j) (d .args .o) (d .pre))
 
-same-length : tie.Need-same-length
-same-length c = search needs
-
 returns : tie.Need-returns
 returns c =
     let d = c .before .before .before .before in
@@ -29,28 +26,16 @@ client-record-requires c κs =
     let d = c .before .before .before .before .before in
     (client-in (now (d .args .w)) (d .args .k .0) (response-client (now (d .args .w)) (d .args .i) (d .args .k) (d .args .j) (d .args .o) (d .pre)), client-held (now (d .args .w)) (d .args .k) (response-client (now (d .args .w)) (d .args .i) (d .args .k) (d .args .j) (d .args .o) (d .pre)))
 
-slice-aggregate-respond : tie.Need-slice-aggregate-respond
-slice-aggregate-respond c = search needs
-
 respond-requires : tie.Need-respond-requires
 respond-requires c κs =
     let d = c .before .before .before .before .before .before .before in
     respond-asks (now (d .args .w)) (d .args .i) (d .args .k) (d .args .j) (d .args .o) (d .pre) _ (c .before .client-record .ensures)
-
-enum-known-answer : tie.Need-enum-known-answer
-enum-known-answer c = search needs
-
-enum-known-answer-2 : tie.Need-enum-known-answer-2
-enum-known-answer-2 c = search needs
 
 has-room-requires : tie.Need-has-room-requires
 has-room-requires c κs =
     let d = c .before .before .before .before .before .before .before .before .before .before .before .before .before in
     let C = respond-called (now (d .args .w)) (d .args .i) (d .args .k) (d .args .j) (d .args .o) (d .pre) (taker-lives (now (d .args .w)) (d .args .i) (d .args .k) _ (c .before .before .before .before .before .before .before .before .before .before .is-living .ensures) (response-client (now (d .args .w)) (d .args .i) (d .args .k) (d .args .j) (d .args .o) (d .pre)) (c .before .before .before .before .before .before .before .before .before .if1 .left)) _ (c .before .before .before .before .before .before .before .client-record .ensures) _ (replicate 512 0) _ refl (c .before .before .before .before .before .respond .ensures .0) (c .before .before .before .before .before .respond .ensures .1) in
     (d .pre .slot .valid, omega (arith, d .pre .slot .used), omega (arith, call-few (C .call) _ _ (c .before .before .answer2 .given .1)))
-
-same-length-2 : tie.Need-same-length-2
-same-length-2 c = search needs
 
 returns-2 : tie.Need-returns-2
 returns-2 c =
@@ -68,9 +53,6 @@ put-client-requires c κs =
     let d = c .before .before .before .before .before .before .before .before .before .before .before .before .before .before .before .before .before .before .before .before in
     client-in _ (d .args .k .0) (still-client (c .before .before .before .remove-message .ensures) (response-client (now (d .args .w)) (d .args .i) (d .args .k) (d .args .j) (d .args .o) (d .pre)))
 
-slice-aggregate-send : tie.Need-slice-aggregate-send
-slice-aggregate-send c = search needs
-
 send-requires : tie.Need-send-requires
 send-requires c κs =
     let d = c .before .before .before .before .before .before .before .before .before .before .before .before .before .before .before .before .before .before .before .before .before .before .before .before .before in
@@ -84,17 +66,11 @@ cast-t36 c =
     let C = respond-called (now (d .args .w)) (d .args .i) (d .args .k) (d .args .j) (d .args .o) (d .pre) (taker-lives (now (d .args .w)) (d .args .i) (d .args .k) _ (c .before .before .before .before .before .before .before .before .before .before .before .before .before .before .before .before .before .before .before .before .before .before .before .before .before .is-living .ensures) (response-client (now (d .args .w)) (d .args .i) (d .args .k) (d .args .j) (d .args .o) (d .pre)) (c .before .before .before .before .before .before .before .before .before .before .before .before .before .before .before .before .before .before .before .before .before .before .before .before .if1 .left)) _ (c .before .before .before .before .before .before .before .before .before .before .before .before .before .before .before .before .before .before .before .before .before .before .client-record .ensures) _ (replicate 512 0) _ refl (c .before .before .before .before .before .before .before .before .before .before .before .before .before .before .before .before .before .before .before .before .respond .ensures .0) (c .before .before .before .before .before .before .before .before .before .before .before .before .before .before .before .before .before .before .before .before .respond .ensures .1) in
     record { fits = omega (arith, call-few (C .call) _ _ (c .before .before .before .before .before .before .before .before .before .before .before .before .before .before .before .before .before .answer2 .given .1)) }
 
-same-length-3 : tie.Need-same-length-3
-same-length-3 c = search needs
-
 returns-3 : tie.Need-returns-3
 returns-3 c =
     let d = c .before .before .before .before .before .before .before .before .before .before .before .before in
     let C = respond-called (now (d .args .w)) (d .args .i) (d .args .k) (d .args .j) (d .args .o) (d .pre) (taker-lives (now (d .args .w)) (d .args .i) (d .args .k) _ (c .before .before .before .before .before .before .before .before .before .is-living .ensures) (response-client (now (d .args .w)) (d .args .i) (d .args .k) (d .args .j) (d .args .o) (d .pre)) (c .before .before .before .before .before .before .before .before .if1 .left)) _ (c .before .before .before .before .before .before .client-record .ensures) _ (replicate 512 0) _ refl (c .before .before .before .before .respond .ensures .0) (c .before .before .before .before .respond .ensures .1) in
     call-refused (C .call) _ (c .before .answer .given .1)
-
-same-length-4 : tie.Need-same-length-4
-same-length-4 c = search needs
 
 returns-4 : tie.Need-returns-4
 returns-4 c =
@@ -108,22 +84,22 @@ to-client-spec =
     tie.close
     (tie.spec
     is-living-requires
-    same-length
+    (λ c. search needs)
     returns
     client-record-requires
-    slice-aggregate-respond
+    (λ c. search needs)
     respond-requires
-    enum-known-answer
-    enum-known-answer-2
+    (λ c. search needs)
+    (λ c. search needs)
     has-room-requires
-    same-length-2
+    (λ c. search needs)
     returns-2
     remove-message-requires
     put-client-requires
-    slice-aggregate-send
+    (λ c. search needs)
     send-requires
     cast-t36
-    same-length-3
+    (λ c. search needs)
     returns-3
-    same-length-4
+    (λ c. search needs)
     returns-4)

@@ -18,9 +18,6 @@ is-up-requires c κs =
     let d = c .before .before in
     server-in (now (d .args .w)) (d .args .j .0) (taking-server (now (d .args .w)) (d .args .i) (d .args .tag) (d .args .k) (d .args .j) (d .args .t) (d .pre))
 
-same-length : tie.Need-same-length
-same-length c = search needs
-
 returns : tie.Need-returns
 returns c =
     let d = c .before .before .before .before in
@@ -31,28 +28,16 @@ server-record-requires c κs =
     let d = c .before .before .before .before .before in
     (server-in (now (d .args .w)) (d .args .j .0) (taking-server (now (d .args .w)) (d .args .i) (d .args .tag) (d .args .k) (d .args .j) (d .args .t) (d .pre)), record-held (now (d .args .w)) (d .args .j) (taking-server (now (d .args .w)) (d .args .i) (d .args .tag) (d .args .k) (d .args .j) (d .args .t) (d .pre)))
 
-slice-aggregate-take : tie.Need-slice-aggregate-take
-slice-aggregate-take c = search needs
-
 take-requires : tie.Need-take-requires
 take-requires c κs =
     let d = c .before .before .before .before .before .before .before in
     taking-padded (now (d .args .w)) (d .args .i) (d .args .tag) (d .args .k) (d .args .j) (d .args .t) (d .pre) _ (c .before .server-record .ensures)
-
-enum-known-answer : tie.Need-enum-known-answer
-enum-known-answer c = search needs
-
-enum-known-answer-2 : tie.Need-enum-known-answer-2
-enum-known-answer-2 c = search needs
 
 has-room-requires : tie.Need-has-room-requires
 has-room-requires c κs =
     let d = c .before .before .before .before .before .before .before .before .before .before .before .before .before in
     let C = take-called (now (d .args .w)) (d .args .i) (d .args .tag) (d .args .k) (d .args .j) (d .args .t) (d .pre) (taking-up (now (d .args .w)) (d .args .i) (d .args .tag) (d .args .k) (d .args .j) (d .args .t) (d .pre) _ (c .before .before .before .before .before .before .before .before .before .before .is-up .ensures) (c .before .before .before .before .before .before .before .before .before .if1 .left)) _ (c .before .before .before .before .before .before .before .server-record .ensures) _ (replicate 512 0) _ refl (c .before .before .before .before .before .take .ensures .0) (c .before .before .before .before .before .take .ensures .1) in
     (d .pre .slot .valid, zero-le, omega (arith, call-few (C .call) _ _ (c .before .before .answer2 .given .1)))
-
-same-length-2 : tie.Need-same-length-2
-same-length-2 c = search needs
 
 returns-2 : tie.Need-returns-2
 returns-2 c =
@@ -71,9 +56,6 @@ put-server-requires c κs =
     let C = take-called (now (d .args .w)) (d .args .i) (d .args .tag) (d .args .k) (d .args .j) (d .args .t) (d .pre) (taking-up (now (d .args .w)) (d .args .i) (d .args .tag) (d .args .k) (d .args .j) (d .args .t) (d .pre) _ (c .before .before .before .before .before .before .before .before .before .before .before .before .before .before .before .before .before .is-up .ensures) (c .before .before .before .before .before .before .before .before .before .before .before .before .before .before .before .before .if1 .left)) _ (c .before .before .before .before .before .before .before .before .before .before .before .before .before .before .server-record .ensures) _ (replicate 512 0) _ refl (c .before .before .before .before .before .before .before .before .before .before .before .before .take .ensures .0) (c .before .before .before .before .before .before .before .before .before .before .before .before .take .ensures .1) in
     (server-in _ (d .args .j .0) (still-server (c .before .before .before .mark-message .ensures) (taking-server (now (d .args .w)) (d .args .i) (d .args .tag) (d .args .k) (d .args .j) (d .args .t) (d .pre))), C .short)
 
-slice-aggregate-send : tie.Need-slice-aggregate-send
-slice-aggregate-send c = search needs
-
 send-requires : tie.Need-send-requires
 send-requires c κs =
     let d = c .before .before .before .before .before .before .before .before .before .before .before .before .before .before .before .before .before .before .before .before .before .before .before .before .before in
@@ -87,17 +69,11 @@ cast-t37 c =
     let C = take-called (now (d .args .w)) (d .args .i) (d .args .tag) (d .args .k) (d .args .j) (d .args .t) (d .pre) (taking-up (now (d .args .w)) (d .args .i) (d .args .tag) (d .args .k) (d .args .j) (d .args .t) (d .pre) _ (c .before .before .before .before .before .before .before .before .before .before .before .before .before .before .before .before .before .before .before .before .before .before .before .before .before .is-up .ensures) (c .before .before .before .before .before .before .before .before .before .before .before .before .before .before .before .before .before .before .before .before .before .before .before .before .if1 .left)) _ (c .before .before .before .before .before .before .before .before .before .before .before .before .before .before .before .before .before .before .before .before .before .before .server-record .ensures) _ (replicate 512 0) _ refl (c .before .before .before .before .before .before .before .before .before .before .before .before .before .before .before .before .before .before .before .before .take .ensures .0) (c .before .before .before .before .before .before .before .before .before .before .before .before .before .before .before .before .before .before .before .before .take .ensures .1) in
     record { fits = omega (arith, call-few (C .call) _ _ (c .before .before .before .before .before .before .before .before .before .before .before .before .before .before .before .before .before .answer2 .given .1)) }
 
-same-length-3 : tie.Need-same-length-3
-same-length-3 c = search needs
-
 returns-3 : tie.Need-returns-3
 returns-3 c =
     let d = c .before .before .before .before .before .before .before .before .before .before .before .before in
     let C = take-called (now (d .args .w)) (d .args .i) (d .args .tag) (d .args .k) (d .args .j) (d .args .t) (d .pre) (taking-up (now (d .args .w)) (d .args .i) (d .args .tag) (d .args .k) (d .args .j) (d .args .t) (d .pre) _ (c .before .before .before .before .before .before .before .before .before .is-up .ensures) (c .before .before .before .before .before .before .before .before .if1 .left)) _ (c .before .before .before .before .before .before .server-record .ensures) _ (replicate 512 0) _ refl (c .before .before .before .before .take .ensures .0) (c .before .before .before .before .take .ensures .1) in
     call-refused (C .call) _ (c .before .answer .given .1)
-
-same-length-4 : tie.Need-same-length-4
-same-length-4 c = search needs
 
 returns-4 : tie.Need-returns-4
 returns-4 c =
@@ -111,22 +87,22 @@ to-server-spec =
     tie.close
     (tie.spec
     is-up-requires
-    same-length
+    (λ c. search needs)
     returns
     server-record-requires
-    slice-aggregate-take
+    (λ c. search needs)
     take-requires
-    enum-known-answer
-    enum-known-answer-2
+    (λ c. search needs)
+    (λ c. search needs)
     has-room-requires
-    same-length-2
+    (λ c. search needs)
     returns-2
     mark-message-requires
     put-server-requires
-    slice-aggregate-send
+    (λ c. search needs)
     send-requires
     cast-t37
-    same-length-3
+    (λ c. search needs)
     returns-3
-    same-length-4
+    (λ c. search needs)
     returns-4)

@@ -7,16 +7,10 @@ use borrow.Author.Needs.{needs}
 use Rattle.simulation.proofs.try_enter.Statement.{statement}
 use Rattle.simulation.proofs.try_enter.Tie as tie
 
-cast-within-limit : tie.Need-cast-within-limit
-cast-within-limit c = search needs
-
 slice-read-within-limit : tie.Need-slice-read-within-limit
 slice-read-within-limit c =
     let d = c .before .before .before in
     omega (arith, words-long (now (d .args .w)) (d .pre))
-
-within-limit-requires : tie.Need-within-limit-requires
-within-limit-requires c κs = search needs
 
 returns : tie.Need-returns
 returns c =
@@ -28,9 +22,6 @@ is-living-requires c κs =
     let d = c .before .before .before .before .before .before in
     client-in (now (d .args .w)) (d .args .k .0) (client-found (now (d .args .w)) (d .pre) (d .args .k .0) _ (c .before .before .within-limit .ensures) (c .before .if1 .left))
 
-same-length : tie.Need-same-length
-same-length c = search needs
-
 returns-2 : tie.Need-returns-2
 returns-2 c =
     let d = c .before .before .before .before .before .before .before .before in
@@ -41,23 +32,17 @@ begin-requires c κs =
     let d = c .before .before .before .before .before .before .before .before .before in
     client-lives (now (d .args .w)) (d .args .k) (d .pre) _ (c .before .before .before .before .before .within-limit .ensures) (c .before .before .before .before .if1 .left) _ (c .before .before .is-living .ensures) (c .before .if2 .left)
 
-same-length-2 : tie.Need-same-length-2
-same-length-2 c = search needs
-
-returns-3 : tie.Need-returns-3
-returns-3 c = search needs
-
 pub try-enter-spec : {M : Type 1} → statement M
 try-enter-spec =
     tie.close
     (tie.spec
-    cast-within-limit
+    (λ c. search needs)
     slice-read-within-limit
-    within-limit-requires
+    (λ c κs. search needs)
     returns
     is-living-requires
-    same-length
+    (λ c. search needs)
     returns-2
     begin-requires
-    same-length-2
-    returns-3)
+    (λ c. search needs)
+    (λ c. search needs))

@@ -15,29 +15,11 @@ abbrev μ-loop : tie.MeasureT-loop
 loop-holds : tie.Need-loop-holds Inv-loop μ-loop
 loop-holds c = moving-none _ _ _ (c .pre)
 
-add-w : tie.Need-add-w Inv-loop μ-loop
-add-w c = search needs
-
-add-w-2 : tie.Need-add-w-2 Inv-loop μ-loop
-add-w-2 c = search needs
-
-mul-w : tie.Need-mul-w Inv-loop μ-loop
-mul-w c = search needs
-
 slice-read-w : tie.Need-slice-read-w Inv-loop μ-loop
 slice-read-w c = omega (arith, c .before .before .loop .inv .size, c .before .before .loop .inv .room)
 
-add-t : tie.Need-add-t Inv-loop μ-loop
-add-t c = search needs
-
-mul-t : tie.Need-mul-t Inv-loop μ-loop
-mul-t c = search needs
-
 slice-write-t : tie.Need-slice-write-t Inv-loop μ-loop
 slice-write-t c = omega (arith, c .before .before .loop .inv .size, c .before .before .loop .inv .room)
-
-add-i : tie.Need-add-i Inv-loop μ-loop
-add-i c = search needs
 
 loop-less : tie.Need-loop-less Inv-loop μ-loop
 loop-less c = omega arith
@@ -58,14 +40,14 @@ move-up-spec =
     Inv-loop
     μ-loop
     loop-holds
-    add-w
-    add-w-2
-    mul-w
+    (λ c. search needs)
+    (λ c. search needs)
+    (λ c. search needs)
     slice-read-w
-    add-t
-    mul-t
+    (λ c. search needs)
+    (λ c. search needs)
     slice-write-t
-    add-i
+    (λ c. search needs)
     loop-less
     loop-again
     same-length

@@ -15,20 +15,8 @@ abbrev μ-loop : tie.MeasureT-loop
 loop-holds : tie.Need-loop-holds Inv-loop μ-loop
 loop-holds c = posting-none _ _ _ _ _ (c .before .before .pre .0) (c .before .before .pre .2)
 
-add-number : tie.Need-add-number Inv-loop μ-loop
-add-number c = search needs
-
-add-post-one : tie.Need-add-post-one Inv-loop μ-loop
-add-post-one c = search needs
-
-mul-post-one : tie.Need-mul-post-one Inv-loop μ-loop
-mul-post-one c = search needs
-
 post-one-requires : tie.Need-post-one-requires Inv-loop μ-loop
 post-one-requires c κs = (omega (arith, c .before .before .loop .inv .size, c .before .before .loop .inv .room .size, c .before .before .loop .inv .room .few), c .before .before .loop .inv .inside)
-
-add-i : tie.Need-add-i Inv-loop μ-loop
-add-i c = search needs
 
 loop-less : tie.Need-loop-less Inv-loop μ-loop
 loop-less c = omega arith
@@ -49,11 +37,11 @@ post-spec =
     Inv-loop
     μ-loop
     loop-holds
-    add-number
-    add-post-one
-    mul-post-one
+    (λ c. search needs)
+    (λ c. search needs)
+    (λ c. search needs)
     post-one-requires
-    add-i
+    (λ c. search needs)
     loop-less
     loop-again
     same-length

@@ -15,17 +15,11 @@ abbrev μ-loop : tie.MeasureT-loop
 loop-holds : tie.Need-loop-holds Inv-loop μ-loop
 loop-holds c = searching-none _ _ _ (c .pre)
 
-sub-middle : tie.Need-sub-middle Inv-loop μ-loop
-sub-middle c = search needs
-
 add-middle : tie.Need-add-middle Inv-loop μ-loop
 add-middle c = omega (arith, c .before .loop .inv .within, c .before .loop .inv .few)
 
 mul-if1 : tie.Need-mul-if1 Inv-loop μ-loop
 mul-if1 c = omega (arith, c .before .loop .inv .within, c .before .loop .inv .few)
-
-mul-if1-2 : tie.Need-mul-if1-2 Inv-loop μ-loop
-mul-if1-2 c = search needs
 
 shared-slice-read-if1 : tie.Need-shared-slice-read-if1 Inv-loop μ-loop
 shared-slice-read-if1 c = omega (arith, c .before .before .loop .inv .within, c .before .before .loop .inv .few, c .before .before .loop .inv .size)
@@ -55,10 +49,10 @@ search-spec =
     Inv-loop
     μ-loop
     loop-holds
-    sub-middle
+    (λ c. search needs)
     add-middle
     mul-if1
-    mul-if1-2
+    (λ c. search needs)
     shared-slice-read-if1
     add-low
     loop-less

@@ -21,9 +21,6 @@ slot-valid-requires c κs = (c .before .before .before .pre .size, omega (arith,
 returns : tie.Need-returns Inv-loop μ-loop
 returns c = tested-failed _ _ _ _ _ (c .before .before .before .loop .inv) _ (c .before .slot-valid .ensures) (c .before .before .loop-test .taken) (c .if1 .taken)
 
-add-i : tie.Need-add-i Inv-loop μ-loop
-add-i c = search needs
-
 loop-less : tie.Need-loop-less Inv-loop μ-loop
 loop-less c = omega arith
 
@@ -42,7 +39,7 @@ slots-valid-spec =
     loop-holds
     slot-valid-requires
     returns
-    add-i
+    (λ c. search needs)
     loop-less
     loop-again
     returns-2)

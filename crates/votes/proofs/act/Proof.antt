@@ -4,30 +4,6 @@ use borrow.Author.Needs.{needs}
 use Rattle.votes.proofs.act.Statement.{statement}
 use Rattle.votes.proofs.act.Tie as tie
 
-enum-told : tie.Need-enum-told
-enum-told c = search needs
-
-act-request-requires : tie.Need-act-request-requires
-act-request-requires c κs = search needs
-
-enum-told-2 : tie.Need-enum-told-2
-enum-told-2 c = search needs
-
-act-yield-requires : tie.Need-act-yield-requires
-act-yield-requires c κs = search needs
-
-enum-told-3 : tie.Need-enum-told-3
-enum-told-3 c = search needs
-
-delete-requires : tie.Need-delete-requires
-delete-requires c κs = search needs
-
-enum-told-4 : tie.Need-enum-told-4
-enum-told-4 c = search needs
-
-act-inquiry-requires : tie.Need-act-inquiry-requires
-act-inquiry-requires c κs = search needs
-
 returns : tie.Need-returns
 returns c = acts-one _ _ _ _ _ _ (c .before .enum-told .given .1) (c .act-request .ensures)
 
@@ -44,14 +20,14 @@ pub act-spec : {M : Type 1} → statement M
 act-spec =
     tie.close
     (tie.spec
-    enum-told
-    act-request-requires
-    enum-told-2
-    act-yield-requires
-    enum-told-3
-    delete-requires
-    enum-told-4
-    act-inquiry-requires
+    (λ c. search needs)
+    (λ c κs. search needs)
+    (λ c. search needs)
+    (λ c κs. search needs)
+    (λ c. search needs)
+    (λ c κs. search needs)
+    (λ c. search needs)
+    (λ c κs. search needs)
     returns
     returns-2
     returns-3

@@ -4,21 +4,6 @@ use borrow.Author.Needs.{needs}
 use Rattle.votes.proofs.act_inquiry.Statement.{statement}
 use Rattle.votes.proofs.act_inquiry.Tie as tie
 
-enum-told : tie.Need-enum-told
-enum-told c = search needs
-
-still-requires : tie.Need-still-requires
-still-requires c κs = search needs
-
-enum-told-2 : tie.Need-enum-told-2
-enum-told-2 c = search needs
-
-still-requires-2 : tie.Need-still-requires-2
-still-requires-2 c κs = search needs
-
-followed-requires : tie.Need-followed-requires
-followed-requires c κs = search needs
-
 returns : tie.Need-returns
 returns c = inquires-nobody (c .before .before .before .before .args .v) (c .before .before .before .before .pre) _ (c .before .before .before .before .args .r) _ (c .before .enum-told .given .1) (c .still .ensures)
 
@@ -29,10 +14,10 @@ pub act-inquiry-spec : {M : Type 1} → statement M
 act-inquiry-spec =
     tie.close
     (tie.spec
-    enum-told
-    still-requires
-    enum-told-2
-    still-requires-2
-    followed-requires
+    (λ c. search needs)
+    (λ c κs. search needs)
+    (λ c. search needs)
+    (λ c κs. search needs)
+    (λ c κs. search needs)
     returns
     returns-2)

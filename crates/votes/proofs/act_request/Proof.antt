@@ -4,26 +4,8 @@ use borrow.Author.Needs.{needs}
 use Rattle.votes.proofs.act_request.Statement.{statement}
 use Rattle.votes.proofs.act_request.Tie as tie
 
-names-requires : tie.Need-names-requires
-names-requires c κs = search needs
-
-still-requires : tie.Need-still-requires
-still-requires c κs = search needs
-
 returns : tie.Need-returns
 returns c = requests-again (c .before .before .before .before .args .v) (c .before .before .before .before .pre) _ (c .before .before .before .before .args .r) _ (c .before .before .names .ensures) _ (c .before .if1 .taken) (c .still .ensures)
-
-enum-told : tie.Need-enum-told
-enum-told c = search needs
-
-lead-requires : tie.Need-lead-requires
-lead-requires c κs = search needs
-
-enum-told-2 : tie.Need-enum-told-2
-enum-told-2 c = search needs
-
-join-requires : tie.Need-join-requires
-join-requires c κs = search needs
 
 returns-2 : tie.Need-returns-2
 returns-2 c = requests-first (c .before .before .before .before .before .before .args .v) (c .before .before .before .before .before .before .pre) _ (c .before .before .before .before .before .before .args .r) _ (c .before .before .before .before .names .ensures) _ (c .before .enum-told .given .1) (c .lead .ensures)
@@ -35,12 +17,12 @@ pub act-request-spec : {M : Type 1} → statement M
 act-request-spec =
     tie.close
     (tie.spec
-    names-requires
-    still-requires
+    (λ c κs. search needs)
+    (λ c κs. search needs)
     returns
-    enum-told
-    lead-requires
-    enum-told-2
-    join-requires
+    (λ c. search needs)
+    (λ c κs. search needs)
+    (λ c. search needs)
+    (λ c κs. search needs)
     returns-2
     returns-3)

@@ -4,23 +4,8 @@ use borrow.Author.Needs.{needs}
 use Rattle.votes.proofs.act_yield.Statement.{statement}
 use Rattle.votes.proofs.act_yield.Tie as tie
 
-owns-requires : tie.Need-owns-requires
-owns-requires c κs = search needs
-
-rotate-requires : tie.Need-rotate-requires
-rotate-requires c κs = search needs
-
-followed-requires : tie.Need-followed-requires
-followed-requires c κs = search needs
-
 returns : tie.Need-returns
 returns c = yields _ (c .before .before .before .before .before .args .r) (c .before .before .before .before .before .args .v) (c .before .before .before .before .before .pre) _ (c .before .before .before .owns .ensures) _ _ (c .before .before .if1 .taken) (c .before .rotate .ensures) (c .followed .ensures)
-
-still-requires : tie.Need-still-requires
-still-requires c κs = search needs
-
-followed-requires-2 : tie.Need-followed-requires-2
-followed-requires-2 c κs = search needs
 
 returns-2 : tie.Need-returns-2
 returns-2 c = yields-not _ (c .before .before .before .before .before .args .r) (c .before .before .before .before .before .args .v) (c .before .before .before .before .before .pre) _ (c .before .before .before .owns .ensures) _ _ (c .before .before .if1 .left) (c .before .still .ensures) (c .followed2 .ensures)
@@ -29,10 +14,10 @@ pub act-yield-spec : {M : Type 1} → statement M
 act-yield-spec =
     tie.close
     (tie.spec
-    owns-requires
-    rotate-requires
-    followed-requires
+    (λ c κs. search needs)
+    (λ c κs. search needs)
+    (λ c κs. search needs)
     returns
-    still-requires
-    followed-requires-2
+    (λ c κs. search needs)
+    (λ c κs. search needs)
     returns-2)

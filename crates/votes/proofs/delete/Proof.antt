@@ -4,20 +4,8 @@ use borrow.Author.Needs.{needs}
 use Rattle.votes.proofs.delete.Statement.{statement}
 use Rattle.votes.proofs.delete.Tie as tie
 
-owns-requires : tie.Need-owns-requires
-owns-requires c κs = search needs
-
-promote-requires : tie.Need-promote-requires
-promote-requires c κs = search needs
-
 returns : tie.Need-returns
 returns c = deleted-owner _ _ (c .before .before .before .args .v) (c .before .before .before .pre) _ (c .before .before .owns .ensures) _ (c .before .if1 .taken) (c .promote .ensures)
-
-remove-request-requires : tie.Need-remove-request-requires
-remove-request-requires c κs = search needs
-
-still-requires : tie.Need-still-requires
-still-requires c κs = search needs
 
 returns-2 : tie.Need-returns-2
 returns-2 c = deleted-waiting _ _ (c .before .before .before .before .args .v) (c .before .before .before .before .pre) _ (c .before .before .before .owns .ensures) _ _ (c .before .before .if1 .left) (c .before .remove-request .ensures) (c .still .ensures)
@@ -26,9 +14,9 @@ pub delete-spec : {M : Type 1} → statement M
 delete-spec =
     tie.close
     (tie.spec
-    owns-requires
-    promote-requires
+    (λ c κs. search needs)
+    (λ c κs. search needs)
     returns
-    remove-request-requires
-    still-requires
+    (λ c κs. search needs)
+    (λ c κs. search needs)
     returns-2)

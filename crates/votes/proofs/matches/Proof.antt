@@ -3,21 +3,6 @@ use borrow.Author.Needs.{needs}
 use Rattle.votes.proofs.matches.Statement.{statement}
 use Rattle.votes.proofs.matches.Tie as tie
 
-enum-told : tie.Need-enum-told
-enum-told c = search needs
-
-enum-told-2 : tie.Need-enum-told-2
-enum-told-2 c = search needs
-
-same-request-requires : tie.Need-same-request-requires
-same-request-requires c κs = search needs
-
-enum-told-3 : tie.Need-enum-told-3
-enum-told-3 c = search needs
-
-precedes-requires : tie.Need-precedes-requires
-precedes-requires c κs = search needs
-
 returns : tie.Need-returns
 returns c = rw (c .before .before .enum-told .given .1)
 
@@ -31,11 +16,11 @@ pub matches-spec : {M : Type 1} → statement M
 matches-spec =
     tie.close
     (tie.spec
-    enum-told
-    enum-told-2
-    same-request-requires
-    enum-told-3
-    precedes-requires
+    (λ c. search needs)
+    (λ c. search needs)
+    (λ c κs. search needs)
+    (λ c. search needs)
+    (λ c κs. search needs)
     returns
     returns-2
     returns-3)

@@ -5,32 +5,14 @@ use borrow.Author.Needs.{needs}
 use Rattle.votes.proofs.rotate.Statement.{statement}
 use Rattle.votes.proofs.rotate.Tie as tie
 
-lead-requires : tie.Need-lead-requires
-lead-requires c κs = search needs
-
 returns : tie.Need-returns
 returns c = rotated-alone _ (c .before .before .before .pre) _ _ _ (c .before .if1 .taken) (c .lead .ensures)
-
-array-copy-out-head : tie.Need-array-copy-out-head
-array-copy-out-head c = search needs
-
-precedes-requires : tie.Need-precedes-requires
-precedes-requires c κs = search needs
-
-lead-requires-2 : tie.Need-lead-requires-2
-lead-requires-2 c κs = search needs
 
 returns-2 : tie.Need-returns-2
 returns-2 c = rotated-first _ (c .before .before .before .before .before .before .before .pre) _ _ _ (c .before .before .before .before .before .if1 .left) refl _ _ (c .before .before .precedes .ensures) (c .before .if2 .taken) (c .lead2 .ensures)
 
-remove-at-requires : tie.Need-remove-at-requires
-remove-at-requires c κs = search needs
-
 insert-request-requires : tie.Need-insert-request-requires
 insert-request-requires c κs = tail-padded _ (c .before .before .before .before .before .before .before .pre) _ (c .remove-at .ensures)
-
-lead-requires-3 : tie.Need-lead-requires-3
-lead-requires-3 c κs = search needs
 
 returns-3 : tie.Need-returns-3
 returns-3 c = rotated-behind _ (c .before .before .before .before .before .before .before .before .before .pre) _ _ _ (c .before .before .before .before .before .before .before .if1 .left) refl _ _ _ _ (c .before .before .before .before .precedes .ensures) (c .before .before .before .if2 .left) (c .before .before .remove-at .ensures) (c .before .insert-request .ensures) (c .lead3 .ensures)
@@ -39,13 +21,13 @@ pub rotate-spec : {M : Type 1} → statement M
 rotate-spec =
     tie.close
     (tie.spec
-    lead-requires
+    (λ c κs. search needs)
     returns
-    array-copy-out-head
-    precedes-requires
-    lead-requires-2
+    (λ c. search needs)
+    (λ c κs. search needs)
+    (λ c κs. search needs)
     returns-2
-    remove-at-requires
+    (λ c κs. search needs)
     insert-request-requires
-    lead-requires-3
+    (λ c κs. search needs)
     returns-3)

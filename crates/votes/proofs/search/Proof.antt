@@ -15,31 +15,13 @@ Inv-loop wanted r from places len i₀ i = (length places ≡ 16) × ((len ≤ 1
 abbrev μ-loop : tie.MeasureT-loop
 μ-loop wanted r from places len i₀ i = len - i
 
-sized-requires : tie.Need-sized-requires Inv-loop μ-loop
-sized-requires c κs = search needs
-
 loop-holds : tie.Need-loop-holds Inv-loop μ-loop
 loop-holds c = (c .before .sized .ensures, (c .before .before .pre .1, look-start _ _ _ _ (c .before .sized .ensures) (c .before .before .pre .1) (c .before .before .pre .0)))
-
-mul-matches : tie.Need-mul-matches Inv-loop μ-loop
-mul-matches c = search needs
-
-array-copy-out-matches : tie.Need-array-copy-out-matches Inv-loop μ-loop
-array-copy-out-matches c = search needs
-
-matches-requires : tie.Need-matches-requires Inv-loop μ-loop
-matches-requires c κs = search needs
 
 returns : tie.Need-returns Inv-loop μ-loop
 returns c =
     let v = c .before .before .before .before .loop .inv in
     look-found _ _ _ _ (v .0) (v .1 .0) _ _ (c .before .before .before .loop-test .taken) (c .before .matches .ensures) (v .1 .1) (c .if1 .taken)
-
-add-i : tie.Need-add-i Inv-loop μ-loop
-add-i c = search needs
-
-loop-less : tie.Need-loop-less Inv-loop μ-loop
-loop-less c = search needs
 
 loop-again : tie.Need-loop-again Inv-loop μ-loop
 loop-again c =
@@ -57,13 +39,13 @@ search-spec =
     (tie.spec
     Inv-loop
     μ-loop
-    sized-requires
+    (λ c κs. search needs)
     loop-holds
-    mul-matches
-    array-copy-out-matches
-    matches-requires
+    (λ c. search needs)
+    (λ c. search needs)
+    (λ c κs. search needs)
     returns
-    add-i
-    loop-less
+    (λ c. search needs)
+    (λ c. search needs)
     loop-again
     returns-2)

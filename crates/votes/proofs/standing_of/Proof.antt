@@ -4,20 +4,8 @@ use borrow.Author.Needs.{needs}
 use Rattle.votes.proofs.standing_of.Statement.{statement}
 use Rattle.votes.proofs.standing_of.Tie as tie
 
-enum-told : tie.Need-enum-told
-enum-told c = search needs
-
-waiting-requires : tie.Need-waiting-requires
-waiting-requires c κs = search needs
-
-enum-known-o : tie.Need-enum-known-o
-enum-known-o c = search needs
-
 returns : tie.Need-returns
 returns c = stands-as-owner _ (c .before .before .before .before .before .before .before .args .v) _ (c .before .before .before .before .before .o .given .1) (c .before .if1 .taken)
-
-waiting-requires-2 : tie.Need-waiting-requires-2
-waiting-requires-2 c κs = search needs
 
 returns-2 : tie.Need-returns-2
 returns-2 c = stands-behind-nobody _ (c .before .before .before .args .v) _ (c .before .enum-told .given .1) (c .waiting .ensures)
@@ -29,10 +17,10 @@ pub standing-of-spec : {M : Type 1} → statement M
 standing-of-spec =
     tie.close
     (tie.spec
-    enum-told
-    waiting-requires
-    enum-known-o
+    (λ c. search needs)
+    (λ c κs. search needs)
+    (λ c. search needs)
     returns
-    waiting-requires-2
+    (λ c κs. search needs)
     returns-2
     returns-3)

@@ -4,42 +4,6 @@ use borrow.Author.Needs.{needs}
 use Rattle.wire.proofs.fields_of.Statement.{statement}
 use Rattle.wire.proofs.fields_of.Tie as tie
 
-enum-known-m : tie.Need-enum-known-m
-enum-known-m c = search needs
-
-plain-fields-requires : tie.Need-plain-fields-requires
-plain-fields-requires c κs = search needs
-
-enum-known-m-2 : tie.Need-enum-known-m-2
-enum-known-m-2 c = search needs
-
-plain-fields-requires-2 : tie.Need-plain-fields-requires-2
-plain-fields-requires-2 c κs = search needs
-
-enum-known-m-3 : tie.Need-enum-known-m-3
-enum-known-m-3 c = search needs
-
-plain-fields-requires-3 : tie.Need-plain-fields-requires-3
-plain-fields-requires-3 c κs = search needs
-
-enum-known-m-4 : tie.Need-enum-known-m-4
-enum-known-m-4 c = search needs
-
-plain-fields-requires-4 : tie.Need-plain-fields-requires-4
-plain-fields-requires-4 c κs = search needs
-
-enum-known-m-5 : tie.Need-enum-known-m-5
-enum-known-m-5 c = search needs
-
-response-fields-requires : tie.Need-response-fields-requires
-response-fields-requires c κs = search needs
-
-enum-known-m-6 : tie.Need-enum-known-m-6
-enum-known-m-6 c = search needs
-
-plain-fields-requires-5 : tie.Need-plain-fields-requires-5
-plain-fields-requires-5 c κs = search needs
-
 returns : tie.Need-returns
 unfolding fieldsOf
 returns c = rw (c .before .before .m .given .1) (c .plain-fields .ensures)
@@ -68,18 +32,18 @@ pub fields-of-spec : {M : Type 1} → statement M
 fields-of-spec =
     tie.close
     (tie.spec
-    enum-known-m
-    plain-fields-requires
-    enum-known-m-2
-    plain-fields-requires-2
-    enum-known-m-3
-    plain-fields-requires-3
-    enum-known-m-4
-    plain-fields-requires-4
-    enum-known-m-5
-    response-fields-requires
-    enum-known-m-6
-    plain-fields-requires-5
+    (λ c. search needs)
+    (λ c κs. search needs)
+    (λ c. search needs)
+    (λ c κs. search needs)
+    (λ c. search needs)
+    (λ c κs. search needs)
+    (λ c. search needs)
+    (λ c κs. search needs)
+    (λ c. search needs)
+    (λ c κs. search needs)
+    (λ c. search needs)
+    (λ c κs. search needs)
     returns
     returns-2
     returns-3

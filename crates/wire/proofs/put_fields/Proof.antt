@@ -8,28 +8,13 @@ use Rattle.wire.proofs.put_fields.Tie as tie
 put-front-requires : tie.Need-put-front-requires
 put-front-requires c κs = omega (arith, at-least (c .before .before .args .f .kind))
 
-add-put16 : tie.Need-add-put16
-add-put16 c = search needs
-
 put16-requires : tie.Need-put16-requires
 put16-requires c κs = omega (arith, length-response _ (c .before .if1 .taken))
-
-add-result : tie.Need-add-result
-add-result c = search needs
-
-same-length : tie.Need-same-length
-same-length c = search needs
 
 returns : tie.Need-returns
 returns c =
     let b = c .before .before .before .before in
     (omega (arith, length-response _ (b .if1 .taken)), stored-response _ _ _ _ _ (b .if1 .taken) (b .before .before .before .before .put-front .ensures) (c .before .before .put16 .ensures))
-
-add-result-2 : tie.Need-add-result-2
-add-result-2 c = search needs
-
-same-length-2 : tie.Need-same-length-2
-same-length-2 c = search needs
 
 returns-2 : tie.Need-returns-2
 returns-2 c = (omega (arith, length-plain _ (c .if1 .left)), stored-plain _ _ _ _ (c .if1 .left) (c .before .before .before .before .put-front .ensures))
@@ -39,11 +24,11 @@ put-fields-spec =
     tie.close
     (tie.spec
     put-front-requires
-    add-put16
+    (λ c. search needs)
     put16-requires
-    add-result
-    same-length
+    (λ c. search needs)
+    (λ c. search needs)
     returns
-    add-result-2
-    same-length-2
+    (λ c. search needs)
+    (λ c. search needs)
     returns-2)

@@ -11,28 +11,13 @@ use Rattle.wire.proofs.read_fields.Tie as tie
 returns : tie.Need-returns
 returns c = ap numbersOf (read-short _ (c .if1 .taken))
 
-get16-requires : tie.Need-get16-requires
-get16-requires c κs = search needs
-
-is-kind-requires : tie.Need-is-kind-requires
-is-kind-requires c κs = search needs
-
 returns-2 : tie.Need-returns-2
 returns-2 c = ap numbersOf (read-unknown _ _ _ (c .before .before .before .if1 .left) (c .before .before .get16 .ensures) (c .before .is-kind .ensures) (not-true _ (c .if2 .taken)))
-
-length-of-requires : tie.Need-length-of-requires
-length-of-requires c κs = search needs
-
-get16-requires-2 : tie.Need-get16-requires-2
-get16-requires-2 c κs = search needs
 
 returns-3 : tie.Need-returns-3
 returns-3 c =
     let k = c .before .before .before in
     ap numbersOf (read-wrong _ _ _ (k .before .before .before .if1 .left) (k .before .before .get16 .ensures) (k .before .is-kind .ensures) _ _ (not-false _ (k .if2 .left)) (c .before .before .length-of .ensures) (c .before .get162 .ensures) (c .if3 .taken))
-
-cast-if4 : tie.Need-cast-if4
-cast-if4 c = search needs
 
 returns-4 : tie.Need-returns-4
 returns-4 c =
@@ -44,18 +29,12 @@ fields-in-requires c κs =
     let k = c .before .before .before .before in
     (rw (c .before .before .before .length-of .ensures) at (c .if4 .left), k .before .before .get16 .ensures ∙ kind-in _)
 
-valid-fields-requires : tie.Need-valid-fields-requires
-valid-fields-requires c κs = search needs
-
 returns-5 : tie.Need-returns-5
 returns-5 c =
     let d = c .before .before .before in
     let k = d .before .before .before .before in
     ap numbersOf (read-invalid _ _ _ (k .before .before .before .if1 .left) (k .before .before .get16 .ensures) (k .before .is-kind .ensures) _ _ (not-false _ (k .if2 .left)) (d .before .before .before .length-of .ensures) (d .before .before .get162 .ensures)
     (d .before .if3 .left) _ _ (d .if4 .left) (c .before .before .fields-in .ensures) (c .before .valid-fields .ensures) (not-true _ (c .if5 .taken)))
-
-cast-t5 : tie.Need-cast-t5
-cast-t5 c = search needs
 
 returns-6 : tie.Need-returns-6
 returns-6 c =
@@ -69,16 +48,16 @@ read-fields-spec =
     tie.close
     (tie.spec
     returns
-    get16-requires
-    is-kind-requires
+    (λ c κs. search needs)
+    (λ c κs. search needs)
     returns-2
-    length-of-requires
-    get16-requires-2
+    (λ c κs. search needs)
+    (λ c κs. search needs)
     returns-3
-    cast-if4
+    (λ c. search needs)
     returns-4
     fields-in-requires
-    valid-fields-requires
+    (λ c κs. search needs)
     returns-5
-    cast-t5
+    (λ c. search needs)
     returns-6)

@@ -4,42 +4,6 @@ use borrow.Author.Needs.{needs}
 use Rattle.wire.proofs.valid_message.Statement.{statement}
 use Rattle.wire.proofs.valid_message.Tie as tie
 
-enum-known-m : tie.Need-enum-known-m
-enum-known-m c = search needs
-
-valid-stamped-requires : tie.Need-valid-stamped-requires
-valid-stamped-requires c κs = search needs
-
-enum-known-m-2 : tie.Need-enum-known-m-2
-enum-known-m-2 c = search needs
-
-valid-stamped-requires-2 : tie.Need-valid-stamped-requires-2
-valid-stamped-requires-2 c κs = search needs
-
-enum-known-m-3 : tie.Need-enum-known-m-3
-enum-known-m-3 c = search needs
-
-valid-stamped-requires-3 : tie.Need-valid-stamped-requires-3
-valid-stamped-requires-3 c κs = search needs
-
-enum-known-m-4 : tie.Need-enum-known-m-4
-enum-known-m-4 c = search needs
-
-valid-stamped-requires-4 : tie.Need-valid-stamped-requires-4
-valid-stamped-requires-4 c κs = search needs
-
-enum-known-m-5 : tie.Need-enum-known-m-5
-enum-known-m-5 c = search needs
-
-valid-response-requires : tie.Need-valid-response-requires
-valid-response-requires c κs = search needs
-
-enum-known-m-6 : tie.Need-enum-known-m-6
-enum-known-m-6 c = search needs
-
-valid-stamped-requires-5 : tie.Need-valid-stamped-requires-5
-valid-stamped-requires-5 c κs = search needs
-
 returns : tie.Need-returns
 unfolding valid
 returns c = rw (c .before .before .m .given .1) (c .valid-stamped .ensures)
@@ -68,18 +32,18 @@ pub valid-message-spec : {M : Type 1} → statement M
 valid-message-spec =
     tie.close
     (tie.spec
-    enum-known-m
-    valid-stamped-requires
-    enum-known-m-2
-    valid-stamped-requires-2
-    enum-known-m-3
-    valid-stamped-requires-3
-    enum-known-m-4
-    valid-stamped-requires-4
-    enum-known-m-5
-    valid-response-requires
-    enum-known-m-6
-    valid-stamped-requires-5
+    (λ c. search needs)
+    (λ c κs. search needs)
+    (λ c. search needs)
+    (λ c κs. search needs)
+    (λ c. search needs)
+    (λ c κs. search needs)
+    (λ c. search needs)
+    (λ c κs. search needs)
+    (λ c. search needs)
+    (λ c κs. search needs)
+    (λ c. search needs)
+    (λ c κs. search needs)
     returns
     returns-2
     returns-3

@@ -12,9 +12,6 @@ response-places-requires c κs = let h = client-held (now (c .before .args .word
 shared-slice-read-section-of : tie.Need-shared-slice-read-section-of
 shared-slice-read-section-of c = let h = client-held (now (c .before .before .before .args .words)) (c .before .before .before .pre) in omega (arith, h .fitting .size)
 
-section-of-requires : tie.Need-section-of-requires
-section-of-requires c κs = search needs
-
 shared-slice-read-t9 : tie.Need-shared-slice-read-t9
 shared-slice-read-t9 c = let h = client-held (now (c .before .before .before .before .before .args .words)) (c .before .before .before .before .before .pre) in omega (arith, h .fitting .size)
 
@@ -45,7 +42,7 @@ load-client-spec =
     (tie.spec
     response-places-requires
     shared-slice-read-section-of
-    section-of-requires
+    (λ c κs. search needs)
     shared-slice-read-t9
     shared-slice-read-t9-2
     cast-t12

@@ -24,9 +24,6 @@ cast-owner-of c = let h = server-held (now (c .before .before .before .before .a
 shared-slice-read-owner-of-2 : tie.Need-shared-slice-read-owner-of-2
 shared-slice-read-owner-of-2 c = let h = server-held (now (c .before .before .before .before .before .args .words)) (c .before .before .before .before .before .pre) in omega (arith, h .fitting .size)
 
-owner-of-requires : tie.Need-owner-of-requires
-owner-of-requires c κs = search needs
-
 shared-slice-read-t10 : tie.Need-shared-slice-read-t10
 shared-slice-read-t10 c = let h = server-held (now (c .before .before .before .before .before .before .before .args .words)) (c .before .before .before .before .before .before .before .pre) in omega (arith, h .fitting .size)
 
@@ -52,7 +49,7 @@ load-server-spec =
     shared-slice-read-owner-of
     cast-owner-of
     shared-slice-read-owner-of-2
-    owner-of-requires
+    (λ c κs. search needs)
     shared-slice-read-t10
     cast-t12
     shared-slice-read-n

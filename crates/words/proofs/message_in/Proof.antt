@@ -4,29 +4,8 @@ use borrow.Author.Needs.{needs}
 use Rattle.words.proofs.message_in.Statement.{statement}
 use Rattle.words.proofs.message_in.Tie as tie
 
-cross-requires : tie.Need-cross-requires
-cross-requires c κs = search needs
-
-enum-known-g : tie.Need-enum-known-g
-enum-known-g c = search needs
-
-valid-fields-requires : tie.Need-valid-fields-requires
-valid-fields-requires c κs = search needs
-
-no-message-requires : tie.Need-no-message-requires
-no-message-requires c κs = search needs
-
 returns : tie.Need-returns
 returns c = in-invalid _ _ (c .before .before .before .before .before .before .cross .ensures) _ _ (c .before .before .before .before .g .given .1) _ (c .before .before .valid-fields .ensures) (c .before .if1 .taken) (c .no-message .ensures)
-
-message-of-requires : tie.Need-message-of-requires
-message-of-requires c κs = search needs
-
-enum-told : tie.Need-enum-told
-enum-told c = search needs
-
-no-message-requires-2 : tie.Need-no-message-requires-2
-no-message-requires-2 c κs = search needs
 
 returns-2 : tie.Need-returns-2
 returns-2 c = in-valid _ _ (c .before .before .before .before .before .before .cross .ensures) _ _ (c .before .before .before .before .g .given .1) _ (c .before .before .valid-fields .ensures) (c .before .if1 .left) (c .message-of .ensures)
@@ -38,13 +17,13 @@ pub message-in-spec : {M : Type 1} → statement M
 message-in-spec =
     tie.close
     (tie.spec
-    cross-requires
-    enum-known-g
-    valid-fields-requires
-    no-message-requires
+    (λ c κs. search needs)
+    (λ c. search needs)
+    (λ c κs. search needs)
+    (λ c κs. search needs)
     returns
-    message-of-requires
-    enum-told
-    no-message-requires-2
+    (λ c κs. search needs)
+    (λ c. search needs)
+    (λ c κs. search needs)
     returns-2
     returns-3)

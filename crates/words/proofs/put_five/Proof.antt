@@ -5,9 +5,6 @@ use borrow.Author.Needs.{needs}
 use Rattle.words.proofs.put_five.Statement.{statement}
 use Rattle.words.proofs.put_five.Tie as tie
 
-slice-write-words : tie.Need-slice-write-words
-slice-write-words c = search needs
-
 slice-write-words-2 : tie.Need-slice-write-words-2
 slice-write-words-2 c = simp length-set (omega arith)
 
@@ -20,20 +17,14 @@ slice-write-words-4 c = simp length-set (omega arith)
 slice-write-words-5 : tie.Need-slice-write-words-5
 slice-write-words-5 c = simp length-set (omega arith)
 
-same-length : tie.Need-same-length
-same-length c = search needs
-
-returns : tie.Need-returns
-returns c = search needs
-
 pub put-five-spec : {M : Type 1} → statement M
 put-five-spec =
     tie.close
     (tie.spec
-    slice-write-words
+    (λ c. search needs)
     slice-write-words-2
     slice-write-words-3
     slice-write-words-4
     slice-write-words-5
-    same-length
-    returns)
+    (λ c. search needs)
+    (λ c. search needs))

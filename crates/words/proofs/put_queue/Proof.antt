@@ -15,23 +15,8 @@ abbrev μ-loop : tie.MeasureT-loop
 loop-holds : tie.Need-loop-holds Inv-loop μ-loop
 loop-holds c = storing-none _ 16 _ (c .before .pre .1) (c .before .pre .0)
 
-mul-put-request : tie.Need-mul-put-request Inv-loop μ-loop
-mul-put-request c = search needs
-
-add-put-request : tie.Need-add-put-request Inv-loop μ-loop
-add-put-request c = search needs
-
-mul-put-request-2 : tie.Need-mul-put-request-2 Inv-loop μ-loop
-mul-put-request-2 c = search needs
-
-array-copy-out-put-request : tie.Need-array-copy-out-put-request Inv-loop μ-loop
-array-copy-out-put-request c = search needs
-
 put-request-requires : tie.Need-put-request-requires Inv-loop μ-loop
 put-request-requires c κs = omega (arith, c .before .before .before .loop .inv .size, c .before .before .before .loop .inv .room)
-
-add-i : tie.Need-add-i Inv-loop μ-loop
-add-i c = search needs
 
 loop-less : tie.Need-loop-less Inv-loop μ-loop
 loop-less c = omega arith
@@ -52,12 +37,12 @@ put-queue-spec =
     Inv-loop
     μ-loop
     loop-holds
-    mul-put-request
-    add-put-request
-    mul-put-request-2
-    array-copy-out-put-request
+    (λ c. search needs)
+    (λ c. search needs)
+    (λ c. search needs)
+    (λ c. search needs)
     put-request-requires
-    add-i
+    (λ c. search needs)
     loop-less
     loop-again
     same-length
