@@ -129,9 +129,13 @@ at-most a b = go (decided (ltb a b))
         here (inl g) = let ge = ltb-false a b e in let le = leb-true a b g in rw (e, g, le-leb (a - b) 0 (omega arith))
         here (inr g) = let gt = leb-false a b g in rw (e, g, lt-leb (a - b) 0 (omega arith))
 
+pub margin-difference : (n m f : ℕ) → margin n m f ≡ subℕ (2 * m) (n + f)
+unfolding margin
+margin-difference n m f = rw (sub-sign (2 * m) n) (sub-more (2 * m) n f)
+
 pub unsafe-test : (n m f : ℕ) → isUnsafe n m f ≡ leb (2 * m) (n + f)
-unfolding isUnsafe margin
-unsafe-test n m f = rw (sub-sign (2 * m) n, sub-more (2 * m) n f) (at-most (2 * m) (n + f))
+unfolding isUnsafe
+unsafe-test n m f = rw (margin-difference n m f) (at-most (2 * m) (n + f))
 
 pub is-unsafe : (n m f : ℕ) → 2 * m ≤ n + f → isUnsafe n m f ≡ true
 is-unsafe n m f h = unsafe-test n m f ∙ le-leb (2 * m) (n + f) h

@@ -1,0 +1,29 @@
+-- `commission::show` meets its contract: what was put ends within the buffer.
+use native.Mathlib.Omega.{arith}
+use Rattle.commission.proofs.ScreenLaws.{placed}
+use borrow.Author.Needs.{needs}
+use Rattle.commission.proofs.show.Statement.{statement}
+use Rattle.commission.proofs.show.Tie as tie
+
+part-write-out-end : tie.Need-part-write-out-end
+part-write-out-end c = omega (arith, placed _ _ _ _ (c .before .before .before .put-script .ensures))
+
+pub show-spec : {M : Type 1} → statement M
+show-spec =
+    tie.close
+    (tie.spec
+    (λ c κs. search needs)
+    (λ c. search needs)
+    (λ c κs. search needs)
+    (λ c. search needs)
+    (λ c. search needs)
+    part-write-out-end
+    (λ c κs. search needs)
+    (λ c. search needs)
+    (λ c. search needs)
+    (λ c. search needs)
+    (λ c. search needs)
+    (λ c. search needs)
+    (λ c. search needs)
+    (λ c. search needs)
+    (λ c. search needs))
