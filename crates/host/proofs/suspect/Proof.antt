@@ -1,4 +1,5 @@
 -- `suspect` is the thin function over `server::suspect`: the walk of `Thin` at this callee, which meets its contract.
+use mathlib.Core.Path.{refl}
 use denote.Triple.Spec.{tripleOf}
 use denote.Triple.Table.{entered, cited}
 use contract.Running.{givenOf, tables, tablesOf}
@@ -17,4 +18,4 @@ suspect-spec 𝓤 H 𝓜 𝓖 𝓡 =
     entered 𝓤 H (tripleOf 𝓤 H (𝓖 .A) suspect.signature (suspect.spec 𝓤 H (𝓖 .A) (𝓜 .mem) (𝓡 .run)))
     (tables 𝓤 H 𝓜 𝓡 code.env .C) (tables 𝓤 H 𝓜 𝓡 code.env .Λ) #host·suspect code.function (code.unfolded 𝓤 H 𝓜 𝓡)
     (meets 𝓤 H (𝓖 .A) (givenOf 𝓤 H 𝓜 𝓖) callee.name suspectOutcome (tablesOf 𝓤 H 𝓜 (tables 𝓤 H 𝓜 𝓡 code.env))
-    (cited 𝓤 H (Step 𝓤 H (𝓖 .A) suspectOutcome) 𝓜 𝓡 code.env callee.name callee.routine code.calls-server·suspect (callee-meets.met 𝓤 H 𝓜 𝓖 𝓡)))
+    (cited 𝓤 H (Step 𝓤 H (𝓖 .A) suspectOutcome) 𝓜 𝓡 code.env callee.name callee.routine refl (callee-meets.met 𝓤 H 𝓜 𝓖 𝓡)))
