@@ -76,20 +76,20 @@ abbrev stayed : Stays (thin.ended .signature .params) (thin.ended .kept)
 stayed = (stay-ref (0 ∷ []) tt (plain (λ _. K.the-row)), (gave-slice (1 ∷ []) tt (plain (λ _. u8)), tt))
 
 -- machine values
-abbrev k-vals : Server → List Val
+abbrev pub k-vals : Server → List Val
 k-vals = LL.vals K.the-type K′.the-laws
 
-abbrev r-vals : Answer → List Val
+abbrev pub r-vals : Answer → List Val
 r-vals = EL.vals R.the-type R′.the-laws
 
-abbrev r-val : Answer → Val
+abbrev pub r-val : Answer → Val
 r-val = EL.val R.the-type R′.the-laws
 
 -- what whoever holds a Stepped knows of its fields
-k-is : (r : Stepped) (vs : List Val) → Is S.the-row r vs → Is K.the-row (r .server) (k-vals (r .server))
+pub k-is : (r : Stepped) (vs : List Val) → Is S.the-row r vs → Is K.the-row (r .server) (k-vals (r .server))
 k-is r vs is = LL.owed S.the-type S′.the-laws r vs is .0
 
-r-is : (r : Stepped) (vs : List Val) → Is S.the-row r vs → Is R.the-row (r .answer) (r-vals (r .answer))
+pub r-is : (r : Stepped) (vs : List Val) → Is S.the-row r vs → Is R.the-row (r .answer) (r-vals (r .answer))
 r-is r vs is = LL.owed S.the-type S′.the-laws r vs is .1 .0
 
 module _ {M : Type 1} (𝓤 : URA M) (H : Heap 𝓤) (A : Atoms 𝓤) (f : Server → Outcome State) where

@@ -43,7 +43,6 @@ use lib.ListN.{length}
 use Rattle.wire.specs.Step.{withRoom, sentInto}
 use Rattle.server.specs.Calls.{messageOutcome, result}
 use Rattle.server.specs.declared.Stepped.{Stepped}
-use Rattle.wire.specs.declared.Answer.{Answer}
 use Rattle.wire.specs.declared.Message.{Message}
 use Rattle.server.specs.declared.Server.{Server}
 use Rattle.server.proofs.Server as K
@@ -58,6 +57,7 @@ use Rattle.server.proofs.message as covered
 use Rattle.server.proofs.message.Symbol as callee
 use Rattle.server.proofs.message.Symbol.{name as #server·message}
 use Rattle.server.proofs.message.Met as callee-meets
+use Rattle.host.proofs.Thin.{k-vals, r-vals, r-val, k-is, r-is}
 use Rattle.host.proofs.message.Key.{name as #host·message}
 use Rattle.host.proofs.message as message
 use Rattle.host.proofs.message.Statement as stated
@@ -70,27 +70,11 @@ abbrev stayed : Stays (message.ended .signature .params) (message.ended .kept)
 stayed = (stay-ref (0 ∷ []) tt (plain (λ _. K.the-row)), (stay-none (λ _. E.the-row) yes, (gave-slice (1 ∷ []) tt (plain (λ _. u8)), tt)))
 
 -- machine values
-abbrev k-vals : Server → List Val
-k-vals = LL.vals K.the-type K′.the-laws
-
 abbrev m-vals : Message → List Val
 m-vals = EL.vals E.the-type E′.the-laws
 
 abbrev m-val : Message → Val
 m-val = EL.val E.the-type E′.the-laws
-
-abbrev r-vals : Answer → List Val
-r-vals = EL.vals R.the-type R′.the-laws
-
-abbrev r-val : Answer → Val
-r-val = EL.val R.the-type R′.the-laws
-
--- what whoever holds a Stepped knows of its fields
-k-is : (r : Stepped) (vs : List Val) → Is S.the-row r vs → Is K.the-row (r .server) (k-vals (r .server))
-k-is r vs is = LL.owed S.the-type S′.the-laws r vs is .0
-
-r-is : (r : Stepped) (vs : List Val) → Is S.the-row r vs → Is R.the-row (r .answer) (r-vals (r .answer))
-r-is r vs is = LL.owed S.the-type S′.the-laws r vs is .1 .0
 
 -- the contract that the proof cites
 abbrev Step : {M : Type 1} (𝓤 : URA M) (H : Heap 𝓤) (A : Atoms 𝓤) (at-mem : Memory → SProp 𝓤) (run : Routine → Fun 𝓤) → Contract 𝓤
@@ -185,4 +169,4 @@ message-spec 𝓤 H 𝓜 𝓖 𝓡 =
     entered 𝓤 H (tripleOf 𝓤 H (𝓖 .A) message.signature (message.spec 𝓤 H (𝓖 .A) (𝓜 .mem) (𝓡 .run)))
     (tables 𝓤 H 𝓜 𝓡 code.env .C) (tables 𝓤 H 𝓜 𝓡 code.env .Λ) #host·message code.function (code.unfolded 𝓤 H 𝓜 𝓡)
     (message-meets 𝓤 H (𝓖 .A) (givenOf 𝓤 H 𝓜 𝓖) (𝓜 .mem) (𝓡 .run) (tablesOf 𝓤 H 𝓜 (tables 𝓤 H 𝓜 𝓡 code.env))
-    (cited 𝓤 H (Step 𝓤 H (𝓖 .A) (𝓜 .mem) (𝓡 .run)) 𝓜 𝓡 code.env #server·message callee.routine code.calls-server·message (callee-meets.met 𝓤 H 𝓜 𝓖 𝓡)))
+    (cited 𝓤 H (Step 𝓤 H (𝓖 .A) (𝓜 .mem) (𝓡 .run)) 𝓜 𝓡 code.env #server·message callee.routine refl (callee-meets.met 𝓤 H 𝓜 𝓖 𝓡)))
