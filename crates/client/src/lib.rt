@@ -73,7 +73,7 @@ fn is_filled(q: Request) -> bool
 }
 
 // Whether the place `q` shows the request `r`.
-fn is_own(r: Request, q: Request) -> bool
+pub fn is_own(r: Request, q: Request) -> bool
     ensures { λ b. ⌜ b ≡ isRequest r (shown q) ⌝ }
 {
     !is_empty(q) && ids::same_request(q, r)

@@ -1,5 +1,4 @@
--- On a valid state and with room the script's calls are not refused: what they used and wrote lies within what they were lent, and
--- the bytes used are taken in.
+-- The bytes that a call of the script's used are taken in, one part behind the other.
 use mathlib.Core.Path.{_≡_, refl, sym, ap, _∙_}
 use Prim.Native.Nat.{ℕ, _+_, _-_, _≤_}
 use native.Mathlib.Omega.{arith}
@@ -24,37 +23,13 @@ use Rattle.output.proofs.Whole.{in-parts}
 use Rattle.output.proofs.Cuts.{used-few, within-fed}
 use Rattle.gallery.specs.Taken.{Taken}
 use Rattle.script.proofs.FeedLaws.{wrote-few, finished-short}
+use Rattle.script.proofs.CallLaws.{fed-all, fed-took, feeds}
 
-pub begun : (w w′ : List ℕ) (p : Progress) → 6399 ≡ length w → (p ≡ newAnswer w) × (w′ ≡ newWords w) → valid w′ ≡ true
-begun w w′ p e f = rw (f .1) (new-valid w (sym e))
-
-module _ (w input out w′ out′ : List ℕ) (p : Progress) (v : valid w ≡ true) (room : 52 ≤ length out) (f : (p ≡ feedAnswer w input (length out)) × FeedLeaves w input out w′ out′) where
-  abbrev fed-all : Fed
-  fed-all = fedWithin (length out) (view w) input
-
-  fed-took : p ≡ Took (fed-all .used) (length (fed-all .out))
-  unfolding feedAnswer
-  fed-took = f .0 ∙ rw (v, le-ltb (length out) 52 room) refl
-
-  feeds : valid w && leb 52 (length out) ≡ true
-  feeds = rw (v, le-leb 52 (length out) room)
-
-  pub fed-valid : valid w′ ≡ true
-  fed-valid = f .1 .again feeds
-
-  module _ (u k : ℕ) (t : p ≡ Took u k) where
-    pub fed-used : u ≤ length input
-    fed-used = let e : u ≡ fed-all .used = cc (sym t ∙ fed-took) in omega (arith, e, used-few (length out) (view w) input)
-
-    pub fed-wrote : k ≤ length out′
-    fed-wrote =
-        let e : k ≡ length (fed-all .out) = cc (sym t ∙ fed-took) in
-        omega (arith, e, wrote-few (length out) (view w) input, ap length (f .1 .bytes feeds), length-sets out 0 (fed-all .out))
-
-    pub fed-taken : Taken w (take u input) w′
-    fed-taken =
-        let e : u ≡ fed-all .used = cc (sym t ∙ fed-took) in
-        record { reader = f .1 .reader feeds ∙ rw e (sym (ap (λ (q : Printed Reader). q .now) (within-fed (length out) (view w) input))) }
+module _ (w input out w′ out′ : List ℕ) (p : Progress) (v : valid w ≡ true) (room : 52 ≤ length out) (f : (p ≡ feedAnswer w input (length out)) × FeedLeaves w input out w′ out′) (u k : ℕ) (t : p ≡ Took u k) where
+  pub fed-taken : Taken w (take u input) w′
+  fed-taken =
+      let e : u ≡ fedWithin (length out) (view w) input .used = cc (sym t ∙ fed-took w input out w′ out′ p v room f) in
+      record { reader = f .1 .reader (feeds w input out w′ out′ p v room f) ∙ rw e (sym (ap (λ (q : Printed Reader). q .now) (within-fed (length out) (view w) input))) }
 
 -- the bytes so far, and some more of what is left
 pub taken-none : (w part : List ℕ) → Taken w (take 0 part) w
@@ -81,16 +56,3 @@ taken-read w w′ part n got f e a =
     let k : n ≡ clamped got (length part) = e ∙ ap (λ (z : ℤ). clamped z (length part)) (toZ-ofZ f) in
     let z : n - 0 ≡ clamped got (length part) = omega (arith, k) in
     record { reader = a .reader ∙ ap (λ (i : ℕ). fed (view w) (take i part) .now) z }
-
-module _ (w out w′ out′ : List ℕ) (p : Progress) (v : valid w ≡ true) (room : 104 ≤ length out) (f : (p ≡ finishAnswer w (length out)) × FinishLeaves w out w′ out′) where
-  end-took : p ≡ Took 0 (length (finished (view w)))
-  unfolding finishAnswer
-  end-took = f .0 ∙ rw (v, le-ltb (length out) 104 room) refl
-
-  finishes : valid w && leb 104 (length out) ≡ true
-  finishes = rw (v, le-leb 104 (length out) room)
-
-  pub end-wrote : (u k : ℕ) → p ≡ Took u k → k ≤ length out′
-  end-wrote u k t =
-      let e : k ≡ length (finished (view w)) = cc (sym t ∙ end-took) in
-      omega (arith, e, room, finished-short (view w), ap length (f .1 .bytes finishes), length-sets out 0 (finished (view w)))

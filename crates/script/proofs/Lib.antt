@@ -4,3 +4,4 @@ pub mod LineLaws
 pub mod TestLaws
 pub mod StepLaws
 pub mod FeedLaws
+pub mod CallLaws

@@ -1,7 +1,8 @@
 -- `gallery::answer_some` meets its contract: the call is not refused, so what it wrote lies within the buffer.
 use denote.Ref.{now}
 use native.Mathlib.Omega.{arith}
-use Rattle.gallery.proofs.ReadLaws.{fed-valid, fed-used, fed-wrote, fed-taken}
+use Rattle.script.proofs.CallLaws.{fed-valid, fed-used, fed-wrote}
+use Rattle.gallery.proofs.ReadLaws.{fed-taken}
 use borrow.Author.Needs.{needs}
 use Rattle.gallery.proofs.answer_some.Statement.{statement}
 use Rattle.gallery.proofs.answer_some.Tie as tie

@@ -1,6 +1,6 @@
 -- `gallery::finish` is safe: what the end wrote lies within the buffer.
 use denote.Ref.{now}
-use Rattle.gallery.proofs.ReadLaws.{end-wrote}
+use Rattle.script.proofs.CallLaws.{end-wrote}
 use borrow.Author.Needs.{needs}
 use Rattle.gallery.proofs.finish.Statement.{statement}
 use Rattle.gallery.proofs.finish.Tie as tie

@@ -1,5 +1,5 @@
 -- `gallery::main` is safe: a new script is a valid state.
-use Rattle.gallery.proofs.ReadLaws.{begun}
+use Rattle.script.proofs.CallLaws.{begun}
 use native.Mathlib.Omega.{arith}
 use borrow.Author.Needs.{needs}
 use Rattle.gallery.proofs.main.Statement.{statement}
