@@ -4,8 +4,9 @@
  * nothing it was lent. A slice is a pointer, then its length in elements: the pointer is aligned and not null
  * even where the length is 0, and a slice that a call may write overlaps no other.
  *
- * libcapi.a has the calls on messages and records, libcapi_quorum.a those on settings (sigma_setting, sigma_run_event and
- * sigma_default_threshold), libcapi_script.a those on scripts (sigma_script_*).
+ * libcapi.a has the calls on messages and records, libcapi_host.a those on a server's record in a struct (sigma_host_*),
+ * libcapi_quorum.a those on settings (sigma_setting, sigma_run_event and sigma_default_threshold), libcapi_script.a those on
+ * scripts (sigma_script_*).
  */
 #ifndef SIGMA_H
 #define SIGMA_H
@@ -50,7 +51,8 @@ enum {
     SIGMA_CRITICAL = 2,
     SIGMA_SERVER_WORDS = 37,
     SIGMA_CLIENT_WORDS = 67,
-    SIGMA_SENT_WORDS = 2
+    SIGMA_SENT_WORDS = 2,
+    SIGMA_QUEUE_PLACES = 16
 };
 
 /* Writes the record of server `id` of 1 to n, without an owner, in the first 37 words.
@@ -70,6 +72,30 @@ uint32_t sigma_server_suspect(uint32_t *record, size_t record_len, uint8_t *out,
 /* CHECK to the owner, if there is one. Refusals: 21, 6 as above. */
 uint32_t sigma_server_check(uint32_t *record, size_t record_len, uint8_t *out, size_t out_len,
                             uint32_t *sent, size_t sent_len);
+
+/* A server's record as a struct, for a host that calls its numbers by name: the 37 words of the record, then what the last
+ * accepted call sent. A new server is n and its number, and 0 everywhere else. The struct stays where the host put it;
+ * an accepted call writes record and counts in it, and a refused call leaves all of it. */
+struct sigma_request {
+    uint32_t client;
+    uint32_t timestamp;
+};
+
+struct sigma_host {
+    uint32_t n;
+    uint32_t id;
+    uint32_t owner;
+    uint32_t owner_timestamp;
+    uint32_t waiting;                              /* the places of the queue that are taken, from the first */
+    struct sigma_request queue[SIGMA_QUEUE_PLACES];
+    uint32_t sent;                                 /* messages */
+    uint32_t bytes;
+};
+
+/* The server's three calls on a struct, which is not null. Refusals as above, but for `sent`, which has its room. */
+uint32_t sigma_host_message(struct sigma_host *host, const uint32_t *message, size_t message_len, uint8_t *out, size_t out_len);
+uint32_t sigma_host_suspect(struct sigma_host *host, uint8_t *out, size_t out_len);
+uint32_t sigma_host_check(struct sigma_host *host, uint8_t *out, size_t out_len);
 
 /* Writes the record of client `id` with n servers and threshold m, which has never tried, in the first 67 words.
  * Refusal: 7 a number out of range, or fewer words lent. */

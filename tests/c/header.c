@@ -1,7 +1,8 @@
 /* Shows that include/sigma.h is right: both examples of document 01, one client's way into its critical section
- * and out of it, and the example of a script, through the functions as it declares them. */
+ * and out of it, a server in a struct, and the example of a script, through the functions as it declares them. */
 #include "sigma.h"
 
+#include <assert.h>
 #include <stdio.h>
 #include <string.h>
 
@@ -69,6 +70,65 @@ static void enter_and_leave(void)
     expect(sigma_server_check(server, SIGMA_SERVER_WORDS, out, sizeof out, sent, SIGMA_SENT_WORDS) == 21, "broken");
 }
 
+/* The struct is the record's words and the two counts, in this order and with nothing between them. */
+static_assert(sizeof(struct sigma_host) == (SIGMA_SERVER_WORDS + SIGMA_SENT_WORDS) * sizeof(uint32_t), "no padding");
+static_assert(offsetof(struct sigma_host, id) == 1 * sizeof(uint32_t), "id");
+static_assert(offsetof(struct sigma_host, owner) == 2 * sizeof(uint32_t), "owner");
+static_assert(offsetof(struct sigma_host, owner_timestamp) == 3 * sizeof(uint32_t), "owner_timestamp");
+static_assert(offsetof(struct sigma_host, waiting) == 4 * sizeof(uint32_t), "waiting");
+static_assert(offsetof(struct sigma_host, queue) == 5 * sizeof(uint32_t), "queue");
+static_assert(offsetof(struct sigma_request, timestamp) == sizeof(uint32_t), "client, then timestamp");
+static_assert(offsetof(struct sigma_host, sent) == SIGMA_SERVER_WORDS * sizeof(uint32_t), "sent");
+static_assert(offsetof(struct sigma_host, bytes) == (SIGMA_SERVER_WORDS + 1) * sizeof(uint32_t), "bytes");
+
+/* One server twice: in a struct, and as a record's words with the same calls. */
+static struct sigma_host host;
+static uint32_t record[SIGMA_SERVER_WORDS], counts[SIGMA_SENT_WORDS];
+static uint8_t host_out[42], record_out[42];
+
+static void same(const char *what)
+{
+    expect(memcmp(&host, record, sizeof record) == 0, what);
+    expect(host.sent == counts[0] && host.bytes == counts[1], what);
+    expect(memcmp(host_out, record_out, sizeof host_out) == 0, what);
+}
+
+static uint32_t both_take(uint32_t kind, uint32_t client, uint32_t timestamp, size_t room)
+{
+    uint32_t message[SIGMA_MESSAGE_WORDS] = {kind, client, 1, timestamp, 0};
+    uint32_t refusal = sigma_host_message(&host, message, SIGMA_MESSAGE_WORDS, host_out, room);
+    expect(sigma_server_message(record, SIGMA_SERVER_WORDS, message, SIGMA_MESSAGE_WORDS, record_out, room, counts,
+                                SIGMA_SENT_WORDS) == refusal, "the same answer");
+    same("after a message");
+    return refusal;
+}
+
+static void in_a_struct(void)
+{
+    struct sigma_host before;
+    host.n = 3;
+    host.id = 1;
+    expect(sigma_server_new(3, 1, record, SIGMA_SERVER_WORDS) == 0, "a new server");
+    same("a new server is 0 but for n and its number");
+    expect(sigma_host_suspect(&host, host_out, sizeof host_out) == 15, "no owner");
+    expect(both_take(SIGMA_REQUEST, 5, 3, 13) == 6, "room short");
+    expect(both_take(SIGMA_CHECK, 5, 3, sizeof host_out) == 13, "no message for a server");
+    expect(both_take(SIGMA_REQUEST, 5, 3, sizeof host_out) == 0, "client 5");
+    expect(host.owner == 5 && host.owner_timestamp == 3 && host.sent == 1 && host.bytes == 14, "client 5 is owner");
+    expect(both_take(SIGMA_REQUEST, 7, 4, sizeof host_out) == 0, "client 7");
+    expect(host.waiting == 1 && host.queue[0].client == 7 && host.queue[0].timestamp == 4, "client 7 waits");
+    before = host;
+    expect(sigma_host_check(&host, host_out, 11) == 6 && memcmp(&host, &before, sizeof host) == 0, "a refused call");
+    expect(sigma_host_check(&host, host_out, sizeof host_out) == 0 && host.sent == 1 && host.bytes == 12, "a CHECK");
+    expect(sigma_server_check(record, SIGMA_SERVER_WORDS, record_out, sizeof record_out, counts, SIGMA_SENT_WORDS) == 0, "check");
+    same("after a check");
+    expect(sigma_host_suspect(&host, host_out, sizeof host_out) == 0 && host.owner == 7 && host.waiting == 0, "client 7 is owner");
+    expect(sigma_server_suspect(record, SIGMA_SERVER_WORDS, record_out, sizeof record_out, counts, SIGMA_SENT_WORDS) == 0, "suspect");
+    same("after a suspicion");
+    host.waiting = SIGMA_QUEUE_PLACES + 1;
+    expect(sigma_host_check(&host, host_out, sizeof host_out) == 21 && host.waiting == SIGMA_QUEUE_PLACES + 1, "a broken struct");
+}
+
 /* Document 01's setting 3,2,1: unsafe, margin 0, a run of 12 events that begins with client 1's try. */
 static void settings(void)
 {
@@ -124,6 +184,7 @@ int main(void)
     round_trip(request, sizeof request, request_words);
     round_trip(response, sizeof response, response_words);
     enter_and_leave();
+    in_a_struct();
     settings();
     script();
     puts(failures == 0 ? "header ok" : "header wrong");

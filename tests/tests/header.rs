@@ -17,6 +17,7 @@ fn compile_and_run(compiler: &str, language: &[&str], name: &str) {
         .arg(root.join("tests/c/header.c"))
         .args(["-x", "none"])
         .arg(root.join("target/staticlib/libcapi.a"))
+        .arg(root.join("target/staticlib/libcapi_host.a"))
         .arg(root.join("target/staticlib/libcapi_quorum.a"))
         .arg(root.join("target/staticlib/libcapi_script.a"))
         .arg("-o")
