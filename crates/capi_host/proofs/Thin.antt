@@ -37,7 +37,7 @@ use denote.Triple.Walked.{says, Stays, stay-ref, gave-slice, walkOf, AllGo, goes
 use denote.Triple.Clauses.{Clauses, closing, ensured, lasts}
 use lib.ListN.{length}
 use Rattle.wire.specs.Step.{Outcome}
-use Rattle.capi.specs.Steps.{lent, Leaves}
+use Rattle.capi_host.specs.Leaves.{Leaves}
 use Rattle.capi_host.specs.declared.Host.{Host}
 use Rattle.capi_host.specs.declared.Stepped.{Stepped}
 use Rattle.capi_host.proofs.Host as K
@@ -86,14 +86,14 @@ module _ {M : Type 1} (𝓤 : URA M) (H : Heap 𝓤) (A : Atoms 𝓤) (f : List 
   stepping κs a = record {
     ghost = Unit {0};
     requires = λ g. emp 𝓤;
-    ensures = λ g r e. fact 𝓤 (Leaves (lent (now (a .1 .0)) (a .0 .sent) (f (a .0 .words))) (r .code) (a .0 .words) (r .host .words) (now (a .1 .0)) (now (e .1 .0)) (a .0 .sent) (r .host .sent));
+    ensures = λ g r e. fact 𝓤 (Leaves (f (a .0 .words)) (r .code) (a .0) (r .host) (now (a .1 .0)) (now (e .1 .0)));
   }
 
   abbrev pub keeping : Clauses 𝓤 thin.ended
   keeping κs a = record {
     ghost = Unit {0};
     requires = λ g. emp 𝓤;
-    ensures = λ g r e. fact 𝓤 (Leaves (lent (now (a .1 .0)) (now (a .0) .sent) (f (now (a .0) .words))) r (now (a .0) .words) (now (e .0) .words) (now (a .1 .0)) (now (e .1 .0)) (now (a .0) .sent) (now (e .0) .sent));
+    ensures = λ g r e. fact 𝓤 (Leaves (f (now (a .0) .words)) r (now (a .0)) (now (e .0)) (now (a .1 .0)) (now (e .1 .0)));
   }
 
   abbrev pub Step : Contract 𝓤
@@ -117,7 +117,7 @@ module _ {M : Type 1} (𝓤 : URA M) (H : Heap 𝓤) (A : Atoms 𝓤) (W : Given
     Post = walkOf 𝓤 H A thin.ended stayed (keeping 𝓤 H A f) .post (((κ, (κ′, tt)), (q, (q′, tt)), bounds, x, at), tt)
 
     abbrev Says : Stepped → List ℕ → Type 0
-    Says r zs = Leaves (lent ys (h .sent) (f (h .words))) (r .code) (h .words) (r .host .words) ys zs (h .sent) (r .host .sent)
+    Says r zs = Leaves (f (h .words)) (r .code) h (r .host) ys zs
 
     exits : (r : Stepped) (zs : List ℕ) → Is u32 (r .code) (vint w32 (r .code) ∷ []) → Says r zs → length zs ≡ length ys
         → ent 𝓤 (⋆ 𝓤 H A (‵ (fobs γ (K.the-row .coded .code (r .host))) ∷ ‵ (fbor κ (Borrowed (mem K.the-row) b o γ)) ∷ ‵ (flft κ q) ∷ (‵ (flft κ′ q′) ⊛ ‵ ftrue) ∷ ‵ (finally u8 (y .name) zs) ∷ [])) (Post (vint w32 (r .code)))

@@ -1,6 +1,7 @@
 // For a C host whose server's record is a struct: each call takes the struct by reference, and does with its words what the call of `capi` does.
 // include/sigma.h declares the struct by the names of its words.
-ghost use Rattle.capi.specs.Steps.{lent, Leaves, serverMessage, serverSuspect, serverCheck};
+ghost use Rattle.capi.specs.Steps.{serverMessage, serverSuspect, serverCheck};
+ghost use Rattle.capi_host.specs.Leaves.{Leaves};
 
 // The record's words, and what the last accepted step sent: messages, and their bytes.
 #[repr(C)]
@@ -16,7 +17,7 @@ pub struct Stepped {
 }
 
 fn message_step(h: Host, message: &[u32], out: &mut [u8]) -> Stepped
-    ensures { λ r. ⌜ Leaves (lent (now (out .entry)) (h .sent) (serverMessage (h .words) (now (message .entry)))) (r .code) (h .words) (r .host .words) (now (out .entry)) (now (out .exit)) (h .sent) (r .host .sent) ⌝ }
+    ensures { λ r. ⌜ Leaves (serverMessage (h .words) (now (message .entry))) (r .code) h (r .host) (now (out .entry)) (now (out .exit)) ⌝ }
 {
     let mut words = h.words;
     let mut sent = h.sent;
@@ -26,7 +27,7 @@ fn message_step(h: Host, message: &[u32], out: &mut [u8]) -> Stepped
 }
 
 fn suspect_step(h: Host, out: &mut [u8]) -> Stepped
-    ensures { λ r. ⌜ Leaves (lent (now (out .entry)) (h .sent) (serverSuspect (h .words))) (r .code) (h .words) (r .host .words) (now (out .entry)) (now (out .exit)) (h .sent) (r .host .sent) ⌝ }
+    ensures { λ r. ⌜ Leaves (serverSuspect (h .words)) (r .code) h (r .host) (now (out .entry)) (now (out .exit)) ⌝ }
 {
     let mut words = h.words;
     let mut sent = h.sent;
@@ -36,7 +37,7 @@ fn suspect_step(h: Host, out: &mut [u8]) -> Stepped
 }
 
 fn check_step(h: Host, out: &mut [u8]) -> Stepped
-    ensures { λ r. ⌜ Leaves (lent (now (out .entry)) (h .sent) (serverCheck (h .words))) (r .code) (h .words) (r .host .words) (now (out .entry)) (now (out .exit)) (h .sent) (r .host .sent) ⌝ }
+    ensures { λ r. ⌜ Leaves (serverCheck (h .words)) (r .code) h (r .host) (now (out .entry)) (now (out .exit)) ⌝ }
 {
     let mut words = h.words;
     let mut sent = h.sent;
@@ -48,7 +49,7 @@ fn check_step(h: Host, out: &mut [u8]) -> Stepped
 // The server takes a REQUEST, YIELD, RELEASE or INQUIRY. Refused 21, 5, 13, 14, 6.
 #[no_mangle]
 pub extern "C" fn sigma_host_message(h: &mut Host, message: &[u32], out: &mut [u8]) -> u32
-    ensures { λ r. ⌜ Leaves (lent (now (out .entry)) (now (h .entry) .sent) (serverMessage (now (h .entry) .words) (now (message .entry)))) r (now (h .entry) .words) (now (h .exit) .words) (now (out .entry)) (now (out .exit)) (now (h .entry) .sent) (now (h .exit) .sent) ⌝ }
+    ensures { λ r. ⌜ Leaves (serverMessage (now (h .entry) .words) (now (message .entry))) r (now (h .entry)) (now (h .exit)) (now (out .entry)) (now (out .exit)) ⌝ }
 {
     let t = message_step(*h, message, out);
     *h = t.host;
@@ -58,7 +59,7 @@ pub extern "C" fn sigma_host_message(h: &mut Host, message: &[u32], out: &mut [u
 // The owner is suspected to have crashed. Refused 21, 15, 6.
 #[no_mangle]
 pub extern "C" fn sigma_host_suspect(h: &mut Host, out: &mut [u8]) -> u32
-    ensures { λ r. ⌜ Leaves (lent (now (out .entry)) (now (h .entry) .sent) (serverSuspect (now (h .entry) .words))) r (now (h .entry) .words) (now (h .exit) .words) (now (out .entry)) (now (out .exit)) (now (h .entry) .sent) (now (h .exit) .sent) ⌝ }
+    ensures { λ r. ⌜ Leaves (serverSuspect (now (h .entry) .words)) r (now (h .entry)) (now (h .exit)) (now (out .entry)) (now (out .exit)) ⌝ }
 {
     let t = suspect_step(*h, out);
     *h = t.host;
@@ -68,7 +69,7 @@ pub extern "C" fn sigma_host_suspect(h: &mut Host, out: &mut [u8]) -> u32
 // CHECK to the owner. Refused 21, 6.
 #[no_mangle]
 pub extern "C" fn sigma_host_check(h: &mut Host, out: &mut [u8]) -> u32
-    ensures { λ r. ⌜ Leaves (lent (now (out .entry)) (now (h .entry) .sent) (serverCheck (now (h .entry) .words))) r (now (h .entry) .words) (now (h .exit) .words) (now (out .entry)) (now (out .exit)) (now (h .entry) .sent) (now (h .exit) .sent) ⌝ }
+    ensures { λ r. ⌜ Leaves (serverCheck (now (h .entry) .words)) r (now (h .entry)) (now (h .exit)) (now (out .entry)) (now (out .exit)) ⌝ }
 {
     let t = check_step(*h, out);
     *h = t.host;

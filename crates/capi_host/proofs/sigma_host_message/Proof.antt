@@ -40,7 +40,8 @@ use denote.Triple.Clauses.{ensured, lasts}
 use denote.Exit.{yes}
 use contract.Lifetimes.{AllOutlive}
 use lib.ListN.{length}
-use Rattle.capi.specs.Steps.{lent, Leaves, serverMessage}
+use Rattle.capi.specs.Steps.{serverMessage}
+use Rattle.capi_host.specs.Leaves.{Leaves}
 use Rattle.capi_host.specs.declared.Stepped.{Stepped}
 use Rattle.capi_host.specs.declared.Host.{Host}
 use Rattle.capi_host.proofs.Host as K
@@ -87,7 +88,7 @@ module _ {M : Type 1} (𝓤 : URA M) (H : Heap 𝓤) (A : Atoms 𝓤) (W : Given
   Post = walkOf 𝓤 H A thin.ended stayed (thin.clauses 𝓤 H A at-mem run) .post (((κ, (κ₁, (κ₂, tt))), (q, (q₁, (q₂, tt))), bounds, x, at), tt)
 
   abbrev Says : Stepped → List ℕ → Type 0
-  Says r zs = Leaves (lent ys (h .sent) (serverMessage (h .words) (m .now))) (r .code) (h .words) (r .host .words) ys zs (h .sent) (r .host .sent)
+  Says r zs = Leaves (serverMessage (h .words) (m .now)) (r .code) h (r .host) ys zs
 
   exits : (r : Stepped) (zs : List ℕ) → Is u32 (r .code) (vint w32 (r .code) ∷ []) → Says r zs → length zs ≡ length ys
       → ent 𝓤 (⋆ 𝓤 H A (‵ (fobs γ (K.the-row .coded .code (r .host))) ∷ ‵ (fbor κ (Borrowed (mem K.the-row) b o γ)) ∷ ‵ (flft κ q) ∷ (‵ (flft κ₁ q₁) ⊛ ‵ (flft κ₂ q₂) ⊛ ‵ ftrue) ∷ ‵ (finally u8 (y .name) zs) ∷ [])) (Post (vint w32 (r .code)))
