@@ -1,2 +1,3 @@
 pub mod Thin
+pub mod Stepping
 pub mod Refused

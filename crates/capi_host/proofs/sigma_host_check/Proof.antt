@@ -1,4 +1,4 @@
--- `sigma_host_check` is the thin function over `check_step`: the walk of `Thin` at this callee, which meets its contract.
+-- `sigma_host_check` is the thin function over `check_step`: the walk of `host`'s `Thin` at this callee, which meets its contract.
 use mathlib.Core.Path.{refl}
 use denote.Triple.Spec.{tripleOf}
 use denote.Triple.Table.{entered, cited}
@@ -6,7 +6,8 @@ use contract.Running.{givenOf, tables, tablesOf}
 use Rattle.capi.specs.Steps.{serverCheck}
 use Rattle.capi_host.proofs.check_step.Symbol as callee
 use Rattle.capi_host.proofs.check_step.Met as callee-meets
-use Rattle.capi_host.proofs.Thin.{Step, meets}
+use Rattle.host.proofs.Thin.{Step, meets}
+use Rattle.capi_host.proofs.Stepping.{types, Says, Left}
 use Rattle.capi_host.proofs.sigma_host_check.Key.{name as #sigma-host-check}
 use Rattle.capi_host.proofs.sigma_host_check as thin
 use Rattle.capi_host.proofs.sigma_host_check.Statement.{statement}
@@ -17,5 +18,5 @@ unfolding code.routine tablesOf
 sigma-host-check-spec 𝓤 H 𝓜 𝓖 𝓡 =
     entered 𝓤 H (tripleOf 𝓤 H (𝓖 .A) thin.signature (thin.spec 𝓤 H (𝓖 .A) (𝓜 .mem) (𝓡 .run)))
     (tables 𝓤 H 𝓜 𝓡 code.env .C) (tables 𝓤 H 𝓜 𝓡 code.env .Λ) #sigma-host-check code.function (code.unfolded 𝓤 H 𝓜 𝓡)
-    (meets 𝓤 H (𝓖 .A) (givenOf 𝓤 H 𝓜 𝓖) callee.name serverCheck (tablesOf 𝓤 H 𝓜 (tables 𝓤 H 𝓜 𝓡 code.env))
-    (cited 𝓤 H (Step 𝓤 H (𝓖 .A) serverCheck) 𝓜 𝓡 code.env callee.name callee.routine refl (callee-meets.met 𝓤 H 𝓜 𝓖 𝓡)))
+    (meets types (Says serverCheck) (Left serverCheck) (λ h ys r zs e. e) 𝓤 H (𝓖 .A) (givenOf 𝓤 H 𝓜 𝓖) callee.name (tablesOf 𝓤 H 𝓜 (tables 𝓤 H 𝓜 𝓡 code.env))
+    (cited 𝓤 H (Step types (Says serverCheck) (Left serverCheck) (λ h ys r zs e. e) 𝓤 H (𝓖 .A)) 𝓜 𝓡 code.env callee.name callee.routine refl (callee-meets.met 𝓤 H 𝓜 𝓖 𝓡)))

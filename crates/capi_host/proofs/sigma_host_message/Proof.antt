@@ -1,4 +1,4 @@
--- `sigma_host_message` meets its contract: the walk of `Thin`, with the message's words as one more parameter. They are lent to the callee for good.
+-- `sigma_host_message` meets its contract: the walk of `host`'s `Thin`, with the message's words as one more parameter. They are lent to the callee for good.
 use mathlib.Core.Path.{_≡_, refl, ap}
 use Prim.Native.Nat.{ℕ}
 use mathlib.Core.List.{[], _∷_, List}
@@ -52,7 +52,7 @@ use Rattle.capi_host.proofs.message_step as covered
 use Rattle.capi_host.proofs.message_step.Symbol as callee
 use Rattle.capi_host.proofs.message_step.Symbol.{name as #message-step}
 use Rattle.capi_host.proofs.message_step.Met as callee-meets
-use Rattle.capi_host.proofs.Thin.{k-vals, k-is, r-is}
+use Rattle.capi_host.proofs.Stepping.{k-is, r-is}
 use Rattle.capi_host.proofs.sigma_host_message.Key.{name as #sigma-host-message}
 use Rattle.capi_host.proofs.sigma_host_message as thin
 use Rattle.capi_host.proofs.sigma_host_message.Statement as stated
@@ -63,6 +63,10 @@ Arg = RefT Host × (RefT (List ℕ) × (RefT (List ℕ) × Unit {0}))
 
 abbrev stayed : Stays (thin.ended .signature .params) (thin.ended .kept)
 stayed = (stay-ref (0 ∷ []) tt (plain (λ _. K.the-row)), (stay-dropped (shrSliceOf (1 ∷ []) tt (plain (λ _. u32))) yes, (gave-slice (2 ∷ []) tt (plain (λ _. u8)), tt)))
+
+-- machine values
+abbrev k-vals : Host → List Val
+k-vals = LL.vals K.the-type K′.the-laws
 
 -- the contract that the proof cites
 abbrev Step : {M : Type 1} (𝓤 : URA M) (H : Heap 𝓤) (A : Atoms 𝓤) (at-mem : Memory → SProp 𝓤) (run : Routine → Fun 𝓤) → Contract 𝓤

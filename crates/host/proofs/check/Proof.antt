@@ -7,6 +7,7 @@ use Rattle.server.specs.Calls.{checkOutcome}
 use Rattle.server.proofs.check.Symbol as callee
 use Rattle.server.proofs.check.Met as callee-meets
 use Rattle.host.proofs.Thin.{Step, meets}
+use Rattle.host.proofs.Stepping.{types, Says, Left, leaves}
 use Rattle.host.proofs.check.Key.{name as #host·check}
 use Rattle.host.proofs.check as check
 use Rattle.host.proofs.check.Statement.{statement}
@@ -17,5 +18,5 @@ unfolding code.routine tablesOf
 check-spec 𝓤 H 𝓜 𝓖 𝓡 =
     entered 𝓤 H (tripleOf 𝓤 H (𝓖 .A) check.signature (check.spec 𝓤 H (𝓖 .A) (𝓜 .mem) (𝓡 .run)))
     (tables 𝓤 H 𝓜 𝓡 code.env .C) (tables 𝓤 H 𝓜 𝓡 code.env .Λ) #host·check code.function (code.unfolded 𝓤 H 𝓜 𝓡)
-    (meets 𝓤 H (𝓖 .A) (givenOf 𝓤 H 𝓜 𝓖) callee.name checkOutcome (tablesOf 𝓤 H 𝓜 (tables 𝓤 H 𝓜 𝓡 code.env))
-    (cited 𝓤 H (Step 𝓤 H (𝓖 .A) checkOutcome) 𝓜 𝓡 code.env callee.name callee.routine refl (callee-meets.met 𝓤 H 𝓜 𝓖 𝓡)))
+    (meets types (Says checkOutcome) (Left checkOutcome) (leaves checkOutcome) 𝓤 H (𝓖 .A) (givenOf 𝓤 H 𝓜 𝓖) callee.name (tablesOf 𝓤 H 𝓜 (tables 𝓤 H 𝓜 𝓡 code.env))
+    (cited 𝓤 H (Step types (Says checkOutcome) (Left checkOutcome) (leaves checkOutcome) 𝓤 H (𝓖 .A)) 𝓜 𝓡 code.env callee.name callee.routine refl (callee-meets.met 𝓤 H 𝓜 𝓖 𝓡)))

@@ -41,6 +41,7 @@ use denote.Exit.{yes}
 use contract.Lifetimes.{AllOutlive}
 use lib.ListN.{length}
 use Rattle.wire.specs.Step.{withRoom, sentInto}
+use Rattle.wire.specs.declared.Answer.{Answer}
 use Rattle.server.specs.Calls.{messageOutcome, result}
 use Rattle.server.specs.declared.Stepped.{Stepped}
 use Rattle.wire.specs.declared.Message.{Message}
@@ -57,7 +58,7 @@ use Rattle.server.proofs.message as covered
 use Rattle.server.proofs.message.Symbol as callee
 use Rattle.server.proofs.message.Symbol.{name as #server·message}
 use Rattle.server.proofs.message.Met as callee-meets
-use Rattle.host.proofs.Thin.{k-vals, r-vals, r-val, k-is, r-is}
+use Rattle.host.proofs.Stepping.{k-is, r-is}
 use Rattle.host.proofs.message.Key.{name as #host·message}
 use Rattle.host.proofs.message as message
 use Rattle.host.proofs.message.Statement as stated
@@ -70,6 +71,12 @@ abbrev stayed : Stays (message.ended .signature .params) (message.ended .kept)
 stayed = (stay-ref (0 ∷ []) tt (plain (λ _. K.the-row)), (stay-none (λ _. E.the-row) yes, (gave-slice (1 ∷ []) tt (plain (λ _. u8)), tt)))
 
 -- machine values
+abbrev k-vals : Server → List Val
+k-vals = LL.vals K.the-type K′.the-laws
+
+abbrev r-val : Answer → Val
+r-val = EL.val R.the-type R′.the-laws
+
 abbrev m-vals : Message → List Val
 m-vals = EL.vals E.the-type E′.the-laws
 
@@ -99,7 +106,7 @@ module _ {M : Type 1} (𝓤 : URA M) (H : Heap 𝓤) (A : Atoms 𝓤) (W : Given
   abbrev Says : Stepped → List ℕ → Type 0
   Says r zs = (r ≡ result h (withRoom (length ys) (messageOutcome h m))) × (zs ≡ sentInto ys (withRoom (length ys) (messageOutcome h m)))
 
-  exits : (r : Stepped) (zs : List ℕ) → Is E.the-row m (m-vals m) → Is R.the-row (r .answer) (r-vals (r .answer)) → Says r zs → length zs ≡ length ys
+  exits : (r : Stepped) (zs : List ℕ) → Is E.the-row m (m-vals m) → Is R.the-row (r .answer) (r-val (r .answer) ∷ []) → Says r zs → length zs ≡ length ys
       → ent 𝓤 (⋆ 𝓤 H A (‵ (fobs γ (K.the-row .coded .code (r .server))) ∷ ‵ (fbor κ (Borrowed (mem K.the-row) b o γ)) ∷ ‵ (flft κ q) ∷ (‵ (flft κ′ q′) ⊛ ‵ ftrue) ∷ ‵ (finally u8 (y .name) zs) ∷ [])) (Post (r-val (r .answer)))
   exits r zs mi ri e l =
       qed W (‵ (fobs γ (K.the-row .coded .code (r .server))) ∷ ‵ (fbor κ (Borrowed (mem K.the-row) b o γ)) ∷ ‵ (flft κ q) ∷ (‵ (flft κ′ q′) ⊛ ‵ ftrue) ∷ ‵ (finally u8 (y .name) zs) ∷ []) ∵
