@@ -120,19 +120,21 @@ module _ (N : Types) where
   abbrev r-val : R₀ .Denot → Val
   r-val = N .answer .val
 
-  -- what the callee ensures, of the record and the buffer that it was passed, and what the thin function does
+  -- the callee's contract: what it ensures, of the record and the buffer that it was passed
+  module _ (Says : K₀ .Denot → List ℕ → S₀ .Denot → List ℕ → Type 0) {M : Type 1} (𝓤 : URA M) (H : Heap 𝓤) (A : Atoms 𝓤) where
+    abbrev stepping : Clauses 𝓤 covered
+    stepping κs a = record { ghost = Unit {0}; requires = λ g. emp 𝓤; ensures = λ g r e. fact 𝓤 (Says (a .0) (now (a .1 .0)) r (now (e .1 .0))) }
+
+    abbrev pub Step : Contract 𝓤
+    Step = tripleOf 𝓤 H A (covered .signature) (closing 𝓤 H A covered stepping)
+
+  -- the thin function's, which follows
+  module _ (Leaves : K₀ .Denot → List ℕ → R₀ .Denot → K₀ .Denot → List ℕ → Type 0) {M : Type 1} (𝓤 : URA M) (H : Heap 𝓤) (A : Atoms 𝓤) where
+    abbrev pub keeping : Clauses 𝓤 thin
+    keeping κs a = record { ghost = Unit {0}; requires = λ g. emp 𝓤; ensures = λ g r e. fact 𝓤 (Leaves (now (a .0)) (now (a .1 .0)) r (now (e .0)) (now (e .1 .0))) }
+
   module _ (Says : K₀ .Denot → List ℕ → S₀ .Denot → List ℕ → Type 0) (Leaves : K₀ .Denot → List ℕ → R₀ .Denot → K₀ .Denot → List ℕ → Type 0)
       (leaves : (h : K₀ .Denot) (ys : List ℕ) (r : S₀ .Denot) (zs : List ℕ) → Says h ys r zs → Leaves h ys (r-of r) (k-of r) zs) where
-    module _ {M : Type 1} (𝓤 : URA M) (H : Heap 𝓤) (A : Atoms 𝓤) where
-      abbrev pub stepping : Clauses 𝓤 covered
-      stepping κs a = record { ghost = Unit {0}; requires = λ g. emp 𝓤; ensures = λ g r e. fact 𝓤 (Says (a .0) (now (a .1 .0)) r (now (e .1 .0))) }
-
-      abbrev pub keeping : Clauses 𝓤 thin
-      keeping κs a = record { ghost = Unit {0}; requires = λ g. emp 𝓤; ensures = λ g r e. fact 𝓤 (Leaves (now (a .0)) (now (a .1 .0)) r (now (e .0)) (now (e .1 .0))) }
-
-      abbrev pub Step : Contract 𝓤
-      Step = tripleOf 𝓤 H A (covered .signature) (closing 𝓤 H A covered stepping)
-
     module _ {M : Type 1} (𝓤 : URA M) (H : Heap 𝓤) (A : Atoms 𝓤) (W : Given 𝓤 H A) (callee : Name) where
       module _ (κ κ′ : Lft) (bounds : AllOutlive 2 [] (κ, (κ′, tt))) (q q′ : Share) (b o : ℕ) (γ : GName) (h : K₀ .Denot) (y : RefT (List ℕ)) where
         abbrev ys : List ℕ
@@ -148,25 +150,25 @@ module _ (N : Types) where
         at = (vptr b o ∷ [], (s ∷ [], tt))
 
         abbrev Post : Val → SProp 𝓤
-        Post = walkOf 𝓤 H A thin stayed (keeping 𝓤 H A) .post (((κ, (κ′, tt)), (q, (q′, tt)), bounds, x, at), tt)
+        Post = walkOf 𝓤 H A thin stayed (keeping Leaves 𝓤 H A) .post (((κ, (κ′, tt)), (q, (q′, tt)), bounds, x, at), tt)
 
         exits : (r : S₀ .Denot) (zs : List ℕ) → Is R₀ (r-of r) (r-val (r-of r) ∷ []) → Says h ys r zs → length zs ≡ length ys
             → ent 𝓤 (⋆ 𝓤 H A (‵ (fobs γ (K .coded .code (k-of r))) ∷ ‵ (fbor κ (Borrowed (mem K) b o γ)) ∷ ‵ (flft κ q) ∷ (‵ (flft κ′ q′) ⊛ ‵ ftrue) ∷ ‵ (finally u8 (y .name) zs) ∷ [])) (Post (r-val (r-of r)))
         exits r zs ri e l =
             qed W (‵ (fobs γ (K .coded .code (k-of r))) ∷ ‵ (fbor κ (Borrowed (mem K) b o γ)) ∷ ‵ (flft κ q) ∷ (‵ (flft κ′ q′) ⊛ ‵ ftrue) ∷ ‵ (finally u8 (y .name) zs) ∷ []) ∵
-            suffices ! _ (ends-at 𝓤 H A thin stayed (keeping 𝓤 H A) W (((κ, (κ′, tt)), (q, (q′, tt)), bounds, x, at), tt) (r-val (r-of r)) (r-of r) (k-of r, (zs, tt)) (tt, (l, tt))) $
+            suffices ! _ (ends-at 𝓤 H A thin stayed (keeping Leaves 𝓤 H A) W (((κ, (κ′, tt)), (q, (q′, tt)), bounds, x, at), tt) (r-val (r-of r)) (r-of r) (k-of r, (zs, tt)) (tt, (l, tt))) $
             says ! (leaves h ys r zs e) $ move ! (2 ∷ 3 ∷ []) $ join ! $ frame ! $
             feqI ! (List Val) (vptr b o ∷ []) (vptr b o ∷ []) refl $ fjoin3 ! $ nothing ! $ move ! (2 ∷ 0 ∷ []) $ fjoin ! $ move ! (1 ∷ 0 ∷ []) $ fjoin ! $
             owned ! R (Is R) (N .answer .makes 𝓤 H A W) (r-of r) _ ri $ move ! (1 ∷ 0 ∷ []) $ done !
 
         -- what the callee is called with
-        abbrev passed : Step 𝓤 H A .Ghost
+        abbrev passed : Step Says 𝓤 H A .Ghost
         passed = (((κ′, tt), (q′, tt), tt, (h, (y, tt)), (k-vals h, (s ∷ [], tt))), tt)
 
-        goes-in : ent 𝓤 (sep 𝓤 (sep 𝓤 (A .lft κ′ q′) (sem 𝓤 H A ftrue)) (sem 𝓤 H A (owns (K ∷ MutSlice (named 0) κ′ u8 ∷ []) (h, (y, tt)) (k-vals h, (s ∷ [], tt))))) (Step 𝓤 H A .pre passed)
+        goes-in : ent 𝓤 (sep 𝓤 (sep 𝓤 (A .lft κ′ q′) (sem 𝓤 H A ftrue)) (sem 𝓤 H A (owns (K ∷ MutSlice (named 0) κ′ u8 ∷ []) (h, (y, tt)) (k-vals h, (s ∷ [], tt))))) (Step Says 𝓤 H A .pre passed)
         goes-in = qed W ((‵ (flft κ′ q′) ⊛ ‵ ftrue) ∷ ‵ (owns (K ∷ MutSlice (named 0) κ′ u8 ∷ []) (h, (y, tt)) (k-vals h, (s ∷ [], tt))) ∷ []) ∵ join ! $ frame ! $ done !
 
-        module _ (C : Calls 𝓤 H) (Λ : Loops 𝓤 H) (fm : FmC 𝓤 H (W .laws) C) (known : Triple 𝓤 (C callee) (Step 𝓤 H A)) where
+        module _ (C : Calls 𝓤 H) (Λ : Loops 𝓤 H) (fm : FmC 𝓤 H (W .laws) C) (known : Triple 𝓤 (C callee) (Step Says 𝓤 H A)) where
           walk : Room u8 (length ys) → ent 𝓤 (onEntry 𝓤 H A (thin .signature) (κ, (κ′, tt)) (q, (q′, tt)) x at) (WpFn 𝓤 H C Λ (code callee) (vptr b o ∷ s ∷ []) Post)
           walk room =
               qed W ((‵ (flft κ q) ⊛ ‵ (flft κ′ q′) ⊛ ‵ ftrue) ∷ ‵ (owns (MutRef (named 0) κ K ∷ MutSlice (named 1) κ′ u8 ∷ []) x at) ∷ []) ∵
@@ -183,9 +185,9 @@ module _ (N : Types) where
               assigns ! (agg ! (and-then ! (load ! (from ! (stop !)) (look ! 7 refl)) (and-then ! (load ! (from ! (fld ! refl (stop !))) (look-in ! 13 (sub ! 1 refl (whole !)))) (no-more !)))) (from ! (stop !)) (init ! 5 refl (tt, (tt, (record { fits = room .0 }, tt)))) $
               -- what the callee asks is put together
               move ! (19 ∷ []) $ nothing ! $ move ! (1 ∷ 0 ∷ []) $ fjoin ! $ move ! (2 ∷ 0 ∷ []) $ fjoin ! $ move ! (19 ∷ []) $ nothing ! $ move ! (1 ∷ 0 ∷ []) $ join ! $
-              use2 W (raw (Step 𝓤 H A .pre passed)) goes-in $
-              calls-at ! fm (Step 𝓤 H A) known passed (and-then ! (load ! (from ! (stop !)) (look ! 9 refl)) (and-then ! (load ! (from ! (stop !)) (look ! 5 refl)) (no-more !))) (λ v.
-              use1 W (later (some (λ (r : S₀ .Denot). ((‵ (flft κ′ q′) ⊛ ‵ ftrue) ⊛ ‵ (S .own r (v ∷ []))) ⊛ raw (ensured 𝓤 H A covered (stepping 𝓤 H A) (κ′, tt) (h, (y, tt)) tt r)))) (id⊢ 𝓤 _) $ await ! tt $ pick ! (λ r.
+              use2 W (raw (Step Says 𝓤 H A .pre passed)) goes-in $
+              calls-at ! fm (Step Says 𝓤 H A) known passed (and-then ! (load ! (from ! (stop !)) (look ! 9 refl)) (and-then ! (load ! (from ! (stop !)) (look ! 5 refl)) (no-more !))) (λ v.
+              use1 W (later (some (λ (r : S₀ .Denot). ((‵ (flft κ′ q′) ⊛ ‵ ftrue) ⊛ ‵ (S .own r (v ∷ []))) ⊛ raw (ensured 𝓤 H A covered (stepping Says 𝓤 H A) (κ′, tt) (h, (y, tt)) tt r)))) (id⊢ 𝓤 _) $ await ! tt $ pick ! (λ r.
               split ! $ move ! (1 ∷ []) $ use1 W (some (λ (zs : Unit {0} × (List ℕ × Unit {0})). ‵ (lasts covered (κ′, tt) (h, (y, tt)) zs) ⊛ raw (fact 𝓤 (Says h ys r (zs .1 .0))))) (id⊢ 𝓤 _) $ pick ! (λ zs.
               split ! $ move ! (1 ∷ []) $ heard ! (Says h ys r (zs .1 .0)) (λ e. fsplit ! $ drop ! $ fsplit ! $ fsplit ! $ move ! (1 ∷ []) $ feqL ! (λ l.
               -- [the last list; true; out's token and the result; the cell; …]
@@ -201,13 +203,13 @@ module _ (N : Types) where
               move ! (18 ∷ 19 ∷ []) $ free1 ! $ move ! (16 ∷ 17 ∷ []) $ free1 ! $ move ! (14 ∷ 15 ∷ []) $ free1 ! $ move ! (12 ∷ 13 ∷ []) $ free1 ! $ move ! (10 ∷ 11 ∷ []) $ free1 ! $ move ! (8 ∷ 9 ∷ []) $ free1 ! $ move ! (6 ∷ 7 ∷ []) $ free1 ! $ free0 ! $
               keep ! (0 ∷ 1 ∷ 2 ∷ 3 ∷ 4 ∷ []) $ by ! (exits r (zs .1 .0) (r-is r _ is₂) e l))))))))))))))))
 
-      walks : (C : Calls 𝓤 H) (Λ : Loops 𝓤 H) → FmC 𝓤 H (W .laws) C → Triple 𝓤 (C callee) (Step 𝓤 H A) → Walks 𝓤 H A thin stayed (WpFn 𝓤 H C Λ (code callee)) (keeping 𝓤 H A)
-      walks C Λ fm known = walked 𝓤 H A thin stayed (keeping 𝓤 H A) (WpFn 𝓤 H C Λ (code callee)) (λ κs. (ptr-vals, (slice-vals, tt))) (λ κs. (mut-tells (named 0) (κs .0) K, (mut-slice-tells (named 1) (κs .1 .0) u8, tt)))
+      walks : (C : Calls 𝓤 H) (Λ : Loops 𝓤 H) → FmC 𝓤 H (W .laws) C → Triple 𝓤 (C callee) (Step Says 𝓤 H A) → Walks 𝓤 H A thin stayed (WpFn 𝓤 H C Λ (code callee)) (keeping Leaves 𝓤 H A)
+      walks C Λ fm known = walked 𝓤 H A thin stayed (keeping Leaves 𝓤 H A) (WpFn 𝓤 H C Λ (code callee)) (λ κs. (ptr-vals, (slice-vals, tt))) (λ κs. (mut-tells (named 0) (κs .0) K, (mut-slice-tells (named 1) (κs .1 .0) u8, tt)))
           (λ κs qs bounds a _ are. via 𝓤 _ (fst∗ 𝓤 _ (emp 𝓤)) (walk (κs .0) (κs .1 .0) bounds (qs .0) (qs .1 .0) (a .0 .ptr .0) (a .0 .ptr .1) (a .0 .name) (a .0 .now) (a .1 .0) C Λ fm known (are .1 .0 .0 .1)))
 
       goes : AllGo 𝓤 H A W 2 (thin .signature .params) (thin .kept) stayed
       goes = (goes-ref 𝓤 H A W 2 0 tt (plain (λ _. K)), (goes-gave-slice 𝓤 H A W 2 1 tt (plain (λ _. u8)), tt))
 
       -- a callee that meets its contract makes the thin function meet its own
-      pub meets : (𝓣 : Tables 𝓤 H) → Triple 𝓤 (𝓣 .C callee) (Step 𝓤 H A) → Meets 𝓤 H A (thin .signature) (WpFn 𝓤 H (𝓣 .C) (𝓣 .Λ) (code callee)) (closing 𝓤 H A thin (keeping 𝓤 H A))
-      meets 𝓣 known = walk-meets 𝓤 H A thin stayed W goes (keeping 𝓤 H A) (WpFn 𝓤 H (𝓣 .C) (𝓣 .Λ) (code callee)) (WpFn-mono 𝓤 H (W .laws) 𝓣 (code callee)) (walks (𝓣 .C) (𝓣 .Λ) (fmOf 𝓤 H (W .laws) 𝓣) known)
+      pub meets : (𝓣 : Tables 𝓤 H) → Triple 𝓤 (𝓣 .C callee) (Step Says 𝓤 H A) → Meets 𝓤 H A (thin .signature) (WpFn 𝓤 H (𝓣 .C) (𝓣 .Λ) (code callee)) (closing 𝓤 H A thin (keeping Leaves 𝓤 H A))
+      meets 𝓣 known = walk-meets 𝓤 H A thin stayed W goes (keeping Leaves 𝓤 H A) (WpFn 𝓤 H (𝓣 .C) (𝓣 .Λ) (code callee)) (WpFn-mono 𝓤 H (W .laws) 𝓣 (code callee)) (walks (𝓣 .C) (𝓣 .Λ) (fmOf 𝓤 H (W .laws) 𝓣) known)

@@ -19,4 +19,4 @@ sigma-host-suspect-spec 𝓤 H 𝓜 𝓖 𝓡 =
     entered 𝓤 H (tripleOf 𝓤 H (𝓖 .A) thin.signature (thin.spec 𝓤 H (𝓖 .A) (𝓜 .mem) (𝓡 .run)))
     (tables 𝓤 H 𝓜 𝓡 code.env .C) (tables 𝓤 H 𝓜 𝓡 code.env .Λ) #sigma-host-suspect code.function (code.unfolded 𝓤 H 𝓜 𝓡)
     (meets types (Says serverSuspect) (Left serverSuspect) (λ h ys r zs e. e) 𝓤 H (𝓖 .A) (givenOf 𝓤 H 𝓜 𝓖) callee.name (tablesOf 𝓤 H 𝓜 (tables 𝓤 H 𝓜 𝓡 code.env))
-    (cited 𝓤 H (Step types (Says serverSuspect) (Left serverSuspect) (λ h ys r zs e. e) 𝓤 H (𝓖 .A)) 𝓜 𝓡 code.env callee.name callee.routine refl (callee-meets.met 𝓤 H 𝓜 𝓖 𝓡)))
+    (cited 𝓤 H (Step types (Says serverSuspect) 𝓤 H (𝓖 .A)) 𝓜 𝓡 code.env callee.name callee.routine refl (callee-meets.met 𝓤 H 𝓜 𝓖 𝓡)))
