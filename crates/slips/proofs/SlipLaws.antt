@@ -1,0 +1,175 @@
+-- The texts of a list, one element more; and what a valid simulation says of its blocks.
+use mathlib.Core.Path.{_≡_, refl, sym, ap, _∙_}
+use Prim.Native.Nat.{ℕ, zero, suc, _+_, _≤_, _<_}
+use native.Mathlib.Omega.{arith}
+use native.Mathlib.Numerals.{add-one}
+use mathlib.Core.Bool.{Bool, true, false, _&&_}
+use mathlib.Core.List.{List, [], _∷_, _++_, map, append-assoc, append-nil}
+use lib.Dec.{leb}
+use lib.ListN.{length, getD, take, drop, length-take, length-map}
+use lib.Seq.{take-suc}
+use borrow.Author.Tests.{leb-true}
+use Rattle.ids.specs.Choice.{if_then_else_}
+use Rattle.ids.specs.Lists.{every}
+use Rattle.ids.specs.Requests.{noRequest, isRequest, same}
+use Rattle.ids.specs.declared.Owner.{Owner}
+use Rattle.ids.specs.declared.Request.{Request}
+use Rattle.ids.proofs.Choice.{both}
+use Rattle.language.specs.Decimals.{decimal}
+use Rattle.language.specs.Words.{text}
+use Rattle.client.specs.Record as client
+use Rattle.client.specs.Record.{shown}
+use Rattle.client.specs.declared.Client.{Client}
+use Rattle.client.specs.declared.Section.{Section}
+use Rattle.client.specs.declared.Section.the-variants.{Remainder, Trying, Critical}
+use Rattle.server.specs.Record as server
+use Rattle.server.specs.declared.Server.{Server}
+use Rattle.words.specs.Records.{serverFrom, clientFrom, holdsServer, holdsClient}
+use Rattle.places.specs.Blocks.{clientRecord, serverRecord, clientPlace, serverPlace, validServerBlock}
+use Rattle.places.proofs.Facts.{ClientBlock, client-facts, client-few, server-facts}
+use Rattle.layout.specs.Layout.{settingOf, view, valid}
+use Rattle.layout.specs.Parts.{clientBlockOf, serverBlockOf}
+use Rattle.changes.specs.Changes.{HasClient, HasServer}
+use Rattle.changes.proofs.Storing.{server-block, server-is, client-block, client-is}
+use Rattle.system.specs.Places.{System, clientAt, serverAt}
+use Rattle.script.specs.State as script
+use Rattle.script.specs.State.{headIn, simulationIn, validRun}
+use Rattle.script.proofs.LineLaws.{known}
+use Rattle.sheet.specs.Sheet.{Sheet, sheet, puts}
+use Rattle.sheet.proofs.SheetLaws.{then as behind, puts-within}
+use Rattle.votes.specs.Queues as votes
+use Rattle.slips.specs.Slips.{ends, pairText, queueText, lineText, votesText, serverText, supportText, keepersText, stateText, clientText, serversText, clientsText}
+
+-- those who wait
+queue-append : (a b : List Request) → queueText (a ++ b) ≡ queueText a ++ queueText b
+unfolding queueText
+queue-append [] b = refl
+queue-append (r ∷ a) b = rw (queue-append a b, append-assoc (pairText r) (queueText a) (queueText b))
+
+pub queue-none : (s : Sheet) → s ≡ puts (queueText []) s
+unfolding queueText puts
+queue-none s = refl
+
+module _ (l : List Request) where
+  pub queue-more : (i : ℕ) → i < length l → (s₀ : Sheet) {s₁ s₂ : Sheet} → s₁ ≡ puts (queueText (take i l)) s₀
+      → s₂ ≡ puts (queueText (getD l i noRequest ∷ [])) s₁ → s₂ ≡ puts (queueText (take (i + 1) l)) s₀
+  queue-more i h s₀ p q = rw (add-one i, take-suc l i noRequest h, queue-append (take i l) (getD l i noRequest ∷ [])) (behind s₀ _ _ p q)
+
+  pub line-none : (len : ℕ) → len ≡ 0 → lineText (take len l) ≡ []
+  unfolding lineText
+  line-none len e = rw e
+
+pub line-some : (l : List Request) (len : ℕ) → length l ≡ 16 → (len ≡ 0 → ⊥) → lineText (take len l) ≡ text " line" ∷ queueText (take len l)
+unfolding lineText
+line-some [] len e h = absurd (omega arith)
+line-some (r ∷ l) zero e h = absurd (h refl)
+line-some (r ∷ l) (suc len) e h = refl
+
+-- the servers whose response is r
+support-append : (r : Request) (j : ℕ) (a b : List Owner) → supportText r j (a ++ b) ≡ supportText r j a ++ supportText r (j + length a) b
+unfolding supportText
+support-append r j [] b = let z : j + 0 ≡ j = omega arith in rw z
+support-append r j (o ∷ a) b =
+    let z : j + suc (length a) ≡ suc j + length a = omega arith in
+    rw (support-append r (suc j) a b, z, append-assoc (if isRequest r o then text " " ∷ decimal j ∷ [] else []) (supportText r (suc j) a) (supportText r (suc j + length a) b))
+
+map-append : {A B : Type 0} (f : A → B) (a b : List A) → map f (a ++ b) ≡ map f a ++ map f b
+map-append f [] b = refl
+map-append f (x ∷ a) b = ap (λ (l : List _). f x ∷ l) (map-append f a b)
+
+pub support-none : (r : Request) (s : Sheet) → s ≡ puts (supportText r 1 []) s
+unfolding supportText puts
+support-none r s = refl
+
+module _ (r : Request) (l : List Request) where
+  pub support-more : (i : ℕ) → i < length l → (s₀ : Sheet) {s₁ s₂ : Sheet} → s₁ ≡ puts (supportText r 1 (map shown (take i l))) s₀
+      → s₂ ≡ puts (supportText r (i + 1) (shown (getD l i noRequest) ∷ [])) s₁ → s₂ ≡ puts (supportText r 1 (map shown (take (i + 1) l))) s₀
+  support-more i h s₀ p q =
+      let n : length (map shown (take i l)) ≡ i = length-map (take i l) shown ∙ (length-take i l ∙ omega arith) in
+      let z : 1 + length (map shown (take i l)) ≡ i + 1 = omega (arith, n) in
+      rw (add-one i, take-suc l i noRequest h, map-append shown (take i l) (getD l i noRequest ∷ []), support-append r 1 (map shown (take i l)) (shown (getD l i noRequest) ∷ []), z) (behind s₀ _ _ p q)
+
+module _ (r : Request) (j : ℕ) (q : Request) (b : Bool) (e : b ≡ isRequest r (shown q)) where
+  pub support-own : b ≡ true → supportText r j (shown q ∷ []) ≡ text " " ∷ decimal j ∷ []
+  unfolding supportText
+  support-own h = rw (sym (sym h ∙ e))
+
+  pub support-other : b ≡ false → supportText r j (shown q ∷ []) ≡ []
+  unfolding supportText
+  support-other h = rw (sym (sym h ∙ e))
+
+-- the keepers, by the section
+module _ (x : Section) (l : List (List ℕ)) (s₀ : Sheet) where
+  pub keepers-none : x ≡ Remainder → s₀ ≡ puts (keepersText x l) s₀
+  unfolding puts
+  keepers-none e = rw e
+
+  module _ {s₁ : Sheet} (p : s₁ ≡ puts (text " keepers" ∷ l) s₀) where
+    pub keepers-trying : x ≡ Trying → s₁ ≡ puts (keepersText x l) s₀
+    keepers-trying e = rw e p
+
+    pub keepers-critical : x ≡ Critical → s₁ ≡ puts (keepersText x l) s₀
+    keepers-critical e = rw e p
+
+-- the places of a valid simulation
+module _ (w : List ℕ) (j : ℕ) (H : HasServer w j) where
+  pub server-held : holdsServer (serverRecord (serverBlockOf w j)) ≡ true
+  server-held = server-facts (settingOf w .n) (settingOf w .clients) j (serverBlockOf w j) (server-block w j H) .held
+
+  pub queue-few : serverFrom (serverRecord (serverBlockOf w j)) .votes .queue .len ≤ 16
+  unfolding server.valid server.validQueue
+  queue-few =
+      let s : Server = serverFrom (serverRecord (serverBlockOf w j)) in
+      let v = server-facts (settingOf w .n) (settingOf w .clients) j (serverBlockOf w j) (server-block w j H) .valid in
+      let (ab, c) = both (server.validSizes (s .n) (s .id) && server.validQueue (s .votes .queue)) (server.validState (votes.view (s .votes))) v in
+      let q : server.validQueue (s .votes .queue) ≡ true = both (server.validSizes (s .n) (s .id)) (server.validQueue (s .votes .queue)) ab .1 in
+      leb-true _ _ (both (leb (s .votes .queue .len) 16) (every (same noRequest) (drop (s .votes .queue .len) (s .votes .queue .places))) q .0)
+
+  pub server-text : (b : Bool) (s : Server) → b ≡ serverPlace (serverBlockOf w j) .up → s ≡ serverFrom (serverRecord (serverBlockOf w j))
+      → serverText j (serverAt (view w) j) ≡ text "keeper " ∷ decimal j ∷ ((if b then votesText (votes.view (s .votes)) else text " down" ∷ []) ++ ends)
+  unfolding serverText serverPlace
+  server-text b s e f = rw (server-is w j H, e, f)
+
+module _ (w : List ℕ) (k : ℕ) (H : HasClient w k) where
+  facts : ClientBlock (settingOf w .n) (settingOf w .m) (settingOf w .clients) k (clientBlockOf w k)
+  facts = client-facts (settingOf w .n) (settingOf w .m) (settingOf w .clients) k (clientBlockOf w k) (client-block w k H)
+
+  pub client-held : holdsClient (clientRecord (clientBlockOf w k)) ≡ true
+  client-held = facts .held
+
+  pub servers-few : clientFrom (clientRecord (clientBlockOf w k)) .n ≤ 31
+  servers-few = omega (arith, facts .servers, client-few (settingOf w .n) (settingOf w .m) (settingOf w .clients) k (clientBlockOf w k) facts)
+
+  pub client-text : (b : Bool) (c : Client) → b ≡ clientPlace (clientBlockOf w k) .living → c ≡ clientFrom (clientRecord (clientBlockOf w k))
+      → clientText k (clientAt (view w) k) ≡ text "kiosk " ∷ decimal k ∷ ((if b then stateText k (client.view c) else text " fallen" ∷ []) ++ ends)
+  unfolding clientText clientPlace
+  client-text b c e f = rw (client-is w k H, e, f)
+
+-- places 1 to n, one place more
+module _ (u : System) where
+  pub servers-none : (s : Sheet) → s ≡ puts (serversText u 0) s
+  unfolding serversText puts
+  servers-none s = refl
+
+  pub servers-more : (j : ℕ) (s₀ : Sheet) {s₁ s₂ : Sheet} → s₁ ≡ puts (serversText u j) s₀ → s₂ ≡ puts (serverText (j + 1) (serverAt u (j + 1))) s₁
+      → s₂ ≡ puts (serversText u (j + 1)) s₀
+  unfolding serversText
+  servers-more j s₀ p q = rw (add-one j) (behind s₀ _ _ p (rw (add-one j) at q))
+
+  pub clients-none : (s : Sheet) → s ≡ puts (clientsText u 0) s
+  unfolding clientsText puts
+  clients-none s = refl
+
+  pub clients-more : (k : ℕ) (s₀ : Sheet) {s₁ s₂ : Sheet} → s₁ ≡ puts (clientsText u k) s₀ → s₂ ≡ puts (clientText (k + 1) (clientAt u (k + 1))) s₁
+      → s₂ ≡ puts (clientsText u (k + 1)) s₀
+  unfolding clientsText
+  clients-more k s₀ p q = rw (add-one k) (behind s₀ _ _ p (rw (add-one k) at q))
+
+-- what was put ends within the sheet
+pub placed : (ts : List (List ℕ)) (o l : List ℕ) (r : ℕ) → sheet l r ≡ puts ts (sheet o 0) → r ≤ length l
+placed ts o l r e = let w = puts-within ts (sheet o 0) (omega arith) in rw (← e) at w
+
+-- a script that runs has a valid simulation
+pub runs : (w : List ℕ) → script.valid w ≡ true → getD w 0 0 ≡ 1 → valid (take 6353 (drop 46 w)) ≡ true
+unfolding headIn simulationIn validRun
+runs w v e = both (valid (simulationIn w)) _ (known w v .runs e) .0

@@ -1,0 +1,22 @@
+-- `slips::put_pair` meets its contract: a number, a comma, a number.
+use Rattle.sheet.proofs.SheetLaws.{then}
+use borrow.Author.Needs.{needs}
+use Rattle.slips.proofs.put_pair.Statement.{statement}
+use Rattle.slips.proofs.put_pair.Tie as tie
+
+returns : tie.Need-returns
+returns c =
+    let d₂ = c .before .before in
+    let d₁ = d₂ .before .before .before .before .before in
+    then _ _ _ (d₁ .put-number .ensures) (d₂ .put-with .ensures)
+
+pub put-pair-spec : {M : Type 1} → statement M
+put-pair-spec =
+    tie.close
+    (tie.spec
+    (λ c. search needs)
+    (λ c κs. search needs)
+    (λ c. search needs)
+    (λ c κs. search needs)
+    (λ c. search needs)
+    returns)
