@@ -15,7 +15,7 @@ use Rattle.system.specs.Places.{System, holders}
 use Rattle.system.specs.Events.{Result}
 use Rattle.system.specs.Runs.{after, start, runBy, acceptedEvents, mostHolders}
 use Rattle.layout.specs.Layout.{maxClients}
-use Rattle.simulation.specs.Happens.{bounded}
+use Rattle.bounded.specs.Happens.{bounded}
 use Rattle.language.specs.Words.{newline}
 use Rattle.language.specs.Lines.{eventIn, settingIn}
 use Rattle.language.specs.Printed.{headerLine, okLine, noLine, endLine, refusedLine}

@@ -41,10 +41,11 @@ use Rattle.layout.specs.Layout as layout
 use Rattle.layout.proofs.ValidLaws as layout-laws
 use Rattle.layout.proofs.LendLaws.{came-back}
 use Rattle.layout.proofs.PlaceLaws.{client-there, server-there}
-use Rattle.simulation.proofs.Answers.{no-client-tries, no-client-exits, no-client-falls, no-server-downs, no-server-ups, no-server-misses, no-server-checks}
-use Rattle.simulation.specs.Happens as simulation
-use Rattle.simulation.specs.declared.Reply.the-variants as reply
-use Rattle.simulation.specs.declared.Moved.the-variants as made
+use Rattle.bounded.proofs.Answers.{no-client-tries, no-client-exits, no-client-falls, no-server-downs, no-server-ups, no-server-misses, no-server-checks}
+use Rattle.bounded.specs.Happens as bounded
+use Rattle.simulation.specs.Opens as simulation
+use Rattle.bounded.specs.declared.Reply.the-variants as reply
+use Rattle.bounded.specs.declared.Moved.the-variants as made
 use Rattle.output.specs.Output.{maxLines, happens, answerLine, fresh, runs}
 use Rattle.output.specs.Reader.{Run, Stage, opening, running, closed, Reader, Printed, started, opened, moved, passed, lineTaken, worked, behind, taken, ended, lastLine, maxKept}
 use Rattle.script.specs.State.{size, Head, headIn, keptIn, simulationIn, settingIn, runIn, stageOf, view, validRun, byteWord, validParts, valid}
@@ -91,8 +92,8 @@ few-holders s v =
     omega (arith, a, b, c, count-few (map isInside (blocks 99 clientPlace (getD s 3 0) (layout.clientWords s))))
 
 -- what the simulation replied, turned round
-pub reply-refused : (u : System) (o : Result) (x : Refusal) → reply.Refused x ≡ simulation.replyOf u o → o ≡ refused x
-unfolding simulation.replyOf
+pub reply-refused : (u : System) (o : Result) (x : Refusal) → reply.Refused x ≡ bounded.replyOf u o → o ≡ refused x
+unfolding bounded.replyOf
 reply-refused u (refused y) x e = let z : y ≡ x = cc in ap refused z
 reply-refused u (stepped s) x e = let z : _≡_ {A = ℕ} 0 1 = cc in absurd (omega arith)
 
@@ -101,8 +102,8 @@ pub record Accepts (u : System) (o : Result) (sent holding : ℕ) : Type 0 where
   pub line : (i : ℕ) → answerLine i u o ≡ okLine i sent holding
   pub holders : holders (after u o) ≡ holding
 
-pub reply-accepted : (u : System) (o : Result) (sent holding : ℕ) → reply.Accepted sent holding ≡ simulation.replyOf u o → Accepts u o sent holding
-unfolding simulation.replyOf answerLine
+pub reply-accepted : (u : System) (o : Result) (sent holding : ℕ) → reply.Accepted sent holding ≡ bounded.replyOf u o → Accepts u o sent holding
+unfolding bounded.replyOf answerLine
 reply-accepted u (refused y) sent holding e = let z : _≡_ {A = ℕ} 0 1 = cc in absurd (omega arith)
 reply-accepted u (stepped s) sent holding e =
     let a : length (s .sent) ≡ sent = cc in
@@ -167,10 +168,10 @@ module _ (w out : List ℕ) (at : ℕ) (R : Ready w out at) where
         out′ r (rw z at b)
 
     -- an event, which left the simulation s′
-    module _ (e : Event) (s′ : List ℕ) (L : simulation.Leaves (simulationIn w) e s′) (acc hold : ℕ)
-        (acc-is : acc ≡ getD w 2 0 + (if isStepped (simulation.happens (simulationIn w) e) then 1 else 0))
-        (hold-is : hold ≡ max (getD w 3 0) (holders (after (layout.view (simulationIn w)) (simulation.happens (simulationIn w) e)))) where
-      now-holding : holders (layout.view s′) ≡ holders (after (layout.view (simulationIn w)) (simulation.happens (simulationIn w) e))
+    module _ (e : Event) (s′ : List ℕ) (L : bounded.Leaves (simulationIn w) e s′) (acc hold : ℕ)
+        (acc-is : acc ≡ getD w 2 0 + (if isStepped (bounded.happens (simulationIn w) e) then 1 else 0))
+        (hold-is : hold ≡ max (getD w 3 0) (holders (after (layout.view (simulationIn w)) (bounded.happens (simulationIn w) e)))) where
+      now-holding : holders (layout.view s′) ≡ holders (after (layout.view (simulationIn w)) (bounded.happens (simulationIn w) e))
       now-holding = ap holders (L .system)
 
       counts-in-range : RunFacts (record { stage = getD w 0 0; answered = getD w 1 0 + 1; accepted = acc; holding = hold; length = getD w 4 0 }) s′
@@ -180,12 +181,12 @@ module _ (w out : List ℕ) (at : ℕ) (R : Ready w out at) where
           record {
             simulation = L .again;
             answered = omega (arith, N .more);
-            accepted = omega (arith, acc-is, F .accepted, one-or-none (isStepped (simulation.happens (simulationIn w) e)));
+            accepted = omega (arith, acc-is, F .accepted, one-or-none (isStepped (bounded.happens (simulationIn w) e)));
             holding = omega (arith, hold-is, now-holding);
             few = omega (arith, hold-is, now-holding, F .few, few-holders s′ (L .again));
           }
 
-      moved-on : _≡_ {A = Run} (record { setting = settingIn s′; answered = getD w 1 0 + 1; system = layout.view s′; accepted = acc; holding = hold }) (moved (runIn (headIn w) (simulationIn w)) (simulation.happens (simulationIn w) e))
+      moved-on : _≡_ {A = Run} (record { setting = settingIn s′; answered = getD w 1 0 + 1; system = layout.view s′; accepted = acc; holding = hold }) (moved (runIn (headIn w) (simulationIn w)) (bounded.happens (simulationIn w) e))
       unfolding headIn
       moved-on =
           let z : getD w 1 0 + 1 ≡ suc (getD w 1 0) = add-one (getD w 1 0) in
@@ -194,7 +195,7 @@ module _ (w out : List ℕ) (at : ℕ) (R : Ready w out at) where
           λ i. record { setting = t i; answered = z i; system = u i; accepted = acc-is i; holding = hold-is i }
 
       pub happened-does : (w′ : List ℕ) → Is w′ (record { stage = getD w 0 0; answered = getD w 1 0 + 1; accepted = acc; holding = hold; length = getD w 4 0 }) (keptIn w) s′ → (out′ : List ℕ) (r : ℕ) →
-          (r ≡ at + length (answerLine (suc (getD w 1 0)) (layout.view (simulationIn w)) (simulation.happens (simulationIn w) e))) × (out′ ≡ sets out at (answerLine (suc (getD w 1 0)) (layout.view (simulationIn w)) (simulation.happens (simulationIn w) e))) →
+          (r ≡ at + length (answerLine (suc (getD w 1 0)) (layout.view (simulationIn w)) (bounded.happens (simulationIn w) e))) × (out′ ≡ sets out at (answerLine (suc (getD w 1 0)) (layout.view (simulationIn w)) (bounded.happens (simulationIn w) e))) →
           Does w out at (happened (runIn (headIn w) (simulationIn w)) e) w′ out′ r
       unfolding stageOf headIn
       happened-does w′ I out′ r b =
@@ -389,7 +390,7 @@ module _ (s : List ℕ) (v : layout.valid s ≡ true) where
   no-server : (j : ℕ) → leb j 65535 ≡ false → has (layout.view s .servers) j ≡ false
   no-server j e = server-there s j ∙ beyond j (layout.settingOf s .n) e (omega (arith, few-servers))
 
-  pub nobody-such : (e : Event) → sixteenBits e ≡ false → simulation.happens s e ≡ refused NoSuchParty
+  pub nobody-such : (e : Event) → sixteenBits e ≡ false → bounded.happens s e ≡ refused NoSuchParty
   unfolding sixteenBits withPlaces
   nobody-such (Try k) h = rw (no-client-tries _ _ (layout.view s) k (no-client (k .0) h))
   nobody-such (Exit k) h = rw (no-client-exits _ _ (layout.view s) k (no-client (k .0) h))
@@ -417,11 +418,11 @@ unfolding simulationIn
 simulation-valid w out at R N = run-known w out at R N .simulation
 
 -- the event's two ends
-module _ (w out : List ℕ) (at : ℕ) (R : Ready w out at) (N : Reads w) (e : Event) (s′ : List ℕ) (L : simulation.Leaves (take 6353 (drop 46 w)) e s′) where
+module _ (w out : List ℕ) (at : ℕ) (R : Ready w out at) (N : Reads w) (e : Event) (s′ : List ℕ) (L : bounded.Leaves (take 6353 (drop 46 w)) e s′) where
   long′ : length s′ ≡ 6353
   long′ = valid-long s′ (L .again)
 
-  leaves : simulation.Leaves (simulationIn w) e s′
+  leaves : bounded.Leaves (simulationIn w) e s′
   unfolding simulationIn
   leaves = L
 
@@ -453,17 +454,17 @@ module _ (w out : List ℕ) (at : ℕ) (R : Ready w out at) (N : Reads w) (e : E
   unfolding headIn
   holding-word F = F .holding
 
-  pub event-refused : (x : Refusal) → reply.Refused x ≡ simulation.replyOf (layout.view (take 6353 (drop 46 w))) (simulation.happens (take 6353 (drop 46 w)) e) → (out′ : List ℕ) (r : ℕ) →
+  pub event-refused : (x : Refusal) → reply.Refused x ≡ bounded.replyOf (layout.view (take 6353 (drop 46 w))) (bounded.happens (take 6353 (drop 46 w)) e) → (out′ : List ℕ) (r : ℕ) →
       (r ≡ at + length (noLine (getD w 1 0 + 1) x)) × (out′ ≡ sets out at (noLine (getD w 1 0 + 1) x)) →
       Does w out at (happened (runIn (headIn w) (simulationIn w)) e) (set (putMid 46 6353 w s′) 1 (getD w 1 0 + 1)) out′ r
   unfolding simulationIn answerLine after
   event-refused x q out′ r b =
-      let o : simulation.happens (simulationIn w) e ≡ refused x = reply-refused _ _ x q in
+      let o : bounded.happens (simulationIn w) e ≡ refused x = reply-refused _ _ x q in
       let F = run-known w out at R N in
       let z : getD w 1 0 + 1 ≡ suc (getD w 1 0) = add-one (getD w 1 0) in
       happened-does w out at R N e s′ leaves (getD w 2 0) (getD w 3 0) (rw o (omega arith)) (rw o (omega (arith, holding-word F))) _ words out′ r (rw (o, ← z) b)
 
-  pub event-accepted : (sent k : ℕ) → reply.Accepted sent k ≡ simulation.replyOf (layout.view (take 6353 (drop 46 w))) (simulation.happens (take 6353 (drop 46 w)) e) → (w′ : List ℕ) →
+  pub event-accepted : (sent k : ℕ) → reply.Accepted sent k ≡ bounded.replyOf (layout.view (take 6353 (drop 46 w))) (bounded.happens (take 6353 (drop 46 w)) e) → (w′ : List ℕ) →
       w′ ≡ set (set (set (putMid 46 6353 w s′) 1 (getD w 1 0 + 1)) 2 (getD (set (putMid 46 6353 w s′) 1 (getD w 1 0 + 1)) 2 0 + 1)) 3 (max (getD (set (putMid 46 6353 w s′) 1 (getD w 1 0 + 1)) 3 0) k) → (out′ : List ℕ) (r : ℕ) →
       (r ≡ at + length (okLine (getD w 1 0 + 1) sent k)) × (out′ ≡ sets out at (okLine (getD w 1 0 + 1) sent k)) →
       Does w out at (happened (runIn (headIn w) (simulationIn w)) e) w′ out′ r

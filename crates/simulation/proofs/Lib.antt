@@ -1,11 +1,3 @@
-pub mod Answers
-pub mod Leaving
-pub mod Sending
-pub mod ServerEvents
-pub mod ClientEvents
-pub mod TakeEvents
-pub mod Guards
-pub mod Silent
 pub mod Replies
 pub mod NewLaws
 pub mod NeverFull

@@ -29,7 +29,7 @@ use Rattle.system.specs.Places.{System, clientAt, serverAt}
 use Rattle.system.specs.Events.{Result, need, tried, exited, fallen, wentDown, cameUp, serverTook, responseTook, checkTook, dropped, suspected, asked, deliver, event, nothing, withPlaces}
 use Rattle.layout.specs.Layout.{settingOf, view}
 use Rattle.changes.specs.Changes.{maxTransit, maxNumber}
-use Rattle.simulation.specs.Happens.{happens}
+use Rattle.bounded.specs.Happens.{happens}
 
 abbrev Never : Result → Type 0
 Never o = o ≡ refused QueueFull → ⊥

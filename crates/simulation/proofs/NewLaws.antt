@@ -9,8 +9,8 @@ use Rattle.ids.specs.Limits.{within}
 use Rattle.ids.proofs.Choice.{clash, holds, fails}
 use Rattle.quorum.specs.Check.{inRange}
 use Rattle.changes.specs.Opening.{Starts}
-use Rattle.simulation.specs.Happens.{opens, newReply, NewLeaves}
-use Rattle.simulation.specs.declared.Moved.the-variants as moved
+use Rattle.simulation.specs.Opens.{opens, newReply, NewLeaves}
+use Rattle.bounded.specs.declared.Moved.the-variants as moved
 use Rattle.ids.specs.declared.Refusal.the-variants.{ParameterOutOfRange}
 
 module _ (n m f clients : ℕ) (w : List ℕ) where

@@ -17,11 +17,11 @@ use Rattle.system.specs.Events.{Result}
 use Rattle.system.specs.Runs.{after}
 use Rattle.places.specs.Blocks.{clientPlace}
 use Rattle.layout.specs.Layout.{settingOf, clientWords, view, valid}
-use Rattle.simulation.specs.declared.Moved.{Moved}
-use Rattle.simulation.specs.declared.Moved.the-variants as moved
-use Rattle.simulation.specs.declared.Reply.{Reply}
-use Rattle.simulation.specs.declared.Reply.the-variants as reply
-use Rattle.simulation.specs.Happens.{happens, Leaves, movedOf, replyOf, EventLeaves, eventReply}
+use Rattle.bounded.specs.declared.Moved.{Moved}
+use Rattle.bounded.specs.declared.Moved.the-variants as moved
+use Rattle.bounded.specs.declared.Reply.{Reply}
+use Rattle.bounded.specs.declared.Reply.the-variants as reply
+use Rattle.bounded.specs.Happens.{happens, Leaves, movedOf, replyOf, EventLeaves, eventReply}
 
 -- the event is this variant
 pub as-event : {w w′ : List ℕ} {r : Moved} {e e′ : Event} → e ≡ e′ → Leaves w e′ w′ × (r ≡ movedOf (happens w e′)) → Leaves w e w′ × (r ≡ movedOf (happens w e))

@@ -1,1 +1,1 @@
-pub mod Happens
+pub mod Opens

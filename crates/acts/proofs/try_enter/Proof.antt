@@ -1,0 +1,48 @@
+-- `acts::try_enter` meets its contract: each return is one case of the event.
+use denote.Ref.{now}
+use native.Mathlib.Omega.{arith}
+use Rattle.changes.proofs.Parties.{words-long, client-in, client-found}
+use Rattle.acts.proofs.Guards.{try-missing, try-fallen, client-lives}
+use borrow.Author.Needs.{needs}
+use Rattle.acts.proofs.try_enter.Statement.{statement}
+use Rattle.acts.proofs.try_enter.Tie as tie
+
+slice-read-within-limit : tie.Need-slice-read-within-limit
+slice-read-within-limit c =
+    let d = c .before .before .before in
+    omega (arith, words-long (now (d .args .w)) (d .pre))
+
+returns : tie.Need-returns
+returns c =
+    let d = c .before .before .before .before .before in
+    try-missing (now (d .args .w)) (d .args .k) (d .pre) _ (c .before .within-limit .ensures) (c .if1 .taken)
+
+is-living-requires : tie.Need-is-living-requires
+is-living-requires c κs =
+    let d = c .before .before .before .before .before .before in
+    client-in (now (d .args .w)) (d .args .k .0) (client-found (now (d .args .w)) (d .pre) (d .args .k .0) _ (c .before .before .within-limit .ensures) (c .before .if1 .left))
+
+returns-2 : tie.Need-returns-2
+returns-2 c =
+    let d = c .before .before .before .before .before .before .before .before in
+    try-fallen (now (d .args .w)) (d .args .k) (d .pre) _ (c .before .before .before .before .within-limit .ensures) (c .before .before .before .if1 .left) _ (c .before .is-living .ensures) (c .if2 .taken)
+
+begin-requires : tie.Need-begin-requires
+begin-requires c κs =
+    let d = c .before .before .before .before .before .before .before .before .before in
+    client-lives (now (d .args .w)) (d .args .k) (d .pre) _ (c .before .before .before .before .before .within-limit .ensures) (c .before .before .before .before .if1 .left) _ (c .before .before .is-living .ensures) (c .before .if2 .left)
+
+pub try-enter-spec : {M : Type 1} → statement M
+try-enter-spec =
+    tie.close
+    (tie.spec
+    (λ c. search needs)
+    slice-read-within-limit
+    (λ c κs. search needs)
+    returns
+    is-living-requires
+    (λ c. search needs)
+    returns-2
+    begin-requires
+    (λ c. search needs)
+    (λ c. search needs))

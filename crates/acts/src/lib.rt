@@ -1,0 +1,228 @@
+// The eight events of a simulation in which no message is taken. The public functions are for `simulation`, whose words are valid.
+ghost use mathlib.Core.Path.{_≡_};
+ghost use mathlib.Core.Bool.{true};
+ghost use Rattle.system.specs.Places.{clientAt, serverAt};
+ghost use Rattle.system.specs.declared.Event.the-variants.{Try, Exit, Fall, Down, Up, Drop, Miss, Check};
+ghost use Rattle.layout.specs.Layout.{view, valid};
+ghost use Rattle.changes.specs.Changes.{HasClient, HasServer, Missing};
+ghost use Rattle.bounded.specs.Happens.{happens, Leaves, movedOf};
+use bounded::Moved;
+use ids::ClientId;
+use ids::Owner;
+use ids::Refusal;
+use ids::ServerId;
+use system::MessageNumber;
+use wire::Answer;
+
+// The events that send nothing.
+
+// The client falls.
+pub fn fall(w: &mut [u32], k: ClientId) -> Moved
+    requires { ⌜ valid (now w) ≡ true ⌝ }
+    ensures { λ r. ⌜ Leaves (now (w .entry)) (Fall k) (now (w .exit)) × (r ≡ movedOf (happens (now (w .entry)) (Fall k))) ⌝ }
+{
+    if !ids::within_limit(k.0 as u32, w[3]) {
+        return Moved::Refused(Refusal::NoSuchParty);
+    }
+    if !layout::is_living(w, k.0) {
+        return Moved::Refused(Refusal::PartyDown);
+    }
+    layout::fall_client(w, k.0);
+    Moved::Sent(0)
+}
+
+// The server comes up.
+pub fn up(w: &mut [u32], j: ServerId) -> Moved
+    requires { ⌜ valid (now w) ≡ true ⌝ }
+    ensures { λ r. ⌜ Leaves (now (w .entry)) (Up j) (now (w .exit)) × (r ≡ movedOf (happens (now (w .entry)) (Up j))) ⌝ }
+{
+    if !ids::within_limit(j.0 as u32, w[0]) {
+        return Moved::Refused(Refusal::NoSuchParty);
+    }
+    if layout::is_up(w, j.0) {
+        return Moved::Refused(Refusal::PartyDown);
+    }
+    layout::rise_server(w, j.0);
+    Moved::Sent(0)
+}
+
+// The message is gone, wherever it stands.
+pub fn drop(w: &mut [u32], number: MessageNumber) -> Moved
+    requires { ⌜ valid (now w) ≡ true ⌝ }
+    ensures { λ r. ⌜ Leaves (now (w .entry)) (Drop number) (now (w .exit)) × (r ≡ movedOf (happens (now (w .entry)) (Drop number))) ⌝ }
+{
+    let len = w[4] as usize;
+    let i = transit::find_present(&w[2769..6353], len, number.0);
+    if i == len {
+        return Moved::Refused(Refusal::NoSuchParty);
+    }
+    changes::remove_message(w, i);
+    Moved::Sent(0)
+}
+
+// The server goes down, and forgets everything.
+pub fn down(w: &mut [u32], j: ServerId) -> Moved
+    requires { ⌜ valid (now w) ≡ true ⌝ }
+    ensures { λ r. ⌜ Leaves (now (w .entry)) (Down j) (now (w .exit)) × (r ≡ movedOf (happens (now (w .entry)) (Down j))) ⌝ }
+{
+    if !ids::within_limit(j.0 as u32, w[0]) {
+        return Moved::Refused(Refusal::NoSuchParty);
+    }
+    if !layout::is_up(w, j.0) {
+        return Moved::Refused(Refusal::PartyDown);
+    }
+    layout::sink_server(w, j.0);
+    changes::restart_messages(w, j);
+    changes::note_down(w, j);
+    Moved::Sent(0)
+}
+
+// The events that send.
+
+// A client that lives begins its step: document 01's try.
+fn begin(w: &mut [u32], k: ClientId) -> Moved
+    requires { ⌜ HasClient (now w) (k .0) × (clientAt (view (now w)) (k .0) .living ≡ true) ⌝ }
+    ensures { λ r. ⌜ Leaves (now (w .entry)) (Try k) (now (w .exit)) × (r ≡ movedOf (happens (now (w .entry)) (Try k))) ⌝ }
+{
+    let mut bytes = [0u8; 512];
+    let s = client::begin(layout::client_record(w, k.0), &mut bytes);
+    let answer = s.answer;
+    match answer {
+        Answer::Refused(x) => Moved::Refused(x),
+        Answer::Sent(count, _) => {
+            if !changes::has_room(w, 0, count) {
+                return Moved::Refused(Refusal::SystemFull);
+            }
+            layout::put_client(w, k.0, s.client);
+            changes::begin_epoch(w, k);
+            changes::send(w, &bytes, count);
+            Moved::Sent(count as u32)
+        }
+    }
+}
+
+pub fn try_enter(w: &mut [u32], k: ClientId) -> Moved
+    requires { ⌜ valid (now w) ≡ true ⌝ }
+    ensures { λ r. ⌜ Leaves (now (w .entry)) (Try k) (now (w .exit)) × (r ≡ movedOf (happens (now (w .entry)) (Try k))) ⌝ }
+{
+    if !ids::within_limit(k.0 as u32, w[3]) {
+        return Moved::Refused(Refusal::NoSuchParty);
+    }
+    if !layout::is_living(w, k.0) {
+        return Moved::Refused(Refusal::PartyDown);
+    }
+    begin(w, k)
+}
+
+// A client that lives leaves the critical section.
+fn leave(w: &mut [u32], k: ClientId) -> Moved
+    requires { ⌜ HasClient (now w) (k .0) × (clientAt (view (now w)) (k .0) .living ≡ true) ⌝ }
+    ensures { λ r. ⌜ Leaves (now (w .entry)) (Exit k) (now (w .exit)) × (r ≡ movedOf (happens (now (w .entry)) (Exit k))) ⌝ }
+{
+    let mut bytes = [0u8; 512];
+    let s = client::exit(layout::client_record(w, k.0), &mut bytes);
+    let answer = s.answer;
+    match answer {
+        Answer::Refused(x) => Moved::Refused(x),
+        Answer::Sent(count, _) => {
+            if !changes::has_room(w, 0, count) {
+                return Moved::Refused(Refusal::SystemFull);
+            }
+            changes::end_epoch(w, k);
+            layout::put_client(w, k.0, s.client);
+            changes::send(w, &bytes, count);
+            Moved::Sent(count as u32)
+        }
+    }
+}
+
+pub fn exit(w: &mut [u32], k: ClientId) -> Moved
+    requires { ⌜ valid (now w) ≡ true ⌝ }
+    ensures { λ r. ⌜ Leaves (now (w .entry)) (Exit k) (now (w .exit)) × (r ≡ movedOf (happens (now (w .entry)) (Exit k))) ⌝ }
+{
+    if !ids::within_limit(k.0 as u32, w[3]) {
+        return Moved::Refused(Refusal::NoSuchParty);
+    }
+    if !layout::is_living(w, k.0) {
+        return Moved::Refused(Refusal::PartyDown);
+    }
+    leave(w, k)
+}
+
+// The owner of server `j`, which is up, has fallen: document 01's missing owner.
+fn suspect(w: &mut [u32], j: ServerId) -> Moved
+    requires { ⌜ Missing (now w) (j .0) ⌝ }
+    ensures { λ r. ⌜ Leaves (now (w .entry)) (Miss j) (now (w .exit)) × (r ≡ movedOf (happens (now (w .entry)) (Miss j))) ⌝ }
+{
+    let mut bytes = [0u8; 512];
+    let s = server::suspect(layout::server_record(w, j.0), &mut bytes);
+    let answer = s.answer;
+    match answer {
+        Answer::Refused(x) => Moved::Refused(x),
+        Answer::Sent(count, _) => {
+            if !changes::has_room(w, 0, count) {
+                return Moved::Refused(Refusal::SystemFull);
+            }
+            layout::put_server(w, j.0, s.server);
+            changes::send(w, &bytes, count);
+            Moved::Sent(count as u32)
+        }
+    }
+}
+
+pub fn miss(w: &mut [u32], j: ServerId) -> Moved
+    requires { ⌜ valid (now w) ≡ true ⌝ }
+    ensures { λ r. ⌜ Leaves (now (w .entry)) (Miss j) (now (w .exit)) × (r ≡ movedOf (happens (now (w .entry)) (Miss j))) ⌝ }
+{
+    if !ids::within_limit(j.0 as u32, w[0]) {
+        return Moved::Refused(Refusal::NoSuchParty);
+    }
+    if !layout::is_up(w, j.0) {
+        return Moved::Refused(Refusal::PartyDown);
+    }
+    let owner = changes::owner_of(w, j);
+    match owner {
+        Owner::Nobody => Moved::Refused(Refusal::NoOwner),
+        Owner::Of(o) => {
+            let k = o.client;
+            if layout::is_living(w, k.0) {
+                return Moved::Refused(Refusal::OwnerLives);
+            }
+            suspect(w, j)
+        }
+    }
+}
+
+// Server `j`, which is up, asks its owner.
+fn ask(w: &mut [u32], j: ServerId) -> Moved
+    requires { ⌜ HasServer (now w) (j .0) × (serverAt (view (now w)) (j .0) .up ≡ true) ⌝ }
+    ensures { λ r. ⌜ Leaves (now (w .entry)) (Check j) (now (w .exit)) × (r ≡ movedOf (happens (now (w .entry)) (Check j))) ⌝ }
+{
+    let mut bytes = [0u8; 512];
+    let s = server::check(layout::server_record(w, j.0), &mut bytes);
+    let answer = s.answer;
+    match answer {
+        Answer::Refused(x) => Moved::Refused(x),
+        Answer::Sent(count, _) => {
+            if !changes::has_room(w, 0, count) {
+                return Moved::Refused(Refusal::SystemFull);
+            }
+            layout::put_server(w, j.0, s.server);
+            changes::send(w, &bytes, count);
+            Moved::Sent(count as u32)
+        }
+    }
+}
+
+pub fn check(w: &mut [u32], j: ServerId) -> Moved
+    requires { ⌜ valid (now w) ≡ true ⌝ }
+    ensures { λ r. ⌜ Leaves (now (w .entry)) (Check j) (now (w .exit)) × (r ≡ movedOf (happens (now (w .entry)) (Check j))) ⌝ }
+{
+    if !ids::within_limit(j.0 as u32, w[0]) {
+        return Moved::Refused(Refusal::NoSuchParty);
+    }
+    if !layout::is_up(w, j.0) {
+        return Moved::Refused(Refusal::PartyDown);
+    }
+    ask(w, j)
+}

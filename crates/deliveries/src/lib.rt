@@ -1,0 +1,122 @@
+// A message of a simulation is taken: its receiver's record is loaded, stepped and stored. `take` is for `simulation`, whose words are valid.
+ghost use mathlib.Core.Path.{_≡_};
+ghost use mathlib.Core.Bool.{true};
+ghost use Rattle.wire.specs.declared.Message.the-variants.{Response as RESPONSE, Check as CHECK};
+ghost use Rattle.system.specs.declared.Event.the-variants.{Take};
+ghost use Rattle.layout.specs.Layout.{valid};
+ghost use Rattle.changes.specs.Changes.{Pends, numberAt, tagged};
+ghost use Rattle.bounded.specs.Happens.{happens, Leaves, movedOf};
+use bounded::Moved;
+use ids::ClientId;
+use ids::Owner;
+use ids::Refusal;
+use ids::ServerId;
+use ids::Timestamp;
+use system::MessageNumber;
+use votes::Tag;
+use wire::Answer;
+use wire::Message;
+
+// Server `j` takes the message in slot `i`.
+fn to_server(w: &mut [u32], i: usize, tag: Tag, k: ClientId, j: ServerId, t: Timestamp) -> Moved
+    requires { ⌜ Pends (now w) i (tagged tag k j t) ⌝ }
+    ensures { λ r. ⌜ Leaves (now (w .entry)) (Take (numberAt (now (w .entry)) i)) (now (w .exit)) × (r ≡ movedOf (happens (now (w .entry)) (Take (numberAt (now (w .entry)) i)))) ⌝ }
+{
+    if !layout::is_up(w, j.0) {
+        return Moved::Refused(Refusal::PartyDown);
+    }
+    let mut bytes = [0u8; 512];
+    let s = server::take(layout::server_record(w, j.0), tag, k, j, t, &mut bytes);
+    let answer = s.answer;
+    match answer {
+        Answer::Refused(x) => Moved::Refused(x),
+        Answer::Sent(count, _) => {
+            if !changes::has_room(w, 0, count) {
+                return Moved::Refused(Refusal::SystemFull);
+            }
+            changes::mark_message(w, i);
+            layout::put_server(w, j.0, s.server);
+            changes::send(w, &bytes, count);
+            Moved::Sent(count as u32)
+        }
+    }
+}
+
+// Client `k` takes the RESPONSE in slot `i`.
+fn to_client(w: &mut [u32], i: usize, k: ClientId, j: ServerId, o: Owner) -> Moved
+    requires { ⌜ Pends (now w) i (RESPONSE k j o) ⌝ }
+    ensures { λ r. ⌜ Leaves (now (w .entry)) (Take (numberAt (now (w .entry)) i)) (now (w .exit)) × (r ≡ movedOf (happens (now (w .entry)) (Take (numberAt (now (w .entry)) i)))) ⌝ }
+{
+    if !layout::is_living(w, k.0) {
+        return Moved::Refused(Refusal::PartyDown);
+    }
+    let mut bytes = [0u8; 512];
+    let s = client::respond(layout::client_record(w, k.0), j, o, &mut bytes);
+    let answer = s.answer;
+    match answer {
+        Answer::Refused(x) => Moved::Refused(x),
+        Answer::Sent(count, _) => {
+            if !changes::has_room(w, 1, count) {
+                return Moved::Refused(Refusal::SystemFull);
+            }
+            changes::remove_message(w, i);
+            layout::put_client(w, k.0, s.client);
+            changes::send(w, &bytes, count);
+            Moved::Sent(count as u32)
+        }
+    }
+}
+
+// Client `k` takes the CHECK in slot `i`: its record stays.
+fn checks_client(w: &mut [u32], i: usize, k: ClientId, j: ServerId, t: Timestamp) -> Moved
+    requires { ⌜ Pends (now w) i (CHECK k j t) ⌝ }
+    ensures { λ r. ⌜ Leaves (now (w .entry)) (Take (numberAt (now (w .entry)) i)) (now (w .exit)) × (r ≡ movedOf (happens (now (w .entry)) (Take (numberAt (now (w .entry)) i)))) ⌝ }
+{
+    if !layout::is_living(w, k.0) {
+        return Moved::Refused(Refusal::PartyDown);
+    }
+    let mut bytes = [0u8; 512];
+    let s = client::check(layout::client_record(w, k.0), j, t, &mut bytes);
+    let answer = s.answer;
+    match answer {
+        Answer::Refused(x) => Moved::Refused(x),
+        Answer::Sent(count, _) => {
+            if !changes::has_room(w, 1, count) {
+                return Moved::Refused(Refusal::SystemFull);
+            }
+            changes::remove_message(w, i);
+            layout::put_client(w, k.0, s.client);
+            changes::send(w, &bytes, count);
+            Moved::Sent(count as u32)
+        }
+    }
+}
+
+// The message in slot `i`, which is pending: its kind says who takes it.
+fn deliver(w: &mut [u32], i: usize, m: Message) -> Moved
+    requires { ⌜ Pends (now w) i m ⌝ }
+    ensures { λ r. ⌜ Leaves (now (w .entry)) (Take (numberAt (now (w .entry)) i)) (now (w .exit)) × (r ≡ movedOf (happens (now (w .entry)) (Take (numberAt (now (w .entry)) i)))) ⌝ }
+{
+    match m {
+        Message::Request(k, j, t) => to_server(w, i, Tag::Request, k, j, t),
+        Message::Yield(k, j, t) => to_server(w, i, Tag::Yield, k, j, t),
+        Message::Release(k, j, t) => to_server(w, i, Tag::Release, k, j, t),
+        Message::Inquiry(k, j, t) => to_server(w, i, Tag::Inquiry, k, j, t),
+        Message::Response(k, j, o) => to_client(w, i, k, j, o),
+        Message::Check(k, j, t) => checks_client(w, i, k, j, t),
+    }
+}
+
+// The receiver takes the message.
+pub fn take(w: &mut [u32], number: MessageNumber) -> Moved
+    requires { ⌜ valid (now w) ≡ true ⌝ }
+    ensures { λ r. ⌜ Leaves (now (w .entry)) (Take number) (now (w .exit)) × (r ≡ movedOf (happens (now (w .entry)) (Take number))) ⌝ }
+{
+    let len = w[4] as usize;
+    let i = transit::find_pending(&w[2769..6353], len, number.0);
+    if i == len {
+        return Moved::Refused(Refusal::NoSuchParty);
+    }
+    let m = transit::message_at(&w[2769..6353], i);
+    deliver(w, i, m)
+}
