@@ -25,8 +25,13 @@ pub fn scripts() -> Vec<(String, Vec<u8>, Vec<u8>)> {
     names("script").into_iter().map(both).collect()
 }
 
-/// The proved program, where it has been built.
-pub fn program() -> Option<PathBuf> {
-    let path = Path::new(env!("CARGO_MANIFEST_DIR")).parent().expect("tests/ has a parent").join("target/bin/gallery");
+/// A proved program, where it has been built.
+pub fn built(name: &str) -> Option<PathBuf> {
+    let path = Path::new(env!("CARGO_MANIFEST_DIR")).parent().expect("tests/ has a parent").join("target/bin").join(name);
     path.exists().then_some(path)
+}
+
+/// The proved gallery program, where it has been built.
+pub fn program() -> Option<PathBuf> {
+    built("gallery")
 }

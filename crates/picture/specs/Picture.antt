@@ -96,7 +96,7 @@ serverHeads clients (suc j) = serverHeads clients j ++ numbered (text "head") (s
 
 unfoldable pub front : ℕ → ℕ → ℕ → ℕ → ℕ → Pieces
 front c n m f rows =
-    opening (serverX c n + 210) (rowY rows + 108)
+    opening (serverX c n + 210) (rowY rows + 128)
     ++ (lineStyle ++ (textStyle ++ (top n m f ++ (clientHeads c ++ serverHeads c n))))
 
 -- the state below row r -------------------------------------------------------------------------------------------------------
@@ -175,7 +175,7 @@ dropped c s r i m =
 unfoldable pub waiting : ℕ → ℕ → ℕ → ℕ → Message → Pieces
 waiting c s r i m =
     line (text "pending") (senderX c m) (rowY s) (receiverX c m) (rowY r)
-    ++ (openText (text "waits") (receiverX c m) (rowY r + 14 + 12 * (i % 5)) ++ label i m)
+    ++ (openText (text "waits") (receiverX c m) (rowY r + 14 + 12 * (i % 7)) ++ label i m)
 
 -- rows ------------------------------------------------------------------------------------------------------------------------
 

@@ -236,7 +236,7 @@ pub fn draw_front(
 ) -> usize
     ensures { λ r. ⌜ sheet (now (out .exit)) r ≡ puts (front clients n m f rows) (sheet (now (out .entry)) at) ⌝ }
 {
-    let a = draw_opening(out, at, server_x(clients, n) + 210, row_y(rows) + 108);
+    let a = draw_opening(out, at, server_x(clients, n) + 210, row_y(rows) + 128);
     let b = draw_line_style(out, a);
     let c = draw_text_style(out, b);
     let d = draw_top(out, c, n as u32, m, f);
@@ -423,7 +423,7 @@ pub fn draw_waiting(
     let x = receiver_x(m, clients);
     let y = row_y(r);
     let a = draw_line(out, at, b"pending", sender_x(m, clients), row_y(s), x, y);
-    let b = open_text(out, a, b"waits", x, y + 14 + 12 * (i % 5));
+    let b = open_text(out, a, b"waits", x, y + 14 + 12 * (i % 7));
     put_label(out, b, i, m)
 }
 
