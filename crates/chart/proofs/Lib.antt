@@ -1,2 +1,1 @@
-pub mod CrossingLaws
-pub mod StateLaws
+pub mod StartLaws

@@ -1,5 +1,5 @@
 -- `chart::begin` is safe: a simulation that was not refused is valid.
-use Rattle.chart.proofs.StateLaws.{new-valid}
+use Rattle.chart.proofs.StartLaws.{new-valid}
 use borrow.Author.Needs.{needs}
 use Rattle.chart.proofs.begin.Statement.{statement}
 use Rattle.chart.proofs.begin.Tie as tie

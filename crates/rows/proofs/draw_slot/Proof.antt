@@ -1,0 +1,93 @@
+-- `rows::draw_slot` is safe: the slot lies within the words.
+use Rattle.changes.proofs.Messages.{lent-sized}
+use Rattle.changes.proofs.Parties.{words-long}
+use denote.Ref.{now}
+use native.Mathlib.Omega.{arith}
+use borrow.Author.Needs.{needs}
+use Rattle.rows.proofs.draw_slot.Statement.{statement}
+use Rattle.rows.proofs.draw_slot.Tie as tie
+
+mul-if1 : tie.Need-mul-if1
+mul-if1 c = search needs
+
+add-if1 : tie.Need-add-if1
+add-if1 c = search needs
+
+add-if1-2 : tie.Need-add-if1-2
+add-if1-2 c = search needs
+
+mul-if1-2 : tie.Need-mul-if1-2
+mul-if1-2 c = search needs
+
+shared-slice-read-if1 : tie.Need-shared-slice-read-if1
+shared-slice-read-if1 c = omega (arith, words-long (now (c .before .before .before .before .args .w)) (c .before .before .before .before .pre .0))
+
+returns : tie.Need-returns
+returns c = search needs
+
+mul-number : tie.Need-mul-number
+mul-number c = search needs
+
+add-number : tie.Need-add-number
+add-number c = search needs
+
+mul-number-2 : tie.Need-mul-number-2
+mul-number-2 c = search needs
+
+shared-slice-read-number : tie.Need-shared-slice-read-number
+shared-slice-read-number c = omega (arith, words-long (now (c .before .before .before .before .before .before .args .w)) (c .before .before .before .before .before .before .pre .0))
+
+sub-message-at : tie.Need-sub-message-at
+sub-message-at c = search needs
+
+part-message-at-start : tie.Need-part-message-at-start
+part-message-at-start c = search needs
+
+part-message-at-end : tie.Need-part-message-at-end
+part-message-at-end c = omega (arith, words-long (now (c .before .before .before .before .before .before .args .w)) (c .before .before .before .before .before .before .pre .0))
+
+message-at-requires : tie.Need-message-at-requires
+message-at-requires c κs = (lent-sized (now (c .before .before .before .before .before .before .before .args .w)) (c .before .before .before .before .before .before .before .pre .0) .size, omega arith)
+
+clients-in-requires : tie.Need-clients-in-requires
+clients-in-requires c κs = search needs
+
+row-of-requires : tie.Need-row-of-requires
+row-of-requires c κs = search needs
+
+add-draw-waiting : tie.Need-add-draw-waiting
+add-draw-waiting c = search needs
+
+draw-waiting-requires : tie.Need-draw-waiting-requires
+draw-waiting-requires c κs = search needs
+
+same-length : tie.Need-same-length
+same-length c = search needs
+
+returns-2 : tie.Need-returns-2
+returns-2 c = search needs
+
+pub draw-slot-spec : {M : Type 1} → statement M
+draw-slot-spec =
+    tie.close
+    (tie.spec
+    mul-if1
+    add-if1
+    add-if1-2
+    mul-if1-2
+    shared-slice-read-if1
+    returns
+    mul-number
+    add-number
+    mul-number-2
+    shared-slice-read-number
+    sub-message-at
+    part-message-at-start
+    part-message-at-end
+    message-at-requires
+    clients-in-requires
+    row-of-requires
+    add-draw-waiting
+    draw-waiting-requires
+    same-length
+    returns-2)
