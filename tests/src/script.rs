@@ -64,18 +64,27 @@ pub fn line_of(event: Event) -> String {
     format!("{} {}", String::from_utf8_lossy(name), event.number)
 }
 
+/// What is added behind an event's line, and behind the last one.
+type Shown<'a> = &'a dyn Fn(&Gallery) -> String;
+
 /// The program's output, or the refusal of the first line.
-fn output(script: &[u8], fault: Fault) -> Result<String, u32> {
+fn output(script: &[u8], fault: Fault, each: Shown, last: Shown) -> Result<String, u32> {
     let mut lines = lines(script);
     let (setting, kiosks) = first(lines.next().ok_or(16u32)?)?;
     let mut gallery = Gallery::new(setting, kiosks, GALLERY)?.with(fault);
     let Setting { n, m, f } = setting;
     let mut out = format!("gallery {n} {m} {f} {kiosks}\n");
+    let mut any = false;
     for (line, number) in lines.take(EVENTS).zip(1..) {
+        any = true;
         out += &match event(line).and_then(|event| gallery.event(event)) {
             Ok(sent) => format!("{number} ok {sent} {}\n", gallery.holders()),
             Err(refusal) => format!("{number} no {refusal}\n"),
         };
+        out += &each(&gallery);
+    }
+    if any {
+        out += &last(&gallery);
     }
     out += &format!("end {} {} {}\n", gallery.accepted, gallery.most_holders, gallery.most_down);
     Ok(out)
@@ -86,5 +95,13 @@ pub fn run(script: &[u8]) -> Vec<u8> {
 }
 
 pub fn run_with(script: &[u8], fault: Fault) -> Vec<u8> {
-    output(script, fault).unwrap_or_else(|refusal| format!("no {refusal}\n")).into_bytes()
+    let nothing = |_: &Gallery| String::new();
+    output(script, fault, &nothing, &nothing).unwrap_or_else(|refusal| format!("no {refusal}\n")).into_bytes()
+}
+
+/// The same, with what is told of the gallery behind each event's line, or behind the last one only.
+pub fn run_telling(script: &[u8], told: &dyn Fn(&Gallery) -> String, only_last: bool) -> Vec<u8> {
+    let nothing = |_: &Gallery| String::new();
+    let (each, last): (Shown, Shown) = if only_last { (&nothing, told) } else { (told, &nothing) };
+    output(script, Fault::None, each, last).unwrap_or_else(|refusal| format!("no {refusal}\n")).into_bytes()
 }

@@ -8,9 +8,9 @@ use lib.ListN.{length}
 use mathlib.Core.Logic.{inl, inr}
 use Rattle.ids.specs.declared.Refusal.the-variants.{ParameterOutOfRange}
 use Rattle.ids.proofs.Choice.{decided, Test}
-use Rattle.simulation.specs.Happens.{opens, newReply, NewLeaves}
-use Rattle.simulation.specs.declared.Moved.{Moved}
-use Rattle.simulation.specs.declared.Moved.the-variants.{Sent, Refused}
+use Rattle.simulation.specs.Opens.{opens, newReply, NewLeaves}
+use Rattle.bounded.specs.declared.Moved.{Moved}
+use Rattle.bounded.specs.declared.Moved.the-variants.{Sent, Refused}
 use Rattle.layout.specs.Layout.{valid}
 
 -- a new simulation that was not refused is valid

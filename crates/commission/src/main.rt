@@ -56,12 +56,7 @@ fn put_verdict(out: &mut [u8], at: usize, v: Verdict) -> usize
         Verdict::Accepted(_) => sheet::put(out, at, b"ok\n"),
         Verdict::Unsafe(_, _) => put_refused(out, at, Refusal::Unsafe, b" unsafe"),
         Verdict::Stalls(_) => put_refused(out, at, Refusal::Stalls, b" stalls"),
-        Verdict::OutOfRange => put_refused(
-            out,
-            at,
-            Refusal::ParameterOutOfRange,
-            b" out of range",
-        ),
+        Verdict::OutOfRange => put_refused(out, at, Refusal::ParameterOutOfRange, b" out of range"),
     }
 }
 
