@@ -64,9 +64,6 @@ pub record Near (w w′ : List ℕ) (u : System) : Type 0 where
   pub setting : settingOf w′ ≡ settingOf w
   pub again : Sound w′
 
-pub becomes-trans : {w w′ w″ : List ℕ} {u v : System} → Becomes w w′ u → Becomes w′ w″ v → Becomes w w″ v
-becomes-trans a b = record { system = b .system; setting = b .setting ∙ a .setting; again = b .again }
-
 -- what a sound simulation says of its parts
 module _ (w : List ℕ) (F : Sound w) where
   pub few-servers : settingOf w .n ≤ 31

@@ -67,10 +67,6 @@ chosen-rest : (b : Bool) (n i : ℕ) (l : List Request) (x : Request) → i < n 
 chosen-rest true n i l x h = rw drop-set-lt
 chosen-rest false n i l x h = refl
 
-chosen-length : (b : Bool) (i : ℕ) (l : List Request) (x : Request) → length (if b then set l i x else l) ≡ length l
-chosen-length true i l x = length-set l i x
-chosen-length false i l x = refl
-
 module _ (r : Request) (l : List Request) (n : ℕ) (j : ServerId) (o : Owner) (low : 1 ≤ j .0) (high : j .0 ≤ n) where
   place-shows : getD (showing n l) (j .0 - 1) Nobody ≡ shown (getD l (j .0 - 1) noRequest)
   place-shows =

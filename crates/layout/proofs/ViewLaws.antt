@@ -32,9 +32,6 @@ Parts w w′ = (clientWords w′ ≡ clientWords w) × (serverWords w′ ≡ ser
 
 -- a store in the client blocks
 module _ (w : List ℕ) (a : ℕ) (vs : List ℕ) (h : a + length vs ≤ 1584) where
-  stored-at : List ℕ
-  stored-at = sets w (7 + a) vs
-
   pub in-clients : clientWords (sets w (7 + a) vs) ≡ sets (clientWords w) a vs
   unfolding clientWords
   in-clients = region-inside 7 1584 w a vs h

@@ -17,9 +17,6 @@ abbrev pub maxClients : ℕ
 maxClients = 16
 
 -- the head: n, m, f, the number of clients, the messages in transit, the messages sent, the most servers down within an epoch
-abbrev pub headSize : ℕ
-headSize = 7
-
 abbrev pub clientsFrom : ℕ
 clientsFrom = 7
 

@@ -136,14 +136,6 @@ bytes-told (b ∷ s) st l = rest-cons (reader st l) b s ∙ go (bytes-told s) (d
 
 -- the run so far: the reader's counts and those of the events to come are the whole's
 module _ (s : Setting) where
-  -- what is printed from here on, by the definition of the whole
-  abbrev answersFrom : Run → List (List ℕ) → List ℕ
-  answersFrom r ls =
-      answers s (suc (r .answered)) (r .system) (take (maxLines - r .answered) ls) ++
-      endLine (r .accepted + acceptedEvents (happens s) (r .system) (eventsIn (take (maxLines - r .answered) ls)))
-      (max (r .holding) (mostHolders (happens s) (r .system) (eventsIn (take (maxLines - r .answered) ls))))
-      (runBy (happens s) (r .system) (eventsIn (take (maxLines - r .answered) ls)) .most)
-
   end-here : (r : Run) → holders (r .system) ≤ r .holding → ended (running r) ≡
       endLine (r .accepted + acceptedEvents (happens s) (r .system) []) (max (r .holding) (mostHolders (happens s) (r .system) [])) (runBy (happens s) (r .system) [] .most)
   unfolding ended acceptedEvents mostHolders runBy

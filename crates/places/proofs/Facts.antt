@@ -99,13 +99,6 @@ module _ (n m clients k : ℕ) (b : List ℕ) where
     pub client-few : n ≤ 31
     client-few = client-fits .ranges .few
 
-    -- its record is what its state is stored as
-    pub client-again : clientFrom (clientRecord b) ≡ client.store n m (record { 0 = k }) (clientPlace b .state)
-    unfolding clientPlace
-    client-again =
-        let e = stored-again its (B .valid) client-places in
-        sym e ∙ rw (B .servers, B .threshold, B .number)
-
     pub outside-clear : inEpoch (clientPlace b) ≡ false → every zeroWord (flags b) ≡ true
     outside-clear h = rw h at (B .outside)
 

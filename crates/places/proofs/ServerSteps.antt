@@ -115,9 +115,6 @@ module _ (n clients j : ℕ) (b : List ℕ) (ok : validServerBlock n clients j b
     fair : Fair (OfClients clients) no-one me (at .owner) (λ p. worth p (message tag (r .client) me (r .timestamp))) (receive me tag r at)
     fair = fair-receive tag r (λ p x. absurd x) c holds
 
-    pub receive-from : All (From (OfClients clients) (record { 0 = j })) (receive (record { 0 = j }) tag r (serverPlace b .state) .sent)
-    receive-from = fair .from
-
     receive-names : every (namedPair clients) (candidates (receive me tag r at .state)) ≡ true
     receive-names = holds-named clients (receive me tag r at .state) (fair .holds)
 
@@ -133,9 +130,6 @@ module _ (n clients j : ℕ) (b : List ℕ) (ok : validServerBlock n clients j b
   suspect-fair : Fair (OfClients clients) no-one me (at .owner) none-gained (suspect me at)
   suspect-fair = fair-suspect (λ p x. absurd x) holds
 
-  pub suspect-from : All (From (OfClients clients) (record { 0 = j })) (suspect (record { 0 = j }) (serverPlace b .state) .sent)
-  suspect-from = suspect-fair .from
-
   suspect-names : every (namedPair clients) (candidates (suspect me at .state)) ≡ true
   suspect-names = holds-named clients (suspect me at .state) (suspect-fair .holds)
 
@@ -149,9 +143,6 @@ module _ (n clients j : ℕ) (b : List ℕ) (ok : validServerBlock n clients j b
 
   check-fair : Fair (OfClients clients) no-one me (at .owner) none-gained (check me at)
   check-fair = fair-check holds
-
-  pub check-from : All (From (OfClients clients) (record { 0 = j })) (check (record { 0 = j }) (serverPlace b .state) .sent)
-  check-from = check-fair .from
 
   check-names : every (namedPair clients) (candidates (check me at .state)) ≡ true
   check-names = holds-named clients (check me at .state) (check-fair .holds)

@@ -134,10 +134,6 @@ abbrev isEmpty : List ℕ → Bool
 isEmpty [] = true
 isEmpty (j ∷ js) = false
 
-tips-now : (wins : Quorum) (b : List Bool) (js : List ℕ) → Tips wins b js → wins b ≡ isEmpty js
-tips-now wins b [] h = h
-tips-now wins b (j ∷ js) h = h .0
-
 map-put : {A B : Type 0} (f : A → B) (l : List A) (j : ℕ) (v : A) → map f (put l j v) ≡ put (map f l) j (f v)
 map-put f l zero v = refl
 map-put f [] (suc x) v = refl
