@@ -20,6 +20,7 @@ use Rattle.ids.specs.declared.Owner.{Owner}
 use Rattle.ids.specs.declared.Owner.the-variants.{Nobody, Of}
 use Rattle.ids.specs.declared.Refusal.{Refusal}
 use Rattle.ids.specs.declared.Refusal.the-variants.{InvalidRecord, WrongSection, TimestampsSpent, NotForClient, NumberOutOfRange}
+use Rattle.ids.proofs.ListLaws.{every-same, every-set}
 use Rattle.ids.proofs.Choice.{both, passed}
 use Rattle.wire.specs.Format as format
 use Rattle.wire.specs.Step.{Step, refused, stepped, stay}
@@ -123,10 +124,6 @@ view-fits c long K =
     }
 
 -- a state without responses
-every-same : {A : Type 0} (f : A → Bool) (n : ℕ) (x : A) → f x ≡ true → every f (replicate n x) ≡ true
-every-same f zero x h = refl
-every-same f (suc n) x h = rw h (every-same f n x h)
-
 none-filled : (n : ℕ) → count (map filled (replicate n Nobody)) ≡ 0
 none-filled zero = refl
 none-filled (suc n) = omega (arith, none-filled n)
@@ -157,13 +154,6 @@ heard-length r l j o = by-test (not (isRequest r (getD l (j .0 - 1) Nobody)) && 
   by-test : (b : Bool) → length (if b then set l (j .0 - 1) o else l) ≡ length l
   by-test true = length-set l (j .0 - 1) o
   by-test false = refl
-
-every-set : {A : Type 0} (f : A → Bool) (l : List A) (i : ℕ) (x : A) → every f l ≡ true → f x ≡ true → every f (set l i x) ≡ true
-every-set f [] i x h g = refl
-every-set f (y ∷ l) zero x h g = rw g (both (f y) (every f l) h .1)
-every-set f (y ∷ l) (suc i) x h g =
-    let (a, b) = both (f y) (every f l) h in
-    rw a (every-set f l i x b g)
 
 one-at-most : (b : Bool) → (if b then 1 else 0) ≤ 1
 one-at-most true = omega arith

@@ -2,3 +2,4 @@ pub mod Choice
 pub mod OrderLaws
 pub mod LimitsLaws
 pub mod RequestLaws
+pub mod ListLaws

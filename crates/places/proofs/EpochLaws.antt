@@ -23,7 +23,7 @@ use Rattle.regions.proofs.SetsLaws.{region-inside, region-behind}
 use Rattle.system.specs.Numbered.{added}
 use Rattle.system.specs.Places.{ServerPlace, inEpoch, downed, downFrom}
 use Rattle.places.specs.Blocks.{clientRecord, flags, flagged, cleared, clientPlace, bitWord, zeroWord, validClientBlock}
-use Rattle.places.proofs.Fronts.{every-append}
+use Rattle.ids.proofs.ListLaws.{every-append, every-drop, every-set}
 use Rattle.places.proofs.BlockParts.{covered, first-kept, length-cleared}
 use Rattle.places.proofs.Facts.{ClientBlock, client-facts, client-block, client-few}
 use Rattle.places.proofs.FlagLaws.{none-flagged, flag-adds, downBit, down-flagged}
@@ -60,16 +60,6 @@ module _ (n m clients k : ℕ) (b b′ : List ℕ) (ok : validClientBlock n m cl
             outside = rw moved-place r;
           });
         }
-
-every-drop : (f : ℕ → Bool) (n : ℕ) (l : List ℕ) → every f l ≡ true → every f (drop n l) ≡ true
-every-drop f zero l h = h
-every-drop f (suc n) [] h = refl
-every-drop f (suc n) (x ∷ l) h = every-drop f n l (both (f x) (every f l) h .1)
-
-every-set : (f : ℕ → Bool) (l : List ℕ) (i x : ℕ) → every f l ≡ true → f x ≡ true → every f (set l i x) ≡ true
-every-set f [] i x h g = refl
-every-set f (y ∷ l) zero x h g = rw g (both (f y) (every f l) h .1)
-every-set f (y ∷ l) (suc i) x h g = let (a, r) = both (f y) (every f l) h in rw a (every-set f l i x r g)
 
 or-true : (a : Bool) → a || true ≡ true
 or-true true = refl

@@ -8,12 +8,9 @@ use mathlib.Core.List.{List, [], _∷_, _++_}
 use lib.ListN.{length, getD, take, replicate, set, replicate-append-replicate, length-replicate}
 use lib.Seq.{sets, take-suc, length-sets}
 use Rattle.ids.specs.Lists.{every}
+use Rattle.ids.proofs.ListLaws.{every-append}
 use Rattle.ids.proofs.Choice.{both}
 use Rattle.wire.proofs.BytesLaws.{stored-on}
-
-pub every-append : {A : Type 0} (f : A → Bool) (a b : List A) → every f a ≡ true → every f b ≡ true → every f (a ++ b) ≡ true
-every-append f [] b h g = g
-every-append f (x ∷ a) b h g = let (p, r) = both (f x) (every f a) h in rw p (every-append f a b r g)
 
 module _ {A : Type 0} (f : A → Bool) (d : A) where
   and-false : (a : Bool) → a && false ≡ false

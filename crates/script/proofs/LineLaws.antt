@@ -10,6 +10,7 @@ use lib.Seq.{sets, sets-eq, take-all, take-suc, take-set-le, getD-set-same, getD
 use borrow.Author.Tests.{eqb-true, le-leb, lt-leb, leb-true}
 use Rattle.ids.specs.Choice.{if_then_else_}
 use Rattle.ids.specs.Lists.{every}
+use Rattle.ids.proofs.ListLaws.{every-set, every-at}
 use Rattle.ids.proofs.Choice.{both}
 use lib.Dec.{eqb}
 use Rattle.places.proofs.Fronts.{Passing, passing-none, passing-failed, passing-more, passing-all}
@@ -54,11 +55,6 @@ behind-more l i b lt e =
     let a : take (suc i) (set l i b) ≡ take i l ++ (b ∷ []) = rw (take-suc (set l i b) i 0 (omega (arith, length-set l i b)), getD-set-same l i b 0 (omega arith), take-set-le i l i b (omega arith)) in
     ap (λ (n : ℕ). take n (set l i b)) (add-one i) ∙ (a ∙ sym (take-all 41 (take i l ++ (b ∷ [])) (omega (arith, ap length (sym a), length-take (suc i) (set l i b)))))
 
-every-set : (f : ℕ → Bool) (l : List ℕ) (i v : ℕ) → every f l ≡ true → f v ≡ true → every f (set l i v) ≡ true
-every-set f [] i v h g = h
-every-set f (x ∷ l) zero v h g = rw g (both (f x) (every f l) h .1)
-every-set f (x ∷ l) (suc i) v h g = let (a, b) = both (f x) (every f l) h in rw a (every-set f l i v b g)
-
 module _ (w : List ℕ) (b : ℕ) (S : Sound w) where
   abbrev Keeps : List ℕ → Type 0
   Keeps w′ = (view w′ ≡ record { stage = view w .stage; line = behind (view w .line) b }) × (valid w′ ≡ true)
@@ -82,11 +78,6 @@ module _ (w : List ℕ) (b : ℕ) (S : Sound w) where
       )
 
 -- the words of the line, tested one by one
-every-at : (f : ℕ → Bool) (l : List ℕ) (i : ℕ) → every f l ≡ true → i < length l → f (getD l i 0) ≡ true
-every-at f [] i h lt = absurd (omega arith)
-every-at f (x ∷ l) zero h lt = both (f x) (every f l) h .0
-every-at f (x ∷ l) (suc i) h lt = every-at f l i (both (f x) (every f l) h .1) (omega arith)
-
 module _ (w : List ℕ) where
   pub bytes-none : length w ≡ 6399 → Passing byteWord 0 (drop 5 w) 41 0
   bytes-none e = passing-none byteWord 0 (drop 5 w) 41 (omega (arith, length-drop 5 w))
@@ -117,7 +108,7 @@ module _ (w : List ℕ) (S : Sound w) where
   unfolding keptIn
   word-small i lt =
       let e : getD (take 41 (drop 5 w)) i 0 ≡ getD w (5 + i) 0 = getD-take 41 (drop 5 w) i 0 (omega (arith, lt, S .short)) ∙ getD-drop 5 w i 0 in
-      let t : byteWord (getD (take 41 (drop 5 w)) i 0) ≡ true = every-at byteWord (take 41 (drop 5 w)) i (known w (S .valid) .bytes) (omega (arith, lt, S .short, kept-long w (S .long))) in
+      let t : byteWord (getD (take 41 (drop 5 w)) i 0) ≡ true = every-at byteWord 0 (take 41 (drop 5 w)) i (known w (S .valid) .bytes) (omega (arith, lt, S .short, kept-long w (S .long))) in
       leb-true (getD w (5 + i) 0) 255 (rw e at t)
 
   pub copy-more : (o l : List ℕ) (i : ℕ) → Copied o l 0 (view w .line) i → i < getD w 4 0 → Copied o (set l i (getD w (5 + i) 0)) 0 (view w .line) (i + 1)

@@ -38,7 +38,8 @@ use Rattle.client.proofs.KeepsValid.{Fits, heard-length}
 use Rattle.client.proofs.RoundLaws.{length-round, size-round}
 use Rattle.client.proofs.SendLaws.{length-toAll, size-toAll, request-plain, release-plain}
 use Rattle.client.proofs.ValidLaws.{valid-known, trying-range}
-use Rattle.sends.proofs.ServerSends.{never, entered, every-append}
+use Rattle.ids.proofs.ListLaws.{every-append}
+use Rattle.sends.proofs.ServerSends.{never, entered}
 
 one-at-most : (b : Bool) → (if b then 1 else 0) ≤ 1
 one-at-most true = omega arith

@@ -25,6 +25,7 @@ use Rattle.ids.specs.declared.Refusal.{Refusal}
 use Rattle.ids.specs.declared.Refusal.the-variants.{NumberOutOfRange, InvalidRecord, NotForServer, QueueFull, NoOwner}
 use Rattle.ids.proofs.Choice.{both, decided, passed}
 use Rattle.ids.proofs.LimitsLaws.{request-range}
+use Rattle.ids.proofs.ListLaws.{every-append}
 use Rattle.wire.specs.Format.{lengthOf, sizeOf, fieldsOf, sizeOfAll}
 use Rattle.wire.specs.Format as format
 use Rattle.wire.specs.Step.{Step, Outcome, refused, stepped, stay, tell}
@@ -34,6 +35,7 @@ use Rattle.votes.specs.Figure1.{State, promote, delete, inform, act, compare, r
 use Rattle.votes.specs.Queues.{maxQueue, view}
 use Rattle.votes.specs.declared.Tag.{Tag}
 use Rattle.votes.specs.declared.Tag.the-variants.{Request as REQUEST, Yield as YIELD, Release as RELEASE, Inquiry as INQUIRY}
+use Rattle.votes.proofs.EveryLaws.{every-insert, every-without}
 use Rattle.server.specs.Record as server
 use Rattle.server.specs.Calls as server-calls
 use Rattle.server.specs.declared.Server.{Server}
@@ -186,29 +188,6 @@ valid-length s v =
     let (ab, c) = both (server.validSizes (s .n) (s .id) && server.validQueue (s .votes .queue)) (server.validState (view (s .votes))) v in
     let q : server.validQueue (s .votes .queue) ≡ true = both (server.validSizes (s .n) (s .id)) (server.validQueue (s .votes .queue)) ab .1 in
     leb-true _ _ (both (leb (s .votes .queue .len) maxQueue) (every (same noRequest) (drop (s .votes .queue .len) (s .votes .queue .places))) q .0)
-
--- a test of every element
-module _ {A : Type 0} (f : A → Bool) where
-  pub every-append : (a b : List A) → every f a ≡ true → every f b ≡ true → every f (a ++ b) ≡ true
-  every-append [] b h g = g
-  every-append (x ∷ a) b h g = let (p, r) = both (f x) (every f a) h in rw p (every-append a b r g)
-
-module _ (g : Pair → Bool) (r : Pair) where
-  every-insert : (l : List Pair) → g r ≡ true → every g l ≡ true → every g (insert r l) ≡ true
-  unfolding insert
-  every-insert [] a h = rw a
-  every-insert (x ∷ l) a h =
-      let (b, t) = both (g x) (every g l) h in
-      let rest = every-insert l a t in
-      ⊎-elim (λ (e : before r x ≡ true). rw (e, a) h) (λ (e : before r x ≡ false). rw (e, b) rest) (decided (before r x))
-
-  every-without : (l : List Pair) → every g l ≡ true → every g (without r l) ≡ true
-  unfolding without
-  every-without [] h = refl
-  every-without (x ∷ l) h =
-      let (b, t) = both (g x) (every g l) h in
-      let rest = every-without l t in
-      ⊎-elim (λ (e : same x r ≡ true). rw e t) (λ (e : same x r ≡ false). rw (e, b) rest) (decided (same x r))
 
 -- the owner and the queue pass g
 pub record Knows (g : Pair → Bool) (q : State) : Type 0 where

@@ -22,6 +22,7 @@ use Rattle.ids.specs.declared.Request.{Request as Pair}
 use Rattle.ids.specs.declared.Timestamp.{Timestamp}
 use Rattle.ids.specs.declared.Owner.{Owner}
 use Rattle.ids.specs.declared.Owner.the-variants.{Nobody, Of}
+use Rattle.votes.proofs.EveryLaws.{every-insert, every-without}
 use Rattle.ids.proofs.Choice.{clash, both, decided}
 use Rattle.ids.proofs.OrderLaws.{before-order}
 use Rattle.ids.proofs.RequestLaws.{same-true}
@@ -133,14 +134,6 @@ module _ (r : Pair) where
       let rest = insert-single l (s .1) (o .1) in
       ⊎-elim (λ (t : before r x ≡ true). rw t (n, s)) (λ (t : before r x ≡ false). rw t (absent-insert (x .client) l (flip (x .client .0) (r .client .0) (o .0)) (s .0), rest)) (decided (before r x))
 
-  pub insert-valid : (l : List Pair) → validRequest r ≡ true → every validRequest l ≡ true → every validRequest (insert r l) ≡ true
-  unfolding insert
-  insert-valid [] v e = rw v
-  insert-valid (x ∷ l) v e =
-      let (a, b) = both (validRequest x) (every validRequest l) e in
-      let rest = insert-valid l v b in
-      ⊎-elim (λ (t : before r x ≡ true). rw (t, v) e) (λ (t : before r x ≡ false). rw (t, a) rest) (decided (before r x))
-
   -- removal
   above-past : (x y : Pair) (l : List Pair) → before x y ≡ true → Above y l → Above x l
   above-past x y [] h a = tt
@@ -172,14 +165,6 @@ module _ (r : Pair) where
   without-single (x ∷ l) s =
       let rest = without-single l (s .1) in
       ⊎-elim (λ (t : same x r ≡ true). rw t (s .1)) (λ (t : same x r ≡ false). rw t (absent-without (x .client) l (s .0), rest)) (decided (same x r))
-
-  pub without-valid : (l : List Pair) → every validRequest l ≡ true → every validRequest (without r l) ≡ true
-  unfolding without
-  without-valid [] e = refl
-  without-valid (x ∷ l) e =
-      let (a, b) = both (validRequest x) (every validRequest l) e in
-      let rest = without-valid l b in
-      ⊎-elim (λ (t : same x r ≡ true). rw t b) (λ (t : same x r ≡ false). rw (t, a) rest) (decided (same x r))
 
 -- a valid state, test by test
 pub record Good (q : State) : Type 0 where
@@ -234,7 +219,7 @@ module _ (j : ServerId) where
       (λ (t : isRequest r (q .owner) ≡ false).
       rw t record {
         owner = g .owner;
-        all = without-valid r (q .queue) (g .all);
+        all = every-without validRequest r (q .queue) (g .all);
         behind = keep-behind (q .owner) (q .queue) (without r (q .queue)) (length-without r (q .queue)) (g .behind);
         sorted = without-sorted r (q .queue) (g .sorted);
         single = keep-single (q .owner) (q .queue) r (g .single);
@@ -254,7 +239,7 @@ module _ (j : ServerId) where
   enqueue-good r o l none e v n g =
       record {
         owner = g .owner;
-        all = insert-valid r l v (g .all);
+        all = every-insert validRequest r l v (g .all);
         behind = refl;
         sorted = insert-sorted r l (g .sorted) e;
         single = (absent-insert r (o .client) l (flip r (o .client .0) (r .client .0) n) (g .single .0), insert-single r l (g .single .1) e);
@@ -281,7 +266,7 @@ module _ (j : ServerId) where
       (λ (t : same o r ≡ true).
       let e : o ≡ r = same-true o r t in
       let n : timestampIn (r .client) l ≡ none = rw e at (g .single .0) in
-      rw t (promote-good (insert r l) (insert-valid r l v (g .all)) (insert-sorted r l (g .sorted) n) (insert-single r l (g .single .1) n)))
+      rw t (promote-good (insert r l) (every-insert validRequest r l v (g .all)) (insert-sorted r l (g .sorted) n) (insert-single r l (g .single .1) n)))
       (λ (t : same o r ≡ false). rw t g)
       (decided (same o r))
 

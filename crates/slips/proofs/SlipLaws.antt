@@ -3,15 +3,12 @@ use mathlib.Core.Path.{_≡_, refl, sym, ap, _∙_}
 use Prim.Native.Nat.{ℕ, zero, suc, _+_, _≤_, _<_}
 use native.Mathlib.Omega.{arith}
 use native.Mathlib.Numerals.{add-one}
-use mathlib.Core.Bool.{Bool, true, false, _&&_}
+use mathlib.Core.Bool.{Bool, true, false}
 use mathlib.Core.List.{List, [], _∷_, _++_, map, append-assoc, append-nil}
-use lib.Dec.{leb}
 use lib.ListN.{length, getD, take, drop, length-take, length-map}
 use lib.Seq.{take-suc}
-use borrow.Author.Tests.{leb-true}
 use Rattle.ids.specs.Choice.{if_then_else_}
-use Rattle.ids.specs.Lists.{every}
-use Rattle.ids.specs.Requests.{noRequest, isRequest, same}
+use Rattle.ids.specs.Requests.{noRequest, isRequest}
 use Rattle.ids.specs.declared.Owner.{Owner}
 use Rattle.ids.specs.declared.Request.{Request}
 use Rattle.ids.proofs.Choice.{both}
@@ -22,8 +19,8 @@ use Rattle.client.specs.Record.{shown}
 use Rattle.client.specs.declared.Client.{Client}
 use Rattle.client.specs.declared.Section.{Section}
 use Rattle.client.specs.declared.Section.the-variants.{Remainder, Trying, Critical}
-use Rattle.server.specs.Record as server
 use Rattle.server.specs.declared.Server.{Server}
+use Rattle.sends.proofs.ServerSends.{valid-length}
 use Rattle.words.specs.Records.{serverFrom, clientFrom, holdsServer, holdsClient}
 use Rattle.places.specs.Blocks.{clientRecord, serverRecord, clientPlace, serverPlace, validServerBlock}
 use Rattle.places.proofs.Facts.{ClientBlock, client-facts, client-few, server-facts}
@@ -117,13 +114,7 @@ module _ (w : List ℕ) (j : ℕ) (H : HasServer w j) where
   server-held = server-facts (settingOf w .n) (settingOf w .clients) j (serverBlockOf w j) (server-block w j H) .held
 
   pub queue-few : serverFrom (serverRecord (serverBlockOf w j)) .votes .queue .len ≤ 16
-  unfolding server.valid server.validQueue
-  queue-few =
-      let s : Server = serverFrom (serverRecord (serverBlockOf w j)) in
-      let v = server-facts (settingOf w .n) (settingOf w .clients) j (serverBlockOf w j) (server-block w j H) .valid in
-      let (ab, c) = both (server.validSizes (s .n) (s .id) && server.validQueue (s .votes .queue)) (server.validState (votes.view (s .votes))) v in
-      let q : server.validQueue (s .votes .queue) ≡ true = both (server.validSizes (s .n) (s .id)) (server.validQueue (s .votes .queue)) ab .1 in
-      leb-true _ _ (both (leb (s .votes .queue .len) 16) (every (same noRequest) (drop (s .votes .queue .len) (s .votes .queue .places))) q .0)
+  queue-few = valid-length _ (server-facts (settingOf w .n) (settingOf w .clients) j (serverBlockOf w j) (server-block w j H) .valid)
 
   pub server-text : (b : Bool) (s : Server) → b ≡ serverPlace (serverBlockOf w j) .up → s ≡ serverFrom (serverRecord (serverBlockOf w j))
       → serverText j (serverAt (view w) j) ≡ text "keeper " ∷ decimal j ∷ ((if b then votesText (votes.view (s .votes)) else text " down" ∷ []) ++ ends)

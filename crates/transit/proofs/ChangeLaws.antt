@@ -15,7 +15,8 @@ use Rattle.ids.proofs.Choice.{both}
 use Rattle.transit.proofs.RowsLaws.{rows-around, rows-same}
 use Rattle.transit.proofs.NumbersLaws.{ascends-changed, replaced-there}
 use Rattle.transit.proofs.SlotLaws.{row-seven, slot-marked, marked-valid}
-use Rattle.transit.proofs.ValidLaws.{Known, known, known-valid, slots-around, slot-valid-at, every-append, every-parts}
+use Rattle.ids.proofs.ListLaws.{every-append, every-parts}
+use Rattle.transit.proofs.ValidLaws.{Known, known, known-valid, slots-around, slot-valid-at}
 
 pub stored-seven : (t : List ℕ) (at a b c d e f g : ℕ) → set (set (set (set (set (set (set t at a) (at + 1) b) (at + 2) c) (at + 3) d) (at + 4) e) (at + 5) f) (at + 6) g ≡ sets t at (a ∷ (b ∷ (c ∷ (d ∷ (e ∷ (f ∷ (g ∷ [])))))))
 stored-seven t at a b c d e f g = rw (add-one, add-two, add-three, add-four, add-five, add-six)

@@ -30,7 +30,8 @@ use Rattle.transit.specs.Parts.{PostsOne}
 use Rattle.transit.proofs.RowsLaws.{rows-next, rows-same}
 use Rattle.transit.proofs.NumbersLaws.{ascends, ascends-append}
 use Rattle.transit.proofs.SlotLaws.{slot-again, words-valid}
-use Rattle.transit.proofs.ValidLaws.{Known, known, known-valid, slots-next, slots-same, every-append, every-parts, every-drop}
+use Rattle.ids.proofs.ListLaws.{every-append, every-parts, every-drop}
+use Rattle.transit.proofs.ValidLaws.{Known, known, known-valid, slots-next, slots-same}
 
 -- messages written one after another are decoded as they were
 pub messages-read : (l : List Message) (rest : List ℕ) → every valid l ≡ true → messagesIn (length l) (bytesOfAll l ++ rest) ≡ l

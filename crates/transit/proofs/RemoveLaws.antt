@@ -14,7 +14,8 @@ use Rattle.transit.specs.Calls.{Removes}
 use Rattle.ids.proofs.Choice.{both}
 use Rattle.transit.proofs.RowsLaws.{rows-around, rows-split, rows-front, rows-take}
 use Rattle.transit.proofs.NumbersLaws.{ascends-without, replaced-there}
-use Rattle.transit.proofs.ValidLaws.{Known, known, known-valid, slots-around, every-append, every-parts}
+use Rattle.ids.proofs.ListLaws.{every-append, every-parts}
+use Rattle.transit.proofs.ValidLaws.{Known, known, known-valid, slots-around}
 
 -- what `move_up` knows before word i: i words have moved
 pub record Moving (o : List ℕ) (from count : ℕ) (t : List ℕ) (i : ℕ) : Type 0 where

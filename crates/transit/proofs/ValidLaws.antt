@@ -9,6 +9,7 @@ use lib.Dec.{eqb, leb}
 use lib.ListN.{length, getD, take, drop}
 use lib.Seq.{drop-drop, drop-cons, drop-length}
 use borrow.Author.Tests.{lt-ltb, le-ltb, le-leb, lt-leb, leb-true, eqb-true, ne-eqb, not-true, not-false}
+use Rattle.ids.proofs.ListLaws.{every-parts}
 use Rattle.ids.proofs.Choice.{both}
 use Rattle.ids.specs.Lists.{every}
 use Rattle.transit.specs.Slots.{slotOf, slotAt, rows, slots, validSlot, ascending, validSlots}
@@ -168,23 +169,6 @@ module _ (n clients sent len : ℕ) (t : List ℕ) where
         valid-rest z h p = rw (a, le-leb len 512 b, ← e, not-false x c, ← f, not-false y h) p
 
 -- what holds of all rows holds of each
-module _ {A : Type 0} (f : A → Bool) where
-  pub every-append : (a b : List A) → every f a ≡ true → every f b ≡ true → every f (a ++ b) ≡ true
-  every-append [] b h g = g
-  every-append (x ∷ a) b h g = let (p, r) = both (f x) (every f a) h in rw p (every-append a b r g)
-
-  pub every-parts : (a b : List A) → every f (a ++ b) ≡ true → (every f a ≡ true) × (every f b ≡ true)
-  every-parts [] b h = (refl, h)
-  every-parts (x ∷ a) b h =
-      let (p, r) = both (f x) (every f (a ++ b)) h in
-      let (q, s) = every-parts a b r in
-      (rw p q, s)
-
-  pub every-drop : (n : ℕ) (l : List A) → every f l ≡ true → every f (drop n l) ≡ true
-  every-drop zero l h = h
-  every-drop (suc n) [] h = h
-  every-drop (suc n) (x ∷ l) h = every-drop n l (both (f x) (every f l) h .1)
-
 module _ (n clients sent len : ℕ) (t : List ℕ) (ok : validSlots n clients sent len t ≡ true) (i : ℕ) (h : i < len) where
   pub slot-valid-at : validSlot n clients (take 7 (drop (7 * i) t)) ≡ true
   slot-valid-at =

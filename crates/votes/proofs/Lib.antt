@@ -6,3 +6,4 @@ pub mod PartLaws
 pub mod MoveLaws
 pub mod ActLaws
 pub mod OwnerLaws
+pub mod EveryLaws

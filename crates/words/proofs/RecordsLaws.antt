@@ -12,6 +12,7 @@ use borrow.Author.Tests.{le-leb, lt-leb, leb-true, eqb-true, ne-eqb, not-true, n
 use Rattle.ids.specs.Requests.{noRequest}
 use Rattle.ids.specs.declared.Owner.{Owner}
 use Rattle.ids.specs.declared.Request.{Request}
+use Rattle.ids.proofs.ListLaws.{every-at}
 use Rattle.ids.proofs.Choice.{both}
 use Rattle.wire.specs.Format.{ownerOf, ownerClient, ownerTimestamp}
 use Rattle.wire.proofs.BytesLaws.{stored-on}
@@ -56,11 +57,6 @@ requests-at (k ∷ []) i h = absurd (omega arith)
 requests-at (k ∷ (t ∷ ws)) zero h = refl
 requests-at (k ∷ (t ∷ ws)) (suc i) h = let z : 2 * suc i ≡ suc (suc (2 * i)) = omega arith in rw z (requests-at ws i (omega arith))
 
-every-at : (f : Request → Bool) (l : List Request) (i : ℕ) → every f l ≡ true → i < length l → f (getD l i noRequest) ≡ true
-every-at f [] i e h = absurd (omega arith)
-every-at f (x ∷ l) zero e h = both (f x) (every f l) e .0
-every-at f (x ∷ l) (suc i) e h = every-at f l i (both (f x) (every f l) e .1) (omega arith)
-
 -- what `clients_fit` knows before place i
 pub record Passing (ws : List ℕ) (n i : ℕ) : Type 0 where
   pub within : i ≤ n
@@ -104,7 +100,7 @@ module _ (ws : List ℕ) (n : ℕ) (F : Fitting ws n) where
       rw (getD-drop 5 ws (2 * i) 0, getD-drop 5 ws (suc (2 * i)) 0, z) at e
 
   pub small-at : (i : ℕ) → i < n → getD ws (5 + 2 * i) 0 ≤ maxShort
-  small-at i h = leb-true _ _ (rw (read-at i h) at (every-at fitsPlace (requestsIn (drop 5 ws)) i (F .small) (omega (arith, length-in))))
+  small-at i h = leb-true _ _ (rw (read-at i h) at (every-at fitsPlace noRequest (requestsIn (drop 5 ws)) i (F .small) (omega (arith, length-in))))
 
   pub loading-none : (l : List Request) → length l ≡ n → Loading ws n l 0
   loading-none l e = record { within = omega arith; size = e; done = refl }

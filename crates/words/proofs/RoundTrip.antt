@@ -14,6 +14,7 @@ use Rattle.ids.specs.Requests.{same, noRequest}
 use Rattle.ids.specs.declared.Request.{Request}
 use Rattle.ids.specs.declared.Owner.{Owner}
 use Rattle.ids.specs.declared.Owner.the-variants.{Nobody, Of}
+use Rattle.ids.proofs.ListLaws.{every-append}
 use Rattle.ids.proofs.Choice.{both, decided}
 use Rattle.ids.proofs.LimitsLaws.{within-range, client-range, request-range}
 use Rattle.ids.proofs.RequestLaws.{same-true}
@@ -38,10 +39,6 @@ requests-words : (l : List Request) → requestsIn (requestWords l) ≡ l
 unfolding requestsIn requestWords
 requests-words [] = refl
 requests-words (q ∷ l) = ap (λ (x : List Request). q ∷ x) (requests-words l)
-
-every-append : (f : Request → Bool) (a b : List Request) → every f a ≡ true → every f b ≡ true → every f (a ++ b) ≡ true
-every-append f [] b h g = g
-every-append f (x ∷ a) b h g = let (p, r) = both (f x) (every f a) h in rw p (every-append f a b r g)
 
 fits-valid : (l : List Request) → every validRequest l ≡ true → every fitsPlace l ≡ true
 fits-valid [] h = refl
