@@ -3,12 +3,15 @@
 ghost use mathlib.Core.Path.{_≡_};
 ghost use mathlib.Core.Bool.{true};
 ghost use Prim.Native.Nat.{_≤_, _<_};
-ghost use lib.ListN.{length};
+ghost use lib.ListN.{length, set};
 ghost use Rattle.sheet.specs.Sheet.{sheet, puts};
-ghost use Rattle.layout.specs.Layout.{settingOf, valid, view};
+ghost use Rattle.layout.specs.Layout.{settingOf, lengthOf, sentOf, transitWords, valid, view};
 ghost use Rattle.changes.specs.Changes.{HasClient, HasServer};
 ghost use Rattle.system.specs.Transit.{pending};
-ghost use Rattle.rows.specs.Rows.{clientStretch, clients as clientsOf, serverStretch, servers as serversOf, state, head, moved, badRow, refusedRow, acceptedRow};
+ghost use Rattle.transit.specs.Slots.{slotAt};
+ghost use Rattle.language.specs.Lines.{eventIn, lineOf};
+ghost use Rattle.bounded.specs.Happens.{happens, Leaves};
+ghost use Rattle.rows.specs.Rows.{clientStretch, clients as clientsOf, serverStretch, servers as serversOf, state, head, moved, badRow, refusedRow, acceptedRow, eventRow, lineRow, LineLeaves, pendingBelow};
 ghost use Rattle.rows.specs.Crossings.{kept, takenOf, droppedOf, crossing, sentRow};
 use ids::Refusal;
 use language::Line;
@@ -197,7 +200,7 @@ fn draw_accepted(w: &[u32], out: &mut [u8], r: u16, line: &[u8], sent: u32, hold
 
 fn draw_event(w: &mut [u32], sent: &[u32], out: &mut [u8], r: u16, line: &[u8], e: Event) -> usize
     requires { ⌜ (valid (now w) ≡ true) × (r < length (now sent)) ⌝ }
-    ensures { λ _. ⌜ valid (now (w .exit)) ≡ true ⌝ }
+    ensures { λ p. ⌜ Leaves (now (w .entry)) e (now (w .exit)) × (sheet (now (out .exit)) p ≡ puts (eventRow (settingOf (now (w .entry))) (view (now (w .entry))) (now (sent .entry)) r (now (line .entry)) e (happens (now (w .entry)) e)) (sheet (now (out .entry)) 0)) ⌝ }
 {
     let c = crossing_of(w, e);
     let reply = simulation::happen(w, e);
@@ -217,10 +220,10 @@ fn clients_in(w: &[u32]) -> u16
     w[3] as u16
 }
 
-// Event line number r.
+// Event line number r. The messages sent before it are noted in `sent`.
 pub fn draw_row(w: &mut [u32], sent: &mut [u32], out: &mut [u8], r: u16, line: &[u8]) -> usize
     requires { ⌜ (valid (now w) ≡ true) × (r < length (now sent)) ⌝ }
-    ensures { λ _. ⌜ valid (now (w .exit)) ≡ true ⌝ }
+    ensures { λ p. ⌜ (now (sent .exit) ≡ set (now (sent .entry)) r (sentOf (now (w .entry)))) × LineLeaves (now (w .entry)) (lineOf (eventIn (now (line .entry)))) (now (w .exit)) × (sheet (now (out .exit)) p ≡ puts (lineRow (now (w .entry)) (now (sent .exit)) r (now (line .entry)) (lineOf (eventIn (now (line .entry))))) (sheet (now (out .entry)) 0)) ⌝ }
 {
     sent[r as usize] = w[5];
     let l = language::parse_event(line);
@@ -231,9 +234,10 @@ pub fn draw_row(w: &mut [u32], sent: &mut [u32], out: &mut [u8], r: u16, line: &
     }
 }
 
-// The message in slot i if it is pending, below the last row, which is row r.
+// The message in slot i, a used one, if it is pending: below the last row, which is row r.
 pub fn draw_slot(w: &[u32], sent: &[u32], out: &mut [u8], i: usize, r: u16) -> usize
-    requires { ⌜ (valid (now w) ≡ true) × (r ≤ 400) × (length (now sent) ≡ 401) × (i < 512) ⌝ }
+    requires { ⌜ (valid (now w) ≡ true) × (r ≤ 400) × (length (now sent) ≡ 401) × (i < lengthOf (now w)) ⌝ }
+    ensures { λ p. ⌜ sheet (now (out .exit)) p ≡ puts (pendingBelow (settingOf (now (w .entry)) .clients) (now (sent .entry)) r (slotAt (transitWords (now (w .entry))) i)) (sheet (now (out .entry)) 0) ⌝ }
 {
     if w[2769 + 7 * i + 1] == 1 {
         return 0;

@@ -27,7 +27,7 @@ cast-if1 : tie.Need-cast-if1 Inv-loop μ-loop
 cast-if1 c = record { fits = omega (arith, lent-sized (now (c .before .before .before .before .before .args .w)) (c .before .before .before .before .before .pre .0) .few) }
 
 draw-slot-requires : tie.Need-draw-slot-requires Inv-loop μ-loop
-draw-slot-requires c κs = (c .before .before .before .before .before .before .before .pre .0, c .before .before .before .before .before .before .before .pre .1, c .before .before .before .before .before .before .before .pre .2, omega (arith, lent-sized (now (c .before .before .before .before .before .before .before .args .w)) (c .before .before .before .before .before .before .before .pre .0) .few))
+draw-slot-requires c κs = (c .before .before .before .before .before .before .before .pre .0, c .before .before .before .before .before .before .before .pre .1, c .before .before .before .before .before .before .before .pre .2, omega arith)
 
 write-out-requires : tie.Need-write-out-requires Inv-loop μ-loop
 write-out-requires c κs = search needs

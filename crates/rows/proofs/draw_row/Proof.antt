@@ -1,4 +1,6 @@
--- `rows::draw_row` meets its contract: each arm leaves the words valid.
+-- `rows::draw_row` meets its contract: each arm is one case of what a line says.
+use Rattle.rows.proofs.RowLaws.{bad-line, unknown-line, event-line}
+use mathlib.Core.Path.{refl, sym, _∙_}
 use Rattle.changes.proofs.Parties.{words-long}
 use denote.Ref.{now}
 use native.Mathlib.Omega.{arith}
@@ -46,7 +48,9 @@ same-length-3 : tie.Need-same-length-3
 same-length-3 c = search needs
 
 returns : tie.Need-returns
-returns c = search needs
+returns c =
+    let L = bad-line _ _ _ _ _ _ _ (sym (c .before .before .before .before .before .before .before .parse-event .ensures) ∙ c .before .before .before .before .before .enum-told .given .1) (c .before .before .draw-bad .ensures) in
+    (refl, L .0, L .1)
 
 same-length-4 : tie.Need-same-length-4
 same-length-4 c = search needs
@@ -58,7 +62,9 @@ same-length-6 : tie.Need-same-length-6
 same-length-6 c = search needs
 
 returns-2 : tie.Need-returns-2
-returns-2 c = search needs
+returns-2 c =
+    let L = unknown-line _ _ _ _ _ _ _ (sym (c .before .before .before .before .before .before .before .parse-event .ensures) ∙ c .before .before .before .before .before .enum-told2 .given .1) (c .before .before .draw-refused .ensures) in
+    (refl, L .0, L .1)
 
 same-length-7 : tie.Need-same-length-7
 same-length-7 c = search needs
@@ -70,7 +76,9 @@ same-length-9 : tie.Need-same-length-9
 same-length-9 c = search needs
 
 returns-3 : tie.Need-returns-3
-returns-3 c = search needs
+returns-3 c =
+    let L = event-line _ _ _ _ _ _ _ _ (sym (c .before .before .before .before .before .before .before .before .before .before .before .parse-event .ensures) ∙ c .before .before .before .before .before .before .before .before .before .l .given .1) _ (c .before .before .before .before .draw-event .ensures) in
+    (refl, L .0, L .1)
 
 pub draw-row-spec : {M : Type 1} → statement M
 draw-row-spec =
