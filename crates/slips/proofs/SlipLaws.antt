@@ -35,7 +35,7 @@ use Rattle.script.proofs.LineLaws.{known}
 use Rattle.sheet.specs.Sheet.{Sheet, sheet, puts}
 use Rattle.sheet.proofs.SheetLaws.{then as behind, puts-within}
 use Rattle.votes.specs.Queues as votes
-use Rattle.slips.specs.Slips.{ends, pairText, queueText, lineText, votesText, serverText, supportText, keepersText, stateText, clientText, serversText, clientsText}
+use Rattle.slips.specs.Slips.{ends, pairText, queueText, lineText, votesText, serverText, supportText, supportersText, stateText, clientText, serversText, clientsText}
 
 -- those who wait
 queue-append : (a b : List Request) → queueText (a ++ b) ≡ queueText a ++ queueText b
@@ -95,18 +95,18 @@ module _ (r : Request) (j : ℕ) (q : Request) (b : Bool) (e : b ≡ isRequest r
   unfolding supportText
   support-other h = rw (sym (sym h ∙ e))
 
--- the keepers, by the section
+-- the supporting servers, by the section
 module _ (x : Section) (l : List (List ℕ)) (s₀ : Sheet) where
-  pub keepers-none : x ≡ Remainder → s₀ ≡ puts (keepersText x l) s₀
+  pub supporters-none : x ≡ Remainder → s₀ ≡ puts (supportersText x l) s₀
   unfolding puts
-  keepers-none e = rw e
+  supporters-none e = rw e
 
   module _ {s₁ : Sheet} (p : s₁ ≡ puts (text " keepers" ∷ l) s₀) where
-    pub keepers-trying : x ≡ Trying → s₁ ≡ puts (keepersText x l) s₀
-    keepers-trying e = rw e p
+    pub supporters-trying : x ≡ Trying → s₁ ≡ puts (supportersText x l) s₀
+    supporters-trying e = rw e p
 
-    pub keepers-critical : x ≡ Critical → s₁ ≡ puts (keepersText x l) s₀
-    keepers-critical e = rw e p
+    pub supporters-critical : x ≡ Critical → s₁ ≡ puts (supportersText x l) s₀
+    supporters-critical e = rw e p
 
 -- the places of a valid simulation
 module _ (w : List ℕ) (j : ℕ) (H : HasServer w j) where

@@ -55,16 +55,16 @@ sectionText Trying = text " trying ticket "
 sectionText Critical = text " holding ticket "
 
 -- in the remainder section a client has no responses
-abbrev pub keepersText : Section → List (List ℕ) → List (List ℕ)
-keepersText Remainder l = []
-keepersText Trying l = text " keepers" ∷ l
-keepersText Critical l = text " keepers" ∷ l
+abbrev pub supportersText : Section → List (List ℕ) → List (List ℕ)
+supportersText Remainder l = []
+supportersText Trying l = text " keepers" ∷ l
+supportersText Critical l = text " keepers" ∷ l
 
 -- client k of a state
 unfoldable pub stateText : ℕ → client.State → List (List ℕ)
 stateText k c =
     sectionText (c .section) ∷ decimal (c .timestamp .0)
-    ∷ keepersText (c .section) (supportText (record { client = record { 0 = k }; timestamp = c .timestamp }) 1 (c .responses))
+    ∷ supportersText (c .section) (supportText (record { client = record { 0 = k }; timestamp = c .timestamp }) 1 (c .responses))
 
 unfoldable pub clientText : ℕ → ClientPlace → List (List ℕ)
 clientText k p = text "kiosk " ∷ decimal k ∷ ((if p .living then stateText k (p .state) else text " fallen" ∷ []) ++ ends)

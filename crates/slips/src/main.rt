@@ -16,7 +16,7 @@ ghost use Rattle.script.specs.State.{valid as validState};
 ghost use Rattle.sheet.specs.Sheet.{sheet as sheetOf, puts};
 ghost use Rattle.votes.specs.Queues.{listOf, view as votesView};
 ghost use Rattle.system.specs.Places.{clientAt, serverAt};
-ghost use Rattle.slips.specs.Slips.{pairText, queueText, lineText, votesText, serverText, supportText, sectionText, keepersText, stateText, clientText, serversText, clientsText, slipsText};
+ghost use Rattle.slips.specs.Slips.{pairText, queueText, lineText, votesText, serverText, supportText, sectionText, supportersText, stateText, clientText, serversText, clientsText, slipsText};
 use client::Client;
 use client::Section;
 use ids::ClientId;
@@ -162,7 +162,7 @@ fn put_section(out: &mut [u8], at: usize, s: Section, t: u32) -> usize
     }
 }
 
-fn put_keepers(out: &mut [u8], at: usize, r: Request, c: Client) -> usize
+fn put_supporters(out: &mut [u8], at: usize, r: Request, c: Client) -> usize
     requires { ⌜ c .n ≤ 31 ⌝ }
     ensures { λ e. ⌜ sheetOf (now (out .exit)) e ≡ puts (text " keepers" ∷ supportText r 1 (clientView c .responses)) (sheetOf (now (out .entry)) at) ⌝ }
 {
@@ -170,15 +170,15 @@ fn put_keepers(out: &mut [u8], at: usize, r: Request, c: Client) -> usize
     put_supports(out, p, r, c)
 }
 
-fn put_keepers_of(out: &mut [u8], at: usize, r: Request, c: Client) -> usize
+fn put_supporters_of(out: &mut [u8], at: usize, r: Request, c: Client) -> usize
     requires { ⌜ c .n ≤ 31 ⌝ }
-    ensures { λ e. ⌜ sheetOf (now (out .exit)) e ≡ puts (keepersText (c .section) (supportText r 1 (clientView c .responses))) (sheetOf (now (out .entry)) at) ⌝ }
+    ensures { λ e. ⌜ sheetOf (now (out .exit)) e ≡ puts (supportersText (c .section) (supportText r 1 (clientView c .responses))) (sheetOf (now (out .entry)) at) ⌝ }
 {
     let section = c.section;
     match section {
         Section::Remainder => at,
-        Section::Trying => put_keepers(out, at, r, c),
-        Section::Critical => put_keepers(out, at, r, c),
+        Section::Trying => put_supporters(out, at, r, c),
+        Section::Critical => put_supporters(out, at, r, c),
     }
 }
 
@@ -191,7 +191,7 @@ fn put_state(out: &mut [u8], at: usize, k: u16, c: Client) -> usize
     let r = Request { client, timestamp };
     let section = c.section;
     let p = put_section(out, at, section, timestamp.0);
-    put_keepers_of(out, p, r, c)
+    put_supporters_of(out, p, r, c)
 }
 
 // What a client that lives, or has fallen, knows.

@@ -1,4 +1,4 @@
--- `slips::put_state` meets its contract: the section, then the keepers.
+-- `slips::put_state` meets its contract: the section, then the supporting servers.
 use Rattle.sheet.proofs.SheetLaws.{then}
 use Rattle.slips.specs.Slips.{stateText}
 use Rattle.client.specs.Record.{view}
@@ -9,8 +9,8 @@ use Rattle.slips.proofs.put_state.Tie as tie
 put-section-requires : tie.Need-put-section-requires
 put-section-requires c κs = search needs
 
-put-keepers-of-requires : tie.Need-put-keepers-of-requires
-put-keepers-of-requires c κs = search needs
+put-supporters-of-requires : tie.Need-put-supporters-of-requires
+put-supporters-of-requires c κs = search needs
 
 same-length : tie.Need-same-length
 same-length c = search needs
@@ -20,8 +20,8 @@ unfolding stateText view
 returns c =
     let d₂ = c .before .before in
     let d₁ = d₂ .before .before .before .before in
-    then _ _ _ (d₁ .put-section .ensures) (d₂ .put-keepers-of .ensures)
+    then _ _ _ (d₁ .put-section .ensures) (d₂ .put-supporters-of .ensures)
 
 pub put-state-spec : {M : Type 1} → statement M
 put-state-spec =
-    tie.close (tie.spec put-section-requires put-keepers-of-requires same-length returns)
+    tie.close (tie.spec put-section-requires put-supporters-of-requires same-length returns)

@@ -1,8 +1,8 @@
--- `slips::put_keepers` meets its contract: the word, then the numbers.
+-- `slips::put_supporters` meets its contract: the word, then the numbers.
 use Rattle.sheet.proofs.SheetLaws.{then}
 use borrow.Author.Needs.{needs}
-use Rattle.slips.proofs.put_keepers.Statement.{statement}
-use Rattle.slips.proofs.put_keepers.Tie as tie
+use Rattle.slips.proofs.put_supporters.Statement.{statement}
+use Rattle.slips.proofs.put_supporters.Tie as tie
 
 slice-aggregate-put : tie.Need-slice-aggregate-put
 slice-aggregate-put c = search needs
@@ -22,6 +22,6 @@ returns c =
     let d₁ = d₂ .before .before .before .before in
     then _ _ _ (d₁ .put .ensures) (d₂ .put-supports .ensures)
 
-pub put-keepers-spec : {M : Type 1} → statement M
-put-keepers-spec =
+pub put-supporters-spec : {M : Type 1} → statement M
+put-supporters-spec =
     tie.close (tie.spec slice-aggregate-put put-requires put-supports-requires same-length returns)
