@@ -1,7 +1,7 @@
 /* The Sigma lock's library, for C.
  *
- * Every call returns 0, or the number of the refusal (docs/DECISIONS.md lists them); a refused call changes
- * nothing it was lent. A slice is a pointer, then its length in elements: the pointer is aligned and not null
+ * Every call returns 0, or the number of the refusal (docs/REFUSALS.md says what each means); a refused call changes
+ * nothing it was lent, but for 8 and 9 of sigma_setting. A slice is a pointer, then its length in elements: the pointer is aligned and not null
  * even where the length is 0, and a slice that a call may write overlaps no other.
  *
  * libcapi.a has the calls on messages and records, libcapi_host.a those on a server's record in a struct (sigma_host_*),
@@ -42,7 +42,7 @@ uint32_t sigma_write(const uint32_t *words, size_t words_len, uint8_t *out, size
 /* A record is words that stay where the host put them; an accepted call writes the new record over the old.
  * 0 is none. A record slice of another length, or one that holds no valid record, is refused 21.
  *   server: n, its number, owner, owner's timestamp, queue length, then client and timestamp of 16 places
- *   client: n, m, its number, section, timestamp, then owner and timestamp of the answers of servers 1 to 31
+ *   client: n, m, its number, section, timestamp, then owner and timestamp of the responses of servers 1 to 31
  * The messages that a step sends stand one after another at the start of `out`, and the bytes behind them stay;
  * `sent` takes their number and their bytes. A server sends at most 42 bytes in a step, a client 12 times n. */
 enum {

@@ -1,4 +1,4 @@
-// One part of a simulation changed or tested, and the parts of a new one put. These functions are for `simulation`, whose words are valid.
+// One part of a simulation changed or tested, and the parts of a new one put. These functions are for the events (`acts`, `deliveries`) and for a new simulation, whose words are valid.
 ghost use mathlib.Core.Path.{_≡_};
 ghost use mathlib.Core.Bool.{true};
 ghost use mathlib.Core.List.{[], map};

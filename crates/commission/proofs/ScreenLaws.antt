@@ -17,9 +17,9 @@ use Rattle.quorum.specs.Check.{inRange, margin}
 use Rattle.quorum.specs.Run.{runEvent}
 use Rattle.ids.proofs.Choice.{fails, holds}
 use Rattle.quorum.proofs.CheckLaws.{margin-difference}
-use Rattle.sheet.specs.Sheet.{Sheet, sheet, puts}
-use Rattle.sheet.proofs.SheetLaws.{then, puts-within}
-use Rattle.commission.specs.Screen.{ends, signed, marginText, askedText, runText, opening, openingText, scriptText}
+use Rattle.sheet.specs.Sheet.{Sheet, puts, ends}
+use Rattle.sheet.proofs.SheetLaws.{then}
+use Rattle.commission.specs.Screen.{signed, marginText, askedText, runText, opening, openingText, scriptText}
 
 module _ (a b : ℕ) where
   pub signed-below : a < b → signed (subℕ a b) ≡ text "-" ∷ decimal (b - a) ∷ []
@@ -49,7 +49,3 @@ module _ (n m f : ℕ) where
 pub opening-short : (n m f : ℕ) → length (settingLine (opening n m f)) ≤ 51
 opening-short n m f =
     omega (arith, length-setting (opening n m f), decimal-short n, decimal-short m, decimal-short f, decimal-short 2)
-
--- what was put ends within the sheet
-pub placed : (ts : List (List ℕ)) (o l : List ℕ) (r : ℕ) → sheet l r ≡ puts ts (sheet o 0) → r ≤ length l
-placed ts o l r e = let w = puts-within ts (sheet o 0) (omega arith) in rw (← e) at w

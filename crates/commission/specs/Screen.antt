@@ -9,6 +9,7 @@ use Rattle.ids.specs.declared.Refusal.{Refusal}
 use Rattle.ids.specs.declared.Refusal.the-variants.{ParameterOutOfRange, Unsafe as NotSafe, Stalls as Stalling}
 use Rattle.language.specs.Decimals.{decimal}
 use Rattle.language.specs.Printed.{eventLine, settingLine}
+use Rattle.sheet.specs.Sheet.{ends}
 use Rattle.language.specs.Words.{text, newline}
 use Rattle.language.specs.declared.Setting.{Setting}
 use Rattle.quorum.specs.declared.Asked.{Asked}
@@ -20,9 +21,6 @@ use Rattle.quorum.specs.declared.Verdict.the-variants.{Accepted, Unsafe, Stalls
 use Rattle.quorum.specs.Check.{inRange, margin, verdict}
 use Rattle.quorum.specs.Run.{runEvent}
 use Rattle.quorum.specs.Threshold.{thresholdOf}
-
-abbrev pub ends : List (List ℕ)
-ends = (newline ∷ []) ∷ []
 
 -- a signed number
 abbrev pub signed : ℤ → List (List ℕ)

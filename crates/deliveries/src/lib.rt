@@ -67,7 +67,7 @@ fn to_client(w: &mut [u32], i: usize, k: ClientId, j: ServerId, o: Owner) -> Mov
     }
 }
 
-// Client `k` takes the CHECK in slot `i`: its record stays.
+// Client `k` takes the CHECK in slot `i`: its record is stored as it was.
 fn checks_client(w: &mut [u32], i: usize, k: ClientId, j: ServerId, t: Timestamp) -> Moved
     requires { ⌜ Pends (now w) i (CHECK k j t) ⌝ }
     ensures { λ r. ⌜ Leaves (now (w .entry)) (Take (numberAt (now (w .entry)) i)) (now (w .exit)) × (r ≡ movedOf (happens (now (w .entry)) (Take (numberAt (now (w .entry)) i)))) ⌝ }

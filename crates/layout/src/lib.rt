@@ -1,5 +1,5 @@
 // The words of a whole simulation: a head, client blocks, server blocks, and messages in transit. Document 01 says gallery for simulation.
-// The functions are for the simulation, whose words are valid; `valid` is for all.
+// The functions are for callers whose words are valid: the simulation and what shows one; `valid` is for all.
 ghost use mathlib.Core.Path.{_≡_};
 ghost use mathlib.Core.Bool.{true};
 ghost use Prim.Native.Nat.{_≤_, _+_, _*_, _-_, max};

@@ -5,7 +5,7 @@
 -- and a red band over the whole width with the number of holders where there are two or more.
 -- A message is an arrow from its sender's line at the row that sent it to its receiver's at the row that took it, with its number
 -- and kind beside its end. A dropped one ends half way in a cross, a pending one is dotted down to below the last row.
--- What a party does by itself is a dot on its line with the event's word. A refused event is its answer alone, in red.
+-- What a party does by itself is a dot on its line with the event's word. A refused event is its line and its answer in red, a bad line its answer alone.
 use Prim.Native.Nat.{ℕ, zero, suc, _+_, _-_, _*_, _/_, _%_}
 use mathlib.Core.Bool.{Bool}
 use mathlib.Core.List.{List, [], _∷_, _++_}

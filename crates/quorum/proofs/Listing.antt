@@ -2,7 +2,7 @@
 use mathlib.Core.Path.{_≡_, refl, ap, _∙_}
 use Prim.Native.Nat.{ℕ, zero, suc, _+_, _-_, _*_, _≤_, _<_}
 use native.Mathlib.Omega.{arith}
-use mathlib.Core.List.{List, [], _∷_, _++_, map, append-assoc, append-nil}
+use mathlib.Core.List.{List, [], _∷_, _++_, map, append-assoc, append-nil, map-append}
 use lib.ListN.{length, length-append, length-map, take, getD}
 use lib.Dec.{leb}
 use borrow.Author.Tests.{leb-true, leb-false}
@@ -54,10 +54,6 @@ hit d none (x ∷ l) zero i p q = at-span d (x .event) (x .after) (x .size) i p 
 hit d none (x ∷ l) (suc c) i p q =
     past-span d (x .event) (x .after) (x .size) i (omega arith) (joined l) ∙
     (hit d none l c (i - x .size) (omega arith) (omega arith) ∙ ap (getD l c none .event) (omega arith))
-
-map-append : (f : ℕ → Event) (a b : List ℕ) → map f (a ++ b) ≡ map f a ++ map f b
-map-append f [] b = refl
-map-append f (x ∷ a) b = ap (λ (l : List Event). f x ∷ l) (map-append f a b)
 
 by-order : {A : Type 0} {x y : A} (P : A → Type 0) (i c : ℕ) → (i ≤ c → P x) → (c < i → P y) → P (if leb i c then x else y)
 by-order P i c f g = branch P (leb i c) (λ e. f (leb-true i c e)) (λ e. g (leb-false i c e))

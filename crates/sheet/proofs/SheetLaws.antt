@@ -43,6 +43,10 @@ unfolding puts
 puts-within [] s h = h
 puts-within (t ∷ ts) s h = puts-within ts (put t s) (put-within t s h)
 
+-- what was put on an empty sheet ends within it
+pub placed : (ts : List (List ℕ)) (o l : List ℕ) (r : ℕ) → sheet l r ≡ puts ts (sheet o 0) → r ≤ length l
+placed ts o l r e = let w = puts-within ts (sheet o 0) (omega arith) in rw (← e) at w
+
 -- the front of a buffer that a text was stored in is that text
 module _ (o l t : List ℕ) (n : ℕ) (short : length t ≤ length o) (e : (n ≡ 0 + length t) × (l ≡ sets o 0 t)) where
   front : take (n - 0) (drop 0 l) ≡ t

@@ -5,6 +5,7 @@ use lib.Dec.{leb}
 use lib.ListN.{length}
 use lib.Seq.{sets}
 use Rattle.ids.specs.Choice.{if_then_else_}
+use Rattle.language.specs.Words.{newline}
 
 pub record Sheet : Type 0 where
   pub bytes : List ℕ
@@ -23,3 +24,7 @@ put t s =
 unfoldable pub puts : List (List ℕ) → Sheet → Sheet
 puts [] s = s
 puts (t ∷ ts) s = puts ts (put t s)
+
+-- the end of a line
+abbrev pub ends : List (List ℕ)
+ends = (newline ∷ []) ∷ []

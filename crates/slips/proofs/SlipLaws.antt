@@ -4,7 +4,7 @@ use Prim.Native.Nat.{ℕ, zero, suc, _+_, _≤_, _<_}
 use native.Mathlib.Omega.{arith}
 use native.Mathlib.Numerals.{add-one}
 use mathlib.Core.Bool.{Bool, true, false}
-use mathlib.Core.List.{List, [], _∷_, _++_, map, append-assoc, append-nil}
+use mathlib.Core.List.{List, [], _∷_, _++_, map, map-append, append-assoc}
 use lib.ListN.{length, getD, take, drop, length-take, length-map}
 use lib.Seq.{take-suc}
 use Rattle.ids.specs.Choice.{if_then_else_}
@@ -32,10 +32,10 @@ use Rattle.system.specs.Places.{System, clientAt, serverAt}
 use Rattle.script.specs.State as script
 use Rattle.script.specs.State.{headIn, simulationIn, validRun}
 use Rattle.script.proofs.LineLaws.{known}
-use Rattle.sheet.specs.Sheet.{Sheet, sheet, puts}
-use Rattle.sheet.proofs.SheetLaws.{then as behind, puts-within}
+use Rattle.sheet.specs.Sheet.{Sheet, sheet, puts, ends}
+use Rattle.sheet.proofs.SheetLaws.{then as behind}
 use Rattle.votes.specs.Queues as votes
-use Rattle.slips.specs.Slips.{ends, pairText, queueText, lineText, votesText, serverText, supportText, supportersText, stateText, clientText, serversText, clientsText}
+use Rattle.slips.specs.Slips.{pairText, queueText, lineText, votesText, serverText, supportText, supportersText, stateText, clientText, serversText, clientsText}
 
 -- those who wait
 queue-append : (a b : List Request) → queueText (a ++ b) ≡ queueText a ++ queueText b
@@ -69,10 +69,6 @@ support-append r j [] b = let z : j + 0 ≡ j = omega arith in rw z
 support-append r j (o ∷ a) b =
     let z : j + suc (length a) ≡ suc j + length a = omega arith in
     rw (support-append r (suc j) a b, z, append-assoc (if isRequest r o then text " " ∷ decimal j ∷ [] else []) (supportText r (suc j) a) (supportText r (suc j + length a) b))
-
-map-append : {A B : Type 0} (f : A → B) (a b : List A) → map f (a ++ b) ≡ map f a ++ map f b
-map-append f [] b = refl
-map-append f (x ∷ a) b = ap (λ (l : List _). f x ∷ l) (map-append f a b)
 
 pub support-none : (r : Request) (s : Sheet) → s ≡ puts (supportText r 1 []) s
 unfolding supportText puts
@@ -155,10 +151,6 @@ module _ (u : System) where
       → s₂ ≡ puts (clientsText u (k + 1)) s₀
   unfolding clientsText
   clients-more k s₀ p q = rw (add-one k) (behind s₀ _ _ p (rw (add-one k) at q))
-
--- what was put ends within the sheet
-pub placed : (ts : List (List ℕ)) (o l : List ℕ) (r : ℕ) → sheet l r ≡ puts ts (sheet o 0) → r ≤ length l
-placed ts o l r e = let w = puts-within ts (sheet o 0) (omega arith) in rw (← e) at w
 
 -- a script that runs has a valid simulation
 pub runs : (w : List ℕ) → script.valid w ≡ true → getD w 0 0 ≡ 1 → valid (take 6353 (drop 46 w)) ≡ true

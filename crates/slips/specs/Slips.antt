@@ -14,15 +14,13 @@ use Rattle.ids.specs.Requests.{isRequest, byOwner}
 use Rattle.ids.specs.declared.Owner.{Owner}
 use Rattle.ids.specs.declared.Request.{Request}
 use Rattle.language.specs.Decimals.{decimal}
-use Rattle.language.specs.Words.{text, newline}
+use Rattle.sheet.specs.Sheet.{ends}
+use Rattle.language.specs.Words.{text}
 use Rattle.votes.specs.Figure1 as votes
 use Rattle.client.specs.Figure1 as client
 use Rattle.client.specs.declared.Section.{Section}
 use Rattle.client.specs.declared.Section.the-variants.{Remainder, Trying, Critical}
 use Rattle.system.specs.Places.{System, ClientPlace, ServerPlace, clientAt, serverAt}
-
-abbrev pub ends : List (List ℕ)
-ends = (newline ∷ []) ∷ []
 
 -- a client with one of its timestamps
 abbrev pub pairText : Request → List (List ℕ)

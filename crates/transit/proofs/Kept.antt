@@ -86,10 +86,6 @@ unfolding slots rows
 slots-none t = refl
 
 -- words that are all 0
-pub every-zero : (k : ℕ) → every (eqb 0) (replicate k 0) ≡ true
-every-zero zero = refl
-every-zero (suc k) = every-zero k
-
 pub valid-none : (n clients sent : ℕ) (t : List ℕ) → length t ≡ 3584 → every (eqb 0) t ≡ true → Valid n clients sent 0 t
 unfolding rows slots ascending
 valid-none n clients sent t l z = known-valid n clients sent 0 t (record { size = l; few = omega arith; fit = refl; ordered = refl; rest = z })

@@ -1,4 +1,4 @@
-// The messages in transit, kept in lent words: 512 slots of seven. For the simulation, whose words are valid.
+// The messages in transit, kept in lent words: 512 slots of seven. For the simulation and what shows one, whose words are valid.
 ghost use mathlib.Core.Path.{_≡_};
 ghost use mathlib.Core.List.{[], _∷_};
 ghost use Prim.Native.Nat.{_≤_, _<_, _+_, _*_};

@@ -19,11 +19,6 @@ bytes-drop zero h = h
 bytes-drop (suc n) none = none
 bytes-drop (suc n) (more b h) = bytes-drop n h
 
-pub bytes-take : (n : ℕ) {s : List ℕ} → AllBytes s → AllBytes (take n s)
-bytes-take zero h = none
-bytes-take (suc n) none = none
-bytes-take (suc n) (more b h) = more b (bytes-take n h)
-
 pub length-littleEndian : (w x : ℕ) → length (littleEndian w x) ≡ w
 length-littleEndian zero x = refl
 length-littleEndian (suc w) x = ap suc (length-littleEndian w (x / 256))

@@ -52,13 +52,6 @@ fits-empty (q ∷ l) h =
     let (p, r) = both (same noRequest q) (every (same noRequest) l) h in
     rw (← same-true noRequest q p) (fits-empty l r)
 
-words-requests : (ws : List ℕ) (n : ℕ) → length ws ≡ 2 * n → requestWords (requestsIn ws) ≡ ws
-unfolding requestsIn requestWords
-words-requests [] n e = refl
-words-requests (k ∷ []) n e = absurd (omega arith)
-words-requests (k ∷ (t ∷ ws)) zero e = absurd (omega arith)
-words-requests (k ∷ (t ∷ ws)) (suc n) e = let z : length ws ≡ 2 * n = omega arith in ap (λ (x : List ℕ). k ∷ (t ∷ x)) (words-requests ws n z)
-
 owner-small : (o : Owner) → validOwner o ≡ true → ownerClient o ≤ maxShort
 unfolding validOwner
 owner-small Nobody v = omega arith

@@ -1,4 +1,4 @@
-// How messages and records cross to C: as 32-bit words. For the C interface, which tests lengths and room first.
+// How messages and records cross to C: as 32-bit words. For the C interface and the simulation, which test lengths and room first.
 ghost use mathlib.Core.Path.{_≡_};
 ghost use mathlib.Core.Bool.{true};
 ghost use mathlib.Core.List.{[], _∷_};

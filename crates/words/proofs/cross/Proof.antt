@@ -1,4 +1,4 @@
--- `capi::cross` meets its contract: the words are tested as `crossing` tests them.
+-- `words::cross` meets its contract: the words are tested as `crossing` tests them.
 use denote.Ref.{now}
 use Rattle.words.proofs.MessagesLaws.{cross-length, cross-large, cross-small, cross-numbers}
 use borrow.Author.Needs.{needs}

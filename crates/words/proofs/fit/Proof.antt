@@ -1,4 +1,4 @@
--- `capi::fit` meets its contract: each test is one part of `fits`.
+-- `words::fit` meets its contract: each test is one part of `fits`.
 use Rattle.words.proofs.MessagesLaws.{fit-kind, fit-client, fit-server, fit-owner}
 use Rattle.words.proofs.fit.Statement.{statement}
 use Rattle.words.proofs.fit.Tie as tie
