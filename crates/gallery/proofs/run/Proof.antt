@@ -15,7 +15,7 @@ abbrev μ-loop : tie.MeasureT-loop
 μ-loop w₀ part₀ out₀ turns₀ w part out turns = turns
 
 loop-again : tie.Need-loop-again Inv-loop μ-loop
-loop-again c = (search needs, search needs, search needs, c .before .before .before .before .before .answer-read .ensures .0, search needs)
+loop-again c = (search needs, search needs, search needs, search needs, search needs)
 
 pub run-spec : {M : Type 1} → statement M
 run-spec =
@@ -23,12 +23,6 @@ run-spec =
     (tie.spec
     Inv-loop
     μ-loop
-    (λ c. search needs)
-    (λ c κs. search needs)
-    (λ c κs. search needs)
-    (λ c. search needs)
-    (λ c. search needs)
-    (λ c. search needs)
     (λ c. search needs)
     (λ c κs. search needs)
     (λ c. search needs)

@@ -1,11 +1,11 @@
--- `gallery::answer_some` meets its contract: the call is not refused, so what it wrote lies within the buffer.
+-- `stream::answer_some` meets its contract: the call is not refused, so what it wrote lies within the buffer.
 use denote.Ref.{now}
 use native.Mathlib.Omega.{arith}
 use Rattle.script.proofs.CallLaws.{fed-valid, fed-used, fed-wrote}
-use Rattle.gallery.proofs.ReadLaws.{fed-taken}
+use Rattle.stream.proofs.ReadLaws.{fed-taken}
 use borrow.Author.Needs.{needs}
-use Rattle.gallery.proofs.answer_some.Statement.{statement}
-use Rattle.gallery.proofs.answer_some.Tie as tie
+use Rattle.stream.proofs.answer_some.Statement.{statement}
+use Rattle.stream.proofs.answer_some.Tie as tie
 
 part-write-out-end : tie.Need-part-write-out-end
 part-write-out-end c = let a = c .before .before .before .before .before .before .before .before .before .before .before .before .before .before .args in let p = c .before .before .before .before .before .before .before .before .before .before .before .before .before .before .pre in fed-wrote (now (a .w)) (now (a .part)) (now (a .out)) _ _ _ (p .0) (p .1) (c .before .before .before .before .before .before .before .before .feed .ensures) _ _ (c .before .before .p .given .1)

@@ -1,4 +1,4 @@
--- `gallery::answer_part` meets its contract: the state stays valid and has taken in the bytes that are done; each call uses a byte at least of those that are left.
+-- `stream::answer_part` meets its contract: the state stays valid and has taken in the bytes that are done; each call uses a byte at least of those that are left.
 use denote.Ref.{now}
 use mathlib.Core.Path.{_≡_, refl}
 use mathlib.Core.Bool.{true, false≢true}
@@ -6,11 +6,11 @@ use Prim.Native.Nat.{_≤_, _-_}
 use native.Mathlib.Omega.{arith}
 use lib.ListN.{length, take}
 use Rattle.script.specs.State.{valid}
-use Rattle.gallery.specs.Taken.{Taken}
-use Rattle.gallery.proofs.ReadLaws.{taken-none, taken-more, taken-all}
+use Rattle.stream.specs.Taken.{Taken}
+use Rattle.stream.proofs.ReadLaws.{taken-none, taken-more, taken-all}
 use borrow.Author.Needs.{needs}
-use Rattle.gallery.proofs.answer_part.Statement.{statement}
-use Rattle.gallery.proofs.answer_part.Tie as tie
+use Rattle.stream.proofs.answer_part.Statement.{statement}
+use Rattle.stream.proofs.answer_part.Tie as tie
 
 abbrev Inv-loop : tie.InvT-loop
 Inv-loop w₀ part out₀ done₀ w out done = (length w ≡ length w₀) × (length out ≡ length out₀) × (done ≤ length part) × (valid w ≡ true) × (52 ≤ length out) × Taken w₀ (take done part) w

@@ -1,13 +1,13 @@
--- `gallery::over` meets its contract: the first line was refused, or the last event line is answered.
+-- `stream::over` meets its contract: the first line was refused, or the last event line is answered.
 use denote.Ref.{now}
 use mathlib.Core.Path.{_≡_}
 use mathlib.Core.Bool.{false≢true}
 use lib.ListN.{length}
 use Rattle.script.proofs.LineLaws.{sound}
-use Rattle.gallery.proofs.OverLaws.{over-closed, over-read}
+use Rattle.stream.proofs.OverLaws.{over-closed, over-read}
 use borrow.Author.Needs.{needs}
-use Rattle.gallery.proofs.over.Statement.{statement}
-use Rattle.gallery.proofs.over.Tie as tie
+use Rattle.stream.proofs.over.Statement.{statement}
+use Rattle.stream.proofs.over.Tie as tie
 
 shared-slice-read-if1 : tie.Need-shared-slice-read-if1
 shared-slice-read-if1 c = let e : length (now (c .before .args .w)) ≡ 6399 = sound _ (c .before .pre) .long in search needs

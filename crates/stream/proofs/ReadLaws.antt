@@ -1,29 +1,27 @@
--- The bytes that a call of the script's used are taken in, one part behind the other.
+-- A new script has taken in nothing; the bytes that a call of the script's used are taken in, one part behind the other.
 use mathlib.Core.Path.{_≡_, refl, sym, ap, _∙_}
 use Prim.Native.Nat.{ℕ, _+_, _-_, _≤_}
 use native.Mathlib.Omega.{arith}
 use mathlib.Core.Bool.{true, _&&_}
 use mathlib.Core.List.{List}
+use borrow.Author.Tests.{le-leb}
 use lib.Dec.{leb}
-use lib.IntN.{ℤ}
 use lib.ListN.{length, take, drop, length-drop}
-use mir.Syntax.{w64}
-use mir.Val.{SFits, toZ, ofZ}
-use mir.Facts.{toZ-ofZ}
-use Rattle.io.specs.Counts.{clamped}
-use lib.Seq.{length-sets, take-add, take-all}
-use borrow.Author.Tests.{le-ltb, le-leb}
-use Rattle.output.specs.Reader.{Reader, Printed, fed, Fed, fedWithin, finished}
+use lib.Seq.{take-add, take-all}
+use Rattle.output.specs.Reader.{Reader, Printed, empty, fed, fedWithin}
 use Rattle.script.specs.State.{view, valid}
-use Rattle.script.specs.Calls.{newAnswer, newWords, feedAnswer, FeedLeaves, finishAnswer, FinishLeaves}
+use Rattle.script.specs.Calls.{newAnswer, newWords, feedAnswer, FeedLeaves, FinishLeaves}
 use Rattle.script.specs.declared.Progress.{Progress}
 use Rattle.script.specs.declared.Progress.the-variants.{Took}
-use Rattle.script.proofs.NewLaws.{new-valid}
+use Rattle.script.proofs.NewLaws.{new-valid, new-reader}
 use Rattle.output.proofs.Whole.{in-parts}
-use Rattle.output.proofs.Cuts.{used-few, within-fed}
-use Rattle.gallery.specs.Taken.{Taken}
-use Rattle.script.proofs.FeedLaws.{wrote-few, finished-short}
-use Rattle.script.proofs.CallLaws.{fed-all, fed-took, feeds}
+use Rattle.output.proofs.Cuts.{within-fed}
+use Rattle.stream.specs.Ended.{Ended}
+use Rattle.stream.specs.Taken.{Taken}
+use Rattle.script.proofs.CallLaws.{fed-took, feeds}
+
+pub started : (w w′ : List ℕ) (p : Progress) → 6399 ≡ length w → (p ≡ newAnswer w) × (w′ ≡ newWords w) → (valid w′ ≡ true) × (view w′ ≡ empty)
+started w w′ p e f = rw (f .1) (new-valid w (sym e), new-reader w (sym e))
 
 module _ (w input out w′ out′ : List ℕ) (p : Progress) (v : valid w ≡ true) (room : 52 ≤ length out) (f : (p ≡ feedAnswer w input (length out)) × FeedLeaves w input out w′ out′) (u k : ℕ) (t : p ≡ Took u k) where
   pub fed-taken : Taken w (take u input) w′
@@ -50,9 +48,8 @@ taken-more w w′ w″ part i k a b =
 pub taken-all : (w w′ part : List ℕ) (i : ℕ) → Taken w (take i part) w′ → length part ≤ i → Taken w part w′
 taken-all w w′ part i a h = record { reader = a .reader ∙ ap (λ (l : List ℕ). fed (view w) l .now) (take-all i part h) }
 
--- the front of a part that is as long as a read says
-pub taken-read : (w w′ part : List ℕ) (n : ℕ) (got : ℤ) → SFits w64 got → n ≡ clamped (toZ w64 (ofZ w64 got)) (length part) → Taken w (take (n - 0) (drop 0 part)) w′ → Taken w (take (clamped got (length part)) part) w′
-taken-read w w′ part n got f e a =
-    let k : n ≡ clamped got (length part) = e ∙ ap (λ (z : ℤ). clamped z (length part)) (toZ-ofZ f) in
-    let z : n - 0 ≡ clamped got (length part) = omega (arith, k) in
-    record { reader = a .reader ∙ ap (λ (i : ℕ). fed (view w) (take i part) .now) z }
+-- the end, with room for its two lines
+pub script-ended : (w out w′ out′ : List ℕ) → valid w ≡ true → 104 ≤ length out → FinishLeaves w out w′ out′ → Ended w′
+script-ended w out w′ out′ v room f =
+    let e : valid w && leb 104 (length out) ≡ true = rw (v, le-leb 104 (length out) room) in
+    record { again = f .again e; reader = f .reader e }

@@ -1,2 +1,3 @@
 pub mod Over
 pub mod Taken
+pub mod Ended

@@ -15,7 +15,7 @@ use Rattle.output.specs.Output.{maxLines}
 use Rattle.output.specs.Reader.{Run, Stage, running, closed, Reader, lineTaken, worked, taken, fed, ended, finished}
 use Rattle.script.specs.State.{headIn, stageOf, view, valid}
 use Rattle.script.proofs.LineLaws.{known}
-use Rattle.gallery.specs.Over.{Over}
+use Rattle.stream.specs.Over.{Over}
 
 abbrev Spent : Stage → Type 0
 Spent t = (l : List ℕ) → worked t l ≡ record { now = t; out = [] }
