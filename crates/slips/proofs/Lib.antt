@@ -1,1 +1,1 @@
-mod SlipLaws
+mod RunLaws

@@ -1,263 +1,19 @@
-// The teacher's slips: a gallery script on standard input; on standard output what the gallery program prints and, behind the line
-// of each event, a slip for each server and each client (slips/specs/Slips). With the argument `last` the slips stand only
-// behind the last event's line. A script of more than 65,536 bytes is read so far.
+// The slips program: a gallery script on standard input; on standard output what the gallery program prints and, behind the line of each
+// event, a slip for each server and each client (knowledge/specs/Knowledge). With the argument `last` the slips stand only behind the
+// last event's line. Where reading or writing fails, standard error says so and the program ends there.
 ghost use mathlib.Core.Path.{_≡_};
 ghost use mathlib.Core.Bool.{true};
-ghost use mathlib.Core.List.{[], _∷_, _++_, map};
-ghost use Prim.Native.Nat.{_≤_, _<_};
-ghost use lib.ListN.{length, take};
-ghost use Rattle.changes.specs.Changes.{HasClient, HasServer};
-ghost use Rattle.client.specs.Record.{shown, view as clientView};
-ghost use Rattle.ids.specs.Choice.{if_then_else_};
-ghost use Rattle.language.specs.Decimals.{decimal};
-ghost use Rattle.language.specs.Words.{text};
-ghost use Rattle.layout.specs.Layout.{valid, view as systemOf, settingOf};
-ghost use Rattle.script.specs.State.{valid as validState};
-ghost use Rattle.sheet.specs.Sheet.{sheet as sheetOf, puts};
-ghost use Rattle.votes.specs.Queues.{listOf, view as votesView};
-ghost use Rattle.system.specs.Places.{clientAt, serverAt};
-ghost use Rattle.slips.specs.Slips.{pairText, queueText, lineText, votesText, serverText, supportText, sectionText, supportersText, stateText, clientText, serversText, clientsText, slipsText};
-use client::Client;
-use client::Section;
-use ids::ClientId;
-use ids::Owner;
-use ids::Request;
-use libc::STDIN_FILENO;
+ghost use Prim.Native.Nat.{_≤_};
+ghost use lib.ListN.{length};
+ghost use Rattle.script.specs.State.{valid};
+ghost use Rattle.stream.specs.Taken.{Taken};
+use console::Input;
+use libc::STDERR_FILENO;
 use libc::STDOUT_FILENO;
-use script::Progress;
-use server::Server;
-use votes::Queue;
-use votes::Votes;
-
-fn put_pair(out: &mut [u8], at: usize, r: Request) -> usize
-    ensures { λ e. ⌜ sheetOf (now (out .exit)) e ≡ puts (pairText r) (sheetOf (now (out .entry)) at) ⌝ }
-{
-    let client = r.client;
-    let timestamp = r.timestamp;
-    let p = sheet::put_number(out, at, client.0 as u32);
-    sheet::put_with(out, p, b",", timestamp.0)
-}
-
-fn put_waiting(out: &mut [u8], at: usize, r: Request) -> usize
-    ensures { λ e. ⌜ sheetOf (now (out .exit)) e ≡ puts (queueText (r ∷ [])) (sheetOf (now (out .entry)) at) ⌝ }
-{
-    let p = sheet::put(out, at, b" ");
-    put_pair(out, p, r)
-}
-
-fn put_queue(out: &mut [u8], at: usize, q: Queue) -> usize
-    requires { ⌜ q .len ≤ 16 ⌝ }
-    ensures { λ r. ⌜ sheetOf (now (out .exit)) r ≡ puts (queueText (listOf q)) (sheetOf (now (out .entry)) at) ⌝ }
-{
-    votes::sized(q);
-    let places = q.places;
-    let len = q.len;
-    let mut end = at;
-    let mut i: usize = 0;
-    while i < len {
-        end = put_waiting(out, end, places[i]);
-        i += 1;
-    }
-    end
-}
-
-fn put_line(out: &mut [u8], at: usize, q: Queue) -> usize
-    requires { ⌜ q .len ≤ 16 ⌝ }
-    ensures { λ r. ⌜ sheetOf (now (out .exit)) r ≡ puts (lineText (listOf q)) (sheetOf (now (out .entry)) at) ⌝ }
-{
-    votes::sized(q);
-    if q.len == 0 {
-        return at;
-    }
-    let p = sheet::put(out, at, b" line");
-    put_queue(out, p, q)
-}
-
-fn put_votes(out: &mut [u8], at: usize, v: Votes) -> usize
-    requires { ⌜ v .queue .len ≤ 16 ⌝ }
-    ensures { λ r. ⌜ sheetOf (now (out .exit)) r ≡ puts (votesText (votesView v)) (sheetOf (now (out .entry)) at) ⌝ }
-{
-    let owner = v.owner;
-    let q = v.queue;
-    match owner {
-        Owner::Nobody => sheet::put(out, at, b" free"),
-        Owner::Of(o) => {
-            let p = sheet::put(out, at, b" owner ");
-            let e = put_pair(out, p, o);
-            put_line(out, e, q)
-        }
-    }
-}
-
-// What a server that is up, or down, knows.
-fn put_knowledge(out: &mut [u8], at: usize, up: bool, v: Votes) -> usize
-    requires { ⌜ v .queue .len ≤ 16 ⌝ }
-    ensures { λ r. ⌜ sheetOf (now (out .exit)) r ≡ puts (if up then votesText (votesView v) else text " down" ∷ []) (sheetOf (now (out .entry)) at) ⌝ }
-{
-    if up {
-        return put_votes(out, at, v);
-    }
-    sheet::put(out, at, b" down")
-}
-
-fn put_server(out: &mut [u8], at: usize, w: &[u32], j: u16) -> usize
-    requires { ⌜ HasServer (now w) j ⌝ }
-    ensures { λ r. ⌜ sheetOf (now (out .exit)) r ≡ puts (serverText j (serverAt (systemOf (now (w .entry))) j)) (sheetOf (now (out .entry)) at) ⌝ }
-{
-    let up = layout::is_up(w, j);
-    let s = layout::server_record(w, j);
-    let v = s.votes;
-    let p = sheet::put_with(out, at, b"keeper ", j as u32);
-    let e = put_knowledge(out, p, up, v);
-    sheet::put(out, e, b"\n")
-}
-
-fn put_servers(out: &mut [u8], at: usize, w: &[u32], n: u16) -> usize
-    requires { ⌜ (valid (now w) ≡ true) × (n ≤ settingOf (now w) .n) ⌝ }
-    ensures { λ r. ⌜ sheetOf (now (out .exit)) r ≡ puts (serversText (systemOf (now (w .entry))) n) (sheetOf (now (out .entry)) at) ⌝ }
-{
-    let mut end = at;
-    let mut j: u16 = 0;
-    while j < n {
-        j += 1;
-        end = put_server(out, end, w, j);
-    }
-    end
-}
-
-// Server `j`'s number, if its response is `r`.
-fn put_support(out: &mut [u8], at: usize, r: Request, j: u16, q: Request) -> usize
-    ensures { λ e. ⌜ sheetOf (now (out .exit)) e ≡ puts (supportText r j (shown q ∷ [])) (sheetOf (now (out .entry)) at) ⌝ }
-{
-    if client::is_own(r, q) {
-        return sheet::put_with(out, at, b" ", j as u32);
-    }
-    at
-}
-
-fn put_supports(out: &mut [u8], at: usize, r: Request, c: Client) -> usize
-    requires { ⌜ c .n ≤ 31 ⌝ }
-    ensures { λ e. ⌜ sheetOf (now (out .exit)) e ≡ puts (supportText r 1 (clientView c .responses)) (sheetOf (now (out .entry)) at) ⌝ }
-{
-    client::sized(c);
-    let places = c.places;
-    let n = c.n;
-    let mut end = at;
-    let mut i: u16 = 0;
-    while i < n {
-        end = put_support(out, end, r, i + 1, places[i as usize]);
-        i += 1;
-    }
-    end
-}
-
-// The section and the timestamp.
-fn put_section(out: &mut [u8], at: usize, s: Section, t: u32) -> usize
-    ensures { λ r. ⌜ sheetOf (now (out .exit)) r ≡ puts (sectionText s ∷ decimal t ∷ []) (sheetOf (now (out .entry)) at) ⌝ }
-{
-    match s {
-        Section::Remainder => sheet::put_with(out, at, b" remainder ticket ", t),
-        Section::Trying => sheet::put_with(out, at, b" trying ticket ", t),
-        Section::Critical => sheet::put_with(out, at, b" holding ticket ", t),
-    }
-}
-
-fn put_supporters(out: &mut [u8], at: usize, r: Request, c: Client) -> usize
-    requires { ⌜ c .n ≤ 31 ⌝ }
-    ensures { λ e. ⌜ sheetOf (now (out .exit)) e ≡ puts (text " keepers" ∷ supportText r 1 (clientView c .responses)) (sheetOf (now (out .entry)) at) ⌝ }
-{
-    let p = sheet::put(out, at, b" keepers");
-    put_supports(out, p, r, c)
-}
-
-fn put_supporters_of(out: &mut [u8], at: usize, r: Request, c: Client) -> usize
-    requires { ⌜ c .n ≤ 31 ⌝ }
-    ensures { λ e. ⌜ sheetOf (now (out .exit)) e ≡ puts (supportersText (c .section) (supportText r 1 (clientView c .responses))) (sheetOf (now (out .entry)) at) ⌝ }
-{
-    let section = c.section;
-    match section {
-        Section::Remainder => at,
-        Section::Trying => put_supporters(out, at, r, c),
-        Section::Critical => put_supporters(out, at, r, c),
-    }
-}
-
-fn put_state(out: &mut [u8], at: usize, k: u16, c: Client) -> usize
-    requires { ⌜ c .n ≤ 31 ⌝ }
-    ensures { λ e. ⌜ sheetOf (now (out .exit)) e ≡ puts (stateText k (clientView c)) (sheetOf (now (out .entry)) at) ⌝ }
-{
-    let client = ClientId(k);
-    let timestamp = c.timestamp;
-    let r = Request { client, timestamp };
-    let section = c.section;
-    let p = put_section(out, at, section, timestamp.0);
-    put_supporters_of(out, p, r, c)
-}
-
-// What a client that lives, or has fallen, knows.
-fn put_life(out: &mut [u8], at: usize, k: u16, living: bool, c: Client) -> usize
-    requires { ⌜ c .n ≤ 31 ⌝ }
-    ensures { λ r. ⌜ sheetOf (now (out .exit)) r ≡ puts (if living then stateText k (clientView c) else text " fallen" ∷ []) (sheetOf (now (out .entry)) at) ⌝ }
-{
-    if living {
-        return put_state(out, at, k, c);
-    }
-    sheet::put(out, at, b" fallen")
-}
-
-fn put_client(out: &mut [u8], at: usize, w: &[u32], k: u16) -> usize
-    requires { ⌜ HasClient (now w) k ⌝ }
-    ensures { λ r. ⌜ sheetOf (now (out .exit)) r ≡ puts (clientText k (clientAt (systemOf (now (w .entry))) k)) (sheetOf (now (out .entry)) at) ⌝ }
-{
-    let living = layout::is_living(w, k);
-    let c = layout::client_record(w, k);
-    let p = sheet::put_with(out, at, b"kiosk ", k as u32);
-    let e = put_life(out, p, k, living, c);
-    sheet::put(out, e, b"\n")
-}
-
-fn put_clients(out: &mut [u8], at: usize, w: &[u32], clients: u16) -> usize
-    requires { ⌜ (valid (now w) ≡ true) × (clients ≤ settingOf (now w) .clients) ⌝ }
-    ensures { λ r. ⌜ sheetOf (now (out .exit)) r ≡ puts (clientsText (systemOf (now (w .entry))) clients) (sheetOf (now (out .entry)) at) ⌝ }
-{
-    let mut end = at;
-    let mut k: u16 = 0;
-    while k < clients {
-        k += 1;
-        end = put_client(out, end, w, k);
-    }
-    end
-}
-
-// All slips of a simulation.
-fn put_slips(out: &mut [u8], w: &[u32]) -> usize
-    requires { ⌜ valid (now w) ≡ true ⌝ }
-    ensures { λ r. ⌜ sheetOf (now (out .exit)) r ≡ puts (slipsText (systemOf (now (w .entry))) (settingOf (now (w .entry)) .n) (settingOf (now (w .entry)) .clients)) (sheetOf (now (out .entry)) 0) ⌝ }
-{
-    let n = w[0] as u16;
-    let clients = w[3] as u16;
-    let p = put_servers(out, 0, w, n);
-    put_clients(out, p, w, clients)
-}
-
-fn zeros() -> [u32; 6399]
-    ensures { λ r. ⌜ 6399 ≡ length r ⌝ }
-{
-    [0; 6399]
-}
-
-// Whether all of it was written.
-fn write_out(bytes: &[u8]) -> bool {
-    let is_written = io::write_all(STDOUT_FILENO, bytes);
-    if !is_written {
-        os::fail(&[b'w', b'r', b'i', b't', b'e']);
-    }
-    is_written
-}
 
 // The slips, if they are wanted here, of a script that runs and has had an event. Whether all of them were written.
 fn show(w: &[u32], out: &mut [u8], wanted: bool) -> bool
-    requires { ⌜ validState (now w) ≡ true ⌝ }
+    requires { ⌜ valid (now w) ≡ true ⌝ }
 {
     if !wanted {
         return true;
@@ -268,74 +24,122 @@ fn show(w: &[u32], out: &mut [u8], wanted: bool) -> bool
     if w[1] == 0 {
         return true;
     }
-    let end = put_slips(out, &w[46..6399]);
-    write_out(&out[0..end])
+    let end = knowledge::put_slips(out, &w[46..6399]);
+    console::write_out(STDOUT_FILENO, &out[0..end])
 }
 
-// Feeds some of the script, at most one line, and writes what that prints.
-fn feed(w: &mut [u32], part: &[u8], out: &mut [u8]) -> bool
-    requires { ⌜ (validState (now w) ≡ true) × (52 ≤ length (now out)) ⌝ }
-    ensures { λ _. ⌜ validState (now (w .exit)) ≡ true ⌝ }
+// A line with its newline, or a piece of one, answered; then the slips if they are wanted and an event line was answered with it.
+fn answer_line(w: &mut [u32], line: &[u8], out: &mut [u8], each: bool) -> bool
+    requires { ⌜ (valid (now w) ≡ true) × (52 ≤ length (now out)) ⌝ }
+    ensures { λ r. ⌜ (valid (now (w .exit)) ≡ true) × (r ≡ true → Taken (now (w .entry)) (now (line .entry)) (now (w .exit))) ⌝ }
 {
-    let p = script::feed(w, part, out);
-    match p {
-        Progress::Refused(_) => false,
-        Progress::Took(_, wrote) => write_out(&out[0..wrote]),
-    }
-}
-
-// A line without its newline, answered; then, if asked for, the slips.
-fn answer(w: &mut [u32], line: &[u8], out: &mut [u8], each: bool) -> bool
-    requires { ⌜ (validState (now w) ≡ true) × (52 ≤ length (now out)) ⌝ }
-    ensures { λ _. ⌜ validState (now (w .exit)) ≡ true ⌝ }
-{
-    if !feed(w, line, out) {
+    let before = w[1];
+    if !stream::answer_part(w, line, out) {
         return false;
     }
-    if !feed(w, b"\n", out) {
-        return false;
-    }
-    show(w, out, each)
+    let is_answered = w[1] != before;
+    show(w, out, each && is_answered)
 }
 
-// All lines.
-fn answer_all(w: &mut [u32], input: &[u8], out: &mut [u8], each: bool) -> bool
-    requires { ⌜ (validState (now w) ≡ true) × (52 ≤ length (now out)) ⌝ }
-    ensures { λ _. ⌜ validState (now (w .exit)) ≡ true ⌝ }
+// The index behind the line that `from` stands in, with its newline.
+fn line_behind(part: &[u8], from: usize) -> usize
+    requires { ⌜ from < length (now part) ⌝ }
+    ensures { λ r. ⌜ (from < r) × (r ≤ length (now (part .entry))) ⌝ }
+{
+    let end = sheet::line_end(part, from);
+    if end < part.len() {
+        return end + 1;
+    }
+    end
+}
+
+// A part of the script, line by line.
+fn answer_lines(w: &mut [u32], part: &[u8], out: &mut [u8], each: bool) -> bool
+    requires { ⌜ (valid (now w) ≡ true) × (52 ≤ length (now out)) ⌝ }
+    ensures { λ r. ⌜ (valid (now (w .exit)) ≡ true) × (r ≡ true → Taken (now (w .entry)) (now (part .entry)) (now (w .exit))) ⌝ }
 {
     let mut from: usize = 0;
-    while from < input.len() {
-        let end = sheet::line_end(input, from);
-        if !answer(w, &input[from..end], out, each) {
+    while from < part.len() {
+        let next = line_behind(part, from);
+        if !answer_line(w, &part[from..next], out, each) {
             return false;
         }
-        from = end + 1;
+        from = next;
     }
     true
 }
 
+// A last line without its newline is answered. Whether all was written.
+fn close_line(w: &mut [u32], out: &mut [u8], each: bool) -> bool
+    requires { ⌜ (valid (now w) ≡ true) × (52 ≤ length (now out)) ⌝ }
+    ensures { λ _. ⌜ valid (now (w .exit)) ≡ true ⌝ }
+{
+    if w[4] == 0 {
+        return true;
+    }
+    answer_line(w, b"\n", out, each)
+}
+
 // The end of the script, behind the slips if they are wanted only there.
 fn finish(w: &mut [u32], out: &mut [u8], each: bool)
-    requires { ⌜ (validState (now w) ≡ true) × (104 ≤ length (now out)) ⌝ }
+    requires { ⌜ (valid (now w) ≡ true) × (104 ≤ length (now out)) ⌝ }
 {
-    show(w, out, !each);
-    let p = script::finish(w, out);
-    match p {
-        Progress::Refused(_) => {}
-        Progress::Took(_, wrote) => {
-            write_out(&out[0..wrote]);
+    if !close_line(w, out, each) {
+        return;
+    }
+    if !show(w, out, !each) {
+        return;
+    }
+    stream::finish(w, out);
+}
+
+// One part is read and answered, or the end. Whether to go on.
+fn turn(w: &mut [u32], part: &mut [u8], out: &mut [u8], each: bool) -> bool
+    requires { ⌜ (valid (now w) ≡ true) × (104 ≤ length (now out)) ⌝ }
+    ensures { λ r. ⌜ r ≡ true → valid (now (w .exit)) ≡ true ⌝ }
+{
+    let input = stream::read_part(w, part);
+    match input {
+        Input::Failed => false,
+        Input::End => {
+            finish(w, out, each);
+            false
         }
+        Input::Bytes(n) => answer_lines(w, &part[0..n], out, each),
     }
 }
 
-fn main() {
-    let mut state = zeros();
-    let mut input = io::large_buffer();
-    let mut out = io::large_buffer();
-    script::new(&mut state);
-    let n = io::read_full(STDIN_FILENO, &mut input);
-    let each = os::arg_count() < 2;
-    if answer_all(&mut state, &input[0..n], &mut out, each) {
-        finish(&mut state, &mut out, each);
+// Part by part, as in `gallery`.
+fn run(w: &mut [u32], part: &mut [u8], out: &mut [u8], each: bool)
+    requires { ⌜ (valid (now w) ≡ true) × (104 ≤ length (now out)) ⌝ }
+{
+    let mut turns = u64::MAX;
+    while turns > 0 {
+        if !turn(w, part, out, each) {
+            return;
+        }
+        turns -= 1;
     }
+}
+
+// Whether the only argument is `last`.
+fn is_last() -> bool {
+    if os::arg_count() != 2 {
+        return false;
+    }
+    let mut word = [0u8; 5];
+    let n = os::arg(1, &mut word);
+    n == 4 && word[0] == b'l' && word[1] == b'a' && word[2] == b's' && word[3] == b't'
+}
+
+fn main() {
+    let each = os::arg_count() < 2;
+    if !each && !is_last() {
+        console::write_out(STDERR_FILENO, b"no 16 not last\n");
+        return;
+    }
+    let mut state = stream::start();
+    let mut part = io::large_buffer();
+    let mut out = io::large_buffer();
+    run(&mut state, &mut part, &mut out, each);
 }

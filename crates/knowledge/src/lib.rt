@@ -1,0 +1,237 @@
+// What each server and each client of a simulation knows, as text on a sheet: the teacher's slips (knowledge/specs/Knowledge).
+// `put_slips` is for `slips`, whose script has a valid simulation.
+ghost use mathlib.Core.Path.{_≡_};
+ghost use mathlib.Core.Bool.{true};
+ghost use mathlib.Core.List.{[], _∷_, _++_, map};
+ghost use Prim.Native.Nat.{_≤_, _<_};
+ghost use lib.ListN.{length, take};
+ghost use Rattle.changes.specs.Changes.{HasClient, HasServer};
+ghost use Rattle.client.specs.Record.{shown, view as clientView};
+ghost use Rattle.ids.specs.Choice.{if_then_else_};
+ghost use Rattle.language.specs.Decimals.{decimal};
+ghost use Rattle.language.specs.Words.{text};
+ghost use Rattle.layout.specs.Layout.{valid, view as systemOf, settingOf};
+ghost use Rattle.sheet.specs.Sheet.{sheet as sheetOf, puts};
+ghost use Rattle.votes.specs.Queues.{listOf, view as votesView};
+ghost use Rattle.system.specs.Places.{clientAt, serverAt};
+ghost use Rattle.knowledge.specs.Knowledge.{requestText, requestsText, queueText, votesText, serverText, supportText, sectionText, supportersText, stateText, clientText, serversText, clientsText, slipsText};
+use client::Client;
+use client::Section;
+use ids::ClientId;
+use ids::Owner;
+use ids::Request;
+use server::Server;
+use votes::Queue;
+use votes::Votes;
+
+fn put_request(out: &mut [u8], at: usize, r: Request) -> usize
+    ensures { λ e. ⌜ sheetOf (now (out .exit)) e ≡ puts (requestText r) (sheetOf (now (out .entry)) at) ⌝ }
+{
+    let client = r.client;
+    let timestamp = r.timestamp;
+    let p = sheet::put_number(out, at, client.0 as u32);
+    sheet::put_with(out, p, b",", timestamp.0)
+}
+
+fn put_next(out: &mut [u8], at: usize, r: Request) -> usize
+    ensures { λ e. ⌜ sheetOf (now (out .exit)) e ≡ puts (requestsText (r ∷ [])) (sheetOf (now (out .entry)) at) ⌝ }
+{
+    let p = sheet::put(out, at, b" ");
+    put_request(out, p, r)
+}
+
+fn put_requests(out: &mut [u8], at: usize, q: Queue) -> usize
+    requires { ⌜ q .len ≤ 16 ⌝ }
+    ensures { λ r. ⌜ sheetOf (now (out .exit)) r ≡ puts (requestsText (listOf q)) (sheetOf (now (out .entry)) at) ⌝ }
+{
+    votes::sized(q);
+    let places = q.places;
+    let len = q.len;
+    let mut end = at;
+    let mut i: usize = 0;
+    while i < len {
+        end = put_next(out, end, places[i]);
+        i += 1;
+    }
+    end
+}
+
+fn put_queue(out: &mut [u8], at: usize, q: Queue) -> usize
+    requires { ⌜ q .len ≤ 16 ⌝ }
+    ensures { λ r. ⌜ sheetOf (now (out .exit)) r ≡ puts (queueText (listOf q)) (sheetOf (now (out .entry)) at) ⌝ }
+{
+    votes::sized(q);
+    if q.len == 0 {
+        return at;
+    }
+    let p = sheet::put(out, at, b" line");
+    put_requests(out, p, q)
+}
+
+fn put_votes(out: &mut [u8], at: usize, v: Votes) -> usize
+    requires { ⌜ v .queue .len ≤ 16 ⌝ }
+    ensures { λ r. ⌜ sheetOf (now (out .exit)) r ≡ puts (votesText (votesView v)) (sheetOf (now (out .entry)) at) ⌝ }
+{
+    let owner = v.owner;
+    let q = v.queue;
+    match owner {
+        Owner::Nobody => sheet::put(out, at, b" free"),
+        Owner::Of(o) => {
+            let p = sheet::put(out, at, b" owner ");
+            let e = put_request(out, p, o);
+            put_queue(out, e, q)
+        }
+    }
+}
+
+// What a server that is up, or down, knows.
+fn put_knowledge(out: &mut [u8], at: usize, up: bool, v: Votes) -> usize
+    requires { ⌜ v .queue .len ≤ 16 ⌝ }
+    ensures { λ r. ⌜ sheetOf (now (out .exit)) r ≡ puts (if up then votesText (votesView v) else text " down" ∷ []) (sheetOf (now (out .entry)) at) ⌝ }
+{
+    if up {
+        return put_votes(out, at, v);
+    }
+    sheet::put(out, at, b" down")
+}
+
+fn put_server(out: &mut [u8], at: usize, w: &[u32], j: u16) -> usize
+    requires { ⌜ HasServer (now w) j ⌝ }
+    ensures { λ r. ⌜ sheetOf (now (out .exit)) r ≡ puts (serverText j (serverAt (systemOf (now (w .entry))) j)) (sheetOf (now (out .entry)) at) ⌝ }
+{
+    let up = layout::is_up(w, j);
+    let s = layout::server_record(w, j);
+    let v = s.votes;
+    let p = sheet::put_with(out, at, b"keeper ", j as u32);
+    let e = put_knowledge(out, p, up, v);
+    sheet::put(out, e, b"\n")
+}
+
+fn put_servers(out: &mut [u8], at: usize, w: &[u32], n: u16) -> usize
+    requires { ⌜ (valid (now w) ≡ true) × (n ≤ settingOf (now w) .n) ⌝ }
+    ensures { λ r. ⌜ sheetOf (now (out .exit)) r ≡ puts (serversText (systemOf (now (w .entry))) n) (sheetOf (now (out .entry)) at) ⌝ }
+{
+    let mut end = at;
+    let mut j: u16 = 0;
+    while j < n {
+        j += 1;
+        end = put_server(out, end, w, j);
+    }
+    end
+}
+
+// Server `j`'s number, if its response is `r`.
+fn put_support(out: &mut [u8], at: usize, r: Request, j: u16, q: Request) -> usize
+    ensures { λ e. ⌜ sheetOf (now (out .exit)) e ≡ puts (supportText r j (shown q ∷ [])) (sheetOf (now (out .entry)) at) ⌝ }
+{
+    if client::is_own(r, q) {
+        return sheet::put_with(out, at, b" ", j as u32);
+    }
+    at
+}
+
+fn put_supports(out: &mut [u8], at: usize, r: Request, c: Client) -> usize
+    requires { ⌜ c .n ≤ 31 ⌝ }
+    ensures { λ e. ⌜ sheetOf (now (out .exit)) e ≡ puts (supportText r 1 (clientView c .responses)) (sheetOf (now (out .entry)) at) ⌝ }
+{
+    client::sized(c);
+    let places = c.places;
+    let n = c.n;
+    let mut end = at;
+    let mut i: u16 = 0;
+    while i < n {
+        end = put_support(out, end, r, i + 1, places[i as usize]);
+        i += 1;
+    }
+    end
+}
+
+// The section and the timestamp.
+fn put_section(out: &mut [u8], at: usize, s: Section, t: u32) -> usize
+    ensures { λ r. ⌜ sheetOf (now (out .exit)) r ≡ puts (sectionText s ∷ decimal t ∷ []) (sheetOf (now (out .entry)) at) ⌝ }
+{
+    match s {
+        Section::Remainder => sheet::put_with(out, at, b" remainder ticket ", t),
+        Section::Trying => sheet::put_with(out, at, b" trying ticket ", t),
+        Section::Critical => sheet::put_with(out, at, b" holding ticket ", t),
+    }
+}
+
+fn put_supporters(out: &mut [u8], at: usize, r: Request, c: Client) -> usize
+    requires { ⌜ c .n ≤ 31 ⌝ }
+    ensures { λ e. ⌜ sheetOf (now (out .exit)) e ≡ puts (text " keepers" ∷ supportText r 1 (clientView c .responses)) (sheetOf (now (out .entry)) at) ⌝ }
+{
+    let p = sheet::put(out, at, b" keepers");
+    put_supports(out, p, r, c)
+}
+
+fn put_supporters_of(out: &mut [u8], at: usize, r: Request, c: Client) -> usize
+    requires { ⌜ c .n ≤ 31 ⌝ }
+    ensures { λ e. ⌜ sheetOf (now (out .exit)) e ≡ puts (supportersText (c .section) (supportText r 1 (clientView c .responses))) (sheetOf (now (out .entry)) at) ⌝ }
+{
+    let section = c.section;
+    match section {
+        Section::Remainder => at,
+        Section::Trying => put_supporters(out, at, r, c),
+        Section::Critical => put_supporters(out, at, r, c),
+    }
+}
+
+fn put_state(out: &mut [u8], at: usize, k: u16, c: Client) -> usize
+    requires { ⌜ c .n ≤ 31 ⌝ }
+    ensures { λ e. ⌜ sheetOf (now (out .exit)) e ≡ puts (stateText k (clientView c)) (sheetOf (now (out .entry)) at) ⌝ }
+{
+    let client = ClientId(k);
+    let timestamp = c.timestamp;
+    let r = Request { client, timestamp };
+    let section = c.section;
+    let p = put_section(out, at, section, timestamp.0);
+    put_supporters_of(out, p, r, c)
+}
+
+// What a client that lives, or has fallen, knows.
+fn put_life(out: &mut [u8], at: usize, k: u16, living: bool, c: Client) -> usize
+    requires { ⌜ c .n ≤ 31 ⌝ }
+    ensures { λ r. ⌜ sheetOf (now (out .exit)) r ≡ puts (if living then stateText k (clientView c) else text " fallen" ∷ []) (sheetOf (now (out .entry)) at) ⌝ }
+{
+    if living {
+        return put_state(out, at, k, c);
+    }
+    sheet::put(out, at, b" fallen")
+}
+
+fn put_client(out: &mut [u8], at: usize, w: &[u32], k: u16) -> usize
+    requires { ⌜ HasClient (now w) k ⌝ }
+    ensures { λ r. ⌜ sheetOf (now (out .exit)) r ≡ puts (clientText k (clientAt (systemOf (now (w .entry))) k)) (sheetOf (now (out .entry)) at) ⌝ }
+{
+    let living = layout::is_living(w, k);
+    let c = layout::client_record(w, k);
+    let p = sheet::put_with(out, at, b"kiosk ", k as u32);
+    let e = put_life(out, p, k, living, c);
+    sheet::put(out, e, b"\n")
+}
+
+fn put_clients(out: &mut [u8], at: usize, w: &[u32], clients: u16) -> usize
+    requires { ⌜ (valid (now w) ≡ true) × (clients ≤ settingOf (now w) .clients) ⌝ }
+    ensures { λ r. ⌜ sheetOf (now (out .exit)) r ≡ puts (clientsText (systemOf (now (w .entry))) clients) (sheetOf (now (out .entry)) at) ⌝ }
+{
+    let mut end = at;
+    let mut k: u16 = 0;
+    while k < clients {
+        k += 1;
+        end = put_client(out, end, w, k);
+    }
+    end
+}
+
+// All slips of a simulation.
+pub fn put_slips(out: &mut [u8], w: &[u32]) -> usize
+    requires { ⌜ valid (now w) ≡ true ⌝ }
+    ensures { λ r. ⌜ sheetOf (now (out .exit)) r ≡ puts (slipsText (systemOf (now (w .entry))) (settingOf (now (w .entry)) .n) (settingOf (now (w .entry)) .clients)) (sheetOf (now (out .entry)) 0) ⌝ }
+{
+    let n = w[0] as u16;
+    let clients = w[3] as u16;
+    let p = put_servers(out, 0, w, n);
+    put_clients(out, p, w, clients)
+}
+
