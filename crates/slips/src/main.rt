@@ -3,7 +3,7 @@
 // last event's line. Where reading or writing fails, standard error says so and the program ends there.
 ghost use mathlib.Core.Path.{_≡_};
 ghost use mathlib.Core.Bool.{true};
-ghost use Prim.Native.Nat.{_≤_};
+ghost use Prim.Native.Nat.{_≤_, _<_};
 ghost use lib.ListN.{length};
 ghost use Rattle.script.specs.State.{valid};
 ghost use Rattle.stream.specs.Taken.{Taken};
@@ -96,7 +96,7 @@ fn finish(w: &mut [u32], out: &mut [u8], each: bool)
 // One part is read and answered, or the end. Whether to go on.
 fn turn(w: &mut [u32], part: &mut [u8], out: &mut [u8], each: bool) -> bool
     requires { ⌜ (valid (now w) ≡ true) × (104 ≤ length (now out)) ⌝ }
-    ensures { λ r. ⌜ r ≡ true → valid (now (w .exit)) ≡ true ⌝ }
+    ensures { λ r. ⌜ (r ≡ true → valid (now (w .exit)) ≡ true) ⌝ }
 {
     let input = stream::read_part(w, part);
     match input {

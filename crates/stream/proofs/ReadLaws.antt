@@ -34,16 +34,25 @@ pub taken-none : (w part : List ℕ) → Taken w (take 0 part) w
 unfolding fed
 taken-none w part = record { reader = refl }
 
-pub taken-more : (w w′ w″ part : List ℕ) (i k : ℕ) → Taken w (take i part) w′ → Taken w′ (take k (take (length part - i) (drop i part))) w″ → Taken w (take (i + k) part) w″
-taken-more w w′ w″ part i k a b =
-    let left : take (length part - i) (drop i part) ≡ drop i part = take-all (length part - i) (drop i part) (omega (arith, length-drop i part)) in
+pub taken-next : (w w′ w″ part : List ℕ) (i k : ℕ) → Taken w (take i part) w′ → Taken w′ (take k (drop i part)) w″ → Taken w (take (i + k) part) w″
+taken-next w w′ w″ part i k a b =
     record {
       reader =
           b .reader ∙
-          (ap (λ (l : List ℕ). fed (view w′) (take k l) .now) left ∙
           (ap (λ (r : Reader). fed r (take k (drop i part)) .now) (a .reader) ∙
-          sym (ap (λ (l : List ℕ). fed (view w) l .now) (take-add i k part) ∙ ap (λ (q : Printed Reader). q .now) (in-parts (view w) (take i part) (take k (drop i part))))));
+          sym (ap (λ (l : List ℕ). fed (view w) l .now) (take-add i k part) ∙ ap (λ (q : Printed Reader). q .now) (in-parts (view w) (take i part) (take k (drop i part)))));
     }
+
+pub taken-more : (w w′ w″ part : List ℕ) (i k : ℕ) → Taken w (take i part) w′ → Taken w′ (take k (take (length part - i) (drop i part))) w″ → Taken w (take (i + k) part) w″
+taken-more w w′ w″ part i k a b =
+    let left : take (length part - i) (drop i part) ≡ drop i part = take-all (length part - i) (drop i part) (omega (arith, length-drop i part)) in
+    taken-next w w′ w″ part i k a (rw left at b)
+
+-- up to place j, which is not before i
+pub taken-to : (w w′ w″ part : List ℕ) (i j : ℕ) → i ≤ j → Taken w (take i part) w′ → Taken w′ (take (j - i) (drop i part)) w″ → Taken w (take j part) w″
+taken-to w w′ w″ part i j h a b =
+    let z : i + (j - i) ≡ j = omega (arith, h) in
+    rw z at (taken-next w w′ w″ part i (j - i) a b)
 
 pub taken-all : (w w′ part : List ℕ) (i : ℕ) → Taken w (take i part) w′ → length part ≤ i → Taken w part w′
 taken-all w w′ part i a h = record { reader = a .reader ∙ ap (λ (l : List ℕ). fed (view w) l .now) (take-all i part h) }

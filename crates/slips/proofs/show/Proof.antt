@@ -1,6 +1,6 @@
 -- `slips::show` meets its contract: a script that runs has a valid simulation.
 use native.Mathlib.Omega.{arith}
-use Rattle.slips.proofs.SlipLaws.{runs}
+use Rattle.slips.proofs.RunLaws.{runs}
 use Rattle.sheet.proofs.SheetLaws.{placed}
 use Rattle.script.proofs.LineLaws.{sound}
 use borrow.Author.Needs.{needs}
