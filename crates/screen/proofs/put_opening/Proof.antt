@@ -1,12 +1,12 @@
--- `commission::put_opening` meets its contract: the front of the small buffer is the line.
+-- `screen::put_opening` meets its contract: the front of the small buffer is the line.
 use native.Mathlib.Omega.{arith}
 use Rattle.language.specs.Printed.{settingLine}
-use Rattle.commission.specs.Screen.{opening}
-use Rattle.commission.proofs.ScreenLaws.{opening-short}
+use Rattle.screen.specs.Screen.{opening}
+use Rattle.screen.proofs.ScreenLaws.{opening-short}
 use Rattle.sheet.proofs.SheetLaws.{then, put-front}
 use borrow.Author.Needs.{needs}
-use Rattle.commission.proofs.put_opening.Statement.{statement}
-use Rattle.commission.proofs.put_opening.Tie as tie
+use Rattle.screen.proofs.put_opening.Statement.{statement}
+use Rattle.screen.proofs.put_opening.Tie as tie
 
 put-setting-requires : tie.Need-put-setting-requires
 put-setting-requires c κs = let x = c .before .before .args in omega (arith, opening-short (x .n) (x .m) (x .f))

@@ -1,8 +1,8 @@
--- `commission::put_verdict` meets its contract: each verdict has its text.
-use Rattle.commission.specs.Screen.{verdictText}
+-- `screen::put_verdict` meets its contract: each verdict has its text.
+use Rattle.screen.specs.Screen.{verdictText}
 use borrow.Author.Needs.{needs}
-use Rattle.commission.proofs.put_verdict.Statement.{statement}
-use Rattle.commission.proofs.put_verdict.Tie as tie
+use Rattle.screen.proofs.put_verdict.Statement.{statement}
+use Rattle.screen.proofs.put_verdict.Tie as tie
 
 returns : tie.Need-returns
 unfolding verdictText

@@ -1,8 +1,8 @@
--- `commission::put_report` meets its contract: four parts, one behind the other.
+-- `screen::put_report` meets its contract: four parts, one behind the other.
 use Rattle.sheet.proofs.SheetLaws.{then}
 use borrow.Author.Needs.{needs}
-use Rattle.commission.proofs.put_report.Statement.{statement}
-use Rattle.commission.proofs.put_report.Tie as tie
+use Rattle.screen.proofs.put_report.Statement.{statement}
+use Rattle.screen.proofs.put_report.Tie as tie
 
 returns : tie.Need-returns
 returns c =

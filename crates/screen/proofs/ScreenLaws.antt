@@ -19,7 +19,7 @@ use Rattle.ids.proofs.Choice.{fails, holds}
 use Rattle.quorum.proofs.CheckLaws.{margin-difference}
 use Rattle.sheet.specs.Sheet.{Sheet, puts, ends}
 use Rattle.sheet.proofs.SheetLaws.{then}
-use Rattle.commission.specs.Screen.{signed, marginText, askedText, runText, opening, openingText, scriptText}
+use Rattle.screen.specs.Screen.{signed, marginText, askedText, runText, opening, openingText, scriptText}
 
 module _ (a b : ℕ) where
   pub signed-below : a < b → signed (subℕ a b) ≡ text "-" ∷ decimal (b - a) ∷ []

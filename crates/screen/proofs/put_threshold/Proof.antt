@@ -1,10 +1,10 @@
--- `commission::put_threshold` meets its contract: a number out of range has none.
+-- `screen::put_threshold` meets its contract: a number out of range has none.
 use Rattle.sheet.proofs.SheetLaws.{then}
-use Rattle.commission.specs.Screen.{thresholdText}
+use Rattle.screen.specs.Screen.{thresholdText}
 use Rattle.sheet.specs.Sheet.{puts}
 use borrow.Author.Needs.{needs}
-use Rattle.commission.proofs.put_threshold.Statement.{statement}
-use Rattle.commission.proofs.put_threshold.Tie as tie
+use Rattle.screen.proofs.put_threshold.Statement.{statement}
+use Rattle.screen.proofs.put_threshold.Tie as tie
 
 returns : tie.Need-returns
 unfolding thresholdText

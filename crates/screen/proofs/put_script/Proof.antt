@@ -1,15 +1,15 @@
--- `commission::put_script` meets its contract: after i turns the first i events stand behind the first line.
+-- `screen::put_script` meets its contract: after i turns the first i events stand behind the first line.
 use native.Mathlib.Omega.{arith}
 use mathlib.Core.Path.{_≡_, refl}
 use lib.ListN.{length}
 use Prim.Native.Nat.{_-_, _≤_}
-use Rattle.commission.specs.Screen.{runText}
-use Rattle.commission.proofs.ScreenLaws.{one-more}
+use Rattle.screen.specs.Screen.{runText}
+use Rattle.screen.proofs.ScreenLaws.{one-more}
 use Rattle.sheet.specs.Sheet.{sheet, puts}
 use Rattle.sheet.proofs.SheetLaws.{then}
 use borrow.Author.Needs.{needs}
-use Rattle.commission.proofs.put_script.Statement.{statement}
-use Rattle.commission.proofs.put_script.Tie as tie
+use Rattle.screen.proofs.put_script.Statement.{statement}
+use Rattle.screen.proofs.put_script.Tie as tie
 
 abbrev Inv-loop : tie.InvT-loop
 Inv-loop out₀ n m f events at₀ i₀ out at i = (sheet out at ≡ puts (runText n m f i) (sheet out₀ at₀)) × (i ≤ events) × (length out ≡ length out₀)

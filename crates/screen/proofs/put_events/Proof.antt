@@ -1,10 +1,10 @@
--- `commission::put_events` meets its contract: only an unsafe setting has a run.
+-- `screen::put_events` meets its contract: only an unsafe setting has a run.
 use Rattle.sheet.proofs.SheetLaws.{then}
-use Rattle.commission.specs.Screen.{eventsText}
+use Rattle.screen.specs.Screen.{eventsText}
 use Rattle.sheet.specs.Sheet.{puts}
 use borrow.Author.Needs.{needs}
-use Rattle.commission.proofs.put_events.Statement.{statement}
-use Rattle.commission.proofs.put_events.Tie as tie
+use Rattle.screen.proofs.put_events.Statement.{statement}
+use Rattle.screen.proofs.put_events.Tie as tie
 
 returns : tie.Need-returns
 unfolding eventsText

@@ -1,12 +1,12 @@
--- `commission::put_margin` meets its contract: the margin is the difference of 2 m and n + f.
+-- `screen::put_margin` meets its contract: the margin is the difference of 2 m and n + f.
 use native.Mathlib.Omega.{arith}
 use Rattle.sheet.proofs.SheetLaws.{then}
-use Rattle.commission.proofs.ScreenLaws.{margin-none, margin-some}
+use Rattle.screen.proofs.ScreenLaws.{margin-none, margin-some}
 use Rattle.quorum.proofs.ReturnLaws.{in-bounds}
 use Rattle.sheet.specs.Sheet.{puts}
 use borrow.Author.Needs.{needs}
-use Rattle.commission.proofs.put_margin.Statement.{statement}
-use Rattle.commission.proofs.put_margin.Tie as tie
+use Rattle.screen.proofs.put_margin.Statement.{statement}
+use Rattle.screen.proofs.put_margin.Tie as tie
 
 returns : tie.Need-returns
 unfolding puts

@@ -1,9 +1,9 @@
--- `commission::put_numbered` meets its contract: the event, if the run has one of this number.
-use Rattle.commission.specs.Screen.{askedText}
+-- `screen::put_numbered` meets its contract: the event, if the run has one of this number.
+use Rattle.screen.specs.Screen.{askedText}
 use Rattle.sheet.specs.Sheet.{puts}
 use borrow.Author.Needs.{needs}
-use Rattle.commission.proofs.put_numbered.Statement.{statement}
-use Rattle.commission.proofs.put_numbered.Tie as tie
+use Rattle.screen.proofs.put_numbered.Statement.{statement}
+use Rattle.screen.proofs.put_numbered.Tie as tie
 
 returns : tie.Need-returns
 unfolding askedText

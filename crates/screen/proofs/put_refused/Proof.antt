@@ -1,8 +1,8 @@
--- `commission::put_refused` meets its contract: three texts, one behind the other.
+-- `screen::put_refused` meets its contract: three texts, one behind the other.
 use Rattle.sheet.proofs.SheetLaws.{then}
 use borrow.Author.Needs.{needs}
-use Rattle.commission.proofs.put_refused.Statement.{statement}
-use Rattle.commission.proofs.put_refused.Tie as tie
+use Rattle.screen.proofs.put_refused.Statement.{statement}
+use Rattle.screen.proofs.put_refused.Tie as tie
 
 returns : tie.Need-returns
 returns c =

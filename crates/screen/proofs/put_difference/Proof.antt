@@ -1,9 +1,9 @@
--- `commission::put_difference` meets its contract: the smaller number is taken from the larger.
+-- `screen::put_difference` meets its contract: the smaller number is taken from the larger.
 use Rattle.sheet.proofs.SheetLaws.{then}
-use Rattle.commission.proofs.ScreenLaws.{signed-below, signed-from}
+use Rattle.screen.proofs.ScreenLaws.{signed-below, signed-from}
 use borrow.Author.Needs.{needs}
-use Rattle.commission.proofs.put_difference.Statement.{statement}
-use Rattle.commission.proofs.put_difference.Tie as tie
+use Rattle.screen.proofs.put_difference.Statement.{statement}
+use Rattle.screen.proofs.put_difference.Tie as tie
 
 returns : tie.Need-returns
 returns c =

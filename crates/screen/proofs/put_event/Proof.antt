@@ -1,11 +1,11 @@
--- `commission::put_event` meets its contract: the front of the small buffer is the line.
+-- `screen::put_event` meets its contract: the front of the small buffer is the line.
 use native.Mathlib.Omega.{arith}
 use Rattle.language.specs.Printed.{eventLine}
 use Rattle.language.proofs.EventTrip.{event-short}
 use Rattle.sheet.proofs.SheetLaws.{then, put-front}
 use borrow.Author.Needs.{needs}
-use Rattle.commission.proofs.put_event.Statement.{statement}
-use Rattle.commission.proofs.put_event.Tie as tie
+use Rattle.screen.proofs.put_event.Statement.{statement}
+use Rattle.screen.proofs.put_event.Tie as tie
 
 put-event-requires : tie.Need-put-event-requires
 put-event-requires c κs = omega (arith, event-short (c .before .before .args .e))
