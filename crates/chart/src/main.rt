@@ -1,15 +1,16 @@
 // The chart program: a script on standard input, its message sequence chart as SVG on standard output. What is drawn is said by
 // specs/Rows of `rows`. Here is only the reading and writing, of which no contract can speak, and the order of the rows.
-// The first 65,536 bytes are read, and of them the first line and 400 event lines.
+// Of a script the first 65,536 bytes are read, and of its whole lines there the first line and 400 event lines drawn: a picture's
+// height stands before its rows.
 ghost use mathlib.Core.Path.{_≡_};
 ghost use mathlib.Core.Bool.{true};
 ghost use Prim.Native.Nat.{_≤_};
 ghost use lib.ListN.{length};
 ghost use Rattle.layout.specs.Layout.{valid};
+use console::Input;
 use ids::Refusal;
 use language::First;
 use language::Setting;
-use libc::STDIN_FILENO;
 use libc::STDOUT_FILENO;
 use simulation::Moved;
 
@@ -26,15 +27,11 @@ fn counts() -> [u32; 401]
 }
 
 // Writes what is on the sheet up to `at`. Whether all of it was written.
-fn write_out(out: &[u8], at: usize) -> bool {
+fn write_sheet(out: &[u8], at: usize) -> bool {
     if out.len() < at {
         return false;
     }
-    let is_written = io::write_all(STDOUT_FILENO, &out[0..at]);
-    if !is_written {
-        os::fail(&[b'w', b'r', b'i', b't', b'e']);
-    }
-    is_written
+    console::write_out(STDOUT_FILENO, &out[0..at])
 }
 
 // The event lines from `from` on, at most 400.
@@ -67,7 +64,7 @@ fn draw_rows(w: &mut [u32], sent: &mut [u32], input: &[u8], from: usize, out: &m
         let e = sheet::line_end(input, at);
         r += 1;
         let p = rows::draw_row(w, sent, out, r, &input[at..e]);
-        if !write_out(out, p) {
+        if !write_sheet(out, p) {
             return false;
         }
         at = e + 1;
@@ -82,7 +79,7 @@ fn draw_pending(w: &[u32], sent: &[u32], out: &mut [u8], r: u16) -> bool
     let mut i: usize = 0;
     while i < w[4] as usize {
         let p = rows::draw_slot(w, sent, out, i, r);
-        if !write_out(out, p) {
+        if !write_sheet(out, p) {
             return false;
         }
         i += 1;
@@ -96,7 +93,7 @@ fn draw(w: &mut [u32], input: &[u8], from: usize, out: &mut [u8])
 {
     let count = count_rows(input, from);
     let p = rows::draw_head(w, out, count);
-    if !write_out(out, p) {
+    if !write_sheet(out, p) {
         return;
     }
     let mut sent = counts();
@@ -107,7 +104,7 @@ fn draw(w: &mut [u32], input: &[u8], from: usize, out: &mut [u8])
         return;
     }
     let e = sheet::put(out, 0, b"</svg>\n");
-    write_out(out, e);
+    write_sheet(out, e);
 }
 
 // The first line was refused.
@@ -115,7 +112,7 @@ fn refuse(out: &mut [u8], x: Refusal)
     requires { ⌜ 52 ≤ length (now out) ⌝ }
 {
     let p = language::put_refused(out, 0, x);
-    write_out(out, p);
+    write_sheet(out, p);
 }
 
 fn begin(s: Setting, input: &[u8], from: usize, out: &mut [u8])
@@ -140,9 +137,37 @@ fn run(input: &[u8], out: &mut [u8])
     }
 }
 
+// How much of what was read is whole lines: all of it, but where it fills the buffer and may have been cut.
+fn whole_lines(input: &[u8]) -> usize
+    ensures { λ r. ⌜ r ≤ length (now (input .entry)) ⌝ }
+{
+    let mut n = input.len();
+    if n < 65536 {
+        return n;
+    }
+    while n > 0 {
+        if input[n - 1] == b'\n' {
+            return n;
+        }
+        n -= 1;
+    }
+    n
+}
+
+fn draw_whole(input: &[u8], out: &mut [u8])
+    requires { ⌜ 52 ≤ length (now out) ⌝ }
+{
+    let n = whole_lines(input);
+    run(&input[0..n], out);
+}
+
 fn main() {
     let mut input = io::large_buffer();
     let mut out = io::large_buffer();
-    let n = io::read_full(STDIN_FILENO, &mut input);
-    run(&input[0..n], &mut out);
+    let read = console::fill(&mut input);
+    match read {
+        Input::Failed => {}
+        Input::End => {}
+        Input::Bytes(n) => draw_whole(&input[0..n], &mut out),
+    }
 }

@@ -29,8 +29,8 @@ cast-if1 c = record { fits = omega (arith, lent-sized (now (c .before .before .b
 draw-slot-requires : tie.Need-draw-slot-requires Inv-loop μ-loop
 draw-slot-requires c κs = (c .before .before .before .before .before .before .before .pre .0, c .before .before .before .before .before .before .before .pre .1, c .before .before .before .before .before .before .before .pre .2, omega arith)
 
-write-out-requires : tie.Need-write-out-requires Inv-loop μ-loop
-write-out-requires c κs = search needs
+write-sheet-requires : tie.Need-write-sheet-requires Inv-loop μ-loop
+write-sheet-requires c κs = search needs
 
 same-length : tie.Need-same-length Inv-loop μ-loop
 same-length c = search needs
@@ -63,7 +63,7 @@ draw-pending-spec =
     shared-slice-read-if1
     cast-if1
     draw-slot-requires
-    write-out-requires
+    write-sheet-requires
     same-length
     returns
     add-i

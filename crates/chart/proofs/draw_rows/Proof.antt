@@ -51,8 +51,8 @@ part-draw-row-end c = omega (arith, c .before .before .before .line-end .ensures
 draw-row-requires : tie.Need-draw-row-requires Inv-loop μ-loop
 draw-row-requires c κs = (c .before .before .before .before .before .before .before .loop .inv .4, omega (arith, c .before .before .before .before .before .before .before .before .before .before .before .before .pre .1))
 
-write-out-requires : tie.Need-write-out-requires Inv-loop μ-loop
-write-out-requires c κs = search needs
+write-sheet-requires : tie.Need-write-sheet-requires Inv-loop μ-loop
+write-sheet-requires c κs = search needs
 
 same-length-4 : tie.Need-same-length-4 Inv-loop μ-loop
 same-length-4 c = search needs
@@ -104,7 +104,7 @@ draw-rows-spec =
     part-draw-row-start
     part-draw-row-end
     draw-row-requires
-    write-out-requires
+    write-sheet-requires
     same-length-4
     same-length-5
     same-length-6

@@ -8,8 +8,8 @@ use Rattle.chart.proofs.refuse.Tie as tie
 put-refused-requires : tie.Need-put-refused-requires
 put-refused-requires c κs = omega (arith, refused-short (c .before .before .args .x))
 
-write-out-requires : tie.Need-write-out-requires
-write-out-requires c κs = search needs
+write-sheet-requires : tie.Need-write-sheet-requires
+write-sheet-requires c κs = search needs
 
 same-length : tie.Need-same-length
 same-length c = search needs
@@ -18,4 +18,4 @@ returns : tie.Need-returns
 returns c = search needs
 
 pub refuse-spec : {M : Type 1} → statement M
-refuse-spec = tie.close (tie.spec put-refused-requires write-out-requires same-length returns)
+refuse-spec = tie.close (tie.spec put-refused-requires write-sheet-requires same-length returns)
