@@ -86,7 +86,7 @@ struct sigma_host {
     uint32_t id;
     uint32_t owner;
     uint32_t owner_timestamp;
-    uint32_t waiting;                              /* the places of the queue that are taken, from the first */
+    uint32_t queue_length;                         /* the places of the queue that are taken, from the first */
     struct sigma_request queue[SIGMA_QUEUE_PLACES];
     uint32_t sent;                                 /* messages */
     uint32_t bytes;

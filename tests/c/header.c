@@ -75,7 +75,7 @@ static_assert(sizeof(struct sigma_host) == (SIGMA_SERVER_WORDS + SIGMA_SENT_WORD
 static_assert(offsetof(struct sigma_host, id) == 1 * sizeof(uint32_t), "id");
 static_assert(offsetof(struct sigma_host, owner) == 2 * sizeof(uint32_t), "owner");
 static_assert(offsetof(struct sigma_host, owner_timestamp) == 3 * sizeof(uint32_t), "owner_timestamp");
-static_assert(offsetof(struct sigma_host, waiting) == 4 * sizeof(uint32_t), "waiting");
+static_assert(offsetof(struct sigma_host, queue_length) == 4 * sizeof(uint32_t), "queue_length");
 static_assert(offsetof(struct sigma_host, queue) == 5 * sizeof(uint32_t), "queue");
 static_assert(offsetof(struct sigma_request, timestamp) == sizeof(uint32_t), "client, then timestamp");
 static_assert(offsetof(struct sigma_host, sent) == SIGMA_SERVER_WORDS * sizeof(uint32_t), "sent");
@@ -116,17 +116,17 @@ static void in_a_struct(void)
     expect(both_take(SIGMA_REQUEST, 5, 3, sizeof host_out) == 0, "client 5");
     expect(host.owner == 5 && host.owner_timestamp == 3 && host.sent == 1 && host.bytes == 14, "client 5 is owner");
     expect(both_take(SIGMA_REQUEST, 7, 4, sizeof host_out) == 0, "client 7");
-    expect(host.waiting == 1 && host.queue[0].client == 7 && host.queue[0].timestamp == 4, "client 7 waits");
+    expect(host.queue_length == 1 && host.queue[0].client == 7 && host.queue[0].timestamp == 4, "client 7 waits");
     before = host;
     expect(sigma_host_check(&host, host_out, 11) == 6 && memcmp(&host, &before, sizeof host) == 0, "a refused call");
     expect(sigma_host_check(&host, host_out, sizeof host_out) == 0 && host.sent == 1 && host.bytes == 12, "a CHECK");
     expect(sigma_server_check(record, SIGMA_SERVER_WORDS, record_out, sizeof record_out, counts, SIGMA_SENT_WORDS) == 0, "check");
     same("after a check");
-    expect(sigma_host_suspect(&host, host_out, sizeof host_out) == 0 && host.owner == 7 && host.waiting == 0, "client 7 is owner");
+    expect(sigma_host_suspect(&host, host_out, sizeof host_out) == 0 && host.owner == 7 && host.queue_length == 0, "client 7 is owner");
     expect(sigma_server_suspect(record, SIGMA_SERVER_WORDS, record_out, sizeof record_out, counts, SIGMA_SENT_WORDS) == 0, "suspect");
     same("after a suspicion");
-    host.waiting = SIGMA_QUEUE_PLACES + 1;
-    expect(sigma_host_check(&host, host_out, sizeof host_out) == 21 && host.waiting == SIGMA_QUEUE_PLACES + 1, "a broken struct");
+    host.queue_length = SIGMA_QUEUE_PLACES + 1;
+    expect(sigma_host_check(&host, host_out, sizeof host_out) == 21 && host.queue_length == SIGMA_QUEUE_PLACES + 1, "a broken struct");
 }
 
 /* Document 01's setting 3,2,1: unsafe, margin 0, a run of 12 events that begins with client 1's try. */

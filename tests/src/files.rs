@@ -1,8 +1,9 @@
 //! The scripts of tests/scripts, with their whole outputs.
 
 use std::collections::BTreeSet;
-use std::fs;
+use std::fs::{self, File};
 use std::path::{Path, PathBuf};
+use std::process::{Command, Output};
 
 fn folder() -> PathBuf {
     Path::new(env!("CARGO_MANIFEST_DIR")).join("scripts")
@@ -34,4 +35,30 @@ pub fn built(name: &str) -> Option<PathBuf> {
 /// The proved gallery program, where it has been built.
 pub fn program() -> Option<PathBuf> {
     built("gallery")
+}
+
+/// What a program that has been built answers to these bytes as its standard input, a file, and these arguments.
+pub fn answer(name: &str, arguments: &[&str], bytes: &[u8]) -> Output {
+    let path = std::env::temp_dir().join(format!("sigma-{name}-{}-{:?}", std::process::id(), std::thread::current().id()));
+    fs::write(&path, bytes).expect("a file for the program's input");
+    let input = File::open(&path).expect("it is there");
+    fs::remove_file(&path).expect("its name is not needed");
+    command(name).args(arguments).stdin(input).output().expect("it runs")
+}
+
+/// A program that has been built.
+pub fn command(name: &str) -> Command {
+    Command::new(built(name).unwrap_or_else(|| panic!("run `rt check {name}` first")))
+}
+
+/// What standard error says where a program cannot write, and where it cannot read.
+pub fn failures(name: &str, script: &[u8]) -> [String; 2] {
+    let path = std::env::temp_dir().join(format!("sigma-{name}-{}", std::process::id()));
+    fs::write(&path, script).expect("a file for the program's input");
+    let full = File::options().write(true).open("/dev/full").expect("/dev/full");
+    let unwritten = command(name).stdin(File::open(&path).expect("it is there")).stdout(full).output().expect("it runs");
+    fs::remove_file(&path).expect("its name is not needed");
+    let unread = command(name).stdin(File::open("/").expect("a folder")).output().expect("it runs");
+    assert!(unread.stdout.is_empty(), "nothing is printed of what was not read");
+    [unwritten, unread].map(|run| String::from_utf8_lossy(&run.stderr).into_owned())
 }

@@ -1,17 +1,12 @@
 //! The chart program: whole pictures of a few scripts, and that every script gives a picture that is well formed, with the answers that
 //! the run has, or its refusal alone.
 
-use sigma_tests::files::{built, contents, scripts};
-use std::io::Write;
+use sigma_tests::files::{answer, contents, failures, scripts};
 use std::path::Path;
-use std::process::{Command, Stdio};
 
 fn chart(script: &[u8]) -> String {
-    let program = built("chart").expect("run `rt check chart` first");
-    let mut child = Command::new(program).stdin(Stdio::piped()).stdout(Stdio::piped()).spawn().expect("it runs");
-    child.stdin.take().expect("a pipe").write_all(script).expect("it reads");
-    let run = child.wait_with_output().expect("it ends");
-    assert!(run.status.success());
+    let run = answer("chart", &[], script);
+    assert!(run.status.success() && run.stderr.is_empty());
     String::from_utf8(run.stdout).expect("plain text")
 }
 
@@ -86,4 +81,22 @@ fn four_hundred_rows() {
     let drawn = chart(script.as_bytes());
     well_formed(&drawn);
     assert_eq!(answers(&drawn).last(), Some(&(74 + 28 * 400, "400 ok 0 0".to_string())));
+}
+
+/// Of a script that is cut at 65,536 bytes the whole lines are drawn.
+#[test]
+fn whole_lines_only() {
+    for width in [200, 300, 1000, 70_000] {
+        let script = format!("setting 1 1 0 1\ntry 1\n{}", format!("{}\n", "x".repeat(width)).repeat(399));
+        let read = &script.as_bytes()[..65_536];
+        let whole = read.iter().rposition(|&b| b == b'\n').expect("a line") + 1;
+        assert_eq!(chart(script.as_bytes()), chart(&read[..whole]), "{width}");
+    }
+    assert_eq!(chart("x".repeat(70_000).as_bytes()), "no 16\n");
+}
+
+#[test]
+fn the_program_says_what_failed() {
+    let said = failures("chart", b"setting 1 1 0 1\ntry 1\n");
+    assert_eq!(said, ["write: No space left on device\n", "read: Is a directory\n"]);
 }

@@ -1,7 +1,7 @@
 //! The library's script calls, and the program over them, beside the model's gallery: the same bytes however the input is cut.
 
 use sigma_tests::author::any_script;
-use sigma_tests::files::{contents, program, scripts};
+use sigma_tests::files::{contents, failures, program, scripts};
 use sigma_tests::library::{script_feed, script_finish, script_new};
 use sigma_tests::random::Random;
 use sigma_tests::script::run;
@@ -256,11 +256,6 @@ fn the_program_reads_no_more_than_a_million_lines() {
 
 #[test]
 fn the_program_says_what_failed() {
-    let program = program().expect("run `rt check gallery` first");
-    let script = b"setting 1 1 0 1\ntry 1\n";
-    let full = File::options().write(true).open("/dev/full").expect("/dev/full");
-    let run = Command::new(&program).stdin(file_of("short", script)).stdout(full).output().expect("it runs");
-    assert_eq!(text(&run.stderr), "write: No space left on device\n");
-    let run = Command::new(&program).stdin(File::open("/").expect("a folder")).output().expect("it runs");
-    assert_eq!((text(&run.stdout), text(&run.stderr)), (String::new(), "read: Is a directory\n".into()));
+    let said = failures("gallery", b"setting 1 1 0 1\ntry 1\n");
+    assert_eq!(said, ["write: No space left on device\n", "read: Is a directory\n"]);
 }

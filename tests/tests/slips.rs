@@ -1,27 +1,19 @@
 //! The slips program beside the model: behind each event, or the last, what every keeper and every kiosk knows.
 
 use sigma_tests::author::any_script;
-use sigma_tests::files::{built, contents, scripts};
+use sigma_tests::files::{answer, contents, failures, scripts};
 use sigma_tests::gallery::Gallery;
 use sigma_tests::kiosk::{HOLDING, REMAINDER};
 use sigma_tests::random::Random;
 use sigma_tests::records::Pair;
 use sigma_tests::script::run_telling;
-use std::io::Write;
 use std::path::Path;
-use std::process::{Command, Stdio};
 
 fn slips(script: &[u8], last: bool) -> String {
-    let program = built("slips").expect("run `rt check slips` first");
     let words: &[&str] = if last { &["last"] } else { &[] };
-    let mut child = Command::new(program).args(words).stdin(Stdio::piped()).stdout(Stdio::piped()).spawn().expect("it runs");
-    let input = script.to_vec();
-    let mut pipe = child.stdin.take().expect("a pipe");
-    let feeder = std::thread::spawn(move || pipe.write_all(&input));
-    let run = child.wait_with_output().expect("it ends");
-    feeder.join().expect("the script is fed").expect("it is read");
-    assert!(run.status.success());
-    String::from_utf8(run.stdout).expect("plain text")
+    let run = answer("slips", words, script);
+    assert!(run.status.success() && run.stderr.is_empty(), "{}", text(&run.stderr));
+    text(&run.stdout)
 }
 
 fn pair(p: &Pair) -> String {
@@ -64,7 +56,7 @@ fn as_the_model_has_them() {
     let mut all: Vec<Vec<u8>> = scripts().into_iter().map(|(_, script, _)| script).collect();
     all.extend((0..150).map(|_| any_script(&mut r)));
     let mut lines = 0;
-    for script in all.iter().filter(|script| script.len() <= 65_536) {
+    for script in &all {
         for last in [false, true] {
             let ours = slips(script, last);
             assert_eq!(ours, text(&run_telling(script, &told, last)), "{}", text(script));
@@ -89,5 +81,42 @@ fn whole_outputs() {
         let path = Path::new(env!("CARGO_MANIFEST_DIR")).join("slips").join(format!("{name}.expected"));
         let expected = std::fs::read_to_string(&path).unwrap_or_else(|e| panic!("{}: {e}", path.display()));
         assert_eq!(slips(&contents(&format!("{name}.script")), last), expected, "{name}");
+    }
+}
+
+/// Scripts of many parts: lines that a part's end cuts are answered once, and slips stand behind no other.
+#[test]
+fn long_scripts() {
+    let mut r = Random::new(8);
+    let events = (0..12_000).map(|_| format!("{} {}\n", r.one_of(&["try", "exit", "take", "down", "up", "check"]), r.below(40)));
+    let mixed = format!("setting 3 2 1 2\n{}take 1", events.collect::<String>());
+    let bad = format!("setting 1 1 0 1\n{}\n{}", "x".repeat(200_000), "check 1\n".repeat(20_000));
+    for script in [mixed, bad] {
+        for last in [false, true] {
+            let model = run_telling(script.as_bytes(), &told, last);
+            assert!(script.len() > 65_536 && slips(script.as_bytes(), last).as_bytes() == model);
+        }
+    }
+}
+
+/// Nothing is shown behind a line that is no longer read.
+#[test]
+fn a_million_lines_and_some_more() {
+    let script = format!("setting 1 1 0 1\n{}", "\n".repeat(1_000_003));
+    let model = run_telling(script.as_bytes(), &told, false);
+    assert!(slips(script.as_bytes(), false).as_bytes() == model);
+}
+
+#[test]
+fn the_program_says_what_failed() {
+    let said = failures("slips", b"setting 1 1 0 1\ntry 1\n");
+    assert_eq!(said, ["write: No space left on device\n", "read: Is a directory\n"]);
+}
+
+#[test]
+fn only_last_is_an_argument() {
+    for words in [&["first"][..], &["las"], &["last1"], &[""], &["last", "last"]] {
+        let run = answer("slips", words, b"setting 1 1 0 1\ntry 1\n");
+        assert_eq!((text(&run.stdout), text(&run.stderr)), (String::new(), "no 16 not last\n".into()), "{words:?}");
     }
 }

@@ -234,4 +234,3 @@ pub fn put_slips(out: &mut [u8], w: &[u32]) -> usize
     let p = put_servers(out, 0, w, n);
     put_clients(out, p, w, clients)
 }
-

@@ -18,16 +18,16 @@ use Rattle.transit.proofs.SlotLaws.{number-at}
 use Rattle.transit.proofs.FindLaws.{valid-ordered}
 use Rattle.layout.specs.Layout.{settingOf, lengthOf, sentOf, transitWords, view, valid}
 use Rattle.layout.proofs.ValidLaws.{facts}
-use Rattle.rows.specs.Crossings.{kept, takenOf, droppedOf, sentRow}
+use Rattle.rows.specs.Crossings.{transitMessage, takenOf, droppedOf, sentRow}
 use Rattle.rows.specs.declared.Crossing.the-variants.{Taken, Dropped, Nothing}
 
 -- the message with a number, in a list and in the slots
-kept-none : (i : ℕ) (l : List InTransit) → present i l ≡ false → kept i l ≡ none
-unfolding kept
-kept-none i [] h = refl
-kept-none i (x ∷ l) h =
+transit-none : (i : ℕ) (l : List InTransit) → present i l ≡ false → transitMessage i l ≡ none
+unfolding transitMessage
+transit-none i [] h = refl
+transit-none i (x ∷ l) h =
     let p = passed (eqb (x .number) i) (λ e. false≢true (sym e)) h in
-    rw (p .0) (kept-none i l (p .1))
+    rw (p .0) (transit-none i l (p .1))
 
 slot-behind : (t : List ℕ) (i : ℕ) → slotAt (drop 7 t) i ≡ slotAt t (suc i)
 slot-behind t i =
@@ -35,13 +35,13 @@ slot-behind t i =
     let y : 7 + 7 * i ≡ 7 * suc i = omega arith in
     ap (λ (l : List ℕ). slotOf (take 7 l)) (drop-drop (7 * i) 7 t ∙ ap (λ (n : ℕ). drop n t) y)
 
-kept-at : (k : ℕ) (t : List ℕ) (r number : ℕ) → r < k → slotAt t r .number ≡ number → ((i : ℕ) → i < r → slotAt t i .number ≡ number → ⊥) → kept number (slots k t) ≡ some (slotAt t r .message)
-unfolding slots rows kept
-kept-at zero t r number h e d = absurd (omega arith)
-kept-at (suc k) t zero number h e d = rw (eq-eqb (slotOf (take 7 t) .number) number e)
-kept-at (suc k) t (suc r) number h e d =
+transit-at : (k : ℕ) (t : List ℕ) (r number : ℕ) → r < k → slotAt t r .number ≡ number → ((i : ℕ) → i < r → slotAt t i .number ≡ number → ⊥) → transitMessage number (slots k t) ≡ some (slotAt t r .message)
+unfolding slots rows transitMessage
+transit-at zero t r number h e d = absurd (omega arith)
+transit-at (suc k) t zero number h e d = rw (eq-eqb (slotOf (take 7 t) .number) number e)
+transit-at (suc k) t (suc r) number h e d =
     rw (ne-eqb (slotOf (take 7 t) .number) number (d 0 (omega arith)), ← slot-behind t r)
-    (kept-at k (drop 7 t) r number (omega arith) (ap (λ (x : InTransit). x .number) (slot-behind t r) ∙ e) (λ i g q. d (suc i) (omega arith) (sym (ap (λ (x : InTransit). x .number) (slot-behind t i)) ∙ q)))
+    (transit-at k (drop 7 t) r number (omega arith) (ap (λ (x : InTransit). x .number) (slot-behind t r) ∙ e) (λ i g q. d (suc i) (omega arith) (sym (ap (λ (x : InTransit). x .number) (slot-behind t i)) ∙ q)))
 
 module _ (w : List ℕ) (i : ℕ) (ok : valid w ≡ true) (r : ℕ) where
   used : r ≤ lengthOf w → (r ≡ lengthOf w → ⊥) → r < lengthOf w
@@ -63,9 +63,9 @@ module _ (w : List ℕ) (i : ℕ) (ok : valid w ≡ true) (r : ℕ) where
           rw (F .found (settingOf w .n) (settingOf w .clients) (sentOf w) v taken-used, A (settingOf w .n) (settingOf w .clients) (sentOf w) (lengthOf w) v taken-used)
 
   module _ (F : FindsPresent i (lengthOf w) (take 3584 (drop 2769 w)) r) where
-    pub dropped-nothing : r ≡ lengthOf w → Nothing ≡ droppedOf i (kept i (view w .transit))
+    pub dropped-nothing : r ≡ lengthOf w → Nothing ≡ droppedOf i (transitMessage i (view w .transit))
     unfolding view transitWords
-    dropped-nothing e = rw (kept-none i _ (F .missing (settingOf w .n) (settingOf w .clients) (sentOf w) (facts w ok .transit) e))
+    dropped-nothing e = rw (transit-none i _ (F .missing (settingOf w .n) (settingOf w .clients) (sentOf w) (facts w ok .transit) e))
 
     module _ (n : r ≡ lengthOf w → ⊥) where
       pub dropped-used : r < lengthOf w
@@ -77,11 +77,11 @@ module _ (w : List ℕ) (i : ℕ) (ok : valid w ≡ true) (r : ℕ) where
           let o = valid-ordered (settingOf w .n) (settingOf w .clients) (sentOf w) (lengthOf w) (transitWords w) (facts w ok .transit) in
           omega (arith, o k r g dropped-used, F .numbered dropped-used, q, number-at (transitWords w) k, number-at (transitWords w) r)
 
-      pub dropped-found : (m : Message) → IsAt r (take 3584 (drop 2769 w)) m → Dropped i m ≡ droppedOf i (kept i (view w .transit))
+      pub dropped-found : (m : Message) → IsAt r (take 3584 (drop 2769 w)) m → Dropped i m ≡ droppedOf i (transitMessage i (view w .transit))
       unfolding view transitWords
       dropped-found m A =
           let v = facts w ok .transit in
-          rw (kept-at (lengthOf w) (transitWords w) r i dropped-used (F .numbered dropped-used) other, A (settingOf w .n) (settingOf w .clients) (sentOf w) (lengthOf w) v dropped-used)
+          rw (transit-at (lengthOf w) (transitWords w) r i dropped-used (F .numbered dropped-used) other, A (settingOf w .n) (settingOf w .clients) (sentOf w) (lengthOf w) v dropped-used)
 
 -- the row that sent message i: rows above s, up to r, are passed
 module _ (sent : List ℕ) (i : ℕ) where

@@ -28,7 +28,8 @@ use Rattle.layout.proofs.ValidLaws.{facts}
 use Rattle.changes.proofs.Messages.{lent-sized}
 use Rattle.bounded.specs.declared.Reply.the-variants as reply
 use Rattle.bounded.specs.Happens.{happens, Leaves, replyOf}
-use Rattle.picture.specs.Picture.{Pieces, waiting}
+use Rattle.frame.specs.Frame.{Pieces}
+use Rattle.picture.specs.Picture.{pendingArrow}
 use Rattle.rows.specs.Rows.{moved, badRow, refusedRow, acceptedRow, eventRow, lineRow, LineLeaves, pendingBelow}
 use Rattle.rows.specs.Crossings.{sentRow, crossing}
 use Rattle.rows.specs.declared.Crossing.{Crossing}
@@ -127,7 +128,7 @@ module _ (w : List ℕ) (i : ℕ) (ok : valid w ≡ true) (h : i < lengthOf w) w
     delivered-drawn e = rw (slot-delivered e)
 
     pub pending-drawn : (getD w (2769 + 7 * i + 1) 0 ≡ 1 → ⊥) → (clients row : ℕ) (m : Message) (s₁ : Sheet) → clients ≡ settingOf w .clients → row ≡ sentRow sent r (getD w (2769 + 7 * i) 0) →
-        IsAt i (take 3584 (drop 2769 w)) m → s₁ ≡ puts (waiting clients row (r + 1) (getD w (2769 + 7 * i) 0) m) s₀ → s₁ ≡ puts (pendingBelow (settingOf w .clients) sent r slot) s₀
+        IsAt i (take 3584 (drop 2769 w)) m → s₁ ≡ puts (pendingArrow clients row (r + 1) (getD w (2769 + 7 * i) 0) m) s₀ → s₁ ≡ puts (pendingBelow (settingOf w .clients) sent r slot) s₀
     unfolding pendingBelow
     pending-drawn ne clients row m s₁ k q A p =
         rw (slot-pending ne, ← slot-number, ← slot-message m A, ← k, ← q) p

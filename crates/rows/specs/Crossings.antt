@@ -14,9 +14,9 @@ use Rattle.rows.specs.declared.Crossing.{Crossing}
 use Rattle.rows.specs.declared.Crossing.the-variants.{Taken, Dropped, Nothing}
 
 -- the message with number i, pending or delivered
-unfoldable pub kept : ℕ → List InTransit → Option Message
-kept i [] = none
-kept i (x ∷ l) = if eqb (x .number) i then some (x .message) else kept i l
+unfoldable pub transitMessage : ℕ → List InTransit → Option Message
+transitMessage i [] = none
+transitMessage i (x ∷ l) = if eqb (x .number) i then some (x .message) else transitMessage i l
 
 abbrev pub takenOf : ℕ → Option Message → Crossing
 takenOf i none = Nothing
@@ -34,7 +34,7 @@ crossing u (Fall k) = Nothing
 crossing u (Down j) = Nothing
 crossing u (Up j) = Nothing
 crossing u (Take i) = takenOf (i .0) (pending (i .0) (u .transit))
-crossing u (Drop i) = droppedOf (i .0) (kept (i .0) (u .transit))
+crossing u (Drop i) = droppedOf (i .0) (transitMessage (i .0) (u .transit))
 crossing u (Miss j) = Nothing
 crossing u (Check j) = Nothing
 

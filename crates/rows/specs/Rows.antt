@@ -16,7 +16,8 @@ use Rattle.system.specs.Runs.{after}
 use Rattle.system.specs.declared.Event.{Event}
 use Rattle.layout.specs.Layout.{Setting, settingOf, view}
 use Rattle.bounded.specs.Happens.{happens, Leaves}
-use Rattle.picture.specs.Picture.{Pieces, front, clientLine, bar, serverLine, band, arrow, dropped, waiting, mark, accepted, refused, event}
+use Rattle.frame.specs.Frame.{Pieces, front}
+use Rattle.picture.specs.Picture.{clientLine, bar, serverLine, band, arrow, dropped, pendingArrow, mark, accepted, refused, event}
 use Rattle.rows.specs.Crossings.{sentRow, crossing}
 use Rattle.rows.specs.declared.Crossing.{Crossing}
 use Rattle.rows.specs.declared.Crossing.the-variants.{Taken, Dropped, Nothing}
@@ -81,4 +82,4 @@ LineLeaves w Bad w′ = w′ ≡ w
 -- message x of a simulation with c clients, below the last row r; one that is delivered is not drawn
 unfoldable pub pendingBelow : ℕ → List ℕ → ℕ → InTransit → Pieces
 pendingBelow c sent r x =
-    if x .delivered then [] else waiting c (sentRow sent r (x .number)) (r + 1) (x .number) (x .message)
+    if x .delivered then [] else pendingArrow c (sentRow sent r (x .number)) (r + 1) (x .number) (x .message)

@@ -12,7 +12,7 @@ ghost use Rattle.transit.specs.Slots.{slotAt};
 ghost use Rattle.language.specs.Lines.{eventIn, lineOf};
 ghost use Rattle.bounded.specs.Happens.{happens, Leaves};
 ghost use Rattle.rows.specs.Rows.{clientStretch, clients as clientsOf, serverStretch, servers as serversOf, state, head, moved, badRow, refusedRow, acceptedRow, eventRow, lineRow, LineLeaves, pendingBelow};
-ghost use Rattle.rows.specs.Crossings.{kept, takenOf, droppedOf, crossing, sentRow};
+ghost use Rattle.rows.specs.Crossings.{transitMessage, takenOf, droppedOf, crossing, sentRow};
 use ids::Refusal;
 use language::Line;
 use simulation::Reply;
@@ -159,7 +159,7 @@ fn taken_by(w: &[u32], i: u32) -> Crossing
 
 fn dropped_by(w: &[u32], i: u32) -> Crossing
     requires { ⌜ valid (now w) ≡ true ⌝ }
-    ensures { λ c. ⌜ c ≡ droppedOf i (kept i (view (now (w .entry)) .transit)) ⌝ }
+    ensures { λ c. ⌜ c ≡ droppedOf i (transitMessage i (view (now (w .entry)) .transit)) ⌝ }
 {
     let len = w[4] as usize;
     let slot = transit::find_present(&w[2769..6353], len, i);
@@ -244,7 +244,7 @@ pub fn draw_slot(w: &[u32], sent: &[u32], out: &mut [u8], i: usize, r: u16) -> u
     }
     let number = w[2769 + 7 * i];
     let m = transit::message_at(&w[2769..6353], i);
-    picture::draw_waiting(
+    picture::draw_pending(
         out,
         0,
         clients_in(w),
@@ -260,6 +260,6 @@ pub fn draw_head(w: &[u32], out: &mut [u8], rows: u16) -> usize
     requires { ⌜ (valid (now w) ≡ true) × (rows ≤ 400) ⌝ }
     ensures { λ p. ⌜ sheet (now (out .exit)) p ≡ puts (head (settingOf (now (w .entry))) (view (now (w .entry))) rows) (sheet (now (out .entry)) 0) ⌝ }
 {
-    let a = picture::draw_front(out, 0, w[3] as u16, w[0] as u16, w[1], w[2], rows);
+    let a = frame::draw_front(out, 0, w[3] as u16, w[0] as u16, w[1], w[2], rows);
     draw_state(w, out, a, 0)
 }

@@ -164,7 +164,7 @@ module _ (number len : ℕ) (t : List ℕ) (r : ℕ) (B : Bound number len t r) 
         record {
           within = omega arith;
           numbered = λ h. absurd (omega arith);
-          waiting = λ h. absurd (omega arith);
+          isPending = λ h. absurd (omega arith);
           found = λ n clients sent ok h. absurd (omega arith);
           missing = λ n clients sent ok h. pending-absent number len t (none-in-all (valid-ordered n clients sent len t ok));
         }
@@ -184,7 +184,7 @@ module _ (number len : ℕ) (t : List ℕ) (r : ℕ) (B : Bound number len t r) 
         record {
           within = omega arith;
           numbered = λ h. absurd (omega arith);
-          waiting = λ h. absurd (omega arith);
+          isPending = λ h. absurd (omega arith);
           found = λ n clients sent ok h. absurd (omega arith);
           missing = λ n clients sent ok h. pending-absent number len t (none-at-all (valid-ordered n clients sent len t ok) other);
         }
@@ -228,7 +228,7 @@ module _ (number len : ℕ) (t : List ℕ) (r : ℕ) (B : Bound number len t r) 
         record {
           within = omega arith;
           numbered = λ h. absurd (omega arith);
-          waiting = λ h. absurd (omega arith);
+          isPending = λ h. absurd (omega arith);
           found = λ n clients sent ok h. absurd (omega arith);
           missing = λ n clients sent ok h.
               let o = valid-ordered n clients sent len t ok in
@@ -243,7 +243,7 @@ module _ (number len : ℕ) (t : List ℕ) (r : ℕ) (B : Bound number len t r) 
         record {
           within = omega arith;
           numbered = λ h. its-number;
-          waiting = λ h. d;
+          isPending = λ h. d;
           found = λ n clients sent ok h.
               from-here (valid-ordered n clients sent len t ok) (len - suc r) (omega arith) ∙ pending-here number (slotAt t r) (slots (len - suc r) (drop (7 * suc r) t)) its-number d;
           missing = λ n clients sent ok h. absurd (omega arith);

@@ -24,7 +24,7 @@ Valid n clients sent len t = validSlots n clients sent len t ≡ true
 pub record FindsPending (number len : ℕ) (t : List ℕ) (r : ℕ) : Type 0 where
   pub within : r ≤ len
   pub numbered : r < len → slotAt t r .number ≡ number
-  pub waiting : r < len → slotAt t r .delivered ≡ false
+  pub isPending : r < len → slotAt t r .delivered ≡ false
   pub found : (n clients sent : ℕ) → Valid n clients sent len t → r < len → pending number (slots len t) ≡ some (slotAt t r .message)
   pub missing : (n clients sent : ℕ) → Valid n clients sent len t → r ≡ len → pending number (slots len t) ≡ none
 

@@ -1,5 +1,5 @@
 -- `picture::draw_band` meets its contract: the box and its words, or nothing.
-use Rattle.picture.proofs.PictureLaws.{puts-none}
+use Rattle.frame.proofs.FrameLaws.{puts-none}
 use borrow.Author.Tests.{lt-ltb, le-ltb}
 use Rattle.picture.specs.Picture.{band}
 use Rattle.sheet.proofs.SheetLaws.{then}

@@ -1,5 +1,5 @@
 -- `picture::draw_bar` meets its contract: the box, or nothing.
-use Rattle.picture.proofs.PictureLaws.{puts-none}
+use Rattle.frame.proofs.FrameLaws.{puts-none}
 use Rattle.picture.specs.Picture.{bar}
 use borrow.Author.Needs.{needs}
 use Rattle.picture.proofs.draw_bar.Statement.{statement}

@@ -1,5 +1,5 @@
 -- `picture::draw_mark` meets its contract: each arm is one case of the definition.
-use Rattle.picture.proofs.PictureLaws.{puts-none}
+use Rattle.frame.proofs.FrameLaws.{puts-none}
 use Rattle.picture.specs.Picture.{mark}
 use borrow.Author.Needs.{needs}
 use Rattle.picture.proofs.draw_mark.Statement.{statement}

@@ -56,11 +56,11 @@ clients-in-requires c κs = search needs
 row-of-requires : tie.Need-row-of-requires
 row-of-requires c κs = search needs
 
-add-draw-waiting : tie.Need-add-draw-waiting
-add-draw-waiting c = search needs
+add-draw-pending : tie.Need-add-draw-pending
+add-draw-pending c = search needs
 
-draw-waiting-requires : tie.Need-draw-waiting-requires
-draw-waiting-requires c κs = search needs
+draw-pending-requires : tie.Need-draw-pending-requires
+draw-pending-requires c κs = search needs
 
 same-length : tie.Need-same-length
 same-length c = search needs
@@ -68,7 +68,7 @@ same-length c = search needs
 returns-2 : tie.Need-returns-2
 returns-2 c =
     pending-drawn (now (c .before .before .before .before .before .before .before .before .before .before .before .before .before .before .args .w)) (c .before .before .before .before .before .before .before .before .before .before .before .before .before .before .args .i) (c .before .before .before .before .before .before .before .before .before .before .before .before .before .before .pre .0) (c .before .before .before .before .before .before .before .before .before .before .before .before .before .before .pre .3) _ _ _ (c .before .before .before .before .before .before .before .before .before .if1 .left) _ _ _ _
-    (c .before .before .before .before .clients-in .ensures) (c .before .before .before .row-of .ensures) (c .before .before .before .before .before .before .message-at .ensures) (c .before .before .draw-waiting .ensures)
+    (c .before .before .before .before .clients-in .ensures) (c .before .before .before .row-of .ensures) (c .before .before .before .before .before .before .message-at .ensures) (c .before .before .draw-pending .ensures)
 
 pub draw-slot-spec : {M : Type 1} → statement M
 draw-slot-spec =
@@ -90,7 +90,7 @@ draw-slot-spec =
     message-at-requires
     clients-in-requires
     row-of-requires
-    add-draw-waiting
-    draw-waiting-requires
+    add-draw-pending
+    draw-pending-requires
     same-length
     returns-2)

@@ -1,0 +1,276 @@
+//! Tries wrong answers, which the prover must refuse: the edits in crates/NAME/must-fail/quick, written like the kit's own.
+//! `cargo run --release --bin wrong [NAME..]`, behind `rt check`.
+//!
+//! The kit proves the whole crate again for each of its edits. Here only what an edit touches is proved again, over the modules that
+//! `rt check` has just proved. A function's body is refused in that function's own proof, whatever else is wrong in the crate, for its
+//! callers know only its contract: so bodies of different functions are edited in one run, and each must be refused at its own function.
+//! An edit of a definition, of a constant, or of a function whose proof the prover finds by itself is tried alone. The refusal must be
+//! the edit's doing: in a run of bodies nothing else may be refused, in any other some modules must be taken over as they were proved.
+//! And it must not be that the proof only no longer fits the code's shape.
+
+use std::collections::VecDeque;
+use std::fs;
+use std::path::{Path, PathBuf};
+use std::process::{exit, Command};
+use std::sync::Mutex;
+use std::time::Instant;
+
+/// What the prover says where a proof only no longer fits the code: such a refusal shows nothing.
+const SHAPE: [&str; 5] =
+    ["that can be named from here", "expected type `tie.Need", "has no field", "needs a function", "binders, but"];
+
+struct Change {
+    file: String,
+    old: String,
+    new: String,
+}
+
+struct Edit {
+    name: String,
+    changes: Vec<Change>,
+    /// The functions whose bodies it changes, if it changes nothing else and each has a proof of its own.
+    functions: Option<Vec<String>>,
+}
+
+/// Edits of one crate that are tried in one run.
+struct Run {
+    krate: String,
+    edits: Vec<Edit>,
+}
+
+/// The kit, the repository, and the name of the folder in which the kit keeps what is proved.
+struct Place {
+    kit: PathBuf,
+    root: PathBuf,
+    folder: String,
+}
+
+fn read(path: &Path) -> String {
+    fs::read_to_string(path).unwrap_or_else(|e| panic!("{}: {e}", path.display()))
+}
+
+fn entries(folder: &Path) -> Vec<PathBuf> {
+    let mut all: Vec<PathBuf> = fs::read_dir(folder).into_iter().flatten().map(|entry| entry.expect("an entry").path()).collect();
+    all.sort();
+    all
+}
+
+fn copy(from: &Path, to: &Path) {
+    if from.is_dir() {
+        fs::create_dir_all(to).expect("a folder");
+        for entry in entries(from) {
+            copy(&entry, &to.join(entry.file_name().expect("a name")));
+        }
+    } else if from.exists() {
+        fs::copy(from, to).expect("a copy");
+    }
+}
+
+/// The text with `old`, which stands in it once, replaced; and where it stood.
+fn replaced(text: &str, change: &Change) -> Option<(String, usize)> {
+    let at = text.find(&change.old)?;
+    let again = text[at + 1..].contains(&change.old);
+    (!again).then(|| (text.replacen(&change.old, &change.new, 1), at))
+}
+
+/// The function in whose body this place stands.
+fn function_at(text: &str, at: usize) -> Option<String> {
+    let before = &text[..at + text[at..].find('\n').unwrap_or(0)];
+    let start = before.rfind("\nfn ").max(before.rfind("\npub fn ")).max(before.rfind("\npub extern \"C\" fn "))?;
+    let function = &before[start..];
+    let in_body = function.contains("{\n") && !function.contains("\n}");
+    let name = function.split_once("fn ")?.1.split('(').next()?;
+    let line = before.rsplit('\n').next().unwrap_or_default();
+    (in_body && !line.contains("ensures") && !line.contains("requires")).then(|| name.to_string())
+}
+
+impl Edit {
+    fn new(krate: &Path, path: &Path) -> Edit {
+        let (mut file, mut old, mut changes) = (String::new(), String::new(), vec![]);
+        for line in read(path).lines() {
+            if let Some(rest) = line.strip_prefix("file: ") {
+                file = rest.to_string();
+            } else if let Some(rest) = line.strip_prefix("old: ") {
+                old = rest.to_string();
+            } else if let Some(rest) = line.strip_prefix("new: ") {
+                changes.push(Change { file: file.clone(), old: old.clone(), new: rest.to_string() });
+            }
+        }
+        let name = path.file_stem().expect("a name").to_string_lossy().into_owned();
+        let functions = Edit::bodies(krate, &changes);
+        Edit { name, changes, functions }
+    }
+
+    fn bodies(krate: &Path, changes: &[Change]) -> Option<Vec<String>> {
+        let mut text = read(&krate.join("src/lib.rt"));
+        let mut functions = vec![];
+        for change in changes {
+            if change.file != "src/lib.rt" {
+                return None;
+            }
+            let (next, at) = replaced(&text, change)?;
+            functions.push(function_at(&text, at)?);
+            text = next;
+        }
+        functions.sort();
+        functions.dedup();
+        functions.iter().all(|f| krate.join("proofs").join(f).join("Proof.antt").exists()).then_some(functions)
+    }
+
+    /// Makes the edit in a copy of the crate. Whether it could be made, and changed something.
+    fn make(&self, copy: &Path) -> bool {
+        let make = |change: &Change| {
+            let path = copy.join(&change.file);
+            let text = fs::read_to_string(&path).ok().and_then(|text| replaced(&text, change));
+            text.is_some_and(|(text, _)| fs::write(path, text).is_ok())
+        };
+        !self.changes.is_empty() && self.changes.iter().all(make)
+    }
+
+    /// Whether a refusal is this edit's own: of bodies, one in the proof of a function that it changes.
+    fn owns(&self, refusal: &str) -> bool {
+        let of = |f: &String| refusal.contains(&format!("/proofs/{f}/Proof.antt:"));
+        self.functions.as_ref().map_or(true, |functions| functions.iter().any(of))
+    }
+}
+
+/// What the prover refuses, but for what only rests on something refused.
+fn refusals(log: &str) -> Vec<&str> {
+    let refused = |line: &&str| {
+        line.contains(": error: ") && !line.contains("was not admitted") || line.contains("`search` does not close")
+    };
+    log.lines().filter(refused).collect()
+}
+
+/// The edits of a crate, as few runs as keep apart what changes the same function.
+fn runs(root: &Path, krate: &str) -> Vec<Run> {
+    let folder = root.join("crates").join(krate);
+    let mut runs: Vec<Run> = vec![];
+    for path in entries(&folder.join("must-fail/quick")) {
+        let edit = Edit::new(&folder, &path);
+        let apart = |other: &Edit| match (&edit.functions, &other.functions) {
+            (Some(ours), Some(theirs)) => ours.iter().all(|f| !theirs.contains(f)),
+            _ => false,
+        };
+        match runs.iter_mut().find(|run| run.edits.iter().all(apart)) {
+            Some(run) => run.edits.push(edit),
+            None => runs.push(Run { krate: krate.to_string(), edits: vec![edit] }),
+        }
+    }
+    runs
+}
+
+impl Place {
+    /// Proves the crate in a folder, taking from its `inc` what is proved there: the exit status, and what was said.
+    fn prove(&self, krate: &str, folder: &Path) -> (Option<i32>, String) {
+        let own = self.kit.join("on").join(std::env::consts::ARCH);
+        let ours = self.root.join("target/rlib");
+        let list = read(&self.root.join("crates.txt"));
+        let needs = list.lines().find_map(|line| line.strip_prefix(krate)?.strip_prefix(':')).unwrap_or_default();
+        let mut command = Command::new(own.join("bin/rattle"));
+        command.args(["check", "--crate-name", krate]).arg(folder.join("src/lib.rt"));
+        for name in needs.split_whitespace().chain(["std"]) {
+            let rlib = format!("{name}.rlib");
+            let path = if ours.join(&rlib).exists() { ours.join(rlib) } else { own.join("rlib").join(rlib) };
+            command.arg("--extern").arg(format!("{name}={}", path.display()));
+        }
+        for path in [&ours, &own.join("rlib")] {
+            command.arg("-L").arg(format!("dependency={}", path.display()));
+        }
+        command.arg("--antt-project").arg(self.kit.join("logic/antt-project.json"));
+        command.arg("--logic-built").arg(own.join("logic-built")).arg("--incremental").arg(folder.join("inc"));
+        let output = command.output().expect("the prover runs");
+        let said = [output.stdout, output.stderr].map(|bytes| String::from_utf8_lossy(&bytes).into_owned()).concat();
+        (output.status.code(), said)
+    }
+
+    /// A copy of a crate, with the modules that are proved of it.
+    fn copy_of(&self, krate: &str, name: &str) -> PathBuf {
+        let folder = self.root.join("target/wrong").join(krate).join(name);
+        for part in ["src", "specs", "proofs"] {
+            copy(&self.root.join("crates").join(krate).join(part), &folder.join(part));
+        }
+        let proved = self.root.join("target/rlib").join(format!("{krate}.rlib")).join("toolchain/checked");
+        copy(&proved, &folder.join("inc").join(&self.folder));
+        folder
+    }
+
+    /// What came of each edit of a run, and whether it was refused as it must be.
+    fn tried(&self, run: &Run) -> Vec<(bool, String)> {
+        let folder = self.copy_of(&run.krate, &run.edits[0].name);
+        let began = Instant::now();
+        let made: Vec<bool> = run.edits.iter().map(|edit| edit.make(&folder)).collect();
+        let (status, log) = self.prove(&run.krate, &folder);
+        fs::write(folder.join("log"), &log).expect("the log is kept");
+        fs::remove_dir_all(folder.join("inc")).expect("the modules go");
+        let refused = refusals(&log);
+        let taken_over = format!("crate {}: modules loaded=", run.krate);
+        let judged = status == Some(1)
+            && log.lines().any(|line| line == "logic=not-proved")
+            && log.lines().any(|line| line.starts_with(&taken_over) && !line.contains("loaded=0 "))
+            && refused.iter().all(|refusal| run.edits.iter().any(|edit| edit.owns(refusal)));
+        let prefix = format!("{}/", folder.display());
+        let verdict = |(edit, made): (&Edit, bool)| {
+            let refusal = refused.iter().find(|refusal| edit.owns(refusal)).copied().unwrap_or_default();
+            let said = match () {
+                _ if !made => "BAD EDIT".to_string(),
+                _ if refusal.is_empty() => "NOT REFUSED".to_string(),
+                _ if !judged => "REFUSED FOR SOMETHING ELSE".to_string(),
+                _ if SHAPE.iter().any(|words| refusal.contains(words)) => "SHOWS NOTHING".to_string(),
+                _ => {
+                    let place = refusal.strip_prefix(&prefix).unwrap_or(refusal).split(": ").next().unwrap_or_default();
+                    format!("refused, as it must be (first at {place})")
+                }
+            };
+            (said.starts_with("refused"), format!("{}/{}: {said}", run.krate, edit.name))
+        };
+        let mut all: Vec<(bool, String)> = run.edits.iter().zip(made).map(verdict).collect();
+        if let Some((_, line)) = all.last_mut() {
+            *line += &format!(", {} s", began.elapsed().as_secs());
+        }
+        all
+    }
+}
+
+fn place() -> Place {
+    let guide = Command::new("rt").arg("doc").output().expect("the kit's rt").stdout;
+    let guide = PathBuf::from(String::from_utf8_lossy(&guide).trim());
+    let kit = guide.ancestors().nth(2).expect("the kit's folder").to_path_buf();
+    let root = Path::new(env!("CARGO_MANIFEST_DIR")).parent().expect("tests/ has a parent").to_path_buf();
+    fs::remove_dir_all(root.join("target/wrong")).ok();
+    let mut place = Place { kit, root, folder: "none".to_string() };
+    // The folder's name is the kit's own: a small crate shows it.
+    let small = place.copy_of("regions", "none");
+    assert_eq!(place.prove("regions", &small).0, Some(0), "a crate without an edit is proved");
+    let made = entries(&small.join("inc")).into_iter().find(|path| !path.ends_with("none")).expect("a folder of modules");
+    place.folder = made.file_name().expect("a name").to_string_lossy().into_owned();
+    place
+}
+
+fn main() {
+    let place = place();
+    let mut names: Vec<String> = std::env::args().skip(1).collect();
+    if names.is_empty() {
+        let folders = entries(&place.root.join("crates"));
+        names = folders.iter().map(|path| path.file_name().expect("a name").to_string_lossy().into_owned()).collect();
+    }
+    let waiting: Mutex<VecDeque<Run>> = Mutex::new(names.iter().flat_map(|name| runs(&place.root, name)).collect());
+    let tried: Mutex<Vec<(bool, String)>> = Mutex::new(vec![]);
+    std::thread::scope(|scope| {
+        for _ in 0..std::thread::available_parallelism().map_or(1, |n| n.get()) {
+            scope.spawn(|| loop {
+                let next = waiting.lock().expect("no worker failed").pop_front();
+                let Some(run) = next else { return };
+                let verdicts = place.tried(&run);
+                for (_, line) in &verdicts {
+                    println!("wrong: {line}");
+                }
+                tried.lock().expect("no worker failed").extend(verdicts);
+            });
+        }
+    });
+    let tried = tried.into_inner().expect("no worker failed");
+    let refused = tried.iter().filter(|(ok, _)| *ok).count();
+    println!("wrong: {refused} of {} refused, as they must be", tried.len());
+    exit(i32::from(refused != tried.len()));
+}
