@@ -8,8 +8,14 @@ Fits most Failed = Unit {0}
 Fits most End = Unit {0}
 Fits most (Bytes n) = n ≤ most
 
--- and a part that is read has a byte
+-- a part that is read has a byte
 abbrev pub Some : Input → Type 0
 Some Failed = Unit {0}
 Some End = Unit {0}
 Some (Bytes n) = 0 < n
+
+-- the whole input has an end, and is its bytes
+abbrev pub Whole : ℕ → Input → Type 0
+Whole most Failed = Unit {0}
+Whole most End = ⊥
+Whole most (Bytes n) = n ≤ most

@@ -1,11 +1,11 @@
 // Standard input, output and error, for the programs. Where the system fails, standard error says so. No contract can speak of what a
 // call of C reads or writes: these say only that what was read lies within what was lent.
-ghost use Prim.Native.Nat.{_≤_};
 ghost use lib.ListN.{length};
-ghost use Rattle.console.specs.Fits.{Fits, Some};
+ghost use Rattle.console.specs.Fits.{Fits, Some, Whole};
 use libc::STDIN_FILENO;
 
-// What reading gave: the system failed; the input has ended; so many bytes at the start of what was lent.
+// What reading gave: the system failed; the input has ended; so many bytes at the start of what was lent. Which of them is the
+// system's to say.
 pub enum Input {
     Failed,
     End,
@@ -39,7 +39,7 @@ pub fn read_some(part: &mut [u8]) -> Input
 
 // What `fill` says of `n` bytes where a read gave no more.
 fn filled(last: Input, n: usize) -> Input
-    ensures { λ r. ⌜ Fits n r ⌝ }
+    ensures { λ r. ⌜ Whole n r ⌝ }
 {
     match last {
         Input::Failed => Input::Failed,
@@ -50,7 +50,7 @@ fn filled(last: Input, n: usize) -> Input
 
 // All that there is, or as much of it as there is room for.
 pub fn fill(buf: &mut [u8]) -> Input
-    ensures { λ r. ⌜ Fits (length (now (buf .entry))) r ⌝ }
+    ensures { λ r. ⌜ Whole (length (now (buf .entry))) r ⌝ }
 {
     let mut n: usize = 0;
     while n < buf.len() {

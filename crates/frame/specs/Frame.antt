@@ -1,7 +1,7 @@
 -- The frame of a picture, as pieces of text in the order in which they are put on the sheet; the sheet puts each that fits whole.
 -- Time runs down, a row an event: row r stands at height `rowY r`, row 0 is the start. At the left the event and its answer, then a line
 -- for each client, then one for each server.
-use Prim.Native.Nat.{ℕ, zero, suc, _+_, _-_, _*_, _/_, _%_}
+use Prim.Native.Nat.{ℕ, zero, suc, _+_, _*_}
 use mathlib.Core.List.{List, [], _∷_, _++_}
 use Rattle.language.specs.Decimals.{decimal}
 use Rattle.language.specs.Words.{text}

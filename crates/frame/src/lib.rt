@@ -1,7 +1,6 @@
 // The frame of a message sequence chart, as SVG: where things stand, the shapes and texts it is drawn with, and all that stands above
 // its lines. Each function puts the pieces of one definition of specs/Frame behind what is on the sheet, so none asks for room.
 ghost use mathlib.Core.Path.{_≡_};
-ghost use mathlib.Core.List.{[], _∷_};
 ghost use Prim.Native.Nat.{_≤_};
 ghost use Rattle.sheet.specs.Sheet.{sheet, puts};
 ghost use Rattle.frame.specs.Frame.{clientX, serverX, rowY, line, box, dot, openText, word, numbered, opening, lineStyle, textStyle, top, clientHeads, serverHeads, front};

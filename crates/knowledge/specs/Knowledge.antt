@@ -7,7 +7,6 @@
 --   kiosk 2 remainder ticket 0
 --   kiosk 3 fallen
 use Prim.Native.Nat.{ℕ, zero, suc}
-use mathlib.Core.Bool.{Bool}
 use mathlib.Core.List.{List, [], _∷_, _++_}
 use Rattle.ids.specs.Choice.{if_then_else_}
 use Rattle.ids.specs.Requests.{isRequest, byOwner}

@@ -2,9 +2,8 @@
 // `put_slips` is for `slips`, whose script has a valid simulation.
 ghost use mathlib.Core.Path.{_≡_};
 ghost use mathlib.Core.Bool.{true};
-ghost use mathlib.Core.List.{[], _∷_, _++_, map};
-ghost use Prim.Native.Nat.{_≤_, _<_};
-ghost use lib.ListN.{length, take};
+ghost use mathlib.Core.List.{[], _∷_};
+ghost use Prim.Native.Nat.{_≤_};
 ghost use Rattle.changes.specs.Changes.{HasClient, HasServer};
 ghost use Rattle.client.specs.Record.{shown, view as clientView};
 ghost use Rattle.ids.specs.Choice.{if_then_else_};
@@ -20,7 +19,6 @@ use client::Section;
 use ids::ClientId;
 use ids::Owner;
 use ids::Request;
-use server::Server;
 use votes::Queue;
 use votes::Votes;
 

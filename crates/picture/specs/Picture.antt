@@ -5,7 +5,7 @@
 -- A message is an arrow from its sender's line at the row that sent it to its receiver's at the row that took it, with its number
 -- and kind beside its end. A dropped one ends half way in a cross, a pending one is dotted down to below the last row.
 -- What a party does by itself is a dot on its line with the event's word. A refused event is its line and its answer in red, a bad line its answer alone.
-use Prim.Native.Nat.{ℕ, zero, suc, _+_, _-_, _*_, _/_, _%_}
+use Prim.Native.Nat.{ℕ, _+_, _-_, _*_, _/_, _%_}
 use mathlib.Core.Bool.{Bool}
 use mathlib.Core.List.{List, [], _∷_, _++_}
 use lib.Dec.{ltb}
@@ -18,7 +18,7 @@ use Rattle.system.specs.declared.Event.{Event}
 use Rattle.system.specs.declared.Event.the-variants.{Try, Exit, Fall, Down, Up, Take, Drop, Miss, Check}
 use Rattle.language.specs.Decimals.{decimal}
 use Rattle.language.specs.Words.{text}
-use Rattle.frame.specs.Frame.{Pieces, clientX, serverX, rowY, line, box, dot, openText, word, numbered}
+use Rattle.frame.specs.Frame.{Pieces, clientX, serverX, rowY, line, box, dot, openText, word}
 
 -- the state below row r -------------------------------------------------------------------------------------------------------
 

@@ -4,7 +4,6 @@ ghost use mathlib.Core.Path.{_≡_};
 ghost use mathlib.Core.List.{[], _∷_};
 ghost use Prim.Native.Nat.{_≤_};
 ghost use Rattle.sheet.specs.Sheet.{sheet, puts};
-ghost use Rattle.frame.specs.Frame.{line, dot, word};
 ghost use Rattle.picture.specs.Picture.{clientLine, bar, serverLine, band, senderX, receiverX, kindWord, label, openLabel, arrow, cross, dropped, pendingArrow, clientAct, serverAct, mark, accepted, refused, event};
 use ids::Refusal;
 use system::Event;

@@ -1,15 +1,15 @@
 -- The margin as a difference of two numbers, and a run's lines one behind the other.
-use mathlib.Core.Path.{_≡_, refl, sym, _∙_}
+use mathlib.Core.Path.{_≡_}
 use Prim.Native.Nat.{ℕ, suc, _+_, _-_, _*_, _≤_, _<_}
 use native.Mathlib.Omega.{arith}
 use native.Mathlib.Numerals.{add-one}
 use mathlib.Core.Bool.{Bool, true, false, not}
-use mathlib.Core.List.{List, [], _∷_, _++_, append-assoc}
-use lib.IntN.{subℕ, pos, negsuc}
+use mathlib.Core.List.{[], _∷_, _++_}
+use lib.IntN.{subℕ}
 use lib.ListN.{length}
 use borrow.Author.Tests.{lt-ltb, le-ltb}
 use Rattle.language.specs.Decimals.{decimal}
-use Rattle.language.specs.Words.{text, newline}
+use Rattle.language.specs.Words.{text}
 use Rattle.language.specs.Printed.{settingLine}
 use Rattle.language.proofs.DecimalLaws.{decimal-short}
 use Rattle.language.proofs.PrintedLaws.{length-setting}
@@ -19,7 +19,7 @@ use Rattle.ids.proofs.Choice.{fails, holds}
 use Rattle.quorum.proofs.CheckLaws.{margin-difference}
 use Rattle.sheet.specs.Sheet.{Sheet, puts, ends}
 use Rattle.sheet.proofs.SheetLaws.{then}
-use Rattle.screen.specs.Screen.{signed, marginText, askedText, runText, opening, openingText, scriptText}
+use Rattle.screen.specs.Screen.{signed, marginText, askedText, runText, opening}
 
 module _ (a b : ℕ) where
   pub signed-below : a < b → signed (subℕ a b) ≡ text "-" ∷ decimal (b - a) ∷ []

@@ -5,8 +5,9 @@
 //! `rt check` has just proved. A function's body is refused in that function's own proof, whatever else is wrong in the crate, for its
 //! callers know only its contract: so bodies of different functions are edited in one run, and each must be refused at its own function.
 //! An edit of a definition, of a constant, or of a function whose proof the prover finds by itself is tried alone. The refusal must be
-//! the edit's doing: in a run of bodies nothing else may be refused, in any other some modules must be taken over as they were proved.
-//! And it must not be that the proof only no longer fits the code's shape.
+//! the edit's doing: of bodies, in the functions that are edited and nowhere else; of a definition, in a proof and not in the definition
+//! itself. Modules must have been taken over as they were proved. And the refusal must not be that a proof only no longer fits the
+//! code's shape.
 
 use std::collections::VecDeque;
 use std::fs;
@@ -28,8 +29,10 @@ struct Change {
 struct Edit {
     name: String,
     changes: Vec<Change>,
-    /// The functions whose bodies it changes, if it changes nothing else and each has a proof of its own.
+    /// The functions whose bodies it changes, if it changes nothing else.
     functions: Option<Vec<String>>,
+    /// Whether it can be tried beside others: each of these functions has a proof of its own.
+    sociable: bool,
 }
 
 /// Edits of one crate that are tried in one run.
@@ -94,11 +97,15 @@ impl Edit {
                 old = rest.to_string();
             } else if let Some(rest) = line.strip_prefix("new: ") {
                 changes.push(Change { file: file.clone(), old: old.clone(), new: rest.to_string() });
+            } else {
+                assert!(line.is_empty() || line.starts_with('#'), "{}: {line}", path.display());
             }
         }
         let name = path.file_stem().expect("a name").to_string_lossy().into_owned();
         let functions = Edit::bodies(krate, &changes);
-        Edit { name, changes, functions }
+        let proof = |f: &String| krate.join("proofs").join(f).join("Proof.antt").exists();
+        let sociable = functions.as_ref().is_some_and(|functions| functions.iter().all(proof));
+        Edit { name, changes, functions, sociable }
     }
 
     fn bodies(krate: &Path, changes: &[Change]) -> Option<Vec<String>> {
@@ -114,7 +121,7 @@ impl Edit {
         }
         functions.sort();
         functions.dedup();
-        functions.iter().all(|f| krate.join("proofs").join(f).join("Proof.antt").exists()).then_some(functions)
+        Some(functions)
     }
 
     /// Makes the edit in a copy of the crate. Whether it could be made, and changed something.
@@ -127,10 +134,10 @@ impl Edit {
         !self.changes.is_empty() && self.changes.iter().all(make)
     }
 
-    /// Whether a refusal is this edit's own: of bodies, one in the proof of a function that it changes.
+    /// Whether a refusal is this edit's own: of bodies, one of a function that it changes; of a definition, one in a proof.
     fn owns(&self, refusal: &str) -> bool {
-        let of = |f: &String| refusal.contains(&format!("/proofs/{f}/Proof.antt:"));
-        self.functions.as_ref().map_or(true, |functions| functions.iter().any(of))
+        let of = |f: &String| refusal.contains(&format!("/proofs/{f}/Proof.antt:")) || refusal.contains(&format!("::{f}: no proof"));
+        self.functions.as_ref().map_or(!refusal.contains("/specs/"), |functions| functions.iter().any(of))
     }
 }
 
@@ -149,7 +156,7 @@ fn runs(root: &Path, krate: &str) -> Vec<Run> {
     for path in entries(&folder.join("must-fail/quick")) {
         let edit = Edit::new(&folder, &path);
         let apart = |other: &Edit| match (&edit.functions, &other.functions) {
-            (Some(ours), Some(theirs)) => ours.iter().all(|f| !theirs.contains(f)),
+            (Some(ours), Some(theirs)) => edit.sociable && other.sociable && ours.iter().all(|f| !theirs.contains(f)),
             _ => false,
         };
         match runs.iter_mut().find(|run| run.edits.iter().all(apart)) {
@@ -208,7 +215,7 @@ impl Place {
         let judged = status == Some(1)
             && log.lines().any(|line| line == "logic=not-proved")
             && log.lines().any(|line| line.starts_with(&taken_over) && !line.contains("loaded=0 "))
-            && refused.iter().all(|refusal| run.edits.iter().any(|edit| edit.owns(refusal)));
+            && (!run.edits[0].sociable || refused.iter().all(|refusal| run.edits.iter().any(|edit| edit.owns(refusal))));
         let prefix = format!("{}/", folder.display());
         let verdict = |(edit, made): (&Edit, bool)| {
             let refusal = refused.iter().find(|refusal| edit.owns(refusal)).copied().unwrap_or_default();
@@ -272,5 +279,5 @@ fn main() {
     let tried = tried.into_inner().expect("no worker failed");
     let refused = tried.iter().filter(|(ok, _)| *ok).count();
     println!("wrong: {refused} of {} refused, as they must be", tried.len());
-    exit(i32::from(refused != tried.len()));
+    exit(i32::from(tried.is_empty() || refused != tried.len()));
 }

@@ -1,10 +1,10 @@
 -- `console::fill` meets its contract: what is read so far lies within the buffer, and each turn reads a byte at least.
 use denote.Ref.{now}
 use mathlib.Core.Path.{_≡_}
-use Prim.Native.Nat.{_≤_, _<_, _-_}
+use Prim.Native.Nat.{_≤_, _-_}
 use native.Mathlib.Omega.{arith}
 use lib.ListN.{length}
-use Rattle.console.proofs.InputLaws.{fits-bytes, some-bytes, fits-more}
+use Rattle.console.proofs.InputLaws.{fits-bytes, some-bytes, whole-more}
 use borrow.Author.Needs.{needs}
 use Rattle.console.proofs.fill.Statement.{statement}
 use Rattle.console.proofs.fill.Tie as tie
@@ -16,7 +16,7 @@ abbrev μ-loop : tie.MeasureT-loop
 μ-loop buf₀ n₀ buf n = length buf - n
 
 returns : tie.Need-returns Inv-loop μ-loop
-returns c = let l = c .before .before .before .before .before .before .before .loop in let x = c .before .before .before .before .before .before .before .before .before .args in fits-more (c .filled .result) (l .n) (length (now (x .buf))) (omega (arith, l .inv .1, l .inv .0)) (c .filled .ensures)
+returns c = let l = c .before .before .before .before .before .before .before .loop in let x = c .before .before .before .before .before .before .before .before .before .args in whole-more (c .filled .result) (l .n) (length (now (x .buf))) (omega (arith, l .inv .1, l .inv .0)) (c .filled .ensures)
 
 add-n : tie.Need-add-n Inv-loop μ-loop
 add-n c = let r = c .before .before .before .before .before .read-some .ensures in let e = c .before .more .given .1 in omega (arith, fits-bytes _ _ _ e (r .0))

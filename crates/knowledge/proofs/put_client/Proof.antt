@@ -1,7 +1,5 @@
 -- `knowledge::put_client` meets its contract: its block is its place.
 use Rattle.sheet.proofs.SheetLaws.{then}
-use native.Mathlib.Omega.{arith}
-use mathlib.Core.Path.{_≡_}
 use Rattle.knowledge.proofs.KnowledgeLaws.{client-held, servers-few, client-text}
 use Rattle.changes.proofs.Parties.{client-in}
 use borrow.Author.Needs.{needs}

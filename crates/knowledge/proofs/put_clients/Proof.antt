@@ -1,13 +1,11 @@
 -- `knowledge::put_clients` meets its contract: after k turns the first k stand there.
 use native.Mathlib.Omega.{arith}
-use denote.Ref.{now}
 use mathlib.Core.Path.{_≡_, refl}
 use lib.ListN.{length}
 use Prim.Native.Nat.{_-_, _≤_}
 use Rattle.knowledge.specs.Knowledge.{clientsText}
 use Rattle.knowledge.proofs.KnowledgeLaws.{clients-none, clients-more}
 use Rattle.layout.specs.Layout.{view}
-use Rattle.changes.specs.Changes.{HasClient}
 use Rattle.sheet.specs.Sheet.{sheet, puts}
 use borrow.Author.Needs.{needs}
 use Rattle.knowledge.proofs.put_clients.Statement.{statement}

@@ -1,7 +1,5 @@
 -- `knowledge::put_server` meets its contract: its block is its place.
 use Rattle.sheet.proofs.SheetLaws.{then}
-use native.Mathlib.Omega.{arith}
-use mathlib.Core.Path.{_≡_}
 use Rattle.knowledge.proofs.KnowledgeLaws.{server-held, queue-few, server-text}
 use Rattle.changes.proofs.Parties.{server-in}
 use borrow.Author.Needs.{needs}

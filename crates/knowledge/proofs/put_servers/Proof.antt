@@ -1,13 +1,11 @@
 -- `knowledge::put_servers` meets its contract: after j turns the first j stand there.
 use native.Mathlib.Omega.{arith}
-use denote.Ref.{now}
 use mathlib.Core.Path.{_≡_, refl}
 use lib.ListN.{length}
 use Prim.Native.Nat.{_-_, _≤_}
 use Rattle.knowledge.specs.Knowledge.{serversText}
 use Rattle.knowledge.proofs.KnowledgeLaws.{servers-none, servers-more}
 use Rattle.layout.specs.Layout.{view}
-use Rattle.changes.specs.Changes.{HasServer}
 use Rattle.sheet.specs.Sheet.{sheet, puts}
 use borrow.Author.Needs.{needs}
 use Rattle.knowledge.proofs.put_servers.Statement.{statement}

@@ -1,6 +1,5 @@
 -- `knowledge::put_slips` meets its contract: the slips of the servers, then those of the clients.
 use native.Mathlib.Omega.{arith}
-use denote.Ref.{now}
 use Rattle.sheet.proofs.SheetLaws.{then}
 use Rattle.changes.proofs.Parties.{words-long, servers-fit, clients-fit}
 use Rattle.layout.specs.Layout.{settingOf}
