@@ -23,7 +23,7 @@ pub fn write_out(fd: i32, bytes: &[u8]) -> bool {
 
 // What comes next.
 pub fn read_some(part: &mut [u8]) -> Input
-    ensures { λ r. ⌜ Fits (length (now (part .entry))) r × Some r ⌝ }
+    ensures { λ r. ⌜ Fits (length (now (part .exit))) r × Some r ⌝ }
 {
     let got = libc::read(STDIN_FILENO, part);
     if got < 0 {

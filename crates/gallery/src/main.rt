@@ -4,15 +4,16 @@ ghost use mathlib.Core.Path.{_≡_};
 ghost use mathlib.Core.Bool.{true};
 ghost use Prim.Native.Nat.{_≤_};
 ghost use lib.ListN.{length};
+ghost use Rattle.console.specs.Fits.{Fits};
 ghost use Rattle.script.specs.State.{valid};
+ghost use Rattle.stream.specs.Answered.{Answered};
 use console::Input;
 
-// One part is read and answered, or the end. Whether to go on.
-fn turn(w: &mut [u32], part: &mut [u8], out: &mut [u8]) -> bool
-    requires { ⌜ (valid (now w) ≡ true) × (104 ≤ length (now out)) ⌝ }
-    ensures { λ _. ⌜ valid (now (w .exit)) ≡ true ⌝ }
+// What reading gave is answered. Whether to go on.
+fn answer(w: &mut [u32], part: &[u8], input: Input, out: &mut [u8]) -> bool
+    requires { ⌜ (valid (now w) ≡ true) × (104 ≤ length (now out)) × Fits (length (now part)) input ⌝ }
+    ensures { λ r. ⌜ (valid (now (w .exit)) ≡ true) × (r ≡ true → Answered (now (w .entry)) (now (part .entry)) input (now (w .exit))) ⌝ }
 {
-    let input = stream::read_part(w, part);
     match input {
         Input::Failed => false,
         Input::End => {
@@ -29,7 +30,8 @@ fn run(w: &mut [u32], part: &mut [u8], out: &mut [u8])
 {
     let mut turns = u64::MAX;
     while turns > 0 {
-        if !turn(w, part, out) {
+        let input = stream::read_part(w, part);
+        if !answer(w, part, input, out) {
             return;
         }
         turns -= 1;

@@ -5,7 +5,9 @@ ghost use mathlib.Core.Path.{_≡_};
 ghost use mathlib.Core.Bool.{true};
 ghost use Prim.Native.Nat.{_≤_, _<_};
 ghost use lib.ListN.{length};
+ghost use Rattle.console.specs.Fits.{Fits};
 ghost use Rattle.script.specs.State.{valid};
+ghost use Rattle.stream.specs.Answered.{Answered};
 ghost use Rattle.stream.specs.Taken.{Taken};
 use console::Input;
 use libc::STDERR_FILENO;
@@ -93,12 +95,11 @@ fn finish(w: &mut [u32], out: &mut [u8], each: bool)
     stream::finish(w, out);
 }
 
-// One part is read and answered, or the end. Whether to go on.
-fn turn(w: &mut [u32], part: &mut [u8], out: &mut [u8], each: bool) -> bool
-    requires { ⌜ (valid (now w) ≡ true) × (104 ≤ length (now out)) ⌝ }
-    ensures { λ r. ⌜ (r ≡ true → valid (now (w .exit)) ≡ true) ⌝ }
+// What reading gave is answered. Whether to go on.
+fn answer(w: &mut [u32], part: &[u8], input: Input, out: &mut [u8], each: bool) -> bool
+    requires { ⌜ (valid (now w) ≡ true) × (104 ≤ length (now out)) × Fits (length (now part)) input ⌝ }
+    ensures { λ r. ⌜ (r ≡ true → (valid (now (w .exit)) ≡ true) × Answered (now (w .entry)) (now (part .entry)) input (now (w .exit))) ⌝ }
 {
-    let input = stream::read_part(w, part);
     match input {
         Input::Failed => false,
         Input::End => {
@@ -115,7 +116,8 @@ fn run(w: &mut [u32], part: &mut [u8], out: &mut [u8], each: bool)
 {
     let mut turns = u64::MAX;
     while turns > 0 {
-        if !turn(w, part, out, each) {
+        let input = stream::read_part(w, part);
+        if !answer(w, part, input, out, each) {
             return;
         }
         turns -= 1;

@@ -16,6 +16,9 @@ use Rattle.script.specs.declared.Progress.the-variants.{Took}
 use Rattle.script.proofs.NewLaws.{new-valid, new-reader}
 use Rattle.output.proofs.Whole.{in-parts}
 use Rattle.output.proofs.Cuts.{within-fed}
+use Rattle.console.specs.declared.Input.{Input}
+use Rattle.console.specs.declared.Input.the-variants.{Bytes}
+use Rattle.stream.specs.Answered.{Answered}
 use Rattle.stream.specs.Ended.{Ended}
 use Rattle.stream.specs.Taken.{Taken}
 use Rattle.script.proofs.CallLaws.{fed-took, feeds}
@@ -62,3 +65,9 @@ pub script-ended : (w out w′ out′ : List ℕ) → valid w ≡ true → 104 �
 script-ended w out w′ out′ v room f =
     let e : valid w && leb 104 (length out) ≡ true = rw (v, le-leb 104 (length out) room) in
     record { again = f .again e; reader = f .reader e }
+
+-- the front of a part, as long as reading says
+pub answered : (w part w′ : List ℕ) (i : Input) (n : ℕ) → i ≡ Bytes n → Taken w (take (n - 0) (drop 0 part)) w′ → Answered w part i w′
+answered w part w′ i n e a =
+    let z : n - 0 ≡ n = omega arith in
+    rw e (rw z at a)

@@ -1,3 +1,4 @@
 pub mod Over
 pub mod Taken
+pub mod Answered
 pub mod Ended

@@ -95,7 +95,7 @@ fn over(w: &[u32]) -> bool
 // The next part, of a valid state; the end too where nothing more need be read.
 pub fn read_part(w: &[u32], part: &mut [u8]) -> Input
     requires { ⌜ valid (now w) ≡ true ⌝ }
-    ensures { λ r. ⌜ Fits (length (now (part .entry))) r ⌝ }
+    ensures { λ r. ⌜ Fits (length (now (part .exit))) r ⌝ }
 {
     if over(w) {
         return Input::End;

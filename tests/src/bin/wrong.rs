@@ -5,9 +5,9 @@
 //! `rt check` has just proved. A function's body is refused in that function's own proof, whatever else is wrong in the crate, for its
 //! callers know only its contract: so bodies of different functions are edited in one run, and each must be refused at its own function.
 //! An edit of a definition, of a constant, or of a function whose proof the prover finds by itself is tried alone. The refusal must be
-//! the edit's doing: of bodies, in the functions that are edited and nowhere else; of a definition, in a proof and not in the definition
-//! itself. Modules must have been taken over as they were proved. And the refusal must not be that a proof only no longer fits the
-//! code's shape.
+//! the edit's doing: of a body, in its own function, and where bodies are edited together nowhere else; of a definition, in a proof and
+//! not in the definition itself. Modules must have been taken over as they were proved. And the refusal must not be that a proof only no
+//! longer fits the code's shape.
 
 use std::collections::VecDeque;
 use std::fs;
@@ -31,8 +31,8 @@ struct Edit {
     changes: Vec<Change>,
     /// The functions whose bodies it changes, if it changes nothing else.
     functions: Option<Vec<String>>,
-    /// Whether it can be tried beside others: each of these functions has a proof of its own.
-    sociable: bool,
+    /// Whether it can be tried together with others: each of these functions has a proof of its own.
+    together: bool,
 }
 
 /// Edits of one crate that are tried in one run.
@@ -104,8 +104,8 @@ impl Edit {
         let name = path.file_stem().expect("a name").to_string_lossy().into_owned();
         let functions = Edit::bodies(krate, &changes);
         let proof = |f: &String| krate.join("proofs").join(f).join("Proof.antt").exists();
-        let sociable = functions.as_ref().is_some_and(|functions| functions.iter().all(proof));
-        Edit { name, changes, functions, sociable }
+        let together = functions.as_ref().is_some_and(|functions| functions.iter().all(proof));
+        Edit { name, changes, functions, together }
     }
 
     fn bodies(krate: &Path, changes: &[Change]) -> Option<Vec<String>> {
@@ -136,17 +136,18 @@ impl Edit {
 
     /// Whether a refusal is this edit's own: of bodies, one of a function that it changes; of a definition, one in a proof.
     fn owns(&self, refusal: &str) -> bool {
-        let of = |f: &String| refusal.contains(&format!("/proofs/{f}/Proof.antt:")) || refusal.contains(&format!("::{f}: no proof"));
-        self.functions.as_ref().map_or(!refusal.contains("/specs/"), |functions| functions.iter().any(of))
+        let of = |f: &String| refusal.starts_with(&format!("proofs/{f}/Proof.antt:")) || refusal.contains(&format!("::{f}: no proof"));
+        self.functions.as_ref().map_or(!refusal.starts_with("specs/"), |functions| functions.iter().any(of))
     }
 }
 
-/// What the prover refuses, but for what only rests on something refused.
-fn refusals(log: &str) -> Vec<&str> {
+/// What the prover refuses in a crate's folder, but for what only rests on something refused; each with its file.
+fn refusals<'a>(log: &'a str, folder: &Path) -> Vec<&'a str> {
+    let prefix = format!("{}/", folder.display());
     let refused = |line: &&str| {
         line.contains(": error: ") && !line.contains("was not admitted") || line.contains("`search` does not close")
     };
-    log.lines().filter(refused).collect()
+    log.lines().filter(refused).map(|line| line.strip_prefix(prefix.as_str()).unwrap_or(line)).collect()
 }
 
 /// The edits of a crate, as few runs as keep apart what changes the same function.
@@ -156,7 +157,7 @@ fn runs(root: &Path, krate: &str) -> Vec<Run> {
     for path in entries(&folder.join("must-fail/quick")) {
         let edit = Edit::new(&folder, &path);
         let apart = |other: &Edit| match (&edit.functions, &other.functions) {
-            (Some(ours), Some(theirs)) => edit.sociable && other.sociable && ours.iter().all(|f| !theirs.contains(f)),
+            (Some(ours), Some(theirs)) => edit.together && other.together && ours.iter().all(|f| !theirs.contains(f)),
             _ => false,
         };
         match runs.iter_mut().find(|run| run.edits.iter().all(apart)) {
@@ -210,13 +211,12 @@ impl Place {
         let (status, log) = self.prove(&run.krate, &folder);
         fs::write(folder.join("log"), &log).expect("the log is kept");
         fs::remove_dir_all(folder.join("inc")).expect("the modules go");
-        let refused = refusals(&log);
+        let refused = refusals(&log, &folder);
         let taken_over = format!("crate {}: modules loaded=", run.krate);
         let judged = status == Some(1)
             && log.lines().any(|line| line == "logic=not-proved")
             && log.lines().any(|line| line.starts_with(&taken_over) && !line.contains("loaded=0 "))
-            && (!run.edits[0].sociable || refused.iter().all(|refusal| run.edits.iter().any(|edit| edit.owns(refusal))));
-        let prefix = format!("{}/", folder.display());
+            && (!run.edits[0].together || refused.iter().all(|refusal| run.edits.iter().any(|edit| edit.owns(refusal))));
         let verdict = |(edit, made): (&Edit, bool)| {
             let refusal = refused.iter().find(|refusal| edit.owns(refusal)).copied().unwrap_or_default();
             let said = match () {
@@ -225,7 +225,7 @@ impl Place {
                 _ if !judged => "REFUSED FOR SOMETHING ELSE".to_string(),
                 _ if SHAPE.iter().any(|words| refusal.contains(words)) => "SHOWS NOTHING".to_string(),
                 _ => {
-                    let place = refusal.strip_prefix(&prefix).unwrap_or(refusal).split(": ").next().unwrap_or_default();
+                    let place = refusal.split(": ").next().unwrap_or_default();
                     format!("refused, as it must be (first at {place})")
                 }
             };

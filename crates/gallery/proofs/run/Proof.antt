@@ -14,9 +14,6 @@ Inv-loop w₀ part₀ out₀ turns₀ w part out turns = (length w ≡ length w�
 abbrev μ-loop : tie.MeasureT-loop
 μ-loop w₀ part₀ out₀ turns₀ w part out turns = turns
 
-loop-again : tie.Need-loop-again Inv-loop μ-loop
-loop-again c = (search needs, search needs, search needs, search needs, search needs)
-
 pub run-spec : {M : Type 1} → statement M
 run-spec =
     tie.close
@@ -25,13 +22,14 @@ run-spec =
     μ-loop
     (λ c. search needs)
     (λ c κs. search needs)
+    (λ c κs. search needs)
     (λ c. search needs)
     (λ c. search needs)
     (λ c. search needs)
     (λ c. search needs)
     (λ c. search needs)
     (λ c. search needs)
-    loop-again
+    (λ c. search needs)
     (λ c. search needs)
     (λ c. search needs)
     (λ c. search needs)

@@ -16,7 +16,7 @@ abbrev μ-loop : tie.MeasureT-loop
 μ-loop w₀ part₀ out₀ each turns₀ w part out turns = turns
 
 loop-again : tie.Need-loop-again Inv-loop μ-loop
-loop-again c = (search needs, search needs, search needs, c .before .before .before .before .before .before .before .turn .ensures (not-false _ (c .if1 .left)), search needs)
+loop-again c = (search needs, search needs, search needs, c .before .before .before .before .before .answer .ensures (not-false _ (c .if1 .left)) .0, search needs)
 
 pub run-spec : {M : Type 1} → statement M
 run-spec =
@@ -25,6 +25,7 @@ run-spec =
     Inv-loop
     μ-loop
     (λ c. search needs)
+    (λ c κs. search needs)
     (λ c κs. search needs)
     (λ c. search needs)
     (λ c. search needs)
