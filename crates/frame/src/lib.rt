@@ -94,7 +94,7 @@ pub fn draw_word(out: &mut [u8], at: usize, class: &[u8], x: u32, y: u32, text: 
 }
 
 // A word and a number.
-pub fn draw_numbered(
+fn draw_numbered(
     out: &mut [u8],
     at: usize,
     class: &[u8],

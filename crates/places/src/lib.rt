@@ -104,7 +104,7 @@ pub fn is_inside(b: &[u32]) -> bool
 }
 
 // Whether the client is in an epoch: it lives, and is trying or in the critical section.
-pub fn in_epoch(b: &[u32]) -> bool
+fn in_epoch(b: &[u32]) -> bool
     requires { ⌜ length (now b) ≡ 99 ⌝ }
     ensures { λ r. ⌜ r ≡ inEpoch (clientPlace (now (b .entry))) ⌝ }
 {

@@ -6,7 +6,7 @@ ghost use mathlib.Core.Path.{_≡_};
 ghost use mathlib.Core.Bool.{true};
 ghost use Prim.Native.Nat.{_≤_, _<_};
 ghost use lib.ListN.{length, take};
-ghost use Rattle.console.specs.Fits.{Fits};
+ghost use Rattle.console.specs.Fits.{Fits, Some};
 ghost use Rattle.output.specs.Reader.{empty};
 ghost use Rattle.script.specs.State.{valid, view};
 ghost use Rattle.stream.specs.Ended.{Ended};
@@ -95,7 +95,7 @@ fn over(w: &[u32]) -> bool
 // The next part, of a valid state; the end too where nothing more need be read.
 pub fn read_part(w: &[u32], part: &mut [u8]) -> Input
     requires { ⌜ valid (now w) ≡ true ⌝ }
-    ensures { λ r. ⌜ Fits (length (now (part .exit))) r ⌝ }
+    ensures { λ r. ⌜ Fits (length (now (part .exit))) r × Some r ⌝ }
 {
     if over(w) {
         return Input::End;

@@ -102,7 +102,7 @@ fn put32(out: &mut [u8], at: usize, x: u32)
 }
 
 // Whether this is one of the six kinds.
-pub fn is_kind(kind: u16) -> bool
+fn is_kind(kind: u16) -> bool
     ensures { λ r. ⌜ r ≡ known kind ⌝ }
 {
     ids::within_limit(kind as u32, 6)
@@ -143,7 +143,7 @@ fn response_fields(k: ClientId, j: ServerId, o: Owner) -> Fields
 }
 
 // A message's numbers.
-pub fn fields_of(m: Message) -> Fields
+fn fields_of(m: Message) -> Fields
     ensures { λ r. ⌜ r ≡ fieldsOf m ⌝ }
 {
     match m {

@@ -1,13 +1,13 @@
-//! Tries wrong answers, which the prover must refuse: the edits in crates/NAME/must-fail/quick, written like the kit's own.
-//! `cargo run --release --bin wrong [NAME..]`, behind `rt check`.
+//! Tries wrong answers, which the prover must refuse: the edits in crates/NAME/must-fail/quick, written like the kit's own, and with
+//! `in: FUNCTION` where the old text stands in other functions too.
+//! `cargo run --release --bin wrong [--apart] [NAME..]`, behind `rt check`; with `--apart` each edit has a run of its own.
 //!
 //! The kit proves the whole crate again for each of its edits. Here only what an edit touches is proved again, over the modules that
 //! `rt check` has just proved. A function's body is refused in that function's own proof, whatever else is wrong in the crate, for its
 //! callers know only its contract: so bodies of different functions are edited in one run, and each must be refused at its own function.
-//! An edit of a definition, of a constant, or of a function whose proof the prover finds by itself is tried alone. The refusal must be
-//! the edit's doing: of a body, in its own function, and where bodies are edited together nowhere else; of a definition, in a proof and
-//! not in the definition itself. Modules must have been taken over as they were proved. And the refusal must not be that a proof only no
-//! longer fits the code's shape.
+//! An edit of a definition or of a constant is tried alone. The refusal must be the edit's doing: of a body, in its own function, and in
+//! a run nowhere but in functions that are edited; of a definition, in a proof and not in the definition itself. Modules must have been
+//! taken over as they were proved. And the refusal must not be that a proof only no longer fits the code's shape.
 
 use std::collections::VecDeque;
 use std::fs;
@@ -22,6 +22,8 @@ const SHAPE: [&str; 5] =
 
 struct Change {
     file: String,
+    /// The function in which `old` stands; the whole file where it is empty.
+    function: String,
     old: String,
     new: String,
 }
@@ -29,10 +31,8 @@ struct Change {
 struct Edit {
     name: String,
     changes: Vec<Change>,
-    /// The functions whose bodies it changes, if it changes nothing else.
+    /// The functions whose bodies it changes, if it changes nothing else: then it can be tried together with others.
     functions: Option<Vec<String>>,
-    /// Whether it can be tried together with others: each of these functions has a proof of its own.
-    together: bool,
 }
 
 /// Edits of one crate that are tried in one run.
@@ -69,11 +69,23 @@ fn copy(from: &Path, to: &Path) {
     }
 }
 
-/// The text with `old`, which stands in it once, replaced; and where it stood.
+/// Where a function stands in a source file; all of it for no name.
+fn extent(text: &str, function: &str) -> Option<(usize, usize)> {
+    if function.is_empty() {
+        return Some((0, text.len()));
+    }
+    let from = text.find(&format!("fn {function}("))?;
+    Some((from, from + text[from..].find("\n}")?))
+}
+
+/// The text with `old`, which stands once where the change is to be made, replaced; and where it stood.
 fn replaced(text: &str, change: &Change) -> Option<(String, usize)> {
-    let at = text.find(&change.old)?;
-    let again = text[at + 1..].contains(&change.old);
-    (!again).then(|| (text.replacen(&change.old, &change.new, 1), at))
+    let (from, to) = extent(text, &change.function)?;
+    let part = &text[from..to];
+    let at = part.find(&change.old)?;
+    let once = part.matches(&change.old).count() == 1;
+    let after = part.replace(&change.old, &change.new);
+    once.then(|| ([&text[..from], after.as_str(), &text[to..]].concat(), from + at))
 }
 
 /// The function in whose body this place stands.
@@ -89,23 +101,24 @@ fn function_at(text: &str, at: usize) -> Option<String> {
 
 impl Edit {
     fn new(krate: &Path, path: &Path) -> Edit {
-        let (mut file, mut old, mut changes) = (String::new(), String::new(), vec![]);
+        let (mut file, mut function, mut old, mut changes) = (String::new(), String::new(), String::new(), vec![]);
         for line in read(path).lines() {
             if let Some(rest) = line.strip_prefix("file: ") {
                 file = rest.to_string();
+            } else if let Some(rest) = line.strip_prefix("in: ") {
+                function = rest.to_string();
             } else if let Some(rest) = line.strip_prefix("old: ") {
                 old = rest.to_string();
             } else if let Some(rest) = line.strip_prefix("new: ") {
-                changes.push(Change { file: file.clone(), old: old.clone(), new: rest.to_string() });
+                let (file, function, old) = (file.clone(), function.clone(), old.clone());
+                changes.push(Change { file, function, old, new: rest.to_string() });
             } else {
                 assert!(line.is_empty() || line.starts_with('#'), "{}: {line}", path.display());
             }
         }
         let name = path.file_stem().expect("a name").to_string_lossy().into_owned();
         let functions = Edit::bodies(krate, &changes);
-        let proof = |f: &String| krate.join("proofs").join(f).join("Proof.antt").exists();
-        let together = functions.as_ref().is_some_and(|functions| functions.iter().all(proof));
-        Edit { name, changes, functions, together }
+        Edit { name, changes, functions }
     }
 
     fn bodies(krate: &Path, changes: &[Change]) -> Option<Vec<String>> {
@@ -136,7 +149,8 @@ impl Edit {
 
     /// Whether a refusal is this edit's own: of bodies, one of a function that it changes; of a definition, one in a proof.
     fn owns(&self, refusal: &str) -> bool {
-        let of = |f: &String| refusal.starts_with(&format!("proofs/{f}/Proof.antt:")) || refusal.contains(&format!("::{f}: no proof"));
+        let at = refusal.strip_prefix("proofs/").map_or("", |rest| rest.strip_prefix('+').unwrap_or(rest));
+        let of = |f: &String| at.starts_with(&format!("{f}/Proof.antt:")) || refusal.contains(&format!("::{f}: no proof"));
         self.functions.as_ref().map_or(!refusal.starts_with("specs/"), |functions| functions.iter().any(of))
     }
 }
@@ -150,17 +164,17 @@ fn refusals<'a>(log: &'a str, folder: &Path) -> Vec<&'a str> {
     log.lines().filter(refused).map(|line| line.strip_prefix(prefix.as_str()).unwrap_or(line)).collect()
 }
 
-/// The edits of a crate, as few runs as keep apart what changes the same function.
-fn runs(root: &Path, krate: &str) -> Vec<Run> {
+/// The edits of a crate, each in its own run or in as few as keep apart what changes the same function.
+fn runs(root: &Path, krate: &str, apart: bool) -> Vec<Run> {
     let folder = root.join("crates").join(krate);
     let mut runs: Vec<Run> = vec![];
     for path in entries(&folder.join("must-fail/quick")) {
         let edit = Edit::new(&folder, &path);
-        let apart = |other: &Edit| match (&edit.functions, &other.functions) {
-            (Some(ours), Some(theirs)) => edit.together && other.together && ours.iter().all(|f| !theirs.contains(f)),
+        let joins = |other: &Edit| match (&edit.functions, &other.functions) {
+            (Some(ours), Some(theirs)) => !apart && ours.iter().all(|f| !theirs.contains(f)),
             _ => false,
         };
-        match runs.iter_mut().find(|run| run.edits.iter().all(apart)) {
+        match runs.iter_mut().find(|run| run.edits.iter().all(joins)) {
             Some(run) => run.edits.push(edit),
             None => runs.push(Run { krate: krate.to_string(), edits: vec![edit] }),
         }
@@ -216,7 +230,7 @@ impl Place {
         let judged = status == Some(1)
             && log.lines().any(|line| line == "logic=not-proved")
             && log.lines().any(|line| line.starts_with(&taken_over) && !line.contains("loaded=0 "))
-            && (!run.edits[0].together || refused.iter().all(|refusal| run.edits.iter().any(|edit| edit.owns(refusal))));
+            && (run.edits[0].functions.is_none() || refused.iter().all(|refusal| run.edits.iter().any(|edit| edit.owns(refusal))));
         let verdict = |(edit, made): (&Edit, bool)| {
             let refusal = refused.iter().find(|refusal| edit.owns(refusal)).copied().unwrap_or_default();
             let said = match () {
@@ -256,12 +270,13 @@ fn place() -> Place {
 
 fn main() {
     let place = place();
-    let mut names: Vec<String> = std::env::args().skip(1).collect();
+    let (options, mut names): (Vec<String>, Vec<String>) = std::env::args().skip(1).partition(|word| word.starts_with('-'));
+    assert!(options.iter().all(|word| word == "--apart"), "wrong [--apart] [NAME..]");
     if names.is_empty() {
         let folders = entries(&place.root.join("crates"));
         names = folders.iter().map(|path| path.file_name().expect("a name").to_string_lossy().into_owned()).collect();
     }
-    let waiting: Mutex<VecDeque<Run>> = Mutex::new(names.iter().flat_map(|name| runs(&place.root, name)).collect());
+    let waiting: Mutex<VecDeque<Run>> = Mutex::new(names.iter().flat_map(|name| runs(&place.root, name, !options.is_empty())).collect());
     let tried: Mutex<Vec<(bool, String)>> = Mutex::new(vec![]);
     std::thread::scope(|scope| {
         for _ in 0..std::thread::available_parallelism().map_or(1, |n| n.get()) {
