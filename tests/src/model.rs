@@ -32,11 +32,8 @@ pub fn length_of(kind: u32) -> usize {
 
 pub fn in_range(m: &Message) -> bool {
     let parties = (1..=65_535).contains(&m.kiosk) && (1..=KEEPERS).contains(&m.keeper);
-    let rest = if m.kind == RESPONSE {
-        m.owner <= 65_535 && (m.owner == 0) == (m.ticket == 0)
-    } else {
-        m.owner == 0 && m.ticket != 0
-    };
+    let rest =
+        if m.kind == RESPONSE { m.owner <= 65_535 && (m.owner == 0) == (m.ticket == 0) } else { m.owner == 0 && m.ticket != 0 };
     (1..=6).contains(&m.kind) && parties && rest
 }
 

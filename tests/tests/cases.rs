@@ -127,8 +127,7 @@ fn new_records() {
         assert_eq!(library::server_new(n, id, &mut words), 7, "n {n}, keeper {id}");
         assert_eq!(keeper::new(n, id, &mut words), 7);
     }
-    let threes =
-        [(0, 0, 5), (4, 0, 5), (4, 5, 5), (32, 3, 5), (4, 3, 0), (4, 3, 65_536), (260, 3, 5), (4, 259, 5), (4, 3, LAST)];
+    let threes = [(0, 0, 5), (4, 0, 5), (4, 5, 5), (32, 3, 5), (4, 3, 0), (4, 3, 65_536), (260, 3, 5), (4, 259, 5), (4, 3, LAST)];
     for (n, m, id) in threes {
         assert_eq!(library::client_new(n, m, id, &mut words), 7, "n {n}, m {m}, kiosk {id}");
         assert_eq!(kiosk::new(n, m, id, &mut words), 7);
@@ -305,11 +304,8 @@ fn after_a_round() {
 #[test]
 fn answers_elsewhere_and_checks() {
     let own = [5, 3];
-    let records = [
-        kiosk(REMAINDER, 3, NO_ANSWERS),
-        kiosk(TRYING, 3, [own, [9, 1], NONE, NONE]),
-        kiosk(HOLDING, 3, [own, own, NONE, own]),
-    ];
+    let records =
+        [kiosk(REMAINDER, 3, NO_ANSWERS), kiosk(TRYING, 3, [own, [9, 1], NONE, NONE]), kiosk(HOLDING, 3, [own, own, NONE, own])];
     for record in records {
         for owner in [own, [5, 2], [9, 3], NONE] {
             if record[3] != TRYING {

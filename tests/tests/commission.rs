@@ -38,7 +38,9 @@ fn expected(setting: Setting) -> (String, String) {
 #[test]
 fn as_the_model_has_it() {
     let few = Setting::all(7).into_iter();
-    let many = [29, 30, 31].into_iter().flat_map(|n| [(n, 1, 0), (n, n, n), (n, 2 * n / 3, n / 3), (n, 2 * n / 3 + 1, n / 3), (n, n / 2, 0), (n, n, 0)]);
+    let many = [29, 30, 31]
+        .into_iter()
+        .flat_map(|n| [(n, 1, 0), (n, n, n), (n, 2 * n / 3, n / 3), (n, 2 * n / 3 + 1, n / 3), (n, n / 2, 0), (n, n, 0)]);
     let mut played = 0;
     for setting in few.chain(many.map(|(n, m, f)| Setting { n, m, f })) {
         let said = of(setting.n, setting.m, setting.f);

@@ -173,6 +173,7 @@ fn broken_states() {
     let state = running();
     let [answered, accepted, holders] = [state[1], state[2], state[3]];
     assert!(state[0] == 1 && accepted <= answered && holders <= 16 && state[4] == 3);
+    #[rustfmt::skip]
     let broken = [
         (0, 3), (0, u32::MAX), (1, 1_000_001), (1, accepted - 1), (2, answered + 1), (3, 17), (4, 42), (5, 256), (45, 256),
         (46, 0), (46, 32), (47, 0), (48, 32), (49, 0), (49, 17), (50, 513), (51, 0), (52, 32), (46 + 2769, 0), (WORDS - 1, 1),

@@ -99,6 +99,7 @@ fn answer(line: &[u8]) -> String {
 
 #[test]
 fn bad_event_lines() {
+    #[rustfmt::skip]
     let bad: [&[u8]; 34] = [
         b"", b" ", b"take", b"take ", b" take 1", b"take 1 ", b"take  1", b"take 1 1", b"take\t1", b"take 1\r", b"\r",
         b"take 1\0", b"\0", b"take \x81", b"\xff", b"Take 1", b"TAKE 1", b"tak 1", b"takes 1", b"take1", b"take 01",
@@ -179,14 +180,28 @@ fn ends_of_input() {
 
 #[test]
 fn bad_first_lines() {
+    #[rustfmt::skip]
     let forms = [
         "setting", "setting 4 3 1", "setting 4 3 1 2 ", "setting 4 3 1 2 1", " setting 4 3 1 2", "setting  4 3 1 2",
         "Setting 4 3 1 2", "settings 4 3 1 2", "gallery 4 3 1 2", "setting 4,3,1,2", "setting 4 3 1 2\r", "setting 04 3 1 2",
         "setting 4 3 00 2", "setting 4 3 -1 2", "setting 4294967296 3 1 2", "setting 0 0 0 4294967296", "try 1",
     ];
     let ranges = [
-        "0 1 0 2", "32 22 10 2", "4 0 1 2", "4 5 1 2", "4 3 5 2", "4 3 1 0", "4 3 1 17", "0 0 0 0", "260 3 1 2", "4 259 1 2",
-        "4 3 257 2", "4 3 1 258", "65540 3 1 2", "4 3 1 4294967295", "4294967295 3 1 2",
+        "0 1 0 2",
+        "32 22 10 2",
+        "4 0 1 2",
+        "4 5 1 2",
+        "4 3 5 2",
+        "4 3 1 0",
+        "4 3 1 17",
+        "0 0 0 0",
+        "260 3 1 2",
+        "4 259 1 2",
+        "4 3 257 2",
+        "4 3 1 258",
+        "65540 3 1 2",
+        "4 3 1 4294967295",
+        "4294967295 3 1 2",
     ];
     for form in forms {
         assert_eq!(output(format!("{form}\ntry 1\n").as_bytes()), "no 16\n", "{form}");

@@ -216,8 +216,7 @@ fn a_million_keeper_steps() {
             steps += 1;
             if r.below(3) == 0 {
                 let spoilt = spoil(&mut r, &record, &message, 28);
-                let number =
-                    compare(to_keeper(call, &spoilt.message), &spoilt.record, spoilt.room, spoilt.words, filler).number;
+                let number = compare(to_keeper(call, &spoilt.message), &spoilt.record, spoilt.room, spoilt.words, filler).number;
                 numbers.met(number);
                 damaged.met((spoilt.record != record, Keeper::read(&spoilt.record).is_ok(), number == 0));
             }
@@ -341,8 +340,7 @@ fn a_million_kiosk_steps() {
             steps += 1;
             if r.below(3) == 0 {
                 let spoilt = spoil(&mut r, &record, &message, 12 * u64::from(n));
-                let number =
-                    compare(to_kiosk(call, &spoilt.message), &spoilt.record, spoilt.room, spoilt.words, filler).number;
+                let number = compare(to_kiosk(call, &spoilt.message), &spoilt.record, spoilt.room, spoilt.words, filler).number;
                 numbers.met(number);
                 damaged.met((spoilt.record != record, Kiosk::read(&spoilt.record).is_ok(), number == 0));
             }

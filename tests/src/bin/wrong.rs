@@ -230,7 +230,8 @@ impl Place {
         let judged = status == Some(1)
             && log.lines().any(|line| line == "logic=not-proved")
             && log.lines().any(|line| line.starts_with(&taken_over) && !line.contains("loaded=0 "))
-            && (run.edits[0].functions.is_none() || refused.iter().all(|refusal| run.edits.iter().any(|edit| edit.owns(refusal))));
+            && (run.edits[0].functions.is_none()
+                || refused.iter().all(|refusal| run.edits.iter().any(|edit| edit.owns(refusal))));
         let verdict = |(edit, made): (&Edit, bool)| {
             let refusal = refused.iter().find(|refusal| edit.owns(refusal)).copied().unwrap_or_default();
             let said = match () {
@@ -276,7 +277,8 @@ fn main() {
         let folders = entries(&place.root.join("crates"));
         names = folders.iter().map(|path| path.file_name().expect("a name").to_string_lossy().into_owned()).collect();
     }
-    let waiting: Mutex<VecDeque<Run>> = Mutex::new(names.iter().flat_map(|name| runs(&place.root, name, !options.is_empty())).collect());
+    let waiting: Mutex<VecDeque<Run>> =
+        Mutex::new(names.iter().flat_map(|name| runs(&place.root, name, !options.is_empty())).collect());
     let tried: Mutex<Vec<(bool, String)>> = Mutex::new(vec![]);
     std::thread::scope(|scope| {
         for _ in 0..std::thread::available_parallelism().map_or(1, |n| n.get()) {

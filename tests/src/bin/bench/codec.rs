@@ -41,12 +41,9 @@ pub fn run() {
     let messages = stream();
     let mut out = vec![0u8; messages.iter().map(|w| model::length_of(w[0])).sum()];
     let mut other = out.clone();
-    compare(
-        "write a message",
-        MESSAGES,
-        &mut || write_all(library::write, &messages, &mut out),
-        &mut || write_all(model::write, &messages, &mut other),
-    );
+    compare("write a message", MESSAGES, &mut || write_all(library::write, &messages, &mut out), &mut || {
+        write_all(model::write, &messages, &mut other)
+    });
     assert!(out == other, "the same bytes");
     compare("read a message", MESSAGES, &mut || read_all(library::read, &out), &mut || read_all(model::read, &other));
 }

@@ -38,7 +38,10 @@ pub fn play_model() {
 
 fn ready(program: &Path, script: &Path, output: &Path) -> Command {
     let mut command = Command::new(program);
-    command.arg(MODEL).stdin(File::open(script).expect("the script")).stdout(File::create(output).expect("a file for the output"));
+    command
+        .arg(MODEL)
+        .stdin(File::open(script).expect("the script"))
+        .stdout(File::create(output).expect("a file for the output"));
     command
 }
 
@@ -94,7 +97,12 @@ pub fn run() {
     }
     let last = &courses[LINES.len()];
     let ms = |t: Duration| t.as_secs_f64() * 1e3;
-    println!("\ngallery program, {} events with its start: {:.0} ms, the model {:.0} ms", LINES[2], ms(last.ours), ms(last.theirs));
+    println!(
+        "\ngallery program, {} events with its start: {:.0} ms, the model {:.0} ms",
+        LINES[2],
+        ms(last.ours),
+        ms(last.theirs)
+    );
     println!("an empty script takes it {:.2} ms; resident at most {} KiB", ms(start), memory(&gallery, &last.script, &ours));
     fs::remove_dir_all(&folder).expect("the files go");
 }
