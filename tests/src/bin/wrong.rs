@@ -7,7 +7,8 @@
 //! callers know only its contract: so bodies of different functions are edited in one run, and each must be refused at its own function.
 //! An edit of a definition or of a constant is tried alone. The refusal must be the edit's doing: of a body, in its own function, and in
 //! a run nowhere but in functions that are edited; of a definition, in a proof and not in the definition itself. Modules must have been
-//! taken over as they were proved. And the refusal must not be that a proof only no longer fits the code's shape.
+//! taken over as they were proved. And the refusal must not be that a proof only no longer fits the code's shape. Where the prover runs
+//! out of steps it gives no verdict, which is no refusal either.
 
 use std::collections::VecDeque;
 use std::fs;
@@ -142,7 +143,7 @@ impl Edit {
         let make = |change: &Change| {
             let path = copy.join(&change.file);
             let text = fs::read_to_string(&path).ok().and_then(|text| replaced(&text, change));
-            text.is_some_and(|(text, _)| fs::write(path, text).is_ok())
+            change.old != change.new && text.is_some_and(|(text, _)| fs::write(path, text).is_ok())
         };
         !self.changes.is_empty() && self.changes.iter().all(make)
     }
@@ -230,8 +231,7 @@ impl Place {
         let judged = status == Some(1)
             && log.lines().any(|line| line == "logic=not-proved")
             && log.lines().any(|line| line.starts_with(&taken_over) && !line.contains("loaded=0 "))
-            && (run.edits[0].functions.is_none()
-                || refused.iter().all(|refusal| run.edits.iter().any(|edit| edit.owns(refusal))));
+            && refused.iter().all(|refusal| run.edits.iter().any(|edit| edit.owns(refusal)));
         let verdict = |(edit, made): (&Edit, bool)| {
             let refusal = refused.iter().find(|refusal| edit.owns(refusal)).copied().unwrap_or_default();
             let said = match () {
