@@ -209,7 +209,7 @@ fn the_fullest_gallery_is_told_whole() {
     let (_, end) = out.split_once("\n1024 ok 1 0\n").expect("the last event");
     let count = |word: &str| end.lines().filter(|line| line.starts_with(word)).count();
     assert_eq!((count("keeper "), count("kiosk "), count("mail ")), (31, 16, 512));
-    assert!(end.starts_with("keeper 1 owner 16,1 line 1,1 2,1 3,1 ") && end.len() > 25_000, "{} bytes", end.len());
+    assert!(end.starts_with("keeper 1 owner 16,1 line 1,1 2,1 3,1 ") && end.len() > 30_000, "{} bytes", end.len());
     assert!(end.ends_with("\nmail 1008 CHECK keeper 16 kiosk 16 ticket 1 waiting\nend 1024 0 0\n"), "{end}");
 }
 
