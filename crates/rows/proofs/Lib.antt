@@ -1,3 +1,0 @@
-pub mod CrossingLaws
-pub mod StateLaws
-pub mod RowLaws
