@@ -13,9 +13,3 @@ abbrev pub Some : Input → Type 0
 Some Failed = Unit {0}
 Some End = Unit {0}
 Some (Bytes n) = 0 < n
-
--- the whole input has an end, and is its bytes
-abbrev pub Whole : ℕ → Input → Type 0
-Whole most Failed = Unit {0}
-Whole most End = ⊥
-Whole most (Bytes n) = n ≤ most

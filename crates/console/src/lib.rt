@@ -1,7 +1,7 @@
 // Standard input, output and error, for the programs. Where the system fails, standard error says so. No contract can speak of what a
 // call of C reads or writes: these say only that what was read lies within what was lent.
 ghost use lib.ListN.{length};
-ghost use Rattle.console.specs.Fits.{Fits, Some, Whole};
+ghost use Rattle.console.specs.Fits.{Fits, Some};
 use libc::STDIN_FILENO;
 
 // What reading gave: the system failed; the input has ended; so many bytes at the start of what was lent. Which of them is the
@@ -33,32 +33,6 @@ pub fn read_some(part: &mut [u8]) -> Input
     let n = io::count(got, part);
     if n == 0 {
         return Input::End;
-    }
-    Input::Bytes(n)
-}
-
-// What `fill` says of `n` bytes where a read gave no more.
-fn filled(last: Input, n: usize) -> Input
-    ensures { λ r. ⌜ Whole n r ⌝ }
-{
-    match last {
-        Input::Failed => Input::Failed,
-        Input::End => Input::Bytes(n),
-        Input::Bytes(_) => Input::Bytes(n),
-    }
-}
-
-// All that there is, or as much of it as there is room for.
-pub fn fill(buf: &mut [u8]) -> Input
-    ensures { λ r. ⌜ Whole (length (now (buf .entry))) r ⌝ }
-{
-    let mut n: usize = 0;
-    while n < buf.len() {
-        let more = read_some(&mut buf[n..]);
-        let Input::Bytes(k) = more else {
-            return filled(more, n);
-        };
-        n += k;
     }
     Input::Bytes(n)
 }

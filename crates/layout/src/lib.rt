@@ -28,7 +28,7 @@ pub fn is_living(w: &[u32], k: u16) -> bool
     places::is_living(&w[a..e])
 }
 
-pub fn is_inside(w: &[u32], k: u16) -> bool
+fn is_inside(w: &[u32], k: u16) -> bool
     requires { ⌜ ClientIn (now w) k ⌝ }
     ensures { λ r. ⌜ r ≡ isInside (clientPlace (clientBlockOf (now (w .entry)) k)) ⌝ }
 {
