@@ -1,1 +1,2 @@
 pub mod KnowledgeLaws
+mod MailLaws

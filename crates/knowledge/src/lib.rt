@@ -1,26 +1,32 @@
-// What each server and each client of a simulation knows, as text on a sheet: the teacher's slips (knowledge/specs/Knowledge).
-// `put_slips` is for `slips`, whose script has a valid simulation.
+// What each server and each client of a simulation knows, and its messages in transit, as text on a sheet: the teacher's slips
+// (knowledge/specs/Knowledge) and mail (knowledge/specs/Mail). The public functions are for `slips`, whose script has a valid simulation.
 ghost use mathlib.Core.Path.{_≡_};
 ghost use mathlib.Core.Bool.{true};
-ghost use mathlib.Core.List.{[], _∷_};
-ghost use Prim.Native.Nat.{_≤_};
+ghost use mathlib.Core.List.{[], _∷_, _++_};
+ghost use Prim.Native.Nat.{_≤_, _<_};
 ghost use Rattle.changes.specs.Changes.{HasClient, HasServer};
 ghost use Rattle.client.specs.Record.{shown, view as clientView};
 ghost use Rattle.ids.specs.Choice.{if_then_else_};
 ghost use Rattle.language.specs.Decimals.{decimal};
 ghost use Rattle.language.specs.Words.{text};
-ghost use Rattle.layout.specs.Layout.{valid, view as systemOf, settingOf};
+ghost use Rattle.layout.specs.Layout.{valid, view as systemOf, settingOf, lengthOf, transitWords};
 ghost use Rattle.sheet.specs.Sheet.{sheet as sheetOf, puts};
 ghost use Rattle.votes.specs.Queues.{listOf, view as votesView};
 ghost use Rattle.system.specs.Places.{clientAt, serverAt};
+ghost use Rattle.transit.specs.Slots.{slotAt};
+ghost use Rattle.wire.specs.declared.Message.the-variants.{Response, Check};
 ghost use Rattle.knowledge.specs.Knowledge.{requestText, requestsText, queueText, votesText, serverText, supportText, sectionText, supportersText, stateText, clientText, serversText, clientsText, slipsText};
+ghost use Rattle.knowledge.specs.Mail.{timestampText, toServerText, toClientText, ownerText, messageText, inTransitText, mailText, slipsMailText};
 use client::Client;
 use client::Section;
 use ids::ClientId;
 use ids::Owner;
 use ids::Request;
+use ids::ServerId;
+use ids::Timestamp;
 use votes::Queue;
 use votes::Votes;
+use wire::Message;
 
 fn put_request(out: &mut [u8], at: usize, r: Request) -> usize
     ensures { λ e. ⌜ sheetOf (now (out .exit)) e ≡ puts (requestText r) (sheetOf (now (out .entry)) at) ⌝ }
@@ -231,4 +237,117 @@ pub fn put_slips(out: &mut [u8], w: &[u32]) -> usize
     let clients = w[3] as u16;
     let p = put_servers(out, 0, w, n);
     put_clients(out, p, w, clients)
+}
+
+// Messages in transit.
+
+// From a client to a server, with a timestamp.
+fn put_to_server(
+    out: &mut [u8],
+    at: usize,
+    kind: &[u8],
+    k: ClientId,
+    j: ServerId,
+    t: Timestamp,
+) -> usize
+    ensures { λ r. ⌜ sheetOf (now (out .exit)) r ≡ puts (toServerText (now (kind .entry)) k j ++ timestampText t) (sheetOf (now (out .entry)) at) ⌝ }
+{
+    let p = sheet::put(out, at, kind);
+    let q = sheet::put_with(out, p, b" kiosk ", k.0 as u32);
+    let e = sheet::put_with(out, q, b" keeper ", j.0 as u32);
+    sheet::put_with(out, e, b" ticket ", t.0)
+}
+
+// From a server to a client; what it says follows.
+fn put_to_client(out: &mut [u8], at: usize, kind: &[u8], k: ClientId, j: ServerId) -> usize
+    ensures { λ r. ⌜ sheetOf (now (out .exit)) r ≡ puts (toClientText (now (kind .entry)) k j) (sheetOf (now (out .entry)) at) ⌝ }
+{
+    let p = sheet::put(out, at, kind);
+    let q = sheet::put_with(out, p, b" keeper ", j.0 as u32);
+    sheet::put_with(out, q, b" kiosk ", k.0 as u32)
+}
+
+fn put_owner(out: &mut [u8], at: usize, o: Owner) -> usize
+    ensures { λ r. ⌜ sheetOf (now (out .exit)) r ≡ puts (ownerText o) (sheetOf (now (out .entry)) at) ⌝ }
+{
+    match o {
+        Owner::Nobody => sheet::put(out, at, b" free"),
+        Owner::Of(r) => {
+            let p = sheet::put(out, at, b" owner ");
+            put_request(out, p, r)
+        }
+    }
+}
+
+fn put_response(out: &mut [u8], at: usize, k: ClientId, j: ServerId, o: Owner) -> usize
+    ensures { λ r. ⌜ sheetOf (now (out .exit)) r ≡ puts (messageText (Response k j o)) (sheetOf (now (out .entry)) at) ⌝ }
+{
+    let p = put_to_client(out, at, b" RESPONSE", k, j);
+    put_owner(out, p, o)
+}
+
+fn put_check(out: &mut [u8], at: usize, k: ClientId, j: ServerId, t: Timestamp) -> usize
+    ensures { λ r. ⌜ sheetOf (now (out .exit)) r ≡ puts (messageText (Check k j t)) (sheetOf (now (out .entry)) at) ⌝ }
+{
+    let p = put_to_client(out, at, b" CHECK", k, j);
+    sheet::put_with(out, p, b" ticket ", t.0)
+}
+
+fn put_message(out: &mut [u8], at: usize, m: Message) -> usize
+    ensures { λ r. ⌜ sheetOf (now (out .exit)) r ≡ puts (messageText m) (sheetOf (now (out .entry)) at) ⌝ }
+{
+    match m {
+        Message::Request(k, j, t) => put_to_server(out, at, b" REQUEST", k, j, t),
+        Message::Yield(k, j, t) => put_to_server(out, at, b" YIELD", k, j, t),
+        Message::Release(k, j, t) => put_to_server(out, at, b" RELEASE", k, j, t),
+        Message::Inquiry(k, j, t) => put_to_server(out, at, b" INQUIRY", k, j, t),
+        Message::Response(k, j, o) => put_response(out, at, k, j, o),
+        Message::Check(k, j, t) => put_check(out, at, k, j, t),
+    }
+}
+
+// Whether a message waits or was taken, which ends its line.
+fn put_standing(out: &mut [u8], at: usize, delivered: bool) -> usize
+    ensures { λ r. ⌜ sheetOf (now (out .exit)) r ≡ puts ((if delivered then text " taken\n" else text " waiting\n") ∷ []) (sheetOf (now (out .entry)) at) ⌝ }
+{
+    if delivered {
+        return sheet::put(out, at, b" taken\n");
+    }
+    sheet::put(out, at, b" waiting\n")
+}
+
+// The message in slot i, a used one.
+fn put_in_transit(out: &mut [u8], at: usize, w: &[u32], i: usize) -> usize
+    requires { ⌜ (valid (now w) ≡ true) × (i < lengthOf (now w)) ⌝ }
+    ensures { λ r. ⌜ sheetOf (now (out .exit)) r ≡ puts (inTransitText (slotAt (transitWords (now (w .entry))) i)) (sheetOf (now (out .entry)) at) ⌝ }
+{
+    let number = transit::number_at(&w[2769..6353], i);
+    let delivered = transit::is_delivered(&w[2769..6353], i);
+    let m = transit::message_at(&w[2769..6353], i);
+    let p = sheet::put_with(out, at, b"mail ", number);
+    let q = put_message(out, p, m);
+    put_standing(out, q, delivered)
+}
+
+fn put_mail(out: &mut [u8], at: usize, w: &[u32]) -> usize
+    requires { ⌜ valid (now w) ≡ true ⌝ }
+    ensures { λ r. ⌜ sheetOf (now (out .exit)) r ≡ puts (mailText (systemOf (now (w .entry)) .transit)) (sheetOf (now (out .entry)) at) ⌝ }
+{
+    let len = w[4] as usize;
+    let mut end = at;
+    let mut i: usize = 0;
+    while i < len {
+        end = put_in_transit(out, end, w, i);
+        i += 1;
+    }
+    end
+}
+
+// All slips of a simulation, and behind them its messages in transit.
+pub fn put_slips_mail(out: &mut [u8], w: &[u32]) -> usize
+    requires { ⌜ valid (now w) ≡ true ⌝ }
+    ensures { λ r. ⌜ sheetOf (now (out .exit)) r ≡ puts (slipsMailText (systemOf (now (w .entry))) (settingOf (now (w .entry)) .n) (settingOf (now (w .entry)) .clients)) (sheetOf (now (out .entry)) 0) ⌝ }
+{
+    let p = put_slips(out, w);
+    put_mail(out, p, w)
 }

@@ -1,11 +1,13 @@
 // The slips program: a gallery script on standard input; on standard output what the gallery program prints and, behind the line of each
 // event, a slip for each server and each client (knowledge/specs/Knowledge). With the argument `last` the slips stand only behind the
-// last event's line. Where reading or writing fails, standard error says so and the program ends there.
+// last event's line; with `mail` the messages in transit stand behind the slips of each event (knowledge/specs/Mail).
+// Where reading or writing fails, standard error says so and the program ends there.
 ghost use mathlib.Core.Path.{_≡_};
 ghost use mathlib.Core.Bool.{true};
 ghost use Prim.Native.Nat.{_≤_, _<_};
 ghost use lib.ListN.{length};
 ghost use Rattle.console.specs.Fits.{Fits};
+ghost use Rattle.layout.specs.Layout.{valid as validSimulation};
 ghost use Rattle.script.specs.State.{valid};
 ghost use Rattle.stream.specs.Answered.{Answered};
 ghost use Rattle.stream.specs.Taken.{Taken};
@@ -13,25 +15,62 @@ use console::Input;
 use libc::STDERR_FILENO;
 use libc::STDOUT_FILENO;
 
-// The slips, if they are wanted here, of a script that runs and has had an event. Whether all of them were written.
-fn show(w: &[u32], out: &mut [u8], wanted: bool) -> bool
+// Where slips stand, and what stands behind them.
+enum Wanted {
+    Each,
+    Last,
+    Mail,
+}
+
+// The slips of a simulation, with its messages in transit or without. They end within the buffer.
+fn put_all(out: &mut [u8], w: &[u32], mail: bool) -> usize
+    requires { ⌜ validSimulation (now w) ≡ true ⌝ }
+    ensures { λ r. ⌜ r ≤ length (now (out .exit)) ⌝ }
+{
+    if mail {
+        return knowledge::put_slips_mail(out, w);
+    }
+    knowledge::put_slips(out, w)
+}
+
+// The slips of a script that runs and has had an event. Whether all of them were written.
+fn show(w: &[u32], out: &mut [u8], mail: bool) -> bool
     requires { ⌜ valid (now w) ≡ true ⌝ }
 {
-    if !wanted {
-        return true;
-    }
     if w[0] != 1 {
         return true;
     }
     if w[1] == 0 {
         return true;
     }
-    let end = knowledge::put_slips(out, &w[46..6399]);
+    let end = put_all(out, &w[46..6399], mail);
     console::write_out(STDOUT_FILENO, &out[0..end])
 }
 
-// A line with its newline, or a piece of one, answered; then the slips if they are wanted and an event line was answered with it.
-fn answer_line(w: &mut [u32], line: &[u8], out: &mut [u8], each: bool) -> bool
+// Behind an event's line.
+fn show_behind(w: &[u32], out: &mut [u8], wanted: Wanted) -> bool
+    requires { ⌜ valid (now w) ≡ true ⌝ }
+{
+    match wanted {
+        Wanted::Each => show(w, out, false),
+        Wanted::Last => true,
+        Wanted::Mail => show(w, out, true),
+    }
+}
+
+// Behind the last event's line.
+fn show_last(w: &[u32], out: &mut [u8], wanted: Wanted) -> bool
+    requires { ⌜ valid (now w) ≡ true ⌝ }
+{
+    match wanted {
+        Wanted::Each => true,
+        Wanted::Last => show(w, out, false),
+        Wanted::Mail => true,
+    }
+}
+
+// A line with its newline, or a piece of one, answered; then what is wanted behind an event line if one was answered with it.
+fn answer_line(w: &mut [u32], line: &[u8], out: &mut [u8], wanted: Wanted) -> bool
     requires { ⌜ (valid (now w) ≡ true) × (52 ≤ length (now out)) ⌝ }
     ensures { λ r. ⌜ (valid (now (w .exit)) ≡ true) × (r ≡ true → Taken (now (w .entry)) (now (line .entry)) (now (w .exit))) ⌝ }
 {
@@ -39,8 +78,10 @@ fn answer_line(w: &mut [u32], line: &[u8], out: &mut [u8], each: bool) -> bool
     if !stream::answer_part(w, line, out) {
         return false;
     }
-    let is_answered = w[1] != before;
-    show(w, out, each && is_answered)
+    if w[1] == before {
+        return true;
+    }
+    show_behind(w, out, wanted)
 }
 
 // The index behind the line that `from` stands in, with its newline.
@@ -56,14 +97,14 @@ fn line_behind(part: &[u8], from: usize) -> usize
 }
 
 // A part of the script, line by line.
-fn answer_lines(w: &mut [u32], part: &[u8], out: &mut [u8], each: bool) -> bool
+fn answer_lines(w: &mut [u32], part: &[u8], out: &mut [u8], wanted: Wanted) -> bool
     requires { ⌜ (valid (now w) ≡ true) × (52 ≤ length (now out)) ⌝ }
     ensures { λ r. ⌜ (valid (now (w .exit)) ≡ true) × (r ≡ true → Taken (now (w .entry)) (now (part .entry)) (now (w .exit))) ⌝ }
 {
     let mut from: usize = 0;
     while from < part.len() {
         let next = line_behind(part, from);
-        if !answer_line(w, &part[from..next], out, each) {
+        if !answer_line(w, &part[from..next], out, wanted) {
             return false;
         }
         from = next;
@@ -72,76 +113,91 @@ fn answer_lines(w: &mut [u32], part: &[u8], out: &mut [u8], each: bool) -> bool
 }
 
 // A last line without its newline is answered. Whether all was written.
-fn close_line(w: &mut [u32], out: &mut [u8], each: bool) -> bool
+fn close_line(w: &mut [u32], out: &mut [u8], wanted: Wanted) -> bool
     requires { ⌜ (valid (now w) ≡ true) × (52 ≤ length (now out)) ⌝ }
     ensures { λ _. ⌜ valid (now (w .exit)) ≡ true ⌝ }
 {
     if w[4] == 0 {
         return true;
     }
-    answer_line(w, b"\n", out, each)
+    answer_line(w, b"\n", out, wanted)
 }
 
-// The end of the script, behind the slips if they are wanted only there.
-fn finish(w: &mut [u32], out: &mut [u8], each: bool)
+// The end of the script, behind what is wanted behind the last event's line.
+fn finish(w: &mut [u32], out: &mut [u8], wanted: Wanted)
     requires { ⌜ (valid (now w) ≡ true) × (104 ≤ length (now out)) ⌝ }
 {
-    if !close_line(w, out, each) {
+    if !close_line(w, out, wanted) {
         return;
     }
-    if !show(w, out, !each) {
+    if !show_last(w, out, wanted) {
         return;
     }
     stream::finish(w, out);
 }
 
 // What reading gave is answered. Whether to go on.
-fn answer(w: &mut [u32], part: &[u8], input: Input, out: &mut [u8], each: bool) -> bool
+fn answer(w: &mut [u32], part: &[u8], input: Input, out: &mut [u8], wanted: Wanted) -> bool
     requires { ⌜ (valid (now w) ≡ true) × (104 ≤ length (now out)) × Fits (length (now part)) input ⌝ }
     ensures { λ r. ⌜ (r ≡ true → (valid (now (w .exit)) ≡ true) × Answered (now (w .entry)) (now (part .entry)) input (now (w .exit))) ⌝ }
 {
     match input {
         Input::Failed => false,
         Input::End => {
-            finish(w, out, each);
+            finish(w, out, wanted);
             false
         }
-        Input::Bytes(n) => answer_lines(w, &part[0..n], out, each),
+        Input::Bytes(n) => answer_lines(w, &part[0..n], out, wanted),
     }
 }
 
 // Part by part, as in `gallery`.
-fn run(w: &mut [u32], part: &mut [u8], out: &mut [u8], each: bool)
+fn run(w: &mut [u32], part: &mut [u8], out: &mut [u8], wanted: Wanted)
     requires { ⌜ (valid (now w) ≡ true) × (104 ≤ length (now out)) ⌝ }
 {
     let mut turns = u64::MAX;
     while turns > 0 {
         let input = stream::read_part(w, part);
-        if !answer(w, part, input, out, each) {
+        if !answer(w, part, input, out, wanted) {
             return;
         }
         turns -= 1;
     }
 }
 
-// Whether the only argument is `last`.
-fn is_last() -> bool {
+// Whether the only argument is this word.
+fn is_given(word: &[u8; 4]) -> bool {
     if os::arg_count() != 2 {
         return false;
     }
-    let mut word = [0u8; 5];
-    let n = os::arg(1, &mut word);
-    n == 4 && word[0] == b'l' && word[1] == b'a' && word[2] == b's' && word[3] == b't'
+    let mut given = [0u8; 5];
+    let n = os::arg(1, &mut given);
+    n == 4
+        && given[0] == word[0]
+        && given[1] == word[1]
+        && given[2] == word[2]
+        && given[3] == word[3]
 }
 
-fn main() {
-    let each = os::arg_count() < 2;
-    if !each && !is_last() {
-        console::write_out(STDERR_FILENO, b"no 16 not last\n");
-        return;
-    }
+fn begin(wanted: Wanted) {
     let mut state = stream::start();
     let mut part = io::large_buffer();
     let mut out = io::large_buffer();
-    run(&mut state, &mut part, &mut out, each);
+    run(&mut state, &mut part, &mut out, wanted);
+}
+
+fn main() {
+    if os::arg_count() < 2 {
+        begin(Wanted::Each);
+        return;
+    }
+    if is_given(b"last") {
+        begin(Wanted::Last);
+        return;
+    }
+    if is_given(b"mail") {
+        begin(Wanted::Mail);
+        return;
+    }
+    console::write_out(STDERR_FILENO, b"no 16 not last or mail\n");
 }

@@ -135,6 +135,10 @@ number-at t i =
 pub word-at : (t : List ℕ) (i k : ℕ) → k < 7 → getD (take 7 (drop (7 * i) t)) k 0 ≡ getD t (7 * i + k) 0
 word-at t i k h = rw (getD-take 7 (drop (7 * i) t) k 0 h, getD-drop (7 * i) t k 0)
 
+pub delivered-at : (t : List ℕ) (i : ℕ) → slotAt t i .delivered ≡ eqb (getD t (7 * i + 1) 0) 1
+unfolding slotOf
+delivered-at t i = ap (λ (x : ℕ). eqb x 1) (word-at t i 1 (omega arith))
+
 drop-take : (m k : ℕ) (l : List ℕ) → m ≤ length l → drop m (take (m + k) l) ≡ take k (drop m l)
 drop-take m k l h = rw (take-add m k l, drop-at (take m l) (take k (drop m l)) m (length-take-le m l h))
 

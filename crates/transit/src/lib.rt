@@ -7,7 +7,7 @@ ghost use lib.Seq.{sets, paste};
 ghost use lib.Dec.{eqb};
 ghost use Rattle.ids.specs.Lists.{every};
 ghost use Rattle.wire.specs.Format.{words as wordsOf};
-ghost use Rattle.transit.specs.Slots.{rows, slots, validSlot, ascending, validSlots, messagesIn};
+ghost use Rattle.transit.specs.Slots.{rows, slots, slotAt, validSlot, ascending, validSlots, messagesIn};
 ghost use Rattle.transit.specs.Calls.{Sized, FindsPending, FindsPresent, IsAt, Marks, Removes, Restarts, Posts};
 ghost use Rattle.transit.specs.Parts.{namedFields, againWord, Bound, PostsOne};
 use ids::ServerId;
@@ -164,6 +164,22 @@ pub fn find_present(t: &[u32], len: usize, number: u32) -> usize
         return len;
     }
     i
+}
+
+// The number of the message in slot `i`. For what shows a simulation, whose words are valid.
+pub fn number_at(t: &[u32], i: usize) -> u32
+    requires { ⌜ (length (now t) ≡ 3584) × (i < 512) ⌝ }
+    ensures { λ r. ⌜ r ≡ slotAt (now (t .entry)) i .number ⌝ }
+{
+    t[7 * i]
+}
+
+// Whether the message in slot `i` is delivered. For what shows a simulation, whose words are valid.
+pub fn is_delivered(t: &[u32], i: usize) -> bool
+    requires { ⌜ (length (now t) ≡ 3584) × (i < 512) ⌝ }
+    ensures { λ r. ⌜ r ≡ slotAt (now (t .entry)) i .delivered ⌝ }
+{
+    t[7 * i + 1] == 1
 }
 
 // The message in slot `i`, a used one. For the simulation, whose words are valid.

@@ -1,23 +1,47 @@
--- `slips::answer_line` meets its contract: the state has taken the line in, and the slips change nothing of it.
+-- `slips::answer_line` meets its contract: the state has taken the line in, and what is shown behind it changes nothing of the state.
+-- A section for each place on the way says what holds there; the needs below cite these.
+use denote.Ref.{now}
+use mathlib.Core.Path.{_≡_}
+use mathlib.Core.Bool.{true, false≢true}
 use native.Mathlib.Omega.{arith}
-use mathlib.Core.Bool.{false≢true}
+use Rattle.script.specs.State.{valid}
 use Rattle.script.proofs.LineLaws.{sound}
+use Rattle.stream.specs.Taken.{Taken}
 use borrow.Author.Tests.{not-false}
 use borrow.Author.Needs.{needs}
 use Rattle.slips.proofs.answer_line.Statement.{statement}
 use Rattle.slips.proofs.answer_line.Tie as tie
 
+-- the line is fed
+module _ (c : tie.After-answer-part) where
+  abbrev entry : tie.Start
+  entry = c .before .before .before .before .before .before .before
+
+  again : valid (c .answer-part .last .0) ≡ true
+  again = c .answer-part .ensures .0
+
+-- and answered
+module _ (c : tie.Else1) where
+  abbrev fed : tie.After-answer-part
+  fed = c .before .before .before .before .before
+
+  taken : Taken (now (entry fed .args .w)) (now (entry fed .args .line)) (fed .answer-part .last .0)
+  taken = fed .answer-part .ensures .1 (not-false _ (c .if1 .left))
+
 slice-read-before : tie.Need-slice-read-before
 slice-read-before c = omega (arith, sound _ (c .before .before .before .before .pre .0) .long)
 
 returns : tie.Need-returns
-returns c = (c .before .before .before .before .before .answer-part .ensures .0, λ z. absurd (false≢true z))
+returns c = (again (c .before .before .before .before .before), λ z. absurd (false≢true z))
 
-slice-read-is-answered : tie.Need-slice-read-is-answered
-slice-read-is-answered c = omega (arith, sound _ (c .before .before .before .before .before .before .answer-part .ensures .0) .long)
+slice-read-if2 : tie.Need-slice-read-if2
+slice-read-if2 c = omega (arith, sound _ (again (fed (c .before))) .long)
 
 returns-2 : tie.Need-returns-2
-returns-2 c = let s = c .before .before .before .before .before .before .before .before .before .before .before .before .answer-part .ensures in (s .0, λ z. s .1 (not-false _ (c .before .before .before .before .before .before .before .if1 .left)))
+returns-2 c = let d = c .before .before in (again (fed d), λ z. taken d)
+
+returns-3 : tie.Need-returns-3
+returns-3 c = let d = c .before .before .before .before .before .before .before in (again (fed d), λ z. taken d)
 
 pub answer-line-spec : {M : Type 1} → statement M
 answer-line-spec =
@@ -28,8 +52,11 @@ answer-line-spec =
     (λ c. search needs)
     (λ c. search needs)
     returns
-    slice-read-is-answered
+    slice-read-if2
+    (λ c. search needs)
+    (λ c. search needs)
+    returns-2
     (λ c κs. search needs)
     (λ c. search needs)
     (λ c. search needs)
-    returns-2)
+    returns-3)

@@ -14,10 +14,10 @@ use Rattle.slips.proofs.answer_lines.Statement.{statement}
 use Rattle.slips.proofs.answer_lines.Tie as tie
 
 abbrev Inv-loop : tie.InvT-loop
-Inv-loop w₀ part out₀ each from₀ w out from = (length w ≡ length w₀) × (length out ≡ length out₀) × (from ≤ length part) × (valid w ≡ true) × (52 ≤ length out) × Taken w₀ (take from part) w
+Inv-loop w₀ part out₀ wanted from₀ w out from = (length w ≡ length w₀) × (length out ≡ length out₀) × (from ≤ length part) × (valid w ≡ true) × (52 ≤ length out) × Taken w₀ (take from part) w
 
 abbrev μ-loop : tie.MeasureT-loop
-μ-loop w₀ part out₀ each from₀ w out from = length part - from
+μ-loop w₀ part out₀ wanted from₀ w out from = length part - from
 
 loop-holds : tie.Need-loop-holds Inv-loop μ-loop
 loop-holds c = let a = c .before .before .before .args in let p = c .before .before .before .pre in (refl, refl, omega arith, p .0, p .1, taken-none (now (a .w)) (now (a .part)))

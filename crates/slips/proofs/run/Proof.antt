@@ -10,10 +10,10 @@ use Rattle.slips.proofs.run.Statement.{statement}
 use Rattle.slips.proofs.run.Tie as tie
 
 abbrev Inv-loop : tie.InvT-loop
-Inv-loop w₀ part₀ out₀ each turns₀ w part out turns = (length w ≡ length w₀) × (length part ≡ length part₀) × (length out ≡ length out₀) × (valid w ≡ true) × (104 ≤ length out)
+Inv-loop w₀ part₀ out₀ wanted turns₀ w part out turns = (length w ≡ length w₀) × (length part ≡ length part₀) × (length out ≡ length out₀) × (valid w ≡ true) × (104 ≤ length out)
 
 abbrev μ-loop : tie.MeasureT-loop
-μ-loop w₀ part₀ out₀ each turns₀ w part out turns = turns
+μ-loop w₀ part₀ out₀ wanted turns₀ w part out turns = turns
 
 loop-again : tie.Need-loop-again Inv-loop μ-loop
 loop-again c = (search needs, search needs, search needs, c .before .before .before .before .before .answer .ensures (not-false _ (c .if1 .left)) .0, search needs)

@@ -1,40 +1,57 @@
 -- `slips::show` meets its contract: a script that runs has a valid simulation.
+-- A section for each place on the way says what holds there; the needs below cite these.
+use denote.Ref.{now}
+use mathlib.Core.Path.{_≡_}
+use mathlib.Core.Bool.{true}
 use native.Mathlib.Omega.{arith}
-use Rattle.slips.proofs.RunLaws.{runs}
-use Rattle.sheet.proofs.SheetLaws.{placed}
+use lib.ListN.{length, take, drop}
+use Rattle.layout.specs.Layout.{valid}
 use Rattle.script.proofs.LineLaws.{sound}
+use Rattle.slips.proofs.RunLaws.{runs}
 use borrow.Author.Needs.{needs}
 use Rattle.slips.proofs.show.Statement.{statement}
 use Rattle.slips.proofs.show.Tie as tie
 
+-- at entry the script's state is valid
+module _ (c : tie.Start) where
+  long : length (now (c .args .w)) ≡ 6399
+  long = sound _ (c .pre) .long
+
+-- it runs
+module _ (c : tie.Else1) where
+  abbrev entry : tie.Start
+  entry = c .before .before .before .before
+
+  simulation : valid (take 6353 (drop 46 (now (entry .args .w)))) ≡ true
+  simulation = runs _ (entry .pre) (c .if1 .left)
+
+shared-slice-read-if1 : tie.Need-shared-slice-read-if1
+shared-slice-read-if1 c = omega (arith, long (c .before .before .before))
+
 shared-slice-read-if2 : tie.Need-shared-slice-read-if2
-shared-slice-read-if2 c = omega (arith, sound _ (c .before .before .before .before .pre) .long)
+shared-slice-read-if2 c = omega (arith, long (entry (c .before)))
 
-shared-slice-read-if3 : tie.Need-shared-slice-read-if3
-shared-slice-read-if3 c = omega (arith, sound _ (c .before .before .before .before .before .before .pre) .long)
+part-put-all-end : tie.Need-part-put-all-end
+part-put-all-end c = omega (arith, long (entry (c .before .before .before)))
 
-part-put-slips-end : tie.Need-part-put-slips-end
-part-put-slips-end c = omega (arith, sound _ (c .before .before .before .before .before .before .before .before .pre) .long)
-
-put-slips-requires : tie.Need-put-slips-requires
-put-slips-requires c κs = runs _ (c .before .before .before .before .before .before .before .before .before .pre) (c .before .before .before .before .if2 .left)
+put-all-requires : tie.Need-put-all-requires
+put-all-requires c κs = simulation (c .before .before .before .before)
 
 part-write-out-end : tie.Need-part-write-out-end
-part-write-out-end c = omega (arith, placed _ _ _ _ (c .before .before .before .put-slips .ensures))
+part-write-out-end c = omega (arith, c .before .before .before .put-all .ensures)
 
 pub show-spec : {M : Type 1} → statement M
 show-spec =
     tie.close
     (tie.spec
+    shared-slice-read-if1
     (λ c. search needs)
     shared-slice-read-if2
     (λ c. search needs)
-    shared-slice-read-if3
     (λ c. search needs)
     (λ c. search needs)
-    (λ c. search needs)
-    part-put-slips-end
-    put-slips-requires
+    part-put-all-end
+    put-all-requires
     (λ c. search needs)
     (λ c. search needs)
     part-write-out-end

@@ -1,0 +1,59 @@
+-- A used slot of a valid simulation holds what the code reads of it, so its line is that message's; the mail of the first i slots and the
+-- line of slot i are the mail of one slot more.
+use mathlib.Core.Path.{_≡_, refl, sym}
+use Prim.Native.Nat.{ℕ, suc, _+_, _*_, _<_}
+use native.Mathlib.Omega.{arith}
+use native.Mathlib.Numerals.{add-one}
+use mathlib.Core.Bool.{Bool, true}
+use mathlib.Core.List.{List, [], _∷_, _++_, map-append, append-assoc, append-nil}
+use lib.ListN.{length, take, drop}
+use Rattle.wire.specs.declared.Message.{Message}
+use Rattle.system.specs.Transit.{InTransit}
+use Rattle.transit.specs.Slots.{rows, slots, slotOf, slotAt}
+use Rattle.transit.specs.Calls.{IsAt}
+use Rattle.transit.proofs.RowsLaws.{rows-next}
+use Rattle.layout.specs.Layout.{settingOf, lengthOf, sentOf, transitWords, valid}
+use Rattle.layout.proofs.ValidLaws.{facts}
+use Rattle.changes.proofs.Messages.{lent-sized}
+use Rattle.sheet.specs.Sheet.{Sheet, puts}
+use Rattle.sheet.proofs.SheetLaws.{then as behind}
+use Rattle.knowledge.specs.Mail.{inTransitText, mailText}
+
+-- slot i, a used one, as the code lends and reads it
+module _ (w : List ℕ) (i : ℕ) (ok : valid w ≡ true) (h : i < lengthOf w) where
+  pub slot-lent : (length (take 3584 (drop 2769 w)) ≡ 3584) × (i < 512)
+  slot-lent = let s = lent-sized w ok in (s .size, omega (arith, s .few, h))
+
+  pub slot-read : (number : ℕ) (delivered : Bool) (m : Message)
+      → number ≡ slotAt (take 3584 (drop 2769 w)) i .number
+      → delivered ≡ slotAt (take 3584 (drop 2769 w)) i .delivered
+      → IsAt i (take 3584 (drop 2769 w)) m
+      → slotAt (transitWords w) i ≡ record { number = number; delivered = delivered; message = m }
+  unfolding transitWords
+  slot-read number delivered m e f A =
+      let g : m ≡ slotAt (transitWords w) i .message = A (settingOf w .n) (settingOf w .clients) (sentOf w) (lengthOf w) (facts w ok .transit) h in
+      λ j. record { number = sym e j; delivered = sym f j; message = sym g j }
+
+-- the mail, one message more
+mail-append : (a b : List InTransit) → mailText (a ++ b) ≡ mailText a ++ mailText b
+unfolding mailText
+mail-append [] b = refl
+mail-append (x ∷ a) b = rw (mail-append a b, append-assoc (inTransitText x) (mailText a) (mailText b))
+
+mail-one : (x : InTransit) → mailText (x ∷ []) ≡ inTransitText x
+unfolding mailText
+mail-one x = append-nil (inTransitText x)
+
+module _ (t : List ℕ) where
+  slots-next : (i : ℕ) → slots (suc i) t ≡ slots i t ++ (slotAt t i ∷ [])
+  unfolding slots
+  slots-next i = rw (rows-next i t) (map-append slotOf (rows i t) (take 7 (drop (7 * i) t) ∷ []))
+
+  pub mail-none : (s : Sheet) → s ≡ puts (mailText (slots 0 t)) s
+  unfolding slots rows mailText puts
+  mail-none s = refl
+
+  pub mail-more : (i : ℕ) (s₀ : Sheet) {s₁ s₂ : Sheet} → s₁ ≡ puts (mailText (slots i t)) s₀ → s₂ ≡ puts (inTransitText (slotAt t i)) s₁
+      → s₂ ≡ puts (mailText (slots (i + 1) t)) s₀
+  mail-more i s₀ p q =
+      rw (add-one i, slots-next i, mail-append (slots i t) (slotAt t i ∷ []), mail-one (slotAt t i)) (behind s₀ _ _ p q)

@@ -1,0 +1,93 @@
+-- `knowledge::put_mail` meets its contract: after i turns the messages of the first i slots stand there.
+-- A section for each place on the way says what holds there; the needs below cite these.
+use denote.Ref.{now}
+use native.Mathlib.Omega.{arith}
+use mathlib.Core.Path.{_≡_, refl}
+use mathlib.Core.List.{List}
+use lib.ListN.{length}
+use Prim.Native.Nat.{ℕ, _-_, _≤_}
+use Rattle.changes.proofs.Messages.{lent-sized, its-transit}
+use Rattle.changes.proofs.Parties.{words-long}
+use Rattle.layout.specs.Layout.{lengthOf, transitWords}
+use Rattle.sheet.specs.Sheet.{sheet, puts}
+use Rattle.transit.specs.Slots.{slots}
+use Rattle.knowledge.specs.Mail.{mailText}
+use Rattle.knowledge.proofs.MailLaws.{mail-none, mail-more}
+use borrow.Author.Needs.{needs}
+use Rattle.knowledge.proofs.put_mail.Statement.{statement}
+use Rattle.knowledge.proofs.put_mail.Tie as tie
+
+abbrev Inv-loop : tie.InvT-loop
+Inv-loop out₀ at w len end₀ i₀ out end i =
+    (sheet out end ≡ puts (mailText (slots i (transitWords w))) (sheet out₀ end₀)) × (i ≤ len) × (length out ≡ length out₀)
+
+abbrev μ-loop : tie.MeasureT-loop
+μ-loop out₀ at w len end₀ i₀ out end i = len - i
+
+-- at entry the simulation is valid
+module _ (c : tie.Start Inv-loop μ-loop) where
+  abbrev words : List ℕ
+  words = now (c .args .w)
+
+  long : length words ≡ 6353
+  long = words-long words (c .pre)
+
+  few : lengthOf words ≤ 512
+  few = lent-sized words (c .pre) .few
+
+-- at the head of the loop
+module _ (c : tie.At-loop Inv-loop μ-loop) where
+  abbrev entry : tie.Start Inv-loop μ-loop
+  entry = c .before .before .before .before
+
+-- a turn's message is put
+module _ (c : tie.After-put-in-transit Inv-loop μ-loop) where
+  abbrev turn : tie.At-loop Inv-loop μ-loop
+  turn = c .before .before .before
+
+shared-slice-read-len : tie.Need-shared-slice-read-len Inv-loop μ-loop
+shared-slice-read-len c = omega (arith, long (c .before .before .before))
+
+cast-len : tie.Need-cast-len Inv-loop μ-loop
+cast-len c = omega (arith, few (c .before .before .before))
+
+loop-holds : tie.Need-loop-holds Inv-loop μ-loop
+loop-holds c = (mail-none _ _, omega arith, refl)
+
+put-in-transit-requires : tie.Need-put-in-transit-requires Inv-loop μ-loop
+put-in-transit-requires c κs = (entry (c .before .before) .pre, omega arith)
+
+add-i : tie.Need-add-i Inv-loop μ-loop
+add-i c = record { fits = omega (arith, few (entry (turn (c .before .before)))) }
+
+loop-less : tie.Need-loop-less Inv-loop μ-loop
+loop-less c = omega arith
+
+loop-again : tie.Need-loop-again Inv-loop μ-loop
+loop-again c =
+    let d = c .before .before in
+    let l = turn d .loop in
+    (mail-more _ (l .i) _ (l .inv .0) (d .put-in-transit .ensures), omega arith, omega arith)
+
+returns : tie.Need-returns Inv-loop μ-loop
+returns c =
+    let l = c .before .loop in
+    let start = entry (c .before) in
+    let e : l .i ≡ lengthOf (words start) = omega arith in
+    rw (← its-transit (words start) (start .pre), ← e) (l .inv .0)
+
+pub put-mail-spec : {M : Type 1} → statement M
+put-mail-spec =
+    tie.close
+    (tie.spec
+    Inv-loop
+    μ-loop
+    shared-slice-read-len
+    cast-len
+    loop-holds
+    put-in-transit-requires
+    add-i
+    loop-less
+    loop-again
+    (λ c. search needs)
+    returns)
