@@ -21,9 +21,12 @@ function linesOf(bytes) {
 
 const LONGEST_SHOWN = 48;
 
-// A line to be read: what is no printable ASCII is shown as \xNN, and a long line is cut.
-function shown(line) {
-    const one = (byte) => (byte >= 32 && byte < 127 ? String.fromCharCode(byte) : "\\x" + byte.toString(16).padStart(2, "0"));
+// A line to be read: what is no printable ASCII is shown as \xNN, in a bad line each space is seen, and a long line is cut.
+function shown(line, bad) {
+    const one = (byte) => {
+        if (bad && byte === 32) return "·";
+        return byte >= 32 && byte < 127 ? String.fromCharCode(byte) : "\\x" + byte.toString(16).padStart(2, "0");
+    };
     const text = Array.from(line.slice(0, LONGEST_SHOWN), one).join("");
     return line.length > LONGEST_SHOWN ? `${text}… (${line.length} bytes)` : text;
 }
@@ -85,13 +88,14 @@ function startOf(setting, line) {
     };
 }
 
-// The step of an answer, with the slips as they were; the lines behind it change them.
-function stepOf(m, line, before) {
+// The step of an answer to a line, with the slips as they were; what is told behind it changes them.
+function stepOf(m, bytes, before) {
     const ok = m[4] === undefined;
+    const line = shown(bytes, Number(m[4]) === 16);
     const said = EVENT.exec(line);
     return {
         row: before.row + 1,
-        line: Number(m[4]) === 16 ? line.replaceAll(" ", "·") : line, // in a bad line each space is seen
+        line,
         answer: m[0],
         ok,
         event: ok && said ? { word: said[1], number: Number(said[2]) } : null,
@@ -103,8 +107,7 @@ function stepOf(m, line, before) {
     };
 }
 
-function tellMail(run, m) {
-    const step = run.steps[run.steps.length - 1];
+function tellMail(run, step, m) {
     const known = run.byNumber.get(Number(m[1]));
     if (!known) {
         const message = messageOf(m, step.row);
@@ -115,33 +118,41 @@ function tellMail(run, m) {
     }
 }
 
-function tellGone(run, m) {
-    const step = run.steps[run.steps.length - 1];
-    const message = run.byNumber.get(Number(m[1]));
-    message.moves.push({ row: step.row, to: step.event.word === "drop" ? "dropped" : "received" });
+function tellGone(run, step, m) {
+    run.byNumber.get(Number(m[1])).moves.push({ row: step.row, to: step.event.word === "drop" ? "dropped" : "received" });
+}
+
+// What a line behind the first says of the run, by its form; `step` is the last one told.
+const TELLING = [
+    [ANSWER, (run, step, m, lines) => run.steps.push(stepOf(m, lines[step.row + 1], step))],
+    [KEEPER, (run, step, m) => step.keepers.splice(m[1] - 1, 1, keeperOf(m))],
+    [KIOSK, (run, step, m) => step.kiosks.splice(m[1] - 1, 1, kioskOf(m))],
+    [MAIL, tellMail],
+    [GONE, tellGone],
+    [END, (run, step, m) => (run.end = { accepted: Number(m[1]), holders: Number(m[2]), down: Number(m[3]) })],
+];
+
+function tellLine(run, line, lines) {
+    const told = TELLING.find(([form]) => form.test(line));
+    if (!told || run.refused !== null) throw new Error(`this is no line of the slips: ${line}`);
+    told[1](run, run.steps[run.steps.length - 1], told[0].exec(line), lines);
 }
 
 // A run from the film's text and the script's bytes. `steps[0]` is the start and `steps[i]` event line i; a refused first line leaves
 // no steps. A text that is not of `slips mail` is an error.
 function readRun(text, bytes) {
-    const lines = linesOf(bytes).map(shown);
-    const told = text.split("\n").filter((line) => line !== "");
-    const run = { setting: null, refused: null, first: lines[0] || "", steps: [], messages: [], byNumber: new Map(), end: null };
-    told.forEach((line, at) => {
-        let m;
-        const last = run.steps[run.steps.length - 1];
-        if (at === 0 && (m = HEADER.exec(line))) {
-            run.setting = { n: Number(m[1]), m: Number(m[2]), f: Number(m[3]), kiosks: Number(m[4]) };
-            run.steps.push(startOf(run.setting, run.first));
-        } else if (at === 0 && (m = REFUSED_SETTING.exec(line))) run.refused = Number(m[1]);
-        else if (last && (m = ANSWER.exec(line))) run.steps.push(stepOf(m, lines[last.row + 1], last));
-        else if (last && (m = KEEPER.exec(line))) last.keepers[m[1] - 1] = keeperOf(m);
-        else if (last && (m = KIOSK.exec(line))) last.kiosks[m[1] - 1] = kioskOf(m);
-        else if (last && (m = MAIL.exec(line))) tellMail(run, m);
-        else if (last && (m = GONE.exec(line))) tellGone(run, m);
-        else if (last && (m = END.exec(line))) run.end = { accepted: Number(m[1]), holders: Number(m[2]), down: Number(m[3]) };
-        else throw new Error(`line ${at + 1} is none of the slips: ${line}`);
-    });
+    const lines = linesOf(bytes);
+    const [first, ...told] = text.split("\n").filter((line) => line !== "");
+    const run = { setting: null, refused: null, first: shown(lines[0] || [], false), steps: [], messages: [], byNumber: new Map(), end: null };
+    const header = HEADER.exec(first);
+    const refused = REFUSED_SETTING.exec(first);
+    if (header) {
+        const [n, m, f, kiosks] = header.slice(1).map(Number);
+        run.setting = { n, m, f, kiosks };
+        run.steps.push(startOf(run.setting, run.first));
+    } else if (refused) run.refused = Number(refused[1]);
+    else throw new Error(`this is no first line of the slips: ${first}`);
+    told.forEach((line) => tellLine(run, line, lines));
     return run;
 }
 

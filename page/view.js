@@ -219,24 +219,27 @@
         setTimeout(() => URL.revokeObjectURL(made.href), 10000);
     }
 
-    const KEYS = {
-        ArrowRight: () => go(at + 1),
-        ArrowDown: () => go(at + 1),
-        ArrowLeft: () => go(at - 1),
-        ArrowUp: () => go(at - 1),
-        PageDown: () => go(at + 10),
-        PageUp: () => go(at - 10),
-        Home: () => go(0),
-        End: () => go(lastStep),
-        " ": play,
-    };
+    const KEYS = new Map([
+        ["ArrowRight", () => go(at + 1)],
+        ["ArrowLeft", () => go(at - 1)],
+        ["ArrowDown", () => go(at + 1)],
+        ["ArrowUp", () => go(at - 1)],
+        ["PageDown", () => go(at + 10)],
+        ["PageUp", () => go(at - 10)],
+        ["Home", () => go(0)],
+        ["End", () => go(lastStep)],
+        [" ", play],
+    ]);
 
+    // A key keeps its own meaning where it has one: in the choice of the pace, on a button, and for scrolling the slips.
     function onKey(e) {
         const name = e.target.tagName;
-        if (e.altKey || e.ctrlKey || e.metaKey || !KEYS[e.key] || name === "SELECT") return;
+        const act = KEYS.get(e.key);
+        if (!act || e.altKey || e.ctrlKey || e.metaKey || name === "SELECT") return;
         if (e.key === " " && (name === "BUTTON" || name === "SUMMARY")) return;
+        if (e.target === part("side") && e.key !== "ArrowLeft" && e.key !== "ArrowRight") return;
         e.preventDefault();
-        KEYS[e.key]();
+        act();
     }
 
     // Space and size.

@@ -7,7 +7,11 @@ const path = require("node:path");
 
 const ROOT = path.join(__dirname, "..", "..");
 
-const run = (name, words, input) => execFileSync(path.join(ROOT, "bin", name), words, { input, maxBuffer: 1 << 30 });
+const run = (program, words, input) => execFileSync(program, words, { input, maxBuffer: 1 << 30 });
+
+// The launcher builds the program where it must; then it is run as it is, which is quicker.
+run(path.join(ROOT, "bin", "slips"), [], "");
+const SLIPS = path.join(ROOT, "target", "bin", "slips");
 
 // The scripts of tests/scripts: { name, bytes }.
 function scripts() {
@@ -16,7 +20,7 @@ function scripts() {
     return names.map((name) => ({ name, bytes: fs.readFileSync(path.join(folder, name)) }));
 }
 
-const html = (bytes) => run("film", [], bytes).toString("latin1");
+const html = (bytes) => run(path.join(ROOT, "bin", "film"), [], bytes).toString("latin1");
 
 // What stands in a film's element of data.
 function data(page, id) {
@@ -34,7 +38,7 @@ function film(bytes) {
 // The text of `slips mail`: the lines before the first event, for each event its answer with the lines behind it, and the end.
 function told(bytes) {
     const [head, steps, end] = [[], [], []];
-    for (const line of run("slips", ["mail"], bytes).toString("latin1").split("\n")) {
+    for (const line of run(SLIPS, ["mail"], bytes).toString("latin1").split("\n")) {
         if (/^\d+ (ok|no) /.test(line)) steps.push({ answer: line, lines: [] });
         else if (/^(keeper|kiosk|mail) /.test(line)) steps[steps.length - 1].lines.push(line);
         else if (steps.length === 0) head.push(line);
