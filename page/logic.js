@@ -345,17 +345,22 @@ function stretches(run, s, f) {
 }
 
 // Where things stand, in pixels: the first kiosk's line, row 0, a row's height, from party to party, from kiosks to keepers, and behind
-// the last keeper. A chart by itself has the script's lines at its left; on the page the columns take the room there is.
+// the last keeper. Left of the first kiosk there is room for the longest label; a chart by itself has the script's lines there too.
 const SHEET = { left: 330, top: 84, row: 28, column: 96, gap: 40, right: 124 };
 const ROOMY = { left: 92, top: 12, row: 28, column: 110, gap: 40, right: 92 };
 const NARROWEST = 76;
+const LETTER = 7.3;
 
+const longer = (run) => Math.ceil(LETTER * Math.max(0, String(run.messages.length).length - 2));
+
+const sheetFor = (run) => ({ ...SHEET, left: SHEET.left + 2 * longer(run), right: SHEET.right + longer(run) });
+
+// On the page the columns take the room that there is.
 function geometryFor(run, width) {
-    const g = ROOMY;
-    const between = run.setting.kiosks + run.setting.n - 1;
-    const gap = width < 480 ? 12 : width < 640 ? 24 : g.gap;
-    const fitting = Math.floor((width - g.left - g.right - gap) / between);
-    return { ...g, gap, column: Math.max(NARROWEST, Math.min(g.column, fitting)) };
+    const [left, right] = [ROOMY.left + longer(run), ROOMY.right + longer(run)];
+    const gap = width < 480 ? 12 : width < 640 ? 24 : ROOMY.gap;
+    const fitting = Math.floor((width - left - right - gap) / (run.setting.kiosks + run.setting.n - 1));
+    return { ...ROOMY, left, right, gap, column: Math.max(NARROWEST, Math.min(ROOMY.column, fitting)) };
 }
 
 const LABELS = 6; // of waiting messages, below each receiver
@@ -513,7 +518,7 @@ const cut = (text, most) => (text.length > most ? text.slice(0, most - 1) + "…
 
 // The whole chart up to event s as an SVG file of its own, with the script's lines and their answers.
 function svgOf(run, s) {
-    const g = SHEET;
+    const g = sheetFor(run);
     const [width, height] = [widthOf(run, g), heightOf(run, s, g)];
     const row = (step) => {
         const at = yOf(g, step.row) + 4;
@@ -575,5 +580,5 @@ function mailText(m) {
 }
 
 if (typeof module !== "undefined") {
-    module.exports = { linesOf, shown, readRun, standing, mailAt, tell, mismatches, arrows, stretches, shapes, svgOf, xOf, yOf, SHEET, geometryFor, partiesOf, escapeText, answerText, endText, mailText };
+    module.exports = { linesOf, readRun, tell, mismatches, arrows, svgOf, xOf, sheetFor, partiesOf };
 }

@@ -145,7 +145,7 @@ test("the chart draws each arrow between its parties' lines", () => {
     for (const { name, run } of played) {
         const last = run.steps.length - 1;
         const svg = logic.svgOf(run, last);
-        const columns = new Map(logic.partiesOf(run).map((party) => [logic.xOf(run, logic.SHEET, party), party.party]));
+        const columns = new Map(logic.partiesOf(run).map((party) => [logic.xOf(run, logic.sheetFor(run), party), party.party]));
         for (const kind of ["taken", "waiting"]) {
             const lines = drawn(svg, kind);
             assert.equal(lines.length, logic.arrows(run, last).filter((a) => a.end === kind).length, name);
