@@ -263,6 +263,11 @@
     part("pace").addEventListener("change", () => timer !== null && (pause(), play()));
     part("save").addEventListener("click", save);
     part("print").addEventListener("click", () => print());
+    part("to-words").addEventListener("click", () => {
+        part("words").open = true;
+        part("words").scrollIntoView();
+        part("words").querySelector("summary").focus();
+    });
     document.addEventListener("keydown", onKey);
     addEventListener("hashchange", () => go(placeInAddress()));
     addEventListener("resize", fit);

@@ -129,11 +129,14 @@ async function reachable(browser) {
     const { nodes } = await page.send("Accessibility.getFullAXTree");
     const named = (role) => nodes.filter((node) => !node.ignored && node.role?.value === role).map((node) => node.name?.value || "");
     for (const role of ["button", "combobox", "listbox", "image", "region"]) assert.ok(named(role).length && named(role).every(Boolean), `${role} ${named(role)}`);
-    assert.deepEqual(named("button").slice(0, 5), ["To the start", "One event back", "Play", "One event on", "To the end"]);
+    assert.deepEqual(named("button").slice(0, 6), ["What these words mean", "To the start", "One event back", "Play", "One event on", "To the end"]);
     assert.equal(named("option").length, 16); // 13 lines, 3 paces
     assert.equal(await page.read('document.getElementById("lines").getAttribute("aria-activedescendant")'), "line-12");
     assert.equal(await page.read('document.getElementById("step").getAttribute("aria-live")'), "polite");
     assert.ok((await page.read('document.querySelectorAll("th[scope]").length')) > 7);
+    await page.read('document.getElementById("to-words").click()');
+    assert.equal(await page.read("document.activeElement.textContent"), "What these words mean");
+    assert.match(await page.read(shown("words")), /keeper\s+a server: /);
     await page.close();
 }
 
