@@ -143,16 +143,18 @@ function tellLine(run, line, lines) {
 function readRun(text, bytes) {
     const lines = linesOf(bytes);
     const [first, ...told] = text.split("\n").filter((line) => line !== "");
-    const run = { setting: null, refused: null, first: shown(lines[0] || [], false), steps: [], messages: [], byNumber: new Map(), end: null };
     const header = HEADER.exec(first);
     const refused = REFUSED_SETTING.exec(first);
+    const line = shown(lines[0] || [], !header);
+    const run = { setting: null, refused: null, first: line, steps: [], messages: [], byNumber: new Map(), end: null };
     if (header) {
         const [n, m, f, kiosks] = header.slice(1).map(Number);
         run.setting = { n, m, f, kiosks };
         run.steps.push(startOf(run.setting, run.first));
     } else if (refused) run.refused = Number(refused[1]);
     else throw new Error(`this is no first line of the slips: ${first}`);
-    told.forEach((line) => tellLine(run, line, lines));
+    told.forEach((said) => tellLine(run, said, lines));
+    if (header && !run.end) throw new Error("the slips have no end");
     return run;
 }
 
@@ -234,12 +236,26 @@ function disagreement(kiosk, keeper, counted) {
     return `Keeper ${keeper.number} ${ownerText(keeper)}, but kiosk ${kiosk.number} does not count keeper ${keeper.number}.`;
 }
 
-// Why a keeper's slip no longer has what the kiosk counts: only a restart empties it.
+// Why a keeper's slip no longer has what the kiosk counts: it lost it when it went down; or, since a restarted keeper can be told and
+// can answer once more, the kiosk counts a second answer for a vote that it has yielded. `row` is the restart.
 function forgotten(run, s, kiosk, keeper) {
-    const row = lastEvent(run, s, "down", keeper.number);
-    if (row < lastEvent(run, s, "try", kiosk.number)) return unknown();
-    if (!keeper.up) return { why: "down", row, text: `Keeper ${keeper.number} went down (event ${row}).` };
-    return { why: "restarted", row, text: `Keeper ${keeper.number} restarted (event ${row}) and forgot.` };
+    const has = (row) => {
+        const { up, owner } = run.steps[row].keepers[keeper.number - 1];
+        return up && owner !== null && owner.kiosk === kiosk.number && owner.ticket === kiosk.ticket;
+    };
+    let row = s; // the last event that took the vote away
+    while (row > 0 && !has(row - 1)) row -= 1;
+    const down = lastEvent(run, row, "down", keeper.number);
+    if (row === 0 || down < lastEvent(run, s, "try", kiosk.number)) return unknown();
+    const who = `Keeper ${keeper.number}`;
+    if (down < row) {
+        const message = run.steps[row].event.number;
+        const text = `${who} restarted (event ${down}) and answered twice; ${named(run.byNumber.get(message))} gave the vote away (event ${row}).`;
+        return { why: "answered twice", row: down, message, given: row, text };
+    }
+    const still = lastEvent(run, s, "down", keeper.number) === down && !keeper.up;
+    if (still) return { why: "down", row, text: `${who} went down (event ${row}).` };
+    return { why: "restarted", row, text: `${who} restarted (event ${row}) and forgot.` };
 }
 
 // Why a kiosk does not count a keeper whose owner it is: with the ticket that it has, or with one that it has left by an exit.
@@ -251,10 +267,10 @@ function uncounted(run, s, kiosk, keeper) {
     const between = run.messages.filter((m) => m.sent <= s && isBetween(m, kiosk.number, keeper.number));
     if (kiosk.ticket === keeper.owner.ticket) {
         const about = between.filter((m) => concerns(m, keeper.owner));
-        return onItsWay(about, s) || lost(about, s) || lateAnswer(about, s, kiosk) || unknown();
+        return onTheirWay(about, s, kiosk) || lost(about, s) || lateAnswer(about, s, kiosk) || unknown();
     }
     const about = between.filter((m) => leaves(m, keeper.owner));
-    return onItsWay(about, s) || lateRequest(run, between, s, kiosk, keeper) || lost(about, s) || unknown();
+    return onTheirWay(about, s, kiosk) || lateRequest(run, between, s, kiosk, keeper) || lost(about, s) || unknown();
 }
 
 const unknown = () => ({ why: "unknown", text: "The run up to here does not show why." });
@@ -266,8 +282,8 @@ function isBetween(message, kiosk, keeper) {
 
 const isAnswerFor = (m, pair) => m.kind === "RESPONSE" && m.owner && m.owner.kiosk === pair.kiosk && m.owner.ticket === pair.ticket;
 
-// The messages that will make the slips match: of a ticket that the kiosk still has, the answer or its yield; of one that it has left,
-// the release or anything with a newer ticket.
+// The messages by which one of the two learns of the other: of a ticket that the kiosk still has, the answer and its yield; of one that
+// it has left, the release and anything with a newer ticket.
 const concerns = (m, pair) => isAnswerFor(m, pair) || (m.kind === "YIELD" && m.ticket === pair.ticket);
 const leaves = (m, pair) =>
     m.to.party === "keeper" && (m.ticket > pair.ticket || (m.kind === "RELEASE" && m.ticket === pair.ticket));
@@ -276,31 +292,39 @@ const NAMES = { REQUEST: "request", YIELD: "yield", RELEASE: "release", INQUIRY:
 const named = (m) => `${NAMES[m.kind]} ${m.number}`;
 const capital = (text) => text[0].toUpperCase() + text.slice(1);
 
-function onItsWay(about, s) {
-    const m = about.filter((x) => standing(x, s) === "waiting").pop();
-    return m && { why: "on its way", message: m.number, text: `${capital(named(m))} is on its way.` };
+function onTheirWay(about, s, kiosk) {
+    const waiting = about.filter((m) => standing(m, s) === "waiting");
+    if (waiting.length === 0) return null;
+    const are = waiting.length === 1 ? "is on its way" : "are on their way";
+    const idle = kiosk.section === "holding" && waiting.every((m) => m.kind === "RESPONSE") ? `, but kiosk ${kiosk.number} holds already` : "";
+    const text = `${capital(waiting.map(named).join(" and "))} ${are}${idle}.`;
+    return { why: "on its way", messages: waiting.map((m) => m.number), text };
 }
 
-// The last of them to move was dropped while it waited.
+// What became of a message up to event s. That a taken one is dropped changes nothing between the two.
+const fate = (m, s) => m.moves.filter((move) => move.row <= s && !(move.to === "dropped" && standing(m, move.row - 1) === "taken")).pop();
+
+// The last of them to move was dropped on its way.
 function lost(about, s) {
-    const moved = about.map((m) => ({ m, move: m.moves.filter((move) => move.row <= s).pop() })).filter((x) => x.move);
+    const moved = about.map((m) => ({ m, move: fate(m, s) })).filter((x) => x.move);
     const last = moved.sort((a, b) => a.move.row - b.move.row).pop();
-    if (!last || last.move.to !== "dropped" || standing(last.m, last.move.row - 1) !== "waiting") return null;
+    if (!last || last.move.to !== "dropped") return null;
     return { why: "dropped", message: last.m.number, row: last.move.row, text: `${capital(named(last.m))} was dropped (event ${last.move.row}).` };
 }
 
 // The keeper took the request when the kiosk had left its ticket, for the first time or after a restart.
 function lateRequest(run, between, s, kiosk, keeper) {
     const ticket = keeper.owner.ticket;
-    const taken = (m) => m.moves.filter((move) => move.row <= s && move.to === "taken").pop();
-    const m = between.filter((x) => x.kind === "REQUEST" && x.ticket === ticket && taken(x)).pop();
-    const row = m ? taken(m).row : 0;
-    if (row === 0 || run.steps[row].kiosks[kiosk.number - 1].ticket === ticket) return null;
+    const requests = between.filter((m) => m.kind === "REQUEST" && m.ticket === ticket);
+    const takings = requests.flatMap((m) => m.moves.filter((move) => move.row <= s && move.to === "taken").map(({ row }) => ({ m, row })));
+    const last = takings.sort((a, b) => a.row - b.row).pop();
+    if (!last || run.steps[last.row].kiosks[kiosk.number - 1].ticket === ticket) return null;
+    const { m, row } = last;
     const again = m.moves.filter((move) => move.row < row).pop();
     const text = again
         ? `Keeper ${keeper.number} restarted (event ${again.row}) and took request ${m.number} again (event ${row}).`
         : `Request ${m.number} came late (event ${row}): kiosk ${kiosk.number} had left ticket ${ticket}.`;
-    return { why: again ? "restarted" : "late", message: m.number, row, text };
+    return { why: again ? "told again" : "late", message: m.number, row, text };
 }
 
 // The answer came when the kiosk already held.
@@ -348,7 +372,7 @@ function stretches(run, s, f) {
 // the last keeper. Left of the first kiosk there is room for the longest label; a chart by itself has the script's lines there too.
 const SHEET = { left: 330, top: 84, row: 28, column: 96, gap: 40, right: 124 };
 const ROOMY = { left: 92, top: 12, row: 28, column: 110, gap: 40, right: 92 };
-const NARROWEST = 76;
+const NARROWEST = 70;
 const LETTER = 7.3;
 
 const longer = (run) => Math.ceil(LETTER * Math.max(0, String(run.messages.length).length - 2));
@@ -364,6 +388,7 @@ function geometryFor(run, width) {
 }
 
 const LABELS = 6; // of waiting messages, below each receiver
+const WHOLE_LABELS = 84; // in narrower columns these have their number alone
 
 const yOf = (g, row) => g.top + g.row * row;
 
@@ -403,7 +428,9 @@ function shapes(run, s, g) {
     const y = (row) => yOf(g, row);
     addBackground(run, s, g, y, add);
     for (const party of partiesOf(run)) addParty(run, s, xOf(run, g, party), y, party, add);
-    for (const a of arrows(run, s)) addArrow(run, g, y, a, add);
+    const moved = arrows(run, s);
+    for (const a of moved) addArrow(run, g, y, a, add);
+    for (const a of moved) addLabel(run, g, y, a, add); // over the lines
     addWaitingLabels(run, s, g, y, add);
     for (let row = 1; row <= s; row += 1) addMark(run, g, y, run.steps[row], add);
     return list;
@@ -419,7 +446,7 @@ function addBackground(run, s, g, y, add) {
         if (band.value < 2) continue;
         const top = y(band.from);
         add(top, y(band.to + 1), () => boxSvg("band", 0, top, width, y(band.to + 1) - top));
-        add(top, top + 20, () => textSvg("two early", width - 6, top + 18, `${band.value} hold at once`));
+        add(top, top + 20, () => textSvg("two early", g.left - 12, top + 18, `${band.value} at once`));
     }
 }
 
@@ -437,30 +464,35 @@ function addParty(run, s, x, y, party, add) {
 
 const label = (m) => `${m.number} ${m.kind}`;
 
+const halfway = (run, g, m) => (xOf(run, g, m.from) + xOf(run, g, m.to)) / 2;
+
 function addArrow(run, g, y, a, add) {
     const [from, to] = [xOf(run, g, a.message.from), xOf(run, g, a.message.to)];
     const [top, bottom] = [y(a.message.sent), y(a.row)];
-    const behind = to > from ? ["label late", to + 9] : ["label early", to - 9];
-    if (a.end === "taken") {
-        add(top, bottom, () => lineSvg("taken", from, top, to, bottom));
-        add(bottom - 8, bottom + 8, () => textSvg(...behind, bottom + 4, label(a.message)));
-    } else if (a.end === "dropped") {
-        const half = (from + to) / 2;
-        add(top, bottom + 5, () => lineSvg("dropped", from, top, half, bottom) + crossSvg(half, bottom));
-        add(bottom - 8, bottom + 8, () => textSvg("label late lost", half + 9, bottom + 4, `${label(a.message)} dropped`));
-    } else if (a.end === "discarded") {
-        add(bottom - 8, bottom + 8, () => crossSvg(to, bottom) + textSvg("label late lost", to + 9, bottom + 4, `${label(a.message)} dropped`));
-    } else {
-        add(top, bottom, () => lineSvg("waiting", from, top, to, bottom));
-    }
+    const half = halfway(run, g, a.message);
+    if (a.end === "dropped") add(top, bottom + 5, () => lineSvg("dropped", from, top, half, bottom) + crossSvg(half, bottom));
+    else if (a.end === "discarded") add(bottom - 5, bottom + 5, () => crossSvg(to, bottom));
+    else add(top, bottom, () => lineSvg(a.end, from, top, to, bottom));
+}
+
+// Beside the arrow's end, behind the receiver's line. One that still waits has its label below.
+function addLabel(run, g, y, a, add) {
+    if (a.end === "waiting") return;
+    const [from, to, at] = [xOf(run, g, a.message.from), xOf(run, g, a.message.to), y(a.row)];
+    const put = (kind, x, text) => add(at - 8, at + 8, () => textSvg(`label ${kind}`, x, at + 4, text));
+    if (a.end === "dropped") put("late lost", halfway(run, g, a.message) + 9, `${label(a.message)} dropped`);
+    else if (a.end === "discarded") put("late lost", to + 9, `${label(a.message)} dropped`);
+    else if (to > from) put("late", to + 9, label(a.message));
+    else put("early", to - 9, label(a.message));
 }
 
 // Below the last row, under each receiver: what still waits for it.
 function addWaitingLabels(run, s, g, y, add) {
     for (const party of partiesOf(run)) {
         const here = (m) => m.to.party === party.party && m.to.number === party.number && standing(m, s) === "waiting";
-        const labels = run.messages.filter((m) => m.sent <= s && here(m)).map(label);
-        const more = labels.length > LABELS + 1 ? [`and ${labels.length - LABELS} more`] : [];
+        const text = (m) => (g.column < WHOLE_LABELS ? String(m.number) : label(m));
+        const labels = run.messages.filter((m) => m.sent <= s && here(m)).map(text);
+        const more = labels.length > LABELS + 1 ? [`+ ${labels.length - LABELS}`] : [];
         labels.slice(0, more.length ? LABELS : LABELS + 1).concat(more).forEach((text, i) => {
             const at = y(s + 1) + 14 * (i + 1);
             add(at - 10, at + 4, () => textSvg("label below", xOf(run, g, party), at, text));

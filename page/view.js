@@ -169,7 +169,7 @@
     function showStep(step, differ) {
         const count = differ.length === 1 ? "The slips do not match in 1 place." : differ.length ? `The slips do not match in ${differ.length} places.` : "The slips match.";
         const what = step.row === 0 ? [] : [`Event ${step.row} of ${lastStep}: `, step.line === "" ? "an empty line" : element("code", {}, step.line), ". "];
-        part("step").replaceChildren(...what, `${answerText(step)} `, element("span", { class: "unseen" }, count));
+        part("step").replaceChildren(...what, `${answerText(step)} `, element("span", { class: "unseen" }, `${holdersText(step)}. ${count}`));
         part("step").className = step.ok ? "" : "no";
         part("holders").textContent = holdersText(step);
         part("holders").className = step.holders > 1 ? "two" : step.holders === 1 ? "one" : "";

@@ -3,6 +3,7 @@
 // says, each place where the slips do not match is named once and with its reason, and each arrow has both ends. What is expected is
 // worked out from the text's lines, not by the functions under test.
 const assert = require("node:assert");
+const { spawnSync } = require("node:child_process");
 const fs = require("node:fs");
 const path = require("node:path");
 const { test } = require("node:test");
@@ -55,86 +56,154 @@ test("setting, answers, holders, slips and mail are the text's", () => {
     }
 });
 
+// A party's slip among a step's lines: { owner: [kiosk, ticket] or null, down } or { ticket, counts }.
+function slipOf(lines, party, number) {
+    const words = lines.find((line) => line.startsWith(`${party} ${number} `)).split(" ");
+    if (party === "kiosk") return { ticket: words[4], counts: words.slice(6) };
+    return { owner: words[2] === "owner" ? words[3].split(",") : null, down: words[2] === "down" };
+}
+
 // Each pair "kiosk keeper" at which the two slips say different tickets.
-function differing(lines) {
-    const slips = new Map();
-    const put = (kiosk, keeper, side, ticket) => {
-        const key = `${kiosk} ${keeper}`;
-        slips.set(key, { ...slips.get(key), [side]: ticket });
-    };
-    for (const line of lines) {
-        const words = line.split(" ");
-        if (words[0] === "keeper" && words[2] === "owner") put(words[3].split(",")[0], words[1], "owned", words[3].split(",")[1]);
-        if (words[0] === "kiosk" && words[5] === "keepers") words.slice(6).forEach((j) => put(words[1], j, "counted", words[4]));
+function differing(lines, { n, kiosks }) {
+    const found = [];
+    for (let k = 1; k <= kiosks; k += 1) {
+        for (let j = 1; j <= n; j += 1) {
+            const [kiosk, keeper] = [slipOf(lines, "kiosk", k), slipOf(lines, "keeper", j)];
+            const counted = kiosk.counts.includes(String(j)) ? kiosk.ticket : "none";
+            const owned = keeper.owner && keeper.owner[0] === String(k) ? keeper.owner[1] : "none";
+            if (counted !== owned) found.push(`${k} ${j}`);
+        }
     }
-    return [...slips].filter(([, slip]) => slip.owned !== slip.counted).map(([key]) => key);
+    return found;
 }
 
 test("each place where the slips do not match is named once", () => {
     let count = 0;
     for (const { name, step, s, run } of steps) {
-        const named = logic.mismatches(run, s).map((x) => `${x.kiosk} ${x.keeper}`);
-        assert.deepEqual(named.slice().sort(), differing(step.lines).sort(), `${name} ${s}`);
-        count += named.length;
+        const found = logic.mismatches(run, s);
+        assert.deepEqual(found.map((x) => `${x.kiosk} ${x.keeper}`), differing(step.lines, run.setting), `${name} ${s}`);
+        for (const { kiosk, keeper, says } of found) {
+            const { owner, down } = slipOf(step.lines, "keeper", keeper);
+            const has = down ? "is down" : owner ? `has owner kiosk ${owner[0]}, ticket ${owner[1]}` : "is free";
+            const counts = slipOf(step.lines, "kiosk", kiosk).counts.includes(String(keeper));
+            const one = `Kiosk ${kiosk} counts keeper ${keeper}, but keeper ${keeper} ${has}.`;
+            const other = `Keeper ${keeper} ${has}, but kiosk ${kiosk} does not count keeper ${keeper}.`;
+            assert.equal(says, counts ? one : other, `${name} ${s}`);
+        }
+        count += found.length;
     }
     assert.ok(count > 3000, String(count));
 });
 
-// Whether message `number` waits and will make the two slips match: the answer that the kiosk does not have or the yield that the keeper
-// does not have yet; or, of a ticket that the kiosk has left, its release or anything with a newer one.
-function willMend(lines, number, kiosk, keeper) {
-    const words = (start) => lines.find((line) => line.startsWith(start)).split(" ");
-    const owned = Number(words(`keeper ${keeper} `)[3].split(",")[1]);
-    const ticket = Number(words(`kiosk ${kiosk} `)[4]);
-    const [kind, ...rest] = words(`mail ${number} `).slice(2);
-    const said = rest.join(" ");
-    const toKeeper = new RegExp(`^kiosk ${kiosk} keeper ${keeper} ticket (\\d+) waiting$`).exec(said);
-    if (!toKeeper) return ticket === owned && kind === "RESPONSE" && said === `keeper ${keeper} kiosk ${kiosk} owner ${kiosk},${owned} waiting`;
-    if (ticket === owned) return kind === "YIELD" && Number(toKeeper[1]) === owned;
-    return Number(toKeeper[1]) > owned || (kind === "RELEASE" && Number(toKeeper[1]) === owned);
+// The waiting messages by which the keeper or the kiosk of a mismatch learns of the other: the answer that the kiosk does not have and
+// the yield that the keeper does not have yet; or, of a ticket that the kiosk has left, its release and anything with a newer one.
+function learning(lines, kiosk, keeper) {
+    const owned = Number(slipOf(lines, "keeper", keeper).owner[1]);
+    const ticket = Number(slipOf(lines, "kiosk", kiosk).ticket);
+    const tells = (line) => {
+        const [, , kind, ...rest] = line.split(" ");
+        const toKeeper = new RegExp(`^kiosk ${kiosk} keeper ${keeper} ticket (\\d+) waiting$`).exec(rest.join(" "));
+        if (!toKeeper) return ticket === owned && rest.join(" ") === `keeper ${keeper} kiosk ${kiosk} owner ${kiosk},${owned} waiting`;
+        if (ticket === owned) return kind === "YIELD" && Number(toKeeper[1]) === owned;
+        return Number(toKeeper[1]) > owned || (kind === "RELEASE" && Number(toKeeper[1]) === owned);
+    };
+    return lines.filter((line) => line.startsWith("mail ") && tells(line)).map((line) => Number(line.split(" ")[1]));
 }
 
-// The reasons, held to the text: a message that is on its way waits there, an event that is named is in the script.
+// Whether event `row` is the last up to s that took the keeper from the kiosk with its ticket.
+function tookAway(text, row, s, kiosk, keeper) {
+    const { ticket } = slipOf(text.steps[s - 1].lines, "kiosk", kiosk);
+    const has = (at) => {
+        const { owner } = slipOf(text.steps[at - 1].lines, "keeper", keeper);
+        return owner !== null && owner[0] === String(kiosk) && owner[1] === ticket;
+    };
+    return has(row - 1) && range(row, s).every((at) => !has(at));
+}
+
+const range = (from, to) => Array.from({ length: to - from + 1 }, (_, i) => from + i);
+
+// The reasons, held to the text: messages that are on their way wait there, and all that do are named; an event that is named is in the
+// script, and did what is said of it.
 test("each has its reason, and the run shows it", () => {
     const seen = new Set();
-    for (const { name, bytes, step, s, run } of steps) {
+    for (const { name, bytes, text, step, s, run } of steps) {
         const lines = bytes.toString("latin1").split("\n");
         for (const { kiosk, keeper, reason } of logic.mismatches(run, s)) {
             const where = `${name} ${s}: ${reason.text}`;
             seen.add(reason.why);
-            if (reason.why === "on its way") assert.ok(willMend(step.lines, reason.message, kiosk, keeper), where);
-            else if (reason.why === "fallen") assert.equal(lines[reason.row], `fall ${kiosk}`, where);
-            else if (reason.why === "down") assert.equal(lines[reason.row], `down ${keeper}`, where);
-            else if (reason.why === "restarted" && reason.message) assert.equal(lines[reason.row], `take ${reason.message}`, where);
-            else if (reason.why === "restarted") assert.equal(lines[reason.row], `down ${keeper}`, where);
-            else if (reason.why === "dropped") assert.equal(lines[reason.row], `drop ${reason.message}`, where);
-            else if (reason.why === "late") assert.equal(lines[reason.row], `take ${reason.message}`, where);
-            else assert.fail(where);
+            const named = { fallen: `fall ${kiosk}`, down: `down ${keeper}`, restarted: `down ${keeper}`, "answered twice": `down ${keeper}`, dropped: `drop ${reason.message}`, late: `take ${reason.message}`, "told again": `take ${reason.message}` };
+            if (reason.why === "on its way") assert.deepEqual(reason.messages, learning(step.lines, kiosk, keeper), where);
+            else assert.equal(lines[reason.row], named[reason.why], where);
+            if (reason.why === "down" || reason.why === "restarted") assert.ok(tookAway(text, reason.row, s, kiosk, keeper), where);
+            if (reason.why === "answered twice") {
+                assert.equal(lines[reason.given], `take ${reason.message}`, where);
+                assert.ok(tookAway(text, reason.given, s, kiosk, keeper), where);
+            }
             assert.ok(!reason.row || reason.row <= s, where);
         }
     }
-    assert.deepEqual([...seen].sort(), ["down", "dropped", "fallen", "late", "on its way", "restarted"]);
+    assert.deepEqual([...seen].sort(), ["answered twice", "down", "dropped", "fallen", "late", "on its way", "restarted", "told again"]);
 });
 
-test("each arrow has both ends", () => {
+// Small runs whose reasons are worked out by hand: the events, and what is said after the last.
+const BY_HAND = [
+    ["setting 1 1 0 2/try 1/take 1/take 2/exit 1/try 1", "Release 3 and request 4 are on their way."],
+    ["setting 3 2 0 1/try 1/take 1/take 2/take 3/take 4/take 5", "Answer 6 is on its way, but kiosk 1 holds already."],
+    ["setting 3 2 0 1/try 1/take 1/take 2/take 3/take 4/take 5/take 6", "Answer 6 came (event 7) when kiosk 1 already held."],
+    ["setting 3 2 0 1/try 1/take 1/take 2/take 4/take 5/exit 1/take 6/take 7/take 8/take 3", "Request 3 came late (event 10): kiosk 1 had left ticket 1."],
+    // the yield, taken before, is dropped: that is not why
+    ["setting 2 2 0 2/try 1/try 2/take 1/take 4/take 2/take 5/take 7/take 8/drop 10/drop 8", "Answer 10 was dropped (event 9).", "Answer 6 is on its way."],
+    // two requests with one ticket: the first was taken again
+    [
+        "setting 2 2 0 2/try 1/try 2/take 1/take 4/take 2/take 5/take 7/take 8/take 10/take 6/take 3/take 11/take 13/take 9/take 14/down 2/up 2/exit 1/take 17/take 2",
+        "Release 16 is on its way.",
+        "Keeper 2 restarted (event 16) and took request 2 again (event 20).",
+    ],
+    // kiosk 2 yielded, and counts the second answer of a keeper that was told twice
+    [
+        "setting 2 2 0 2/try 2/take 1/down 1/up 1/take 1/try 1/take 6/take 2/take 3/take 8/take 4/take 5/take 9",
+        "Answer 12 is on its way.",
+        "Answer 7 is on its way.",
+        "Keeper 1 restarted (event 3) and answered twice; yield 9 gave the vote away (event 13).",
+    ],
+    // each kiosk's vote was lost at another restart
+    [
+        "setting 3 2 1 2/try 1/take 1/take 2/take 4/take 5/down 1/up 1/try 2/take 6/take 8/take 9/take 10/down 1/up 1",
+        "Keeper 1 restarted (event 6) and forgot.",
+        "Keeper 1 restarted (event 13) and forgot.",
+    ],
+];
+
+test("reasons worked out by hand", () => {
+    for (const [events, ...reasons] of BY_HAND) {
+        const made = film(Buffer.from(events.replaceAll("/", "\n") + "\n"));
+        const run = logic.readRun(made.text, made.bytes);
+        assert.ok(run.steps.every((step) => step.ok), events);
+        assert.deepEqual(logic.mismatches(run, run.steps.length - 1).map((x) => x.reason.text), reasons, events);
+    }
+});
+
+test("each arrow has both ends, at each step", () => {
     for (const { name, bytes, text, run } of played) {
         const lines = bytes.toString("latin1").split("\n");
-        const last = text.steps.length;
-        const arrows = logic.arrows(run, last);
         const there = (party) => party.number >= 1 && party.number <= (party.party === "kiosk" ? run.setting.kiosks : run.setting.n);
-        for (const { message, row, end } of arrows) {
-            const where = `${name}: ${message.number} ${end}`;
-            assert.ok(there(message.from) && there(message.to) && message.from.party !== message.to.party, where);
-            assert.ok(message.sent >= 1 && message.sent < row, where);
-            const first = text.steps.findIndex((step) => step.lines.some((line) => line.startsWith(`mail ${message.number} `))) + 1;
-            assert.equal(message.sent, first, where);
-            const word = { taken: "take", dropped: "drop", discarded: "drop" }[end];
-            assert.equal(end === "waiting" ? String(last + 1) : lines[row], end === "waiting" ? String(row) : `${word} ${message.number}`, where);
-        }
-        // One for each take and drop that was accepted, and for each message that waits.
-        const moved = text.steps.flatMap((step, i) => (/ ok /.test(step.answer) && /^(take|drop) /.test(lines[i + 1]) ? [lines[i + 1].split(" ")[1]] : []));
-        const waiting = (last ? text.steps[last - 1].lines : []).filter((line) => / waiting$/.test(line)).map((line) => line.split(" ")[1]);
-        assert.deepEqual(arrows.map((a) => String(a.message.number)).sort(), [...moved, ...waiting].sort(), name);
+        const first = new Map();
+        const moved = [];
+        text.steps.forEach((step, i) => {
+            const s = i + 1;
+            const mail = step.lines.filter((line) => line.startsWith("mail "));
+            const number = (line) => line.split(" ")[1];
+            mail.forEach((line) => first.has(number(line)) || first.set(number(line), s));
+            if (/ ok /.test(step.answer) && /^(take|drop) /.test(lines[s])) moved.push(`${lines[s]} at ${s}`);
+            const waiting = mail.filter((line) => line.endsWith(" waiting")).map((line) => `wait ${number(line)} at ${s + 1}`);
+            const drawn = logic.arrows(run, s).map(({ message, row, end }) => {
+                const where = `${name} ${s}: ${message.number} ${end}`;
+                assert.ok(there(message.from) && there(message.to) && message.from.party !== message.to.party, where);
+                assert.ok(message.sent === first.get(String(message.number)) && message.sent < row, where);
+                return `${{ taken: "take", dropped: "drop", discarded: "drop", waiting: "wait" }[end]} ${message.number} at ${row}`;
+            });
+            assert.deepEqual(drawn.sort(), [...moved, ...waiting].sort(), `${name} ${s}`);
+        });
     }
 });
 
@@ -152,7 +221,24 @@ test("the chart draws each arrow between its parties' lines", () => {
             for (const [x1, y1, x2, y2] of lines) assert.ok(columns.has(x1) && columns.has(x2) && columns.get(x1) !== columns.get(x2) && y1 < y2, name);
         }
         assert.equal(drawn(svg, "dropped").length, logic.arrows(run, last).filter((a) => a.end === "dropped").length, name);
-        assert.equal(svg.includes("hold at once"), run.end.holders > 1, name);
+        assert.equal(svg.includes(" at once</text>"), run.end.holders > 1, name);
+    }
+});
+
+// How often something begins along the steps.
+const begins = (text, isSo) => text.steps.filter((step, i) => isSo(step.lines) && !(i > 0 && isSo(text.steps[i - 1].lines))).length;
+
+test("the chart shows falls, downs, bars, crosses and refused rows", () => {
+    for (const { name, bytes, text, run } of played) {
+        const svg = logic.svgOf(run, run.steps.length - 1);
+        const count = (kind) => svg.split(`class="${kind}"`).length - 1;
+        const each = (of, party, words) => range(1, of).reduce((sum, i) => sum + begins(text, (lines) => lines.some((line) => line.startsWith(`${party} ${i} ${words}`))), 0);
+        const dropped = bytes.toString("latin1").split("\n").filter((line, i) => line.startsWith("drop ") && / ok /.test(text.steps[i - 1].answer));
+        assert.equal(count("fallen"), each(run.setting.kiosks, "kiosk", "fallen"), name);
+        assert.equal(count("down"), each(run.setting.n, "keeper", "down"), name);
+        assert.equal(count("holds"), each(run.setting.kiosks, "kiosk", "holding"), name);
+        assert.equal(count("cross"), dropped.length, name);
+        assert.equal(count("refused"), text.steps.filter((step) => / no /.test(step.answer)).length, name);
     }
 });
 
@@ -191,11 +277,20 @@ test("no script puts markup into the page", () => {
     assert.equal(logic.readRun(refused.text, refused.bytes).first, "<script>alert(1)</script>");
 });
 
+test("a text without its end is an error, and film takes no argument", () => {
+    const { text, bytes } = film(Buffer.from("setting 1 1 0 1\ntry 1\n"));
+    assert.throws(() => logic.readRun(text.split("end ")[0], bytes), /no end/);
+    assert.throws(() => logic.readRun(text.replace("kiosk 1", "kisok 1"), bytes), /no line of the slips/);
+    const refused = spawnSync(path.join(ROOT, "bin", "film"), ["x"], { input: "" });
+    assert.deepEqual([refused.status, refused.stdout.length], [2, 0]);
+});
+
 test("2,000 event lines are handed on", () => {
     for (const events of [2000, 2001, 2500]) {
-        const made = film(Buffer.from(`setting 1 1 0 1\n${"check 1\n".repeat(events)}`));
+        const made = film(Buffer.from(`setting 1 1 0 1\n${"check 1\n".repeat(events - 1)}try 1 `));
         const run = logic.readRun(made.text, made.bytes);
-        assert.deepEqual([run.steps.length - 1, run.end.accepted, made.lines - 1], [2000, 2000, events]);
+        const bad = events === 2000 ? 1 : 0; // the last line, which has no newline
+        assert.deepEqual([run.steps.length - 1, run.end.accepted, made.lines - 1], [2000, 2000 - bad, events]);
     }
 });
 
