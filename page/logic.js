@@ -145,7 +145,7 @@ function readRun(text, bytes) {
     const [first, ...told] = text.split("\n").filter((line) => line !== "");
     const header = HEADER.exec(first);
     const refused = REFUSED_SETTING.exec(first);
-    const line = shown(lines[0] || [], !header);
+    const line = shown(lines[0] || [], refused !== null && Number(refused[1]) === 16);
     const run = { setting: null, refused: null, first: line, steps: [], messages: [], byNumber: new Map(), end: null };
     if (header) {
         const [n, m, f, kiosks] = header.slice(1).map(Number);

@@ -37,6 +37,12 @@ test("a refused first line leaves no run", () => {
     const refused = all.filter(({ text }) => text.head[0].startsWith("no "));
     assert.ok(refused.length > 10);
     for (const { name, text, run } of refused) assert.equal(`no ${run.refused}`, text.head[0], name);
+    // Where the line is bad its spaces are seen; where a number is out of range it stands as it is.
+    const first = (line) => {
+        const made = film(Buffer.from(`${line}\n`));
+        return logic.readRun(made.text, made.bytes).first;
+    };
+    assert.deepEqual(["setting  3 2 1 2 ", "setting 32 1 0 1"].map(first), ["setting··3·2·1·2·", "setting 32 1 0 1"]);
 });
 
 test("setting, answers, holders, slips and mail are the text's", () => {
