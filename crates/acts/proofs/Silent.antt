@@ -25,14 +25,14 @@ use Rattle.system.specs.Transit.{present, replaced, gone, again}
 use Rattle.system.specs.Places.{System, clientAt, serverAt, downed}
 use Rattle.system.specs.Events.{fallen, cameUp, dropped, wentDown}
 use Rattle.system.specs.Runs.{after}
-use Rattle.places.specs.Blocks.{clientPlace, serverPlace, cleared, serverRecord, emptied}
+use Rattle.places.specs.Blocks.{clientPlace, serverPlace, cleared, serverRecord, emptied, clientBlock, serverBlock}
 use Rattle.places.proofs.Facts.{server-facts}
 use Rattle.places.proofs.ClientLaws.{ClientIs}
 use Rattle.places.proofs.ServerLaws.{ServerIs, rise-block, sink-block}
 use Rattle.places.proofs.EpochLaws.{fall-block}
-use Rattle.transit.specs.Slots.{slots, slotAt}
+use Rattle.transit.specs.Slots.{slots, slotAt, transitSize}
 use Rattle.transit.specs.Calls.{Valid, FindsPresent}
-use Rattle.layout.specs.Layout.{settingOf, lengthOf, sentOf, transitWords, view, valid}
+use Rattle.layout.specs.Layout.{settingOf, lengthOf, sentOf, transitWords, view, valid, serversFrom, transitFrom}
 use Rattle.layout.proofs.ValidLaws.{facts}
 use Rattle.layout.specs.Parts.{clientBlockOf, serverBlockOf, ServerIn}
 use Rattle.layout.proofs.PlaceLaws.{client-place, server-place}
@@ -53,7 +53,7 @@ module _ (w : List ℕ) (k : ℕ) (H : HasClient w k) where
   block = clientBlockOf w k
 
   -- the block of a client that falls
-  falling : Becomes w (sets w (7 + 99 * (k - 1)) (cleared (set block 0 0))) (withClient (view w) k (record { living = false; state = clientAt (view w) k .state; downs = [] }))
+  falling : Becomes w (sets w (7 + clientBlock * (k - 1)) (cleared (set block 0 0))) (withClient (view w) k (record { living = false; state = clientAt (view w) k .state; downs = [] }))
   falling =
       let B : ClientIs (settingOf w .n) (settingOf w .m) (settingOf w .clients) k (cleared (set block 0 0)) (record { living = false; state = clientAt (view w) k .state; downs = [] }) =
       rw (client-place w k (H .first) (H .last)) (fall-block (settingOf w .n) (settingOf w .m) (settingOf w .clients) k block (client-valid w (sound w (H .valid)) k (H .first) (H .last))) in
@@ -74,7 +74,7 @@ module _ (w : List ℕ) (k : ClientId) (ok : valid w ≡ true) (a : Bool) (e : a
     pub fall-twice : not b ≡ true → Leaves w (Fall k) w × (Refused PartyDown ≡ movedOf (happens w (Fall k)))
     fall-twice u = leaves-refused w (Fall k) PartyDown ok (fallen-falls (settingOf w .n) (enough (settingOf w .m)) (view w) k present-client (fails b _ (sym (living-is w (k .0) its-client b f)) u))
 
-    pub fall-leaves : not b ≡ false → (w′ : List ℕ) → w′ ≡ sets w (7 + 99 * (k .0 - 1)) (cleared (set (clientBlockOf w (k .0)) 0 0)) → Leaves w (Fall k) w′ × (Sent 0 ≡ movedOf (happens w (Fall k)))
+    pub fall-leaves : not b ≡ false → (w′ : List ℕ) → w′ ≡ sets w (7 + clientBlock * (k .0 - 1)) (cleared (set (clientBlockOf w (k .0)) 0 0)) → Leaves w (Fall k) w′ × (Sent 0 ≡ movedOf (happens w (Fall k)))
     fall-leaves u w′ g =
         rw g (leaves-quiet w (Fall k) (fallen (view w) k) refl
         (falls (settingOf w .n) (enough (settingOf w .m)) (view w) k present-client (holds b _ (sym (living-is w (k .0) its-client b f)) u)) refl _ (falling w (k .0) its-client))
@@ -83,13 +83,13 @@ module _ (w : List ℕ) (j : ℕ) (H : HasServer w j) where
   abbrev place : List ℕ
   place = serverBlockOf w j
 
-  rising : Becomes w (sets w (1591 + 38 * (j - 1)) (set place 0 1)) (withServer (view w) j (record { up = true; state = serverAt (view w) j .state }))
+  rising : Becomes w (sets w (serversFrom + serverBlock * (j - 1)) (set place 0 1)) (withServer (view w) j (record { up = true; state = serverAt (view w) j .state }))
   rising =
       let B : ServerIs (settingOf w .n) (settingOf w .clients) j (set place 0 1) (record { up = true; state = serverAt (view w) j .state }) =
       rw (server-place w j (H .first) (H .last)) (rise-block (settingOf w .n) (settingOf w .clients) j place (server-valid w (sound w (H .valid)) j (H .first) (H .last))) in
       server-becomes w (H .valid) j (set place 0 1) _ (H .first) (H .last) B
 
-  sinking : Becomes w (sets w (1591 + 38 * (j - 1)) (set (sets place 1 (serverWords (emptied (serverFrom (serverRecord place))))) 0 0)) (withServer (view w) j (record { up = false; state = idle }))
+  sinking : Becomes w (sets w (serversFrom + serverBlock * (j - 1)) (set (sets place 1 (serverWords (emptied (serverFrom (serverRecord place))))) 0 0)) (withServer (view w) j (record { up = false; state = idle }))
   sinking =
       server-becomes w (H .valid) j _ _ (H .first) (H .last) (sink-block (settingOf w .n) (settingOf w .clients) j place (server-valid w (sound w (H .valid)) j (H .first) (H .last)))
 
@@ -108,7 +108,7 @@ module _ (w : List ℕ) (j : ServerId) (ok : valid w ≡ true) (a : Bool) (e : a
     pub up-twice : b ≡ true → Leaves w (Up j) w × (Refused PartyDown ≡ movedOf (happens w (Up j)))
     up-twice u = leaves-refused w (Up j) PartyDown ok (ups-twice (settingOf w .n) (enough (settingOf w .m)) (view w) j present-server (up-is w (j .0) its-server b f ∙ u))
 
-    pub up-leaves : b ≡ false → (w′ : List ℕ) → w′ ≡ sets w (1591 + 38 * (j .0 - 1)) (set (serverBlockOf w (j .0)) 0 1) → Leaves w (Up j) w′ × (Sent 0 ≡ movedOf (happens w (Up j)))
+    pub up-leaves : b ≡ false → (w′ : List ℕ) → w′ ≡ sets w (serversFrom + serverBlock * (j .0 - 1)) (set (serverBlockOf w (j .0)) 0 1) → Leaves w (Up j) w′ × (Sent 0 ≡ movedOf (happens w (Up j)))
     up-leaves u w′ g =
         rw g (leaves-quiet w (Up j) (cameUp (view w) j) refl
         (ups (settingOf w .n) (enough (settingOf w .m)) (view w) j present-server (up-is w (j .0) its-server b f ∙ u)) refl _ (rising w (j .0) its-server))
@@ -133,7 +133,7 @@ module _ (w : List ℕ) (j : ServerId) (ok : valid w ≡ true) (a : Bool) (e : a
       server-facts (settingOf w .n) (settingOf w .clients) (j .0) (serverBlockOf w (j .0)) (server-valid w (sound w ok) (j .0) (down-server .first) (down-server .last)) .held,
     )
 
-    module _ (w₁ : List ℕ) (s : w₁ ≡ sets w (1591 + 38 * (j .0 - 1)) (set (sets (serverBlockOf w (j .0)) 1 (serverWords (emptied (serverFrom (serverRecord (serverBlockOf w (j .0))))))) 0 0)) where
+    module _ (w₁ : List ℕ) (s : w₁ ≡ sets w (serversFrom + serverBlock * (j .0 - 1)) (set (sets (serverBlockOf w (j .0)) 1 (serverWords (emptied (serverFrom (serverRecord (serverBlockOf w (j .0))))))) 0 0)) where
       pub sunk : Becomes w w₁ (withServer (view w) (j .0) (record { up = false; state = idle }))
       sunk = rw s (sinking w (j .0) down-server)
 
@@ -154,12 +154,12 @@ module _ (w : List ℕ) (j : ServerId) (ok : valid w ≡ true) (a : Bool) (e : a
               w₃ (record { system = down-system; setting = N .setting ∙ (R .setting ∙ sunk .setting); again = N .again })
 
 -- drop: r is what `find_present` gave
-module _ (w : List ℕ) (i : MessageNumber) (ok : valid w ≡ true) (r : ℕ) (F : FindsPresent (i .0) (lengthOf w) (take 3584 (drop 2769 w)) r) where
-  there-is : (b : Bool) → present (i .0) (slots (lengthOf w) (take 3584 (drop 2769 w))) ≡ b → present (i .0) (view w .transit) ≡ b
+module _ (w : List ℕ) (i : MessageNumber) (ok : valid w ≡ true) (r : ℕ) (F : FindsPresent (i .0) (lengthOf w) (take transitSize (drop transitFrom w)) r) where
+  there-is : (b : Bool) → present (i .0) (slots (lengthOf w) (take transitSize (drop transitFrom w))) ≡ b → present (i .0) (view w .transit) ≡ b
   unfolding transitWords
   there-is b e = rw (← its-transit w ok) e
 
-  in-words : Valid (settingOf w .n) (settingOf w .clients) (sentOf w) (lengthOf w) (take 3584 (drop 2769 w))
+  in-words : Valid (settingOf w .n) (settingOf w .clients) (sentOf w) (lengthOf w) (take transitSize (drop transitFrom w))
   unfolding transitWords
   in-words = facts w ok .transit
 

@@ -32,7 +32,7 @@ use Rattle.system.specs.Events.{event, clientMoves}
 use Rattle.system.specs.Runs.{after}
 use Rattle.system.proofs.PlaceLaws.{put-numbered}
 use Rattle.transit.specs.Slots.{messagesIn}
-use Rattle.places.specs.Blocks.{clientRecord, clientPlace}
+use Rattle.places.specs.Blocks.{clientRecord, clientPlace, clientBlock}
 use Rattle.places.proofs.Facts.{ClientBlock, client-facts}
 use Rattle.places.proofs.ClientSteps.{begin-outcome, exit-outcome, client-after}
 use Rattle.layout.specs.Layout.{settingOf, lengthOf, view}
@@ -40,7 +40,7 @@ use Rattle.layout.specs.Parts.{clientBlockOf}
 use Rattle.layout.proofs.PlaceLaws.{client-there}
 use Rattle.bounded.specs.declared.Moved.the-variants.{Sent, Refused}
 use Rattle.bounded.specs.Happens.{happens, Leaves, movedOf}
-use Rattle.changes.specs.Changes.{Becomes, HasClient, Sendable, hasRoom, withClient, withClients, withTransit, sending}
+use Rattle.changes.specs.Changes.{Becomes, HasClient, Sendable, hasRoom, withClient, withClients, withTransit, sending, outBytes}
 use Rattle.bounded.proofs.Answers.{tries-twice, tries-spent, tries, exits-outside, exits}
 use Rattle.bounded.proofs.Leaving.{leaves-refused}
 use Rattle.changes.proofs.SentLaws.{Sends, tries-sends, exits-sends}
@@ -134,7 +134,7 @@ module _ (w : List ℕ) (k : ClientId) (H : HasClient w (k .0)) where
   module _ (lives : clientAt (view w) (k .0) .living ≡ true) (e : Event) (gone : ℕ) (T : List InTransit) (d : List ℕ) (o : Outcome client.State) (p : Step client.State)
       (is : event (settingOf w .n) (enough (settingOf w .m)) (view w) e ≡ stepped (clientMoves (view w) k T d p)) (all : length T ≡ lengthOf w - gone)
       (out : o ≡ stepped p) (S : Sends (settingOf w .n) (settingOf w .clients) (p .sent))
-      (r : Stepped) (bytes bytes′ : List ℕ) (long : length bytes ≡ 512) (f : r ≡ result its (withRoom (length bytes) o)) (g : bytes′ ≡ sentInto bytes (withRoom (length bytes) o)) where
+      (r : Stepped) (bytes bytes′ : List ℕ) (long : length bytes ≡ outBytes) (f : r ≡ result its (withRoom (length bytes) o)) (g : bytes′ ≡ sentInto bytes (withRoom (length bytes) o)) where
     pub client-called : ClientCalled w e k gone T d p r bytes′
     client-called =
         record {
@@ -156,7 +156,7 @@ module _ (w : List ℕ) (k : ClientId) (H : HasClient w (k .0)) where
   unfolding beginOutcome
   begin-spent h t = rw (its-facts .valid, its-section, h, its-timestamp, lt-ltb lastTry (state .timestamp .0) (leb-false (state .timestamp .0) lastTry t))
 
-  module _ (lives : clientAt (view w) (k .0) .living ≡ true) (s : Client) (q : s ≡ clientFrom (clientRecord (clientBlockOf w (k .0)))) (r : Stepped) (bytes bytes′ : List ℕ) (long : length bytes ≡ 512)
+  module _ (lives : clientAt (view w) (k .0) .living ≡ true) (s : Client) (q : s ≡ clientFrom (clientRecord (clientBlockOf w (k .0)))) (r : Stepped) (bytes bytes′ : List ℕ) (long : length bytes ≡ outBytes)
       (f : r ≡ result s (withRoom (length bytes) (beginOutcome s))) (g : bytes′ ≡ sentInto bytes (withRoom (length bytes) (beginOutcome s))) where
     begin-answer : r .answer ≡ answerOf (withRoom (length bytes) (beginOutcome its))
     begin-answer = ap (λ (x : Stepped). x .answer) (rw q at f)
@@ -210,7 +210,7 @@ module _ (w : List ℕ) (k : ClientId) (H : HasClient w (k .0)) where
       abbrev trying : ClientPlace
       trying = record { living = clientAt (view w) (k .0) .living; state = client.tries (settingOf w .n) k state .state; downs = clientAt (view w) (k .0) .downs }
 
-      module _ (w₁ : List ℕ) (z : w₁ ≡ sets w (7 + 99 * (k .0 - 1)) (sets (clientBlockOf w (k .0)) 1 (clientWords (r .client)))) where
+      module _ (w₁ : List ℕ) (z : w₁ ≡ sets w (7 + clientBlock * (k .0 - 1)) (sets (clientBlockOf w (k .0)) 1 (clientWords (r .client)))) where
         begin-stored : Becomes w w₁ (withClient (view w) (k .0) trying)
         begin-stored = tries-stored w (k .0) H (r .client) w₁ z remainder unspent (begin-accepted .client)
 
@@ -241,7 +241,7 @@ module _ (w : List ℕ) (k : ClientId) (H : HasClient w (k .0)) where
   unfolding exitOutcome
   exit-outside h = rw (its-facts .valid, its-section, h)
 
-  module _ (lives : clientAt (view w) (k .0) .living ≡ true) (s : Client) (q : s ≡ clientFrom (clientRecord (clientBlockOf w (k .0)))) (r : Stepped) (bytes bytes′ : List ℕ) (long : length bytes ≡ 512)
+  module _ (lives : clientAt (view w) (k .0) .living ≡ true) (s : Client) (q : s ≡ clientFrom (clientRecord (clientBlockOf w (k .0)))) (r : Stepped) (bytes bytes′ : List ℕ) (long : length bytes ≡ outBytes)
       (f : r ≡ result s (withRoom (length bytes) (exitOutcome s))) (g : bytes′ ≡ sentInto bytes (withRoom (length bytes) (exitOutcome s))) where
     exit-answer : r .answer ≡ answerOf (withRoom (length bytes) (exitOutcome its))
     exit-answer = ap (λ (x : Stepped). x .answer) (rw q at f)
@@ -280,7 +280,7 @@ module _ (w : List ℕ) (k : ClientId) (H : HasClient w (k .0)) where
       leaving = record { living = clientAt (view w) (k .0) .living; state = clientAt (view w) (k .0) .state; downs = [] }
 
       pub exit-stored : (w₁ : List ℕ) → Becomes w w₁ (withClient (view w) (k .0) (record { living = clientAt (view w) (k .0) .living; state = clientAt (view w) (k .0) .state; downs = [] }))
-          → (w₂ : List ℕ) → w₂ ≡ sets w₁ (7 + 99 * (k .0 - 1)) (sets (clientBlockOf w₁ (k .0)) 1 (clientWords (r .client)))
+          → (w₂ : List ℕ) → w₂ ≡ sets w₁ (7 + clientBlock * (k .0 - 1)) (sets (clientBlockOf w₁ (k .0)) 1 (clientWords (r .client)))
           → Becomes w w₂ (withClient (withTransit (view w) (view w .transit)) (k .0) (record { living = clientAt (view w) (k .0) .living; state = client.exits (settingOf w .n) k (clientAt (view w) (k .0) .state) .state; downs = [] }))
       exit-stored w₁ B w₂ z =
           let here = now-at w₁ leaving B in

@@ -18,6 +18,7 @@ use Rattle.wire.specs.declared.Answer.{Answer}
 use Rattle.wire.specs.declared.Answer.the-variants as answer
 use Rattle.wire.specs.declared.Message.{Message}
 use Rattle.client.specs.Figure1.{enough}
+use Rattle.system.specs.Limits.{lastNumber, systemMessages, systemServers}
 use Rattle.system.specs.declared.Event.{Event}
 use Rattle.system.specs.Transit.{InTransit, numbered}
 use Rattle.system.specs.Places.{System}
@@ -29,7 +30,7 @@ use Rattle.transit.proofs.PostLaws.{messages-read-buffer}
 use Rattle.layout.specs.Layout.{settingOf, lengthOf, sentOf, transitWords, view, valid}
 use Rattle.bounded.specs.declared.Moved.the-variants.{Sent, Refused}
 use Rattle.bounded.specs.Happens.{happens, Leaves, movedOf}
-use Rattle.changes.specs.Changes.{maxTransit, maxNumber, Becomes, Sendable, hasRoom, sending}
+use Rattle.changes.specs.Changes.{Becomes, Sendable, hasRoom, sending, outBytes}
 use Rattle.bounded.proofs.Leaving.{after-is}
 use Rattle.changes.proofs.SentLaws.{Sends}
 
@@ -57,15 +58,15 @@ unfolding view
 view-sent w = refl
 
 module _ (w : List ℕ) (e : Event) (gone : ℕ) (l : List Message) (s : Step System) (S : Steps w e gone l s) where
-  its-room : eqb (length (s .sent)) 0 || (leb (length (s .state .transit)) maxTransit && leb (s .state .sent) maxNumber) ≡ hasRoom w gone (length l)
+  its-room : eqb (length (s .sent)) 0 || (leb (length (s .state .transit)) systemMessages && leb (s .state .sent) lastNumber) ≡ hasRoom w gone (length l)
   unfolding hasRoom
   its-room = rw (S .sent, S .long, S .last)
 
   tested : happens w e ≡ (if hasRoom w gone (length l) then stepped s else refused SystemFull)
   unfolding withPlaces
   tested =
-      ap (withPlaces maxTransit maxNumber) (S .is) ∙
-      (by-list (s .sent) (leb (length (s .state .transit)) maxTransit && leb (s .state .sent) maxNumber) (stepped s) (refused SystemFull) ∙
+      ap (withPlaces systemMessages lastNumber) (S .is) ∙
+      (by-list (s .sent) (leb (length (s .state .transit)) systemMessages && leb (s .state .sent) lastNumber) (stepped s) (refused SystemFull) ∙
       ap (λ (b : Bool). if b then stepped s else refused SystemFull) its-room)
 
   pub leaves-full : valid w ≡ true → hasRoom w gone (length l) ≡ false → Leaves w e w × (Refused SystemFull ≡ movedOf (happens w e))
@@ -99,10 +100,10 @@ pub and-then : {w w₁ w₂ : List ℕ} {u : System} (f : System → System) →
 and-then f a b = record { system = b .system ∙ ap f (a .system); setting = b .setting ∙ a .setting; again = b .again }
 
 -- a call whose outcome is step p, in a buffer of 512 bytes
-module _ {A : Type 0} (n clients : ℕ) (o : Outcome A) (p : Step A) (is : o ≡ stepped p) (S : Sends n clients (p .sent)) (bytes : List ℕ) (long : length bytes ≡ 512) where
+module _ {A : Type 0} (n clients : ℕ) (o : Outcome A) (p : Step A) (is : o ≡ stepped p) (S : Sends n clients (p .sent)) (bytes : List ℕ) (long : length bytes ≡ outBytes) where
   pub roomy : withRoom (length bytes) o ≡ stepped p
   unfolding withRoom
-  roomy = rw (is, long, le-ltb 512 (sizeOfAll (p .sent)) (S .small))
+  roomy = rw (is, long, le-ltb systemMessages (sizeOfAll (p .sent)) (S .small))
 
   sent-bytes : (bytes′ : List ℕ) → bytes′ ≡ sentInto bytes (withRoom (length bytes) o) → messagesIn (length (p .sent)) bytes′ ≡ p .sent
   sent-bytes bytes′ e =
@@ -127,7 +128,7 @@ module _ {w : List ℕ} {e : Event} {gone : ℕ} {l : List Message} {s : Step Sy
     pub call-count : count ≡ length l
     call-count = let g = C .answered in cc
 
-    pub call-few : count ≤ 31
+    pub call-few : count ≤ systemServers
     call-few = omega (arith, call-count, C .steps .sends .few)
 
     module _ (r : Bool) (h : r ≡ hasRoom w gone count) where
@@ -177,7 +178,7 @@ steps-by w e gone T l s h t a b c S =
 
 -- a call's outcome is step p
 pub called : {A : Type 0} (w : List ℕ) (e : Event) (gone : ℕ) (o : Outcome A) (p : Step A) (s : Step System) → valid w ≡ true → Steps w e gone (p .sent) s → o ≡ stepped p
-    → (a : Answer) (bytes bytes′ : List ℕ) → length bytes ≡ 512 → a ≡ answerOf (withRoom (length bytes) o) → bytes′ ≡ sentInto bytes (withRoom (length bytes) o) → Call w e gone (p .sent) s a bytes′
+    → (a : Answer) (bytes bytes′ : List ℕ) → length bytes ≡ outBytes → a ≡ answerOf (withRoom (length bytes) o) → bytes′ ≡ sentInto bytes (withRoom (length bytes) o) → Call w e gone (p .sent) s a bytes′
 called w e gone o p s ok S is a bytes bytes′ long f g =
     record {
       ok = ok;

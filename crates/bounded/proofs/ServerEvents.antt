@@ -33,16 +33,16 @@ use Rattle.system.specs.Transit.{InTransit}
 use Rattle.system.specs.Places.{ServerPlace, serverAt}
 use Rattle.system.specs.Events.{event, serverMoves}
 use Rattle.transit.specs.Slots.{messagesIn}
-use Rattle.places.specs.Blocks.{serverRecord, clientPlace, serverPlace, namedPair}
+use Rattle.places.specs.Blocks.{serverRecord, clientPlace, serverPlace, namedPair, serverBlock}
 use Rattle.places.proofs.Facts.{server-facts, server-good}
 use Rattle.places.proofs.ServerLaws.{server-of, stored-short}
 use Rattle.places.proofs.ServerSteps.{check-outcome, check-short, suspect-outcome, suspect-short, server-after}
-use Rattle.layout.specs.Layout.{settingOf, lengthOf, view}
+use Rattle.layout.specs.Layout.{settingOf, lengthOf, view, serversFrom}
 use Rattle.layout.specs.Parts.{clientBlockOf, serverBlockOf}
 use Rattle.layout.proofs.PlaceLaws.{server-there}
 use Rattle.bounded.specs.declared.Moved.the-variants.{Sent, Refused}
 use Rattle.bounded.specs.Happens.{happens, Leaves, movedOf}
-use Rattle.changes.specs.Changes.{Becomes, HasClient, HasServer, Missing, Sendable, hasRoom, withServer, withTransit, sending}
+use Rattle.changes.specs.Changes.{Becomes, HasClient, HasServer, Missing, Sendable, hasRoom, withServer, withTransit, sending, outBytes}
 use Rattle.bounded.proofs.Answers.{checks, misses, misses-nobody, misses-living}
 use Rattle.changes.proofs.Becoming.{sound, few-clients}
 use Rattle.bounded.proofs.Leaving.{leaves-refused}
@@ -50,12 +50,13 @@ use Rattle.changes.proofs.Parties.{living-is}
 use Rattle.changes.proofs.SentLaws.{Sends, check-sends, suspect-sends}
 use Rattle.changes.proofs.Storing.{server-block, server-is, check-stored, suspect-stored}
 use Rattle.bounded.proofs.Sending.{Steps, Call, call-sendable, call-sent, steps-by, called, roomy, view-all}
+use Rattle.votes.specs.Queues.{maxQueue}
 
 -- Server j's call was accepted: its step p is event e, its messages join T.
 pub record ServerCalled (w : List ℕ) (e : Event) (j : ServerId) (T : List InTransit) (p : Step votes.State) (r : Stepped) (bytes : List ℕ) : Type 0 where
   pub call : Call w e 0 (p .sent) (serverMoves (view w) j T p) (r .answer) bytes
   pub server : r .server ≡ server-of (settingOf w .n) (j .0) (p .state)
-  pub short : r .server .votes .queue .len ≤ 16
+  pub short : r .server .votes .queue .len ≤ maxQueue
   pub all : length T ≡ lengthOf w - 0
   pub up : serverAt (view w) (j .0) .up ≡ true
 
@@ -81,7 +82,7 @@ module _ (w : List ℕ) (j : ServerId) (H : HasServer w (j .0)) where
   module _ (up : serverAt (view w) (j .0) .up ≡ true) (e : Event) (T : List InTransit) (o : Outcome votes.State) (p : Step votes.State)
       (is : event (settingOf w .n) (enough (settingOf w .m)) (view w) e ≡ stepped (serverMoves (view w) j T p)) (all : length T ≡ lengthOf w - 0)
       (out : o ≡ stepped p) (S : Sends (settingOf w .n) (settingOf w .clients) (p .sent)) (short : length (p .state .queue) ≤ settingOf w .clients)
-      (r : Stepped) (bytes bytes′ : List ℕ) (long : length bytes ≡ 512) (f : r ≡ result its (withRoom (length bytes) o)) (g : bytes′ ≡ sentInto bytes (withRoom (length bytes) o)) where
+      (r : Stepped) (bytes bytes′ : List ℕ) (long : length bytes ≡ outBytes) (f : r ≡ result its (withRoom (length bytes) o)) (g : bytes′ ≡ sentInto bytes (withRoom (length bytes) o)) where
     server-steps : Steps w e 0 (p .sent) (serverMoves (view w) j T p)
     server-steps = steps-by w e 0 T (p .sent) (serverMoves (view w) j T p) is all refl refl refl S
 
@@ -94,14 +95,14 @@ module _ (w : List ℕ) (j : ServerId) (H : HasServer w (j .0)) where
         (ap (serverAfter its) (roomy (settingOf w .n) (settingOf w .clients) o p out S bytes long) ∙
         server-after (settingOf w .n) (settingOf w .clients) (j .0) (serverBlockOf w (j .0)) (server-block w (j .0) H) p)
 
-    server-short : r .server .votes .queue .len ≤ 16
+    server-short : r .server .votes .queue .len ≤ maxQueue
     server-short = rw server-record (stored-short (p .state) (omega (arith, short, few-clients w (sound w (H .valid)))))
 
     pub server-called : ServerCalled w e j T p r bytes′
     server-called = record { call = server-calls; server = server-record; short = server-short; all = all; up = up }
 
   -- an owner is asked
-  module _ (up : serverAt (view w) (j .0) .up ≡ true) (s : Server) (k : s ≡ serverFrom (serverRecord (serverBlockOf w (j .0)))) (r : Stepped) (bytes bytes′ : List ℕ) (long : length bytes ≡ 512)
+  module _ (up : serverAt (view w) (j .0) .up ≡ true) (s : Server) (k : s ≡ serverFrom (serverRecord (serverBlockOf w (j .0)))) (r : Stepped) (bytes bytes′ : List ℕ) (long : length bytes ≡ outBytes)
       (f : r ≡ result s (withRoom (length bytes) (checkOutcome s))) (g : bytes′ ≡ sentInto bytes (withRoom (length bytes) (checkOutcome s))) where
     abbrev asking : Step votes.State
     asking = votes.check j (serverAt (view w) (j .0) .state)
@@ -115,12 +116,12 @@ module _ (w : List ℕ) (j : ServerId) (H : HasServer w (j .0)) where
         server-called up (Check j) (view w .transit) (checkOutcome its) asking (checks n (enough (settingOf w .m)) (view w) j server-there-in up) (view-all w)
         (rw (server-is w (j .0) H) (check-outcome n clients (j .0) b ok)) (rw (server-is w (j .0) H) (check-sends n clients (j .0) b ok)) (rw (server-is w (j .0) H) (check-short n clients (j .0) b ok)) r bytes bytes′ long (rw k at f) (rw k at g)
 
-    pub ask-stored : (w₁ : List ℕ) → w₁ ≡ sets w (1591 + 38 * (j .0 - 1)) (sets (serverBlockOf w (j .0)) 1 (serverWords (r .server)))
+    pub ask-stored : (w₁ : List ℕ) → w₁ ≡ sets w (serversFrom + serverBlock * (j .0 - 1)) (sets (serverBlockOf w (j .0)) 1 (serverWords (r .server)))
         → Becomes w w₁ (withServer (view w) (j .0) (record { up = serverAt (view w) (j .0) .up; state = votes.check j (serverAt (view w) (j .0) .state) .state }))
     ask-stored w₁ e = check-stored w (j .0) H (r .server) w₁ e (ask-called .server)
 
   -- an owner has fallen
-  module _ (M : Missing w (j .0)) (s : Server) (k : s ≡ serverFrom (serverRecord (serverBlockOf w (j .0)))) (r : Stepped) (bytes bytes′ : List ℕ) (long : length bytes ≡ 512)
+  module _ (M : Missing w (j .0)) (s : Server) (k : s ≡ serverFrom (serverRecord (serverBlockOf w (j .0)))) (r : Stepped) (bytes bytes′ : List ℕ) (long : length bytes ≡ outBytes)
       (f : r ≡ result s (withRoom (length bytes) (suspectOutcome s))) (g : bytes′ ≡ sentInto bytes (withRoom (length bytes) (suspectOutcome s))) where
     pub suspect-called : ServerCalled w (Miss j) j (view w .transit) (votes.suspect j (serverAt (view w) (j .0) .state)) r bytes′
     suspect-called =
@@ -132,7 +133,7 @@ module _ (w : List ℕ) (j : ServerId) (H : HasServer w (j .0)) where
         (misses n (enough (settingOf w .m)) (view w) j server-there-in (M .up) (M .owner) (M .owns) (M .fallen)) (view-all w)
         (rw (server-is w (j .0) H) (suspect-outcome n clients (j .0) b ok (M .owner) (rw (server-is w (j .0) H) at (M .owns)))) (rw (server-is w (j .0) H) (suspect-sends n clients (j .0) b ok)) (rw (server-is w (j .0) H) (suspect-short n clients (j .0) b ok)) r bytes bytes′ long (rw k at f) (rw k at g)
 
-    pub suspect-stored-in : (w₁ : List ℕ) → w₁ ≡ sets w (1591 + 38 * (j .0 - 1)) (sets (serverBlockOf w (j .0)) 1 (serverWords (r .server)))
+    pub suspect-stored-in : (w₁ : List ℕ) → w₁ ≡ sets w (serversFrom + serverBlock * (j .0 - 1)) (sets (serverBlockOf w (j .0)) 1 (serverWords (r .server)))
         → Becomes w w₁ (withServer (view w) (j .0) (record { up = serverAt (view w) (j .0) .up; state = votes.suspect j (serverAt (view w) (j .0) .state) .state }))
     suspect-stored-in w₁ e = suspect-stored w (j .0) H (r .server) w₁ e (suspect-called .server)
 

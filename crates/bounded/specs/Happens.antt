@@ -8,12 +8,12 @@ use Rattle.ids.specs.Choice.{if_then_else_}
 use Rattle.ids.specs.declared.Refusal.the-variants.{InvalidRecord}
 use Rattle.wire.specs.Step.{refused, stepped}
 use Rattle.client.specs.Figure1.{enough}
+use Rattle.system.specs.Limits.{systemMessages, lastNumber}
 use Rattle.system.specs.declared.Event.{Event}
 use Rattle.system.specs.Places.{System, holders}
 use Rattle.system.specs.Events.{Result, event, withPlaces}
 use Rattle.system.specs.Runs.{after, isStepped}
 use Rattle.layout.specs.Layout.{settingOf, view, valid}
-use Rattle.changes.specs.Changes.{maxTransit, maxNumber}
 use Rattle.bounded.specs.declared.Moved.{Moved}
 use Rattle.bounded.specs.declared.Moved.the-variants as moved
 use Rattle.bounded.specs.declared.Reply.{Reply}
@@ -21,7 +21,7 @@ use Rattle.bounded.specs.declared.Reply.the-variants as reply
 
 -- an event with n servers and threshold m
 abbrev pub bounded : ℕ → ℕ → System → Event → Result
-bounded n m u e = withPlaces maxTransit maxNumber (event n (enough m) u e)
+bounded n m u e = withPlaces systemMessages lastNumber (event n (enough m) u e)
 
 -- the event's outcome
 abbrev pub happens : List ℕ → Event → Result

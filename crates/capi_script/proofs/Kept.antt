@@ -13,8 +13,9 @@ use Rattle.ids.specs.declared.Refusal.{Refusal}
 use Rattle.script.specs.State.{valid}
 use Rattle.script.specs.declared.Progress.{Progress}
 use Rattle.script.specs.declared.Progress.the-variants.{Took, Refused}
-use Rattle.script.specs.Calls.{feedAnswer, FeedLeaves, finishAnswer, FinishLeaves}
+use Rattle.script.specs.Calls.{feedAnswer, FeedLeaves, finishAnswer, FinishLeaves, maxEnding}
 use Rattle.capi_script.specs.Calls.{countsOf, fed, ended, Leaves}
+use Rattle.output.specs.Reader.{maxPrinted}
 
 module _ (w out counts w′ out′ counts′ : List ℕ) (x : Refusal) where
   took-refused : (u k : ℕ) → Took u k ≡ Refused x → ⊥
@@ -31,22 +32,22 @@ module _ (w out counts w′ out′ counts′ : List ℕ) (x : Refusal) where
       by-words (inl t) = let s = l .short (ltb-true (length counts) 2 t) in (s .0, s .1, same)
       by-words (inr t) = let h = ltb-false (length counts) 2 t in let s = f h (l .lent h) in (s .0, s .1, same)
 
-  unfed : (input : List ℕ) → feedAnswer w input (length out) ≡ Refused x → valid w && leb 52 (length out) ≡ false
+  unfed : (input : List ℕ) → feedAnswer w input (length out) ≡ Refused x → valid w && leb maxPrinted (length out) ≡ false
   unfolding feedAnswer
-  unfed input e = by-state (decided (valid w)) (decided (ltb (length out) 52))
+  unfed input e = by-state (decided (valid w)) (decided (ltb (length out) maxPrinted))
     where
-      by-state : Test (valid w) → Test (ltb (length out) 52) → valid w && leb 52 (length out) ≡ false
+      by-state : Test (valid w) → Test (ltb (length out) maxPrinted) → valid w && leb maxPrinted (length out) ≡ false
       by-state (inr v) t = rw v
-      by-state (inl v) (inl t) = rw (v, lt-leb 52 (length out) (ltb-true (length out) 52 t))
+      by-state (inl v) (inl t) = rw (v, lt-leb maxPrinted (length out) (ltb-true (length out) maxPrinted t))
       by-state (inl v) (inr t) = absurd (took-refused _ _ (rw (v, t) at e))
 
-  unended : finishAnswer w (length out) ≡ Refused x → valid w && leb 104 (length out) ≡ false
+  unended : finishAnswer w (length out) ≡ Refused x → valid w && leb maxEnding (length out) ≡ false
   unfolding finishAnswer
-  unended e = by-state (decided (valid w)) (decided (ltb (length out) 104))
+  unended e = by-state (decided (valid w)) (decided (ltb (length out) maxEnding))
     where
-      by-state : Test (valid w) → Test (ltb (length out) 104) → valid w && leb 104 (length out) ≡ false
+      by-state : Test (valid w) → Test (ltb (length out) maxEnding) → valid w && leb maxEnding (length out) ≡ false
       by-state (inr v) t = rw v
-      by-state (inl v) (inl t) = rw (v, lt-leb 104 (length out) (ltb-true (length out) 104 t))
+      by-state (inl v) (inl t) = rw (v, lt-leb maxEnding (length out) (ltb-true (length out) maxEnding t))
       by-state (inl v) (inr t) = absurd (took-refused _ _ (rw (v, t) at e))
 
   pub feed-kept : (input : List ℕ) → Leaves (FeedLeaves w input out w′ out′) (fed w input out counts) w out counts w′ out′ counts′ → fed w input out counts ≡ Refused x →

@@ -17,6 +17,7 @@ use Rattle.quorum.specs.Check.{inRange}
 use Rattle.quorum.proofs.CheckLaws.{range}
 use Rattle.regions.specs.Blocks.{blocks}
 use Rattle.regions.proofs.SetsLaws.{drop-sets-before}
+use Rattle.system.specs.Limits.{systemClients, systemServers}
 use Rattle.system.specs.Numbered.{put}
 use Rattle.system.specs.Places.{System, ClientPlace, ServerPlace, worst}
 use Rattle.places.specs.Blocks.{clientBlock, serverBlock, clientPlace, serverPlace, flags, flagged, zeroWord, validClientBlock, validServerBlock}
@@ -25,9 +26,9 @@ use Rattle.places.proofs.Facts.{client-facts, server-facts}
 use Rattle.places.proofs.FlagLaws.{none-flagged}
 use Rattle.places.proofs.ClientLaws.{ClientIs}
 use Rattle.places.proofs.ServerLaws.{ServerIs}
-use Rattle.transit.specs.Slots.{slots, validSlots}
+use Rattle.transit.specs.Slots.{slots, validSlots, transitSize}
 use Rattle.transit.proofs.Kept.{valid-sized}
-use Rattle.layout.specs.Layout.{size, maxClients, settingOf, clientWords, serverWords, transitWords, lengthOf, sentOf, mostOf, view, validFrom, itself, blank, valid}
+use Rattle.layout.specs.Layout.{simulationSize, settingOf, clientWords, serverWords, transitWords, lengthOf, sentOf, mostOf, view, validFrom, itself, blank, valid, clientsSize, serversFrom, serversSize, transitFrom}
 use Rattle.layout.specs.Parts.{clientBlockOf, serverBlockOf}
 use Rattle.layout.proofs.ViewLaws.{head-kept, setting-kept, in-clients, clients-servers, clients-transit, servers-clients, in-servers, servers-transit, client-stored, server-stored}
 use Rattle.layout.proofs.ValidLaws.{facts, from-facts, each-valid, still-valid}
@@ -39,9 +40,9 @@ use Rattle.changes.specs.Changes.{Becomes, withClient, withServer, withT
 
 -- all that `valid` says but that the most is noted
 pub record Sound (w : List ℕ) : Type 0 where
-  pub long : length w ≡ size
+  pub long : length w ≡ simulationSize
   pub range : inRange (settingOf w .n) (settingOf w .m) (settingOf w .f) ≡ true
-  pub some : within (settingOf w .clients) maxClients ≡ true
+  pub some : within (settingOf w .clients) systemClients ≡ true
   pub clients : validFrom (validClientBlock (settingOf w .n) (settingOf w .m) (settingOf w .clients)) 1 (blocks clientBlock itself (settingOf w .clients) (clientWords w)) ≡ true
   pub noClients : blank (drop (settingOf w .clients * clientBlock) (clientWords w)) ≡ true
   pub servers : validFrom (validServerBlock (settingOf w .n) (settingOf w .clients)) 1 (blocks serverBlock itself (settingOf w .n) (serverWords w)) ≡ true
@@ -66,23 +67,23 @@ pub record Near (w w′ : List ℕ) (u : System) : Type 0 where
 
 -- what a sound simulation says of its parts
 module _ (w : List ℕ) (F : Sound w) where
-  pub few-servers : settingOf w .n ≤ 31
+  pub few-servers : settingOf w .n ≤ systemServers
   few-servers = range (settingOf w .n) (settingOf w .m) (settingOf w .f) (F .range) .servers
 
-  pub few-clients : settingOf w .clients ≤ 16
-  few-clients = within-range (settingOf w .clients) 16 (F .some) .1
+  pub few-clients : settingOf w .clients ≤ systemClients
+  few-clients = within-range (settingOf w .clients) systemClients (F .some) .1
 
   pub client-valid : (k : ℕ) → 1 ≤ k → k ≤ settingOf w .clients → validClientBlock (settingOf w .n) (settingOf w .m) (settingOf w .clients) k (clientBlockOf w k) ≡ true
   client-valid k p q =
       let z : 1 + (k - 1) ≡ k = omega arith in
       subst (λ (x : ℕ). validClientBlock (settingOf w .n) (settingOf w .m) (settingOf w .clients) x (clientBlockOf w k) ≡ true) z
-      (each-valid (validClientBlock (settingOf w .n) (settingOf w .m) (settingOf w .clients)) 99 (settingOf w .clients) 1 (clientWords w) (F .clients) (k - 1) (omega arith))
+      (each-valid (validClientBlock (settingOf w .n) (settingOf w .m) (settingOf w .clients)) clientBlock (settingOf w .clients) 1 (clientWords w) (F .clients) (k - 1) (omega arith))
 
   pub server-valid : (j : ℕ) → 1 ≤ j → j ≤ settingOf w .n → validServerBlock (settingOf w .n) (settingOf w .clients) j (serverBlockOf w j) ≡ true
   server-valid j p q =
       let z : 1 + (j - 1) ≡ j = omega arith in
       subst (λ (x : ℕ). validServerBlock (settingOf w .n) (settingOf w .clients) x (serverBlockOf w j) ≡ true) z
-      (each-valid (validServerBlock (settingOf w .n) (settingOf w .clients)) 38 (settingOf w .n) 1 (serverWords w) (F .servers) (j - 1) (omega arith))
+      (each-valid (validServerBlock (settingOf w .n) (settingOf w .clients)) serverBlock (settingOf w .n) 1 (serverWords w) (F .servers) (j - 1) (omega arith))
 
 -- the most servers down, where one client changes
 pub worst-set : (l : List ClientPlace) (i : ℕ) (p : ClientPlace) (most : ℕ) → worst l ≤ most → length (p .downs) ≤ most → worst (set l i p) ≤ most
@@ -99,12 +100,12 @@ worst-put l (suc i) p most h g = worst-set l i p most h g
 module _ (w : List ℕ) (F : Sound w) (k : ℕ) (b : List ℕ) (p : ClientPlace) (first : 1 ≤ k) (last : k ≤ settingOf w .clients)
     (B : ClientIs (settingOf w .n) (settingOf w .m) (settingOf w .clients) k b p) where
   abbrev client-at : ℕ
-  client-at = (k - 1) * 99 + 0
+  client-at = (k - 1) * clientBlock + 0
 
-  client-long : length b ≡ 99
+  client-long : length b ≡ clientBlock
   client-long = client-facts (settingOf w .n) (settingOf w .m) (settingOf w .clients) k b (B .valid) .size
 
-  client-whole : sets (take 99 (drop ((k - 1) * 99) (clientWords w))) 0 b ≡ b
+  client-whole : sets (take clientBlock (drop ((k - 1) * clientBlock) (clientWords w))) 0 b ≡ b
   client-whole = covered (clientBlockOf w k) b (client-long ∙ sym (client-block-long w k (F .long) first (omega (arith, few-clients w F))))
 
   client-system : view (sets w (7 + client-at) b) ≡ withClient (view w) k p
@@ -117,88 +118,88 @@ module _ (w : List ℕ) (F : Sound w) (k : ℕ) (b : List ℕ) (p : ClientPlace)
   client-sound : Sound (sets w (7 + client-at) b)
   client-sound =
       let s = setting-kept w (7 + client-at) b (omega arith) in
-      let fits : client-at + length b ≤ 1584 = omega (arith, client-long, few-clients w F) in
+      let fits : client-at + length b ≤ clientsSize = omega (arith, client-long, few-clients w F) in
       let head : (i : ℕ) → i < 7 → getD (sets w (7 + client-at) b) i 0 ≡ getD w i 0 = λ i q. head-kept w (7 + client-at) b i (omega arith) in
       let z : k ≡ 1 + (k - 1) = omega arith in
       let f = validClientBlock (settingOf w .n) (settingOf w .m) (settingOf w .clients) in
-      let new : f (1 + (k - 1)) (sets (take 99 (drop ((k - 1) * 99) (clientWords w))) 0 b) ≡ true =
-      subst (λ (x : ℕ). f x (sets (take 99 (drop ((k - 1) * 99) (clientWords w))) 0 b) ≡ true) z (ap (f k) client-whole ∙ B .valid) in
+      let new : f (1 + (k - 1)) (sets (take clientBlock (drop ((k - 1) * clientBlock) (clientWords w))) 0 b) ≡ true =
+      subst (λ (x : ℕ). f x (sets (take clientBlock (drop ((k - 1) * clientBlock) (clientWords w))) 0 b) ≡ true) z (ap (f k) client-whole ∙ B .valid) in
       record {
         long = length-sets w (7 + client-at) b ∙ F .long;
         range = rw s (F .range);
         some = rw s (F .some);
-        clients = rw (s, in-clients w client-at b fits) (still-valid f 99 (settingOf w .clients) 1 (k - 1) (clientWords w) 0 b (omega arith) (omega (arith, client-long)) (F .clients) new);
-        noClients = rw (s, in-clients w client-at b fits, drop-sets-before (settingOf w .clients * 99) (clientWords w) client-at b (omega (arith, client-long))) (F .noClients);
+        clients = rw (s, in-clients w client-at b fits) (still-valid f clientBlock (settingOf w .clients) 1 (k - 1) (clientWords w) 0 b (omega arith) (omega (arith, client-long)) (F .clients) new);
+        noClients = rw (s, in-clients w client-at b fits, drop-sets-before (settingOf w .clients * clientBlock) (clientWords w) client-at b (omega (arith, client-long))) (F .noClients);
         servers = rw (s, clients-servers w client-at b fits) (F .servers);
         noServers = rw (s, clients-servers w client-at b fits) (F .noServers);
         transit = rw (s, clients-transit w client-at b fits, head 4 (omega arith), head 5 (omega arith)) (F .transit);
         few = rw (s, head 6 (omega arith)) (F .few);
       }
 
-  pub client-near : Near w (sets w (7 + 99 * (k - 1)) b) (withClient (view w) k p)
+  pub client-near : Near w (sets w (7 + clientBlock * (k - 1)) b) (withClient (view w) k p)
   client-near =
-      let z : 7 + client-at ≡ 7 + 99 * (k - 1) = omega arith in
+      let z : 7 + client-at ≡ 7 + clientBlock * (k - 1) = omega arith in
       subst (λ (x : ℕ). Near w (sets w x b) (withClient (view w) k p)) z
       (record { system = client-system; setting = setting-kept w (7 + client-at) b (omega arith); again = client-sound })
 
-  pub client-most : getD (sets w (7 + 99 * (k - 1)) b) 6 0 ≡ getD w 6 0
-  client-most = head-kept w (7 + 99 * (k - 1)) b 6 (omega arith)
+  pub client-most : getD (sets w (7 + clientBlock * (k - 1)) b) 6 0 ≡ getD w 6 0
+  client-most = head-kept w (7 + clientBlock * (k - 1)) b 6 (omega arith)
 
 -- server j's block is stored
 module _ (w : List ℕ) (F : Sound w) (j : ℕ) (b : List ℕ) (q : ServerPlace) (first : 1 ≤ j) (last : j ≤ settingOf w .n)
     (B : ServerIs (settingOf w .n) (settingOf w .clients) j b q) where
   abbrev server-at : ℕ
-  server-at = (j - 1) * 38 + 0
+  server-at = (j - 1) * serverBlock + 0
 
-  server-long : length b ≡ 38
+  server-long : length b ≡ serverBlock
   server-long = server-facts (settingOf w .n) (settingOf w .clients) j b (B .valid) .size
 
-  server-whole : sets (take 38 (drop ((j - 1) * 38) (serverWords w))) 0 b ≡ b
+  server-whole : sets (take serverBlock (drop ((j - 1) * serverBlock) (serverWords w))) 0 b ≡ b
   server-whole = covered (serverBlockOf w j) b (server-long ∙ sym (server-block-long w j (F .long) first (omega (arith, few-servers w F))))
 
-  server-system : view (sets w (1591 + server-at) b) ≡ withServer (view w) j q
+  server-system : view (sets w (serversFrom + server-at) b) ≡ withServer (view w) j q
   server-system =
       server-stored w (j - 1) 0 b (omega arith) (few-servers w F) (omega (arith, server-long)) ∙
       ap (λ (l : List ServerPlace). record { clients = view w .clients; servers = l; transit = view w .transit; sent = view w .sent; most = view w .most })
       (ap (λ (x : List ℕ). set (view w .servers) (j - 1) (serverPlace x)) server-whole ∙
       (ap (λ (x : ServerPlace). set (view w .servers) (j - 1) x) (B .place) ∙ put-set (view w .servers) j q (omega arith)))
 
-  server-sound : Sound (sets w (1591 + server-at) b)
+  server-sound : Sound (sets w (serversFrom + server-at) b)
   server-sound =
-      let s = setting-kept w (1591 + server-at) b (omega arith) in
-      let fits : server-at + length b ≤ 1178 = omega (arith, server-long, few-servers w F) in
-      let head : (i : ℕ) → i < 7 → getD (sets w (1591 + server-at) b) i 0 ≡ getD w i 0 = λ i q. head-kept w (1591 + server-at) b i (omega arith) in
+      let s = setting-kept w (serversFrom + server-at) b (omega arith) in
+      let fits : server-at + length b ≤ serversSize = omega (arith, server-long, few-servers w F) in
+      let head : (i : ℕ) → i < 7 → getD (sets w (serversFrom + server-at) b) i 0 ≡ getD w i 0 = λ i q. head-kept w (serversFrom + server-at) b i (omega arith) in
       let z : j ≡ 1 + (j - 1) = omega arith in
       let f = validServerBlock (settingOf w .n) (settingOf w .clients) in
-      let new : f (1 + (j - 1)) (sets (take 38 (drop ((j - 1) * 38) (serverWords w))) 0 b) ≡ true =
-      subst (λ (x : ℕ). f x (sets (take 38 (drop ((j - 1) * 38) (serverWords w))) 0 b) ≡ true) z (ap (f j) server-whole ∙ B .valid) in
+      let new : f (1 + (j - 1)) (sets (take serverBlock (drop ((j - 1) * serverBlock) (serverWords w))) 0 b) ≡ true =
+      subst (λ (x : ℕ). f x (sets (take serverBlock (drop ((j - 1) * serverBlock) (serverWords w))) 0 b) ≡ true) z (ap (f j) server-whole ∙ B .valid) in
       record {
-        long = length-sets w (1591 + server-at) b ∙ F .long;
+        long = length-sets w (serversFrom + server-at) b ∙ F .long;
         range = rw s (F .range);
         some = rw s (F .some);
         clients = rw (s, servers-clients w server-at b fits) (F .clients);
         noClients = rw (s, servers-clients w server-at b fits) (F .noClients);
-        servers = rw (s, in-servers w server-at b fits) (still-valid f 38 (settingOf w .n) 1 (j - 1) (serverWords w) 0 b (omega arith) (omega (arith, server-long)) (F .servers) new);
-        noServers = rw (s, in-servers w server-at b fits, drop-sets-before (settingOf w .n * 38) (serverWords w) server-at b (omega (arith, server-long))) (F .noServers);
+        servers = rw (s, in-servers w server-at b fits) (still-valid f serverBlock (settingOf w .n) 1 (j - 1) (serverWords w) 0 b (omega arith) (omega (arith, server-long)) (F .servers) new);
+        noServers = rw (s, in-servers w server-at b fits, drop-sets-before (settingOf w .n * serverBlock) (serverWords w) server-at b (omega (arith, server-long))) (F .noServers);
         transit = rw (s, servers-transit w server-at b fits, head 4 (omega arith), head 5 (omega arith)) (F .transit);
         few = rw (s, head 6 (omega arith)) (F .few);
       }
 
-  pub server-near : Near w (sets w (1591 + 38 * (j - 1)) b) (withServer (view w) j q)
+  pub server-near : Near w (sets w (serversFrom + serverBlock * (j - 1)) b) (withServer (view w) j q)
   server-near =
-      let z : 1591 + server-at ≡ 1591 + 38 * (j - 1) = omega arith in
+      let z : serversFrom + server-at ≡ serversFrom + serverBlock * (j - 1) = omega arith in
       subst (λ (x : ℕ). Near w (sets w x b) (withServer (view w) j q)) z
-      (record { system = server-system; setting = setting-kept w (1591 + server-at) b (omega arith); again = server-sound })
+      (record { system = server-system; setting = setting-kept w (serversFrom + server-at) b (omega arith); again = server-sound })
 
 -- the messages in transit, their number and the number of messages sent are stored
 module _ (w : List ℕ) (F : Sound w) (t : List ℕ) (len sent : ℕ) (ok′ : validSlots (settingOf w .n) (settingOf w .clients) sent len t ≡ true) where
   abbrev posted : List ℕ
-  posted = set (set (sets w 2769 t) 4 len) 5 sent
+  posted = set (set (sets w transitFrom t) 4 len) 5 sent
 
-  slots-long : length t ≡ 3584
+  slots-long : length t ≡ transitSize
   slots-long = valid-sized (settingOf w .n) (settingOf w .clients) sent len t ok′ .size
 
-  old-long : length (transitWords w) ≡ 3584
+  old-long : length (transitWords w) ≡ transitSize
   old-long = valid-sized (settingOf w .n) (settingOf w .clients) (sentOf w) (lengthOf w) (transitWords w) (F .transit) .size
 
   posted-parts : Is posted (set (set (take 7 w) 4 len) 5 sent) (clientWords w) (serverWords w) t
@@ -208,15 +209,15 @@ module _ (w : List ℕ) (F : Sound w) (t : List ℕ) (len sent : ℕ) (ok′ : v
       record { long = b .long; head = b .head; clients = b .clients; servers = b .servers; transit = b .transit ∙ covered (transitWords w) t (slots-long ∙ sym old-long) }
 
   posted-word : (i : ℕ) → i < 7 → (i ≡ 4 → ⊥) → (i ≡ 5 → ⊥) → getD posted i 0 ≡ getD w i 0
-  posted-word i h a b = getD-set-other (set (sets w 2769 t) 4 len) 5 i sent 0 b ∙ (getD-set-other (sets w 2769 t) 4 i len 0 a ∙ head-kept w 2769 t i (omega arith))
+  posted-word i h a b = getD-set-other (set (sets w transitFrom t) 4 len) 5 i sent 0 b ∙ (getD-set-other (sets w transitFrom t) 4 i len 0 a ∙ head-kept w transitFrom t i (omega arith))
 
   posted-length : getD posted 4 0 ≡ len
   posted-length =
-      getD-set-other (set (sets w 2769 t) 4 len) 5 4 sent 0 (λ e. omega arith) ∙
-      getD-set-same (sets w 2769 t) 4 len 0 (omega (arith, length-sets w 2769 t, F .long))
+      getD-set-other (set (sets w transitFrom t) 4 len) 5 4 sent 0 (λ e. omega arith) ∙
+      getD-set-same (sets w transitFrom t) 4 len 0 (omega (arith, length-sets w transitFrom t, F .long))
 
   posted-sent : getD posted 5 0 ≡ sent
-  posted-sent = getD-set-same (set (sets w 2769 t) 4 len) 5 sent 0 (omega (arith, length-set (sets w 2769 t) 4 len, length-sets w 2769 t, F .long))
+  posted-sent = getD-set-same (set (sets w transitFrom t) 4 len) 5 sent 0 (omega (arith, length-set (sets w transitFrom t) 4 len, length-sets w transitFrom t, F .long))
 
   posted-setting : settingOf posted ≡ settingOf w
   unfolding settingOf
@@ -269,17 +270,17 @@ downs-few n m clients k b ok = flagged-few n 1 (flags b) (client-facts n m clien
 
 -- the most is noted
 module _ (w : List ℕ) (F : Sound w) where
-  worst-few-of : (i : ℕ) → i ≤ settingOf w .clients → worst (blocks 99 clientPlace i (clientWords w)) ≤ settingOf w .n
+  worst-few-of : (i : ℕ) → i ≤ settingOf w .clients → worst (blocks clientBlock clientPlace i (clientWords w)) ≤ settingOf w .n
   unfolding worst blocks
   worst-few-of zero h = omega arith
   worst-few-of (suc i) h =
       let f = validClientBlock (settingOf w .n) (settingOf w .m) (settingOf w .clients) in
-      let v = each-valid f 99 (settingOf w .clients) 1 (clientWords w) (F .clients) i h in
+      let v = each-valid f clientBlock (settingOf w .clients) 1 (clientWords w) (F .clients) i h in
       omega (
         arith,
-        worst-more 99 clientPlace i (clientWords w),
+        worst-more clientBlock clientPlace i (clientWords w),
         worst-few-of i (omega arith),
-        downs-few (settingOf w .n) (settingOf w .m) (settingOf w .clients) (1 + i) (take 99 (drop (i * 99) (clientWords w))) v,
+        downs-few (settingOf w .n) (settingOf w .m) (settingOf w .clients) (1 + i) (take clientBlock (drop (i * clientBlock) (clientWords w))) v,
       )
 
   worst-few : worst (view w .clients) ≤ settingOf w .n
@@ -341,53 +342,53 @@ module _ (w : List ℕ) (F : Sound w) where
 module _ (w : List ℕ) (ok : valid w ≡ true) where
   pub client-becomes : (k : ℕ) (b : List ℕ) (p : ClientPlace) → 1 ≤ k → k ≤ settingOf w .clients
       → ClientIs (settingOf w .n) (settingOf w .m) (settingOf w .clients) k b p → length (p .downs) ≤ mostOf w
-      → Becomes w (sets w (7 + 99 * (k - 1)) b) (withClient (view w) k p)
+      → Becomes w (sets w (7 + clientBlock * (k - 1)) b) (withClient (view w) k p)
   client-becomes k b p first last B few =
       let N = client-near w (sound w ok) k b p first last B in
       let most = client-most w (sound w ok) k b p first last B in
       record {
         system = N .system;
         setting = N .setting;
-        again = noted-valid (sets w (7 + 99 * (k - 1)) b) (N .again) (rw (N .system, most) (worst-put (view w .clients) k p (mostOf w) (facts w ok .noted) few));
+        again = noted-valid (sets w (7 + clientBlock * (k - 1)) b) (N .again) (rw (N .system, most) (worst-put (view w .clients) k p (mostOf w) (facts w ok .noted) few));
       }
 
   pub server-becomes : (j : ℕ) (b : List ℕ) (q : ServerPlace) → 1 ≤ j → j ≤ settingOf w .n
       → ServerIs (settingOf w .n) (settingOf w .clients) j b q
-      → Becomes w (sets w (1591 + 38 * (j - 1)) b) (withServer (view w) j q)
+      → Becomes w (sets w (serversFrom + serverBlock * (j - 1)) b) (withServer (view w) j q)
   server-becomes j b q first last B =
       let N = server-near w (sound w ok) j b q first last B in
-      let most = head-kept w (1591 + 38 * (j - 1)) b 6 (omega arith) in
+      let most = head-kept w (serversFrom + serverBlock * (j - 1)) b 6 (omega arith) in
       record {
         system = N .system;
         setting = N .setting;
-        again = noted-valid (sets w (1591 + 38 * (j - 1)) b) (N .again) (rw (N .system, most) (facts w ok .noted));
+        again = noted-valid (sets w (serversFrom + serverBlock * (j - 1)) b) (N .again) (rw (N .system, most) (facts w ok .noted));
       }
 
   -- with the number of messages and the number of messages sent
   pub sent-becomes : (t : List ℕ) (len sent : ℕ) → validSlots (settingOf w .n) (settingOf w .clients) sent len t ≡ true
-      → Becomes w (set (set (sets w 2769 t) 4 len) 5 sent) (record { clients = view w .clients; servers = view w .servers; transit = slots len t; sent = sent; most = view w .most })
+      → Becomes w (set (set (sets w transitFrom t) 4 len) 5 sent) (record { clients = view w .clients; servers = view w .servers; transit = slots len t; sent = sent; most = view w .most })
   sent-becomes t len sent ok′ =
       let F = sound w ok in
       let e = posted-system w F t len sent ok′ in
       record {
         system = e;
         setting = posted-setting w F t len sent ok′;
-        again = noted-valid (set (set (sets w 2769 t) 4 len) 5 sent) (posted-sound w F t len sent ok′) (rw (e, posted-most w F t len sent ok′) (facts w ok .noted));
+        again = noted-valid (set (set (sets w transitFrom t) 4 len) 5 sent) (posted-sound w F t len sent ok′) (rw (e, posted-most w F t len sent ok′) (facts w ok .noted));
       }
 
   -- with the number of messages
   pub length-becomes : (t : List ℕ) (len : ℕ) → validSlots (settingOf w .n) (settingOf w .clients) (sentOf w) len t ≡ true
-      → Becomes w (set (sets w 2769 t) 4 len) (withTransit (view w) (slots len t))
+      → Becomes w (set (sets w transitFrom t) 4 len) (withTransit (view w) (slots len t))
   unfolding view
   length-becomes t len ok′ =
-      let five : getD (set (sets w 2769 t) 4 len) 5 0 ≡ sentOf w = getD-set-other (sets w 2769 t) 4 5 len 0 (λ e. omega arith) ∙ head-kept w 2769 t 5 (omega arith) in
-      let same : set (set (sets w 2769 t) 4 len) 5 (sentOf w) ≡ set (sets w 2769 t) 4 len =
-      ap (λ (x : ℕ). set (set (sets w 2769 t) 4 len) 5 x) (sym five) ∙ set-getD (set (sets w 2769 t) 4 len) 5 0 in
+      let five : getD (set (sets w transitFrom t) 4 len) 5 0 ≡ sentOf w = getD-set-other (sets w transitFrom t) 4 5 len 0 (λ e. omega arith) ∙ head-kept w transitFrom t 5 (omega arith) in
+      let same : set (set (sets w transitFrom t) 4 len) 5 (sentOf w) ≡ set (sets w transitFrom t) 4 len =
+      ap (λ (x : ℕ). set (set (sets w transitFrom t) 4 len) 5 x) (sym five) ∙ set-getD (set (sets w transitFrom t) 4 len) 5 0 in
       subst (λ (x : List ℕ). Becomes w x (withTransit (view w) (slots len t))) same (sent-becomes t len (sentOf w) ok′)
 
   pub transit-becomes : (t : List ℕ) → validSlots (settingOf w .n) (settingOf w .clients) (sentOf w) (lengthOf w) t ≡ true
-      → Becomes w (sets w 2769 t) (withTransit (view w) (slots (lengthOf w) t))
+      → Becomes w (sets w transitFrom t) (withTransit (view w) (slots (lengthOf w) t))
   transit-becomes t ok′ =
-      let same : set (sets w 2769 t) 4 (lengthOf w) ≡ sets w 2769 t =
-      ap (λ (x : ℕ). set (sets w 2769 t) 4 x) (sym (head-kept w 2769 t 4 (omega arith))) ∙ set-getD (sets w 2769 t) 4 0 in
+      let same : set (sets w transitFrom t) 4 (lengthOf w) ≡ sets w transitFrom t =
+      ap (λ (x : ℕ). set (sets w transitFrom t) 4 x) (sym (head-kept w transitFrom t 4 (omega arith))) ∙ set-getD (sets w transitFrom t) 4 0 in
       subst (λ (x : List ℕ). Becomes w x (withTransit (view w) (slots (lengthOf w) t))) same (length-becomes t (lengthOf w) ok′)

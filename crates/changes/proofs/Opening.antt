@@ -30,19 +30,22 @@ use Rattle.regions.specs.Blocks.{blocks}
 use Rattle.regions.proofs.SetsLaws.{drop-sets-before}
 use Rattle.system.specs.Places.{ClientPlace, worst}
 use Rattle.system.specs.Runs.{start}
-use Rattle.places.specs.Blocks.{clientPlace, serverPlace, validClientBlock, validServerBlock, flagged, zeroWord}
+use Rattle.places.specs.Blocks.{clientPlace, serverPlace, validClientBlock, validServerBlock, flagged, zeroWord, clientBlock, serverBlock}
 use Rattle.places.proofs.BlockParts.{covered}
 use Rattle.places.proofs.ClientLaws.{ClientIs, Frame}
 use Rattle.places.proofs.ClientSteps.{fresh-block}
 use Rattle.places.proofs.ServerLaws.{ServerIs, idle-block}
 use Rattle.transit.proofs.Kept.{valid-none, slots-none}
-use Rattle.layout.specs.Layout.{settingOf, clientWords, serverWords, transitWords, view, valid, validFrom, itself, blank}
+use Rattle.layout.specs.Layout.{settingOf, clientWords, serverWords, transitWords, view, valid, validFrom, itself, blank, serversFrom, simulationSize, clientsSize, serversSize, transitFrom}
 use Rattle.layout.specs.Parts.{clientBlockOf, serverBlockOf, ClientIn, ServerIn}
 use Rattle.layout.proofs.ValidLaws.{all-valid, block-here, block-other, from-facts}
 use Rattle.layout.proofs.PartLaws.{Is, itself-is, is-client-store, is-server-store, is-head-store, head-word, setting-is, view-is, settingIn, systemIn}
 use Rattle.layout.proofs.LendLaws.{client-block-long, server-block-long}
 use Rattle.changes.specs.Opening.{Cleared, newClient, newServer, inTurn, Starts}
 use Rattle.changes.proofs.Stores.{sets-over, client-block-from, server-block-stored}
+use Rattle.votes.specs.Queues.{maxQueue}
+use Rattle.system.specs.Limits.{systemClients, systemServers}
+use Rattle.transit.specs.Slots.{transitSize}
 
 -- words that are all 0
 blank-is : (l : List ℕ) → blank l ≡ true → l ≡ replicate (length l) 0
@@ -90,47 +93,47 @@ module _ (w₀ w : List ℕ) (i : ℕ) (C : Clearing w₀ w i) where
 -- one party's block
 module _ (n m k : ℕ) (w : List ℕ) (h : ClientIn w k) where
   pub client-opened : (s : ClientStepped) → s ≡ client.newResult n m (record { 0 = k }) → (w′ : List ℕ)
-      → w′ ≡ sets (set w (7 + 99 * (k - 1)) 1) (7 + 99 * (k - 1)) (sets (clientBlockOf (set w (7 + 99 * (k - 1)) 1) k) 1 (records.clientWords (s .client)))
+      → w′ ≡ sets (set w (7 + clientBlock * (k - 1)) 1) (7 + clientBlock * (k - 1)) (sets (clientBlockOf (set w (7 + clientBlock * (k - 1)) 1) k) 1 (records.clientWords (s .client)))
       → w′ ≡ newClient n m k w
   unfolding newClient
   client-opened s e w′ g =
-      let b : clientBlockOf (set w (7 + 99 * (k - 1)) 1) k ≡ set (clientBlockOf w k) 0 1 = client-block-from w k h (1 ∷ []) (omega arith) in
+      let b : clientBlockOf (set w (7 + clientBlock * (k - 1)) 1) k ≡ set (clientBlockOf w k) 0 1 = client-block-from w k h (1 ∷ []) (omega arith) in
       let l : 1 ≤ length (sets (set (clientBlockOf w k) 0 1) 1 (records.clientWords (client.newResult n m (record { 0 = k }) .client))) =
       omega (arith, length-sets (set (clientBlockOf w k) 0 1) 1 (records.clientWords (client.newResult n m (record { 0 = k }) .client)), length-set (clientBlockOf w k) 0 1, client-block-long w k (h .long) (h .first) (h .last)) in
       g ∙
-      (ap (λ (x : List ℕ). sets (set w (7 + 99 * (k - 1)) 1) (7 + 99 * (k - 1)) (sets x 1 (records.clientWords (s .client)))) b ∙
-      (ap (λ (x : ClientStepped). sets (set w (7 + 99 * (k - 1)) 1) (7 + 99 * (k - 1)) (sets (set (clientBlockOf w k) 0 1) 1 (records.clientWords (x .client)))) e ∙
-      sets-over w (7 + 99 * (k - 1)) (1 ∷ []) (sets (set (clientBlockOf w k) 0 1) 1 (records.clientWords (client.newResult n m (record { 0 = k }) .client))) l))
+      (ap (λ (x : List ℕ). sets (set w (7 + clientBlock * (k - 1)) 1) (7 + clientBlock * (k - 1)) (sets x 1 (records.clientWords (s .client)))) b ∙
+      (ap (λ (x : ClientStepped). sets (set w (7 + clientBlock * (k - 1)) 1) (7 + clientBlock * (k - 1)) (sets (set (clientBlockOf w k) 0 1) 1 (records.clientWords (x .client)))) e ∙
+      sets-over w (7 + clientBlock * (k - 1)) (1 ∷ []) (sets (set (clientBlockOf w k) 0 1) 1 (records.clientWords (client.newResult n m (record { 0 = k }) .client))) l))
 
 module _ (n j : ℕ) (w : List ℕ) (h : ServerIn w j) where
   abbrev up : List ℕ
   up = set (serverBlockOf w j) 0 1
 
-  up-long : length (set (serverBlockOf w j) 0 1) ≡ 38
+  up-long : length (set (serverBlockOf w j) 0 1) ≡ serverBlock
   up-long = length-set (serverBlockOf w j) 0 1 ∙ server-block-long w j (h .long) (h .first) (h .last)
 
-  pub server-opened : (w₁ : List ℕ) → w₁ ≡ sets w (1591 + 38 * (j - 1)) (set (serverBlockOf w j) 0 1) → (s : ServerStepped) → s ≡ server.newResult n (record { 0 = j }) → (w′ : List ℕ)
-      → w′ ≡ sets w₁ (1591 + 38 * (j - 1)) (sets (serverBlockOf w₁ j) 1 (records.serverWords (s .server)))
+  pub server-opened : (w₁ : List ℕ) → w₁ ≡ sets w (serversFrom + serverBlock * (j - 1)) (set (serverBlockOf w j) 0 1) → (s : ServerStepped) → s ≡ server.newResult n (record { 0 = j }) → (w′ : List ℕ)
+      → w′ ≡ sets w₁ (serversFrom + serverBlock * (j - 1)) (sets (serverBlockOf w₁ j) 1 (records.serverWords (s .server)))
       → w′ ≡ newServer n j w
   unfolding newServer
   server-opened w₁ f s e w′ g =
       let b : serverBlockOf w₁ j ≡ up = ap (λ (x : List ℕ). serverBlockOf x j) f ∙ server-block-stored w j h up (omega (arith, up-long)) up-long in
       let l : length up ≤ length (sets up 1 (records.serverWords (server.newResult n (record { 0 = j }) .server))) = omega (arith, length-sets up 1 (records.serverWords (server.newResult n (record { 0 = j }) .server))) in
       g ∙
-      (ap (λ (x : List ℕ). sets w₁ (1591 + 38 * (j - 1)) (sets x 1 (records.serverWords (s .server)))) b ∙
-      (ap (λ (x : ServerStepped). sets w₁ (1591 + 38 * (j - 1)) (sets up 1 (records.serverWords (x .server)))) e ∙
-      (ap (λ (x : List ℕ). sets x (1591 + 38 * (j - 1)) (sets up 1 (records.serverWords (server.newResult n (record { 0 = j }) .server)))) f ∙
-      sets-over w (1591 + 38 * (j - 1)) up (sets up 1 (records.serverWords (server.newResult n (record { 0 = j }) .server))) l)))
+      (ap (λ (x : List ℕ). sets w₁ (serversFrom + serverBlock * (j - 1)) (sets x 1 (records.serverWords (s .server)))) b ∙
+      (ap (λ (x : ServerStepped). sets w₁ (serversFrom + serverBlock * (j - 1)) (sets up 1 (records.serverWords (x .server)))) e ∙
+      (ap (λ (x : List ℕ). sets x (serversFrom + serverBlock * (j - 1)) (sets up 1 (records.serverWords (server.newResult n (record { 0 = j }) .server)))) f ∙
+      sets-over w (serversFrom + serverBlock * (j - 1)) up (sets up 1 (records.serverWords (server.newResult n (record { 0 = j }) .server))) l)))
 
-  pub risen-in : (w₁ : List ℕ) → w₁ ≡ sets w (1591 + 38 * (j - 1)) (set (serverBlockOf w j) 0 1) → ServerIn w₁ j
-  risen-in w₁ f = record { long = ap length f ∙ (length-sets w (1591 + 38 * (j - 1)) (set (serverBlockOf w j) 0 1) ∙ h .long); first = h .first; last = h .last }
+  pub risen-in : (w₁ : List ℕ) → w₁ ≡ sets w (serversFrom + serverBlock * (j - 1)) (set (serverBlockOf w j) 0 1) → ServerIn w₁ j
+  risen-in w₁ f = record { long = ap length f ∙ (length-sets w (serversFrom + serverBlock * (j - 1)) (set (serverBlockOf w j) 0 1) ∙ h .long); first = h .first; last = h .last }
 
 -- what `put_server` asks
-pub new-short : (n : ℕ) (j : ℕ) (s : ServerStepped) → s ≡ server.newResult n (record { 0 = j }) → s .server .votes .queue .len ≤ 16
+pub new-short : (n : ℕ) (j : ℕ) (s : ServerStepped) → s ≡ server.newResult n (record { 0 = j }) → s .server .votes .queue .len ≤ maxQueue
 unfolding server.newResult votes.queueOf
 new-short n j s e = rw e (by-test (server-sizes n (record { 0 = j })) _ _ (omega arith) (omega arith))
   where
-    by-test : (b : Bool) (x y : ServerStepped) → x .server .votes .queue .len ≤ 16 → y .server .votes .queue .len ≤ 16 → (if b then x else y) .server .votes .queue .len ≤ 16
+    by-test : (b : Bool) (x y : ServerStepped) → x .server .votes .queue .len ≤ maxQueue → y .server .votes .queue .len ≤ maxQueue → (if b then x else y) .server .votes .queue .len ≤ maxQueue
     by-test true x y p q = p
     by-test false x y p q = q
 
@@ -153,10 +156,10 @@ unfolding inTurn
 putting-none f w c = record { same = refl; within = omega arith; words = refl }
 
 module _ (f : ℕ → List ℕ → List ℕ) (w₀ : List ℕ) (c : ℕ) (w : List ℕ) (i : ℕ) (P : Putting f w₀ c w i) where
-  pub putting-client : (length w₀ ≡ 6353) × (c ≤ 16) → i < c → ClientIn w (i + 1)
+  pub putting-client : (length w₀ ≡ simulationSize) × (c ≤ systemClients) → i < c → ClientIn w (i + 1)
   putting-client h lt = record { long = P .same ∙ h .0; first = omega arith; last = omega (arith, h .1, lt) }
 
-  pub putting-server : (length w₀ ≡ 6353) × (c ≤ 31) → i < c → ServerIn w (i + 1)
+  pub putting-server : (length w₀ ≡ simulationSize) × (c ≤ systemServers) → i < c → ServerIn w (i + 1)
   putting-server h lt = record { long = P .same ∙ h .0; first = omega arith; last = omega (arith, h .1, lt) }
 
   pub putting-more : ((k : ℕ) (l : List ℕ) → length (f k l) ≡ length l) → i < c → (w′ : List ℕ) → w′ ≡ f (i + 1) w → Putting f w₀ c w′ (i + 1)
@@ -213,89 +216,89 @@ blocks-same s g p (suc c) l h =
 
 -- a new client's block, and a new server's, where all was 0
 abbrev clientBase : List ℕ
-clientBase = set (replicate 99 0) 0 1
+clientBase = set (replicate clientBlock 0) 0 1
 
 abbrev serverBase : List ℕ
-serverBase = set (replicate 38 0) 0 1
+serverBase = set (replicate serverBlock 0) 0 1
 
 abbrev freshClient : ℕ → ℕ → ℕ → List ℕ
-freshClient n m i = sets (set (replicate 99 0) 0 1) 1 (records.clientWords (client.newResult n m (record { 0 = suc i }) .client))
+freshClient n m i = sets (set (replicate clientBlock 0) 0 1) 1 (records.clientWords (client.newResult n m (record { 0 = suc i }) .client))
 
 abbrev freshServer : ℕ → ℕ → List ℕ
-freshServer n i = sets (set (replicate 38 0) 0 1) 1 (records.serverWords (server.newResult n (record { 0 = suc i }) .server))
+freshServer n i = sets (set (replicate serverBlock 0) 0 1) 1 (records.serverWords (server.newResult n (record { 0 = suc i }) .server))
 
 -- the first i clients are put
 record Clients (n m : ℕ) (w₀ w : List ℕ) (i : ℕ) : Type 0 where
-  long : length w ≡ 6353
+  long : length w ≡ simulationSize
   head : take 7 w ≡ take 7 w₀
   servers : serverWords w ≡ serverWords w₀
   transit : transitWords w ≡ transitWords w₀
-  filled : Filled 99 (freshClient n m) (clientWords w) i
+  filled : Filled clientBlock (freshClient n m) (clientWords w) i
 
 record Servers (n : ℕ) (w₀ w : List ℕ) (i : ℕ) : Type 0 where
-  long : length w ≡ 6353
+  long : length w ≡ simulationSize
   head : take 7 w ≡ take 7 w₀
   clients : clientWords w ≡ clientWords w₀
   transit : transitWords w ≡ transitWords w₀
-  filled : Filled 38 (freshServer n) (serverWords w) i
+  filled : Filled serverBlock (freshServer n) (serverWords w) i
 
-clients-room : (w : List ℕ) → length w ≡ 6353 → length (clientWords w) ≡ 1584
+clients-room : (w : List ℕ) → length w ≡ simulationSize → length (clientWords w) ≡ clientsSize
 unfolding clientWords
-clients-room w h = length-take-le 1584 (drop 7 w) (omega (arith, length-drop 7 w))
+clients-room w h = length-take-le clientsSize (drop 7 w) (omega (arith, length-drop 7 w))
 
-servers-room : (w : List ℕ) → length w ≡ 6353 → length (serverWords w) ≡ 1178
+servers-room : (w : List ℕ) → length w ≡ simulationSize → length (serverWords w) ≡ serversSize
 unfolding serverWords
-servers-room w h = length-take-le 1178 (drop 1591 w) (omega (arith, length-drop 1591 w))
+servers-room w h = length-take-le serversSize (drop serversFrom w) (omega (arith, length-drop serversFrom w))
 
-clients-next : (n m : ℕ) (w₀ w : List ℕ) (i : ℕ) → i < 16 → Clients n m w₀ w i → Clients n m w₀ (newClient n m (suc i) w) (suc i)
+clients-next : (n m : ℕ) (w₀ w : List ℕ) (i : ℕ) → i < systemClients → Clients n m w₀ w i → Clients n m w₀ (newClient n m (suc i) w) (suc i)
 unfolding newClient
 clients-next n m w₀ w i lt C =
-    let room : i * 99 + 99 ≤ length (clientWords w) = omega (arith, clients-room w (C .long)) in
+    let room : i * clientBlock + clientBlock ≤ length (clientWords w) = omega (arith, clients-room w (C .long)) in
     let y : suc i - 1 ≡ i = omega arith in
-    let zero-block : clientBlockOf w (suc i) ≡ replicate 99 0 = ap (λ (x : ℕ). take 99 (drop (x * 99) (clientWords w))) y ∙ next-zero 99 (freshClient n m) (clientWords w) i (C .filled) room in
-    let at : 7 + 99 * (suc i - 1) ≡ 7 + (i * 99 + 0) = omega arith in
-    let l : length (freshClient n m i) ≡ 99 = length-sets clientBase 1 (records.clientWords (client.newResult n m (record { 0 = suc i }) .client)) in
-    let S = is-client-store (itself-is w (C .long)) (i * 99 + 0) (freshClient n m i) (omega (arith, l)) in
+    let zero-block : clientBlockOf w (suc i) ≡ replicate clientBlock 0 = ap (λ (x : ℕ). take clientBlock (drop (x * clientBlock) (clientWords w))) y ∙ next-zero clientBlock (freshClient n m) (clientWords w) i (C .filled) room in
+    let at : 7 + clientBlock * (suc i - 1) ≡ 7 + (i * clientBlock + 0) = omega arith in
+    let l : length (freshClient n m i) ≡ clientBlock = length-sets clientBase 1 (records.clientWords (client.newResult n m (record { 0 = suc i }) .client)) in
+    let S = is-client-store (itself-is w (C .long)) (i * clientBlock + 0) (freshClient n m i) (omega (arith, l)) in
     rw (zero-block, at) (record {
       long = S .long;
       head = S .head ∙ C .head;
       servers = S .servers ∙ C .servers;
       transit = S .transit ∙ C .transit;
-      filled = rw (S .clients) (filled-more 99 (freshClient n m) (clientWords w) i (C .filled) 16 lt room l);
+      filled = rw (S .clients) (filled-more clientBlock (freshClient n m) (clientWords w) i (C .filled) systemClients lt room l);
     })
 
-clients-put : (n m : ℕ) (w : List ℕ) → length w ≡ 6353 → blank (clientWords w) ≡ true → (i : ℕ) → i ≤ 16 → Clients n m w (inTurn (newClient n m) i w) i
+clients-put : (n m : ℕ) (w : List ℕ) → length w ≡ simulationSize → blank (clientWords w) ≡ true → (i : ℕ) → i ≤ systemClients → Clients n m w (inTurn (newClient n m) i w) i
 unfolding inTurn
-clients-put n m w h z zero q = record { long = h; head = refl; servers = refl; transit = refl; filled = filled-none 99 (freshClient n m) (clientWords w) z }
+clients-put n m w h z zero q = record { long = h; head = refl; servers = refl; transit = refl; filled = filled-none clientBlock (freshClient n m) (clientWords w) z }
 clients-put n m w h z (suc i) q = clients-next n m w (inTurn (newClient n m) i w) i (omega arith) (clients-put n m w h z i (omega arith))
 
-servers-next : (n : ℕ) (w₀ w : List ℕ) (i : ℕ) → i < 31 → Servers n w₀ w i → Servers n w₀ (newServer n (suc i) w) (suc i)
+servers-next : (n : ℕ) (w₀ w : List ℕ) (i : ℕ) → i < systemServers → Servers n w₀ w i → Servers n w₀ (newServer n (suc i) w) (suc i)
 unfolding newServer
 servers-next n w₀ w i lt C =
-    let room : i * 38 + 38 ≤ length (serverWords w) = omega (arith, servers-room w (C .long)) in
+    let room : i * serverBlock + serverBlock ≤ length (serverWords w) = omega (arith, servers-room w (C .long)) in
     let y : suc i - 1 ≡ i = omega arith in
-    let zero-block : serverBlockOf w (suc i) ≡ replicate 38 0 = ap (λ (x : ℕ). take 38 (drop (x * 38) (serverWords w))) y ∙ next-zero 38 (freshServer n) (serverWords w) i (C .filled) room in
-    let at : 1591 + 38 * (suc i - 1) ≡ 1591 + (i * 38 + 0) = omega arith in
-    let l : length (freshServer n i) ≡ 38 = length-sets serverBase 1 (records.serverWords (server.newResult n (record { 0 = suc i }) .server)) in
-    let S = is-server-store (itself-is w (C .long)) (i * 38 + 0) (freshServer n i) (omega (arith, l)) in
+    let zero-block : serverBlockOf w (suc i) ≡ replicate serverBlock 0 = ap (λ (x : ℕ). take serverBlock (drop (x * serverBlock) (serverWords w))) y ∙ next-zero serverBlock (freshServer n) (serverWords w) i (C .filled) room in
+    let at : serversFrom + serverBlock * (suc i - 1) ≡ serversFrom + (i * serverBlock + 0) = omega arith in
+    let l : length (freshServer n i) ≡ serverBlock = length-sets serverBase 1 (records.serverWords (server.newResult n (record { 0 = suc i }) .server)) in
+    let S = is-server-store (itself-is w (C .long)) (i * serverBlock + 0) (freshServer n i) (omega (arith, l)) in
     rw (zero-block, at) (record {
       long = S .long;
       head = S .head ∙ C .head;
       clients = S .clients ∙ C .clients;
       transit = S .transit ∙ C .transit;
-      filled = rw (S .servers) (filled-more 38 (freshServer n) (serverWords w) i (C .filled) 31 lt room l);
+      filled = rw (S .servers) (filled-more serverBlock (freshServer n) (serverWords w) i (C .filled) systemServers lt room l);
     })
 
-servers-put : (n : ℕ) (w : List ℕ) → length w ≡ 6353 → blank (serverWords w) ≡ true → (i : ℕ) → i ≤ 31 → Servers n w (inTurn (newServer n) i w) i
+servers-put : (n : ℕ) (w : List ℕ) → length w ≡ simulationSize → blank (serverWords w) ≡ true → (i : ℕ) → i ≤ systemServers → Servers n w (inTurn (newServer n) i w) i
 unfolding inTurn
-servers-put n w h z zero q = record { long = h; head = refl; clients = refl; transit = refl; filled = filled-none 38 (freshServer n) (serverWords w) z }
+servers-put n w h z zero q = record { long = h; head = refl; clients = refl; transit = refl; filled = filled-none serverBlock (freshServer n) (serverWords w) z }
 servers-put n w h z (suc i) q = servers-next n w (inTurn (newServer n) i w) i (omega arith) (servers-put n w h z i (omega arith))
 
 -- the places that these blocks are
 module _ (n m f clients : ℕ) (ok : inRange n m f ≡ true) where
   client-frame : Frame n clientBase
   unfolding clientPlace
-  client-frame = record { size = refl; bit = omega arith; bits = refl; behind = zeros-drop n 31; fallen = λ h. refl }
+  client-frame = record { size = refl; bit = omega arith; bits = refl; behind = zeros-drop n systemServers; fallen = λ h. refl }
     where
       zeros-drop : (n k : ℕ) → every zeroWord (drop n (replicate k 0)) ≡ true
       zeros-drop zero zero = refl
@@ -303,19 +306,19 @@ module _ (n m f clients : ℕ) (ok : inRange n m f ≡ true) where
       zeros-drop (suc n) zero = refl
       zeros-drop (suc n) (suc k) = zeros-drop n k
 
-  fresh-client : (i : ℕ) → i < 16 → ClientIs n m clients (suc i) (freshClient n m i) (record { living = true; state = fresh n; downs = [] })
+  fresh-client : (i : ℕ) → i < systemClients → ClientIs n m clients (suc i) (freshClient n m i) (record { living = true; state = fresh n; downs = [] })
   unfolding client.newResult clientPlace flagged
   fresh-client i h =
       let r = range n m f ok in
       let v : validClient (record { 0 = suc i }) ≡ true = rw (le-leb 1 (suc i) (omega arith), le-leb (suc i) 65535 (omega arith)) in
-      rw (le-leb 1 n (omega (arith, r .some)), le-leb n 31 (r .servers), le-leb 1 m (omega (arith, r .positive)), le-leb m n (r .threshold), v)
+      rw (le-leb 1 n (omega (arith, r .some)), le-leb n systemServers (r .servers), le-leb 1 m (omega (arith, r .positive)), le-leb m n (r .threshold), v)
       (fresh-block n m clients (suc i) clientBase client-frame refl (record { some = omega (arith, r .some); few = r .servers; threshold = omega (arith, r .positive); reached = r .threshold; client = v }))
 
   fresh-server : (i : ℕ) → i < n → ServerIs n clients (suc i) (freshServer n i) (record { up = true; state = idle })
   unfolding server.newResult serverPlace
   fresh-server i h =
       let r = range n m f ok in
-      let v : server-sizes n (record { 0 = suc i }) ≡ true = rw (le-leb 1 n (omega (arith, r .some)), le-leb n 31 (r .servers), le-leb 1 (suc i) (omega arith), le-leb (suc i) n h) in
+      let v : server-sizes n (record { 0 = suc i }) ≡ true = rw (le-leb 1 n (omega (arith, r .some)), le-leb n systemServers (r .servers), le-leb 1 (suc i) (omega arith), le-leb (suc i) n h) in
       rw v (idle-block n clients (suc i) serverBase refl (omega arith) v)
 
 worst-none : (c : ℕ) (p : ClientPlace) → p .downs ≡ [] → worst (replicate c p) ≡ 0
@@ -324,7 +327,7 @@ worst-none zero p e = refl
 worst-none (suc c) p e = omega (arith, ap length e, worst-none c p e)
 
 -- the whole: z is cleared, and the setting is written in it
-module _ (n m f clients : ℕ) (z : List ℕ) (long : length z ≡ 6353) (zeros : blank z ≡ true) (ok : inRange n m f ≡ true) (some : within clients 16 ≡ true) where
+module _ (n m f clients : ℕ) (z : List ℕ) (long : length z ≡ simulationSize) (zeros : blank z ≡ true) (ok : inRange n m f ≡ true) (some : within clients systemClients ≡ true) where
   abbrev headed : List ℕ
   headed = set (set (set (set z 0 n) 1 m) 2 f) 3 clients
 
@@ -343,15 +346,15 @@ module _ (n m f clients : ℕ) (z : List ℕ) (long : length z ≡ 6353) (zeros 
         transit = S .transit;
       }
 
-  few-clients : clients ≤ 16
-  few-clients = within-range clients 16 some .1
+  few-clients : clients ≤ systemClients
+  few-clients = within-range clients systemClients some .1
 
-  few-servers : n ≤ 31
+  few-servers : n ≤ systemServers
   few-servers = range n m f ok .servers
 
   no-clients : blank (clientWords headed) ≡ true
   unfolding clientWords
-  no-clients = rw (headed-is .clients) (blank-take 1584 (drop 7 z) (blank-drop 7 z zeros))
+  no-clients = rw (headed-is .clients) (blank-take clientsSize (drop 7 z) (blank-drop 7 z zeros))
 
   abbrev populated : List ℕ
   populated = inTurn (newClient n m) clients headed
@@ -361,7 +364,7 @@ module _ (n m f clients : ℕ) (z : List ℕ) (long : length z ≡ 6353) (zeros 
 
   no-servers : blank (serverWords populated) ≡ true
   unfolding serverWords
-  no-servers = rw (clients-are .servers, headed-is .servers) (blank-take 1178 (drop 1591 z) (blank-drop 1591 z zeros))
+  no-servers = rw (clients-are .servers, headed-is .servers) (blank-take serversSize (drop serversFrom z) (blank-drop serversFrom z zeros))
 
   abbrev whole : List ℕ
   whole = inTurn (newServer n) n populated
@@ -371,26 +374,26 @@ module _ (n m f clients : ℕ) (z : List ℕ) (long : length z ≡ 6353) (zeros 
 
   no-transit : blank (transitWords whole) ≡ true
   unfolding transitWords
-  no-transit = rw (servers-are .transit, clients-are .transit, headed-is .transit) (blank-take 3584 (drop 2769 z) (blank-drop 2769 z zeros))
+  no-transit = rw (servers-are .transit, clients-are .transit, headed-is .transit) (blank-take transitSize (drop transitFrom z) (blank-drop transitFrom z zeros))
 
-  transit-long : length (transitWords whole) ≡ 3584
+  transit-long : length (transitWords whole) ≡ transitSize
   unfolding transitWords
-  transit-long = length-take-le 3584 (drop 2769 whole) (omega (arith, length-drop 2769 whole, servers-are .long))
+  transit-long = length-take-le transitSize (drop transitFrom whole) (omega (arith, length-drop transitFrom whole, servers-are .long))
 
   whole-is : Is whole headWords (clientWords whole) (serverWords whole) (transitWords whole)
   whole-is = record { long = servers-are .long; head = servers-are .head ∙ (clients-are .head ∙ headed-is .head); clients = refl; servers = refl; transit = refl }
 
-  client-block : (i : ℕ) → i < clients → ClientIs n m clients (suc i) (take 99 (drop (i * 99) (clientWords whole))) (record { living = true; state = fresh n; downs = [] })
+  client-block : (i : ℕ) → i < clients → ClientIs n m clients (suc i) (take clientBlock (drop (i * clientBlock) (clientWords whole))) (record { living = true; state = fresh n; downs = [] })
   client-block i h = rw (servers-are .clients, clients-are .filled .done i h) (fresh-client n m f clients ok i (omega (arith, few-clients)))
 
-  server-block : (i : ℕ) → i < n → ServerIs n clients (suc i) (take 38 (drop (i * 38) (serverWords whole))) (record { up = true; state = idle })
+  server-block : (i : ℕ) → i < n → ServerIs n clients (suc i) (take serverBlock (drop (i * serverBlock) (serverWords whole))) (record { up = true; state = idle })
   server-block i h = rw (servers-are .filled .done i h) (fresh-server n m f clients ok i h)
 
-  all-clients : blocks 99 clientPlace clients (clientWords whole) ≡ replicate clients (record { living = true; state = fresh n; downs = [] })
-  all-clients = blocks-same 99 clientPlace _ clients (clientWords whole) (λ x q. client-block x q .place)
+  all-clients : blocks clientBlock clientPlace clients (clientWords whole) ≡ replicate clients (record { living = true; state = fresh n; downs = [] })
+  all-clients = blocks-same clientBlock clientPlace _ clients (clientWords whole) (λ x q. client-block x q .place)
 
-  all-servers : blocks 38 serverPlace n (serverWords whole) ≡ replicate n (record { up = true; state = idle })
-  all-servers = blocks-same 38 serverPlace _ n (serverWords whole) (λ x q. server-block x q .place)
+  all-servers : blocks serverBlock serverPlace n (serverWords whole) ≡ replicate n (record { up = true; state = idle })
+  all-servers = blocks-same serverBlock serverPlace _ n (serverWords whole) (λ x q. server-block x q .place)
 
   started-system : view whole ≡ start n (enough m) clients
   unfolding systemIn start
@@ -400,11 +403,11 @@ module _ (n m f clients : ℕ) (z : List ℕ) (long : length z ≡ 6353) (zeros 
   unfolding settingIn
   started-setting = setting-is whole-is
 
-  started-clients : validFrom (validClientBlock n m clients) 1 (blocks 99 itself clients (clientWords whole)) ≡ true
-  started-clients = all-valid (validClientBlock n m clients) 99 clients 1 (clientWords whole) (λ i q. let y : 1 + i ≡ suc i = omega arith in rw y (client-block i q .valid))
+  started-clients : validFrom (validClientBlock n m clients) 1 (blocks clientBlock itself clients (clientWords whole)) ≡ true
+  started-clients = all-valid (validClientBlock n m clients) clientBlock clients 1 (clientWords whole) (λ i q. let y : 1 + i ≡ suc i = omega arith in rw y (client-block i q .valid))
 
-  started-servers : validFrom (validServerBlock n clients) 1 (blocks 38 itself n (serverWords whole)) ≡ true
-  started-servers = all-valid (validServerBlock n clients) 38 n 1 (serverWords whole) (λ i q. let y : 1 + i ≡ suc i = omega arith in rw y (server-block i q .valid))
+  started-servers : validFrom (validServerBlock n clients) 1 (blocks serverBlock itself n (serverWords whole)) ≡ true
+  started-servers = all-valid (validServerBlock n clients) serverBlock n 1 (serverWords whole) (λ i q. let y : 1 + i ≡ suc i = omega arith in rw y (server-block i q .valid))
 
   started-valid : valid whole ≡ true
   unfolding start
@@ -435,12 +438,12 @@ length-turn f same zero w = refl
 length-turn f same (suc i) w = same (suc i) (inTurn f i w) ∙ length-turn f same i w
 
 -- `start`, call by call
-module _ (n m f clients : ℕ) (w z : List ℕ) (pre : (length w ≡ 6353) × (inRange n m f ≡ true) × (within clients 16 ≡ true)) (E : Cleared w z) where
+module _ (n m f clients : ℕ) (w z : List ℕ) (pre : (length w ≡ simulationSize) × (inRange n m f ≡ true) × (within clients systemClients ≡ true)) (E : Cleared w z) where
   abbrev written : List ℕ
   written = set (set (set (set z 0 n) 1 m) 2 f) 3 clients
 
-  pub start-fits : (n ≤ 31) × (m ≤ 31) × (clients ≤ 16)
-  start-fits = let r = range n m f (pre .1) in (r .servers, omega (arith, r .servers, r .threshold), within-range clients 16 (pre .2) .1)
+  pub start-fits : (n ≤ systemServers) × (m ≤ systemServers) × (clients ≤ systemClients)
+  start-fits = let r = range n m f (pre .1) in (r .servers, omega (arith, r .servers, r .threshold), within-range clients systemClients (pre .2) .1)
 
   pub start-two : 2 < length (set (set z 0 n) 1 m)
   start-two = omega (arith, length-set (set z 0 n) 1 m, length-set z 0 n, E .same, pre .0)
@@ -448,12 +451,12 @@ module _ (n m f clients : ℕ) (w z : List ℕ) (pre : (length w ≡ 6353) × (i
   pub start-three : 3 < length (set (set (set z 0 n) 1 m) 2 f)
   start-three = omega (arith, length-set (set (set z 0 n) 1 m) 2 f, length-set (set z 0 n) 1 m, length-set z 0 n, E .same, pre .0)
 
-  pub start-clients : (length written ≡ 6353) × (clients ≤ 16)
+  pub start-clients : (length written ≡ simulationSize) × (clients ≤ systemClients)
   start-clients =
       (omega (arith, length-set (set (set (set z 0 n) 1 m) 2 f) 3 clients, length-set (set (set z 0 n) 1 m) 2 f, length-set (set z 0 n) 1 m, length-set z 0 n, E .same, pre .0), start-fits .2)
 
   module _ (w₂ : List ℕ) (e : w₂ ≡ inTurn (newClient n m) clients written) where
-    pub start-servers : (length w₂ ≡ 6353) × (n ≤ 31)
+    pub start-servers : (length w₂ ≡ simulationSize) × (n ≤ systemServers)
     start-servers = (ap length e ∙ (length-turn (newClient n m) (length-client n m) clients written ∙ start-clients .0), start-fits .0)
 
     module _ (w₃ : List ℕ) (g : w₃ ≡ inTurn (newServer n) n w₂) where

@@ -11,20 +11,21 @@ use Rattle.ids.proofs.LimitsLaws.{within-range}
 use Rattle.system.specs.Numbered.{has}
 use Rattle.system.specs.Places.{clientAt, serverAt}
 use Rattle.places.specs.Blocks.{clientPlace, serverPlace}
-use Rattle.layout.specs.Layout.{settingOf, view, valid}
+use Rattle.layout.specs.Layout.{settingOf, view, valid, simulationSize}
 use Rattle.layout.specs.Parts.{clientBlockOf, serverBlockOf, ClientIn, ServerIn}
 use Rattle.layout.proofs.PlaceLaws.{client-place, server-place, client-there, server-there}
 use Rattle.changes.specs.Changes.{HasClient, HasServer}
 use Rattle.changes.proofs.Becoming.{sound, few-servers, few-clients}
+use Rattle.system.specs.Limits.{systemClients, systemServers}
 
-pub words-long : (w : List ℕ) → valid w ≡ true → length w ≡ 6353
+pub words-long : (w : List ℕ) → valid w ≡ true → length w ≡ simulationSize
 words-long w ok = sound w ok .long
 
-pub clients-fit : (w : List ℕ) → valid w ≡ true → getD w 3 0 ≤ 16
+pub clients-fit : (w : List ℕ) → valid w ≡ true → getD w 3 0 ≤ systemClients
 unfolding settingOf
 clients-fit w ok = few-clients w (sound w ok)
 
-pub servers-fit : (w : List ℕ) → valid w ≡ true → getD w 0 0 ≤ 31
+pub servers-fit : (w : List ℕ) → valid w ≡ true → getD w 0 0 ≤ systemServers
 unfolding settingOf
 servers-fit w ok = few-servers w (sound w ok)
 

@@ -12,15 +12,16 @@ use borrow.Author.Tests.{eqb-true, ne-eqb, leb-true, leb-false, le-leb, lt-leb}
 use borrow.Rule.Slice.PartMut.{putMid}
 use Rattle.ids.proofs.Choice.{both, decided}
 use Rattle.wire.specs.declared.Message.{Message}
-use Rattle.transit.specs.Slots.{messagesIn}
+use Rattle.transit.specs.Slots.{messagesIn, transitSize}
 use Rattle.transit.specs.Calls.{Sized, Valid, Posts}
 use Rattle.transit.proofs.Kept.{valid-sized}
-use Rattle.layout.specs.Layout.{settingOf, lengthOf, sentOf, transitWords, view, valid}
+use Rattle.layout.specs.Layout.{settingOf, lengthOf, sentOf, transitWords, view, valid, transitFrom, simulationSize}
 use Rattle.layout.proofs.ValidLaws.{facts}
 use Rattle.layout.proofs.LendLaws.{came-back}
 use Rattle.changes.specs.Changes.{Becomes, Sendable, hasRoom, sending}
 use Rattle.changes.proofs.Becoming.{sent-becomes}
 use Rattle.changes.proofs.Messages.{lent-sized}
+use Rattle.system.specs.Limits.{systemMessages, lastNumber}
 
 -- the room test
 last-room : (s c most : ℕ) → c ≤ most → leb s (most - c) ≡ leb (s + c) most
@@ -36,16 +37,16 @@ module _ (w : List ℕ) (gone count : ℕ) where
   room-none e = rw e
 
   module _ (some : count ≡ 0 → ⊥) where
-    pub room-short : 512 < lengthOf w - gone + count → false ≡ hasRoom w gone count
+    pub room-short : systemMessages < lengthOf w - gone + count → false ≡ hasRoom w gone count
     unfolding hasRoom
-    room-short h = rw (ne-eqb count 0 some, lt-leb (lengthOf w - gone + count) 512 h)
+    room-short h = rw (ne-eqb count 0 some, lt-leb (lengthOf w - gone + count) systemMessages h)
 
-    pub room-last : lengthOf w - gone + count ≤ 512 → count ≤ 512 → leb (sentOf w) (4294967295 - count) ≡ hasRoom w gone count
+    pub room-last : lengthOf w - gone + count ≤ systemMessages → count ≤ systemMessages → leb (sentOf w) (lastNumber - count) ≡ hasRoom w gone count
     unfolding hasRoom
-    room-last h g = rw (ne-eqb count 0 some, le-leb (lengthOf w - gone + count) 512 h) (last-room (sentOf w) count 4294967295 (omega arith))
+    room-last h g = rw (ne-eqb count 0 some, le-leb (lengthOf w - gone + count) systemMessages h) (last-room (sentOf w) count lastNumber (omega arith))
 
 -- what the words that were lent say
-pub transit-few : (w : List ℕ) → valid w ≡ true → lengthOf w ≤ 512
+pub transit-few : (w : List ℕ) → valid w ≡ true → lengthOf w ≤ systemMessages
 transit-few w ok = valid-sized (settingOf w .n) (settingOf w .clients) (sentOf w) (lengthOf w) (transitWords w) (facts w ok .transit) .few
 
 -- messages are posted
@@ -53,35 +54,35 @@ module _ (w : List ℕ) (count : ℕ) (bytes : List ℕ) (S : Sendable w count b
   abbrev l : List Message
   l = messagesIn count bytes
 
-  pub room-left : sentOf w ≤ 4294967295 → (lengthOf w + count ≤ 512) × (sentOf w + count ≤ 4294967295)
+  pub room-left : sentOf w ≤ lastNumber → (lengthOf w + count ≤ systemMessages) × (sentOf w + count ≤ lastNumber)
   unfolding hasRoom
   room-left h =
       ⊎-elim
       (λ (t : eqb count 0 ≡ true). (omega (arith, eqb-true count 0 t, transit-few w (S .valid)), omega (arith, eqb-true count 0 t)))
       (λ (t : eqb count 0 ≡ false).
-      let (a, b) = both (leb (lengthOf w - 0 + count) 512) (leb (sentOf w + count) 4294967295) (rw t at (S .room)) in
-      (omega (arith, leb-true (lengthOf w - 0 + count) 512 a), leb-true (sentOf w + count) 4294967295 b))
+      let (a, b) = both (leb (lengthOf w - 0 + count) systemMessages) (leb (sentOf w + count) lastNumber) (rw t at (S .room)) in
+      (omega (arith, leb-true (lengthOf w - 0 + count) systemMessages a), leb-true (sentOf w + count) lastNumber b))
       (decided (eqb count 0))
 
-  pub sized-with : lengthOf w + count ≤ 512 → Sized (lengthOf w + count) (take 3584 (drop 2769 w))
+  pub sized-with : lengthOf w + count ≤ systemMessages → Sized (lengthOf w + count) (take transitSize (drop transitFrom w))
   sized-with h = record { size = lent-sized w (S .valid) .size; few = h }
 
-  module _ (t : List ℕ) (P : Posts (lengthOf w) (sentOf w) (messagesIn count bytes) (take 3584 (drop 2769 w)) t) where
+  module _ (t : List ℕ) (P : Posts (lengthOf w) (sentOf w) (messagesIn count bytes) (take transitSize (drop transitFrom w)) t) where
     posted : Valid (settingOf w .n) (settingOf w .clients) (sentOf w + length l) (lengthOf w + length l) t
     unfolding transitWords
     posted = P .valid (settingOf w .n) (settingOf w .clients) (facts w (S .valid) .transit) (S .named)
 
-    back : putMid 2769 3584 w t ≡ sets w 2769 t
+    back : putMid transitFrom transitSize w t ≡ sets w transitFrom t
     back =
-        came-back w 2769 3584 t (valid-sized (settingOf w .n) (settingOf w .clients) (sentOf w + length l) (lengthOf w + length l) t posted .size) (omega (arith, facts w (S .valid) .long))
+        came-back w transitFrom transitSize t (valid-sized (settingOf w .n) (settingOf w .clients) (sentOf w + length l) (lengthOf w + length l) t posted .size) (omega (arith, facts w (S .valid) .long))
 
-    pub posted-long : length (putMid 2769 3584 w t) ≡ 6353
-    posted-long = ap length back ∙ (length-sets w 2769 t ∙ facts w (S .valid) .long)
+    pub posted-long : length (putMid transitFrom transitSize w t) ≡ simulationSize
+    posted-long = ap length back ∙ (length-sets w transitFrom t ∙ facts w (S .valid) .long)
 
-    pub counted-long : (x : ℕ) → length (set (putMid 2769 3584 w t) 4 x) ≡ 6353
-    counted-long x = length-set (putMid 2769 3584 w t) 4 x ∙ posted-long
+    pub counted-long : (x : ℕ) → length (set (putMid transitFrom transitSize w t) 4 x) ≡ simulationSize
+    counted-long x = length-set (putMid transitFrom transitSize w t) 4 x ∙ posted-long
 
-    pub send-becomes : Becomes w (set (set (putMid 2769 3584 w t) 4 (lengthOf w + count)) 5 (sentOf w + count)) (sending (view w) (messagesIn count bytes))
+    pub send-becomes : Becomes w (set (set (putMid transitFrom transitSize w t) 4 (lengthOf w + count)) 5 (sentOf w + count)) (sending (view w) (messagesIn count bytes))
     unfolding transitWords view
     send-becomes =
         let B = sent-becomes w (S .valid) t (lengthOf w + length l) (sentOf w + length l) posted in

@@ -34,15 +34,16 @@ use Rattle.transit.specs.Slots.{names}
 use Rattle.sends.proofs.ClientSends as of-client
 use Rattle.sends.proofs.ServerSends as of-server
 use Rattle.sends.proofs.ServerSends.{Knows, good-knows}
+use Rattle.system.specs.Limits.{systemServers, systemMessages}
 
 -- messages that a simulation with n servers and so many clients can send
 pub record Sends (n clients : ℕ) (l : List Message) : Type 0 where
   pub range : every format.valid l ≡ true
   pub named : every (names n clients) l ≡ true
-  pub few : length l ≤ 31
-  pub small : sizeOfAll l ≤ 512
+  pub few : length l ≤ systemServers
+  pub small : sizeOfAll l ≤ systemMessages
 
-few-sends : (n clients : ℕ) (l : List Message) → n ≤ 31 → every format.valid l ≡ true → every (names n clients) l ≡ true → of-client.AtMost n l → Sends n clients l
+few-sends : (n clients : ℕ) (l : List Message) → n ≤ systemServers → every format.valid l ≡ true → every (names n clients) l ≡ true → of-client.AtMost n l → Sends n clients l
 few-sends n clients l h v d a = record { range = v; named = d; few = omega (arith, a .few); small = omega (arith, a .small) }
 
 -- a message that is no RESPONSE
@@ -60,7 +61,7 @@ module _ (n m clients k : ℕ) (b : List ℕ) (ok : validClientBlock n m clients
   fits : Fits n m me at
   fits = client-fits n m clients k b (client-facts n m clients k b ok)
 
-  few : n ≤ 31
+  few : n ≤ systemServers
   few = fits .ranges .few
 
   pub tries-sends : leb (clientPlace b .state .timestamp .0) lastTry ≡ true → Sends n clients (client.tries n (record { 0 = k }) (clientPlace b .state) .sent)
@@ -143,13 +144,13 @@ module _ (n clients j : ℕ) (b : List ℕ) (ok : validServerBlock n clients j b
   abbrev B : ServerBlock n clients j b
   B = server-facts n clients j b ok
 
-  sizes : (1 ≤ j) × (j ≤ n) × (n ≤ 31)
+  sizes : (1 ≤ j) × (j ≤ n) × (n ≤ systemServers)
   sizes =
-      let (p, q) = both (within n 31) (within j n) (server-sizes n clients j b B) in
-      (within-range j n q .0, within-range j n q .1, within-range n 31 p .1)
+      let (p, q) = both (within n systemServers) (within j n) (server-sizes n clients j b B) in
+      (within-range j n q .0, within-range j n q .1, within-range n systemServers p .1)
 
   number : validServer its ≡ true
-  number = rw (le-leb 1 j (sizes .0), le-leb j 31 (omega (arith, sizes .1, sizes .2)))
+  number = rw (le-leb 1 j (sizes .0), le-leb j systemServers (omega (arith, sizes .1, sizes .2)))
 
   knows : Knows (known-request clients) held
   knows = state-known clients (held .owner) (held .queue) (good-knows held (server-good n clients j b B)) (B .names)

@@ -26,18 +26,19 @@ use Rattle.client.specs.declared.Client.{Client}
 use Rattle.words.specs.Records.{serverWords, clientWords, serverFrom, holdsServer}
 use Rattle.system.specs.Places.{clientAt, serverAt, worst}
 use Rattle.system.proofs.PlaceLaws.{worst-at}
-use Rattle.places.specs.Blocks.{clientPlace, serverPlace, flags, flagged, zeroWord, named, validClientBlock, validServerBlock, serverRecord}
+use Rattle.places.specs.Blocks.{clientPlace, serverPlace, flags, flagged, zeroWord, named, validClientBlock, validServerBlock, serverRecord, serverBlock, clientBlock}
 use Rattle.places.proofs.ClientLaws.{ClientIs}
 use Rattle.places.proofs.ServerLaws.{ServerIs, server-of, server-written}
 use Rattle.places.proofs.ClientSteps.{written, placed, tries-block, exits-block, responds-block, checked-block}
 use Rattle.places.proofs.ServerSteps.{receive-block, suspect-block, check-block}
 use Rattle.places.proofs.Facts.{server-facts}
-use Rattle.layout.specs.Layout.{settingOf, mostOf, view}
+use Rattle.layout.specs.Layout.{settingOf, mostOf, view, serversFrom}
 use Rattle.layout.specs.Parts.{clientBlockOf, serverBlockOf}
 use Rattle.layout.proofs.PlaceLaws.{client-place, server-place}
 use Rattle.layout.proofs.ValidLaws.{facts}
 use Rattle.changes.specs.Changes.{Becomes, HasClient, HasServer, withClient, withServer}
 use Rattle.changes.proofs.Becoming.{sound, few-clients, client-valid, server-valid, client-becomes, server-becomes}
+use Rattle.system.specs.Limits.{systemClients}
 
 -- server j's record
 module _ (w : List ℕ) (j : ℕ) (H : HasServer w j) where
@@ -53,10 +54,10 @@ module _ (w : List ℕ) (j : ℕ) (H : HasServer w j) where
   pub server-is : serverAt (view w) j ≡ serverPlace (serverBlockOf w j)
   server-is = server-place w j (H .first) (H .last)
 
-  few : settingOf w .clients ≤ 16
+  few : settingOf w .clients ≤ systemClients
   few = few-clients w (sound w (H .valid))
 
-  module _ (s : Server) (w′ : List ℕ) (f : w′ ≡ sets w (1591 + 38 * (j - 1)) (sets (serverBlockOf w j) 1 (serverWords s))) where
+  module _ (s : Server) (w′ : List ℕ) (f : w′ ≡ sets w (serversFrom + serverBlock * (j - 1)) (sets (serverBlockOf w j) 1 (serverWords s))) where
     stores : (q : votes.State) → ServerIs (settingOf w .n) (settingOf w .clients) j (server-written (settingOf w .n) j block q) (record { up = serverPlace block .up; state = q })
         → s ≡ server-of (settingOf w .n) j q → Becomes w w′ (withServer (view w) j (record { up = serverAt (view w) j .up; state = q }))
     stores q B e =
@@ -120,7 +121,7 @@ module _ (w : List ℕ) (k : ℕ) (H : HasClient w k) where
       let d : length (clientPlace part .downs) ≤ worst (view w .clients) = rw client-is at (worst-at (view w .clients) k) in
       omega (arith, d, facts w (H .valid) .noted)
 
-  module _ (c : Client) (w′ : List ℕ) (f : w′ ≡ sets w (7 + 99 * (k - 1)) (sets (clientBlockOf w k) 1 (clientWords c))) where
+  module _ (c : Client) (w′ : List ℕ) (f : w′ ≡ sets w (7 + clientBlock * (k - 1)) (sets (clientBlockOf w k) 1 (clientWords c))) where
     client-stores : (s : client.State) → ClientIs (settingOf w .n) (settingOf w .m) (settingOf w .clients) k (written (settingOf w .n) (settingOf w .m) k part s) (placed part s)
         → c ≡ store (settingOf w .n) (settingOf w .m) (record { 0 = k }) s
         → Becomes w w′ (withClient (view w) k (record { living = clientAt (view w) k .living; state = s; downs = clientAt (view w) k .downs }))

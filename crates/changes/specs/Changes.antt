@@ -17,17 +17,12 @@ use Rattle.wire.specs.declared.Message.the-variants.{Request, Yield, Release, I
 use Rattle.votes.specs.declared.Tag.{Tag}
 use Rattle.votes.specs.declared.Tag.the-variants as tag
 use Rattle.system.specs.declared.MessageNumber.{MessageNumber}
+use Rattle.system.specs.Limits.{systemMessages, lastNumber}
 use Rattle.system.specs.Numbered.{put}
 use Rattle.system.specs.Transit.{InTransit, numbered, pending, again}
 use Rattle.system.specs.Places.{System, ClientPlace, ServerPlace, clientAt, serverAt, worst}
 use Rattle.layout.specs.Layout.{settingOf, lengthOf, sentOf, transitWords, view, valid}
 use Rattle.transit.specs.Slots.{slotAt, names, messagesIn}
-
-abbrev pub maxTransit : ℕ
-maxTransit = 512
-
-abbrev pub maxNumber : ℕ
-maxNumber = 4294967295
 
 -- w′ is a simulation of w's setting, and its system is u
 pub record Becomes (w w′ : List ℕ) (u : System) : Type 0 where
@@ -96,7 +91,7 @@ withClients u l = record { clients = l; servers = u .servers; transit = u .trans
 
 -- so many messages may be sent once `gone` messages are gone: refusal 19, turned round
 unfoldable pub hasRoom : List ℕ → ℕ → ℕ → Bool
-hasRoom w gone count = eqb count 0 || (leb (lengthOf w - gone + count) maxTransit && leb (sentOf w + count) maxNumber)
+hasRoom w gone count = eqb count 0 || (leb (lengthOf w - gone + count) systemMessages && leb (sentOf w + count) lastNumber)
 
 -- the first messages of the bytes can be sent
 pub record Sendable (w : List ℕ) (count : ℕ) (bytes : List ℕ) : Type 0 where

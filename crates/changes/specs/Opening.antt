@@ -10,8 +10,9 @@ use Rattle.server.specs.Calls as server
 use Rattle.words.specs.Records.{clientWords, serverWords}
 use Rattle.client.specs.Figure1.{enough}
 use Rattle.system.specs.Runs.{start}
-use Rattle.layout.specs.Layout.{blank, settingOf, view, valid}
+use Rattle.layout.specs.Layout.{blank, settingOf, view, valid, serversFrom}
 use Rattle.layout.specs.Parts.{clientBlockOf, serverBlockOf}
+use Rattle.places.specs.Blocks.{clientBlock, serverBlock}
 
 -- all words are 0, as many as before
 pub record Cleared (w w′ : List ℕ) : Type 0 where
@@ -20,11 +21,11 @@ pub record Cleared (w w′ : List ℕ) : Type 0 where
 
 unfoldable pub newClient : ℕ → ℕ → ℕ → List ℕ → List ℕ
 newClient n m k w =
-    sets w (7 + 99 * (k - 1)) (sets (set (clientBlockOf w k) 0 1) 1 (clientWords (client.newResult n m (record { 0 = k }) .client)))
+    sets w (7 + clientBlock * (k - 1)) (sets (set (clientBlockOf w k) 0 1) 1 (clientWords (client.newResult n m (record { 0 = k }) .client)))
 
 unfoldable pub newServer : ℕ → ℕ → List ℕ → List ℕ
 newServer n j w =
-    sets w (1591 + 38 * (j - 1)) (sets (set (serverBlockOf w j) 0 1) 1 (serverWords (server.newResult n (record { 0 = j }) .server)))
+    sets w (serversFrom + serverBlock * (j - 1)) (sets (set (serverBlockOf w j) 0 1) 1 (serverWords (server.newResult n (record { 0 = j }) .server)))
 
 -- each of the first so many parties put, one after another
 unfoldable pub inTurn : (ℕ → List ℕ → List ℕ) → ℕ → List ℕ → List ℕ

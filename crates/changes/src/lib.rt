@@ -12,10 +12,11 @@ ghost use Rattle.system.specs.Transit.{replaced, keeping, gone, again};
 ghost use Rattle.system.specs.Places.{clientAt, serverAt, inEpoch, downFrom, downed, worst};
 ghost use Rattle.transit.specs.Slots.{messagesIn, slotAt};
 ghost use Rattle.places.specs.Blocks.{serverPlace};
-ghost use Rattle.layout.specs.Layout.{settingOf, lengthOf, mostOf, transitWords, view, valid};
+ghost use Rattle.layout.specs.Layout.{settingOf, lengthOf, mostOf, transitWords, view, valid, simulationSize};
 ghost use Rattle.layout.specs.Parts.{serverBlockOf, ClientIn, ServerIn};
 ghost use Rattle.changes.specs.Opening.{Cleared, newClient, newServer, inTurn, Starts};
 ghost use Rattle.changes.specs.Changes.{Becomes, HasClient, HasServer, HasSlot, withClient, withTransit, withClients, sending, hasRoom, Sendable};
+ghost use Rattle.system.specs.Limits.{systemMessages, systemClients, systemServers};
 use ids::ClientId;
 use ids::Owner;
 use ids::ServerId;
@@ -49,7 +50,7 @@ pub fn restart_messages(w: &mut [u32], j: ServerId)
 
 // Whether so many messages may be sent once `gone` messages are gone.
 pub fn has_room(w: &[u32], gone: u32, count: usize) -> bool
-    requires { ⌜ (valid (now w) ≡ true) × (gone ≤ lengthOf (now w)) × (count ≤ 512) ⌝ }
+    requires { ⌜ (valid (now w) ≡ true) × (gone ≤ lengthOf (now w)) × (count ≤ systemMessages) ⌝ }
     ensures { λ r. ⌜ r ≡ hasRoom (now (w .entry)) gone count ⌝ }
 {
     if count == 0 {
@@ -76,7 +77,7 @@ pub fn send(w: &mut [u32], bytes: &[u8], count: usize)
 
 // The most servers down within an epoch are noted.
 fn note_most(w: &mut [u32])
-    requires { ⌜ (length (now w) ≡ 6353) × (settingOf (now w) .clients ≤ 16) ⌝ }
+    requires { ⌜ (length (now w) ≡ simulationSize) × (settingOf (now w) .clients ≤ systemClients) ⌝ }
     ensures { λ _. ⌜ now (w .exit) ≡ set (now (w .entry)) 6 (max (mostOf (now (w .entry))) (worst (view (now (w .entry)) .clients))) ⌝ }
 {
     let clients = w[3];
@@ -165,7 +166,7 @@ fn new_client(w: &mut [u32], n: u16, m: u16, k: u16)
 }
 
 fn new_clients(w: &mut [u32], n: u16, m: u16, clients: u16)
-    requires { ⌜ (length (now w) ≡ 6353) × (clients ≤ 16) ⌝ }
+    requires { ⌜ (length (now w) ≡ simulationSize) × (clients ≤ systemClients) ⌝ }
     ensures { λ _. ⌜ now (w .exit) ≡ inTurn (newClient n m) clients (now (w .entry)) ⌝ }
 {
     let mut i: u16 = 0;
@@ -185,7 +186,7 @@ fn new_server(w: &mut [u32], n: u16, j: u16)
 }
 
 fn new_servers(w: &mut [u32], n: u16)
-    requires { ⌜ (length (now w) ≡ 6353) × (n ≤ 31) ⌝ }
+    requires { ⌜ (length (now w) ≡ simulationSize) × (n ≤ systemServers) ⌝ }
     ensures { λ _. ⌜ now (w .exit) ≡ inTurn (newServer n) n (now (w .entry)) ⌝ }
 {
     let mut i: u16 = 0;
@@ -197,7 +198,7 @@ fn new_servers(w: &mut [u32], n: u16)
 
 // The words are a fresh start of this setting, which is in range.
 pub fn start(w: &mut [u32], n: u32, m: u32, f: u32, clients: u32)
-    requires { ⌜ (length (now w) ≡ 6353) × (inRange n m f ≡ true) × (within clients 16 ≡ true) ⌝ }
+    requires { ⌜ (length (now w) ≡ simulationSize) × (inRange n m f ≡ true) × (within clients systemClients ≡ true) ⌝ }
     ensures { λ _. ⌜ Starts n m f clients (now (w .exit)) ⌝ }
 {
     clear_all(w);

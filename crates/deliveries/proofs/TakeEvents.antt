@@ -48,19 +48,19 @@ use Rattle.system.specs.Transit.{InTransit, pending, replaced, gone, keeping}
 use Rattle.system.specs.Places.{System, clientAt, serverAt}
 use Rattle.system.specs.Events.{event, deliver, toServer, need, serverTook, responseTook, checkTook}
 use Rattle.system.proofs.Tokens.{message}
-use Rattle.transit.specs.Slots.{slotAt}
+use Rattle.transit.specs.Slots.{slotAt, transitSize}
 use Rattle.transit.specs.Calls.{FindsPending, IsAt}
 use Rattle.transit.proofs.Kept.{Named, names-named}
-use Rattle.places.specs.Blocks.{serverRecord, serverPlace, clientRecord, clientPlace, named}
+use Rattle.places.specs.Blocks.{serverRecord, serverPlace, clientRecord, clientPlace, named, serverBlock, clientBlock}
 use Rattle.places.proofs.Facts.{ServerBlock, server-facts}
 use Rattle.places.proofs.ServerSteps.{message-request, receive-outcome, receive-short}
-use Rattle.layout.specs.Layout.{settingOf, lengthOf, sentOf, transitWords, view, valid}
+use Rattle.layout.specs.Layout.{settingOf, lengthOf, sentOf, transitWords, view, valid, serversFrom, transitFrom}
 use Rattle.layout.specs.Parts.{clientBlockOf, serverBlockOf}
 use Rattle.layout.proofs.ValidLaws.{facts}
 use Rattle.bounded.specs.declared.Moved.{Moved}
 use Rattle.bounded.specs.declared.Moved.the-variants.{Refused}
 use Rattle.bounded.specs.Happens.{happens, Leaves, movedOf}
-use Rattle.changes.specs.Changes.{Becomes, HasClient, HasServer, Pends, numberAt, tagged, withClient, withServer, withTransit}
+use Rattle.changes.specs.Changes.{Becomes, HasClient, HasServer, Pends, numberAt, tagged, withClient, withServer, withTransit, outBytes}
 use Rattle.bounded.proofs.Answers.{takes, takes-nothing}
 use Rattle.changes.proofs.Becoming.{sound, few-clients}
 use Rattle.bounded.proofs.Leaving.{leaves-refused}
@@ -71,6 +71,7 @@ use Rattle.bounded.proofs.Sending.{and-then}
 use Rattle.changes.proofs.Taking.{slot-message, length-kept, length-gone}
 use Rattle.bounded.proofs.ServerEvents.{ServerCalled, server-called}
 use Rattle.bounded.proofs.ClientEvents.{ClientCalled, client-called, still-client, its-facts, its-state, place-state}
+use Rattle.votes.specs.Queues.{maxQueue}
 
 -- what is known of a pending message
 module _ (w : List ℕ) (i : ℕ) (m : Message) (P : Pends w i m) where
@@ -167,10 +168,10 @@ module _ (w : List ℕ) (i : ℕ) (x : Tag) (k : ClientId) (j : ServerId) (t : T
   abbrev held : Server
   held = serverFrom (serverRecord (serverBlockOf w (j .0)))
 
-  held-places : length (held .votes .queue .places) ≡ 16
+  held-places : length (held .votes .queue .places) ≡ maxQueue
   unfolding serverFrom
   held-places =
-      length-requests (drop 5 (serverRecord (serverBlockOf w (j .0)))) 16 (simp length-drop (omega (arith, server-held (serverRecord (serverBlockOf w (j .0))) (block-facts .held) .fitting .size)))
+      length-requests (drop 5 (serverRecord (serverBlockOf w (j .0)))) maxQueue (simp length-drop (omega (arith, server-held (serverRecord (serverBlockOf w (j .0))) (block-facts .held) .fitting .size)))
 
   pub taking-padded : (s : Server) → s ≡ serverFrom (serverRecord (serverBlockOf w (j .0))) → Padded (s .votes .queue)
   taking-padded s q = rw q (server-padded held true held-places (sym (block-facts .valid)) refl)
@@ -184,7 +185,7 @@ module _ (w : List ℕ) (i : ℕ) (x : Tag) (k : ClientId) (j : ServerId) (t : T
       (receive-outcome (settingOf w .n) (settingOf w .clients) (j .0) (serverBlockOf w (j .0)) (server-block w (j .0) taking-server) x k t ranged asker-there (few-clients w (sound w (P .slot .valid))) ∙
       ap (λ (q : votes.State). stepped (votes.receive j x asker q)) held-state)
 
-  module _ (up : serverAt (view w) (j .0) .up ≡ true) (s : Server) (q : s ≡ serverFrom (serverRecord (serverBlockOf w (j .0)))) (r : ServerStepped) (bytes bytes′ : List ℕ) (long : length bytes ≡ 512)
+  module _ (up : serverAt (view w) (j .0) .up ≡ true) (s : Server) (q : s ≡ serverFrom (serverRecord (serverBlockOf w (j .0)))) (r : ServerStepped) (bytes bytes′ : List ℕ) (long : length bytes ≡ outBytes)
       (f : r ≡ server-calls.result s (withRoom (length bytes) (server-calls.taken s x k j t))) (g : bytes′ ≡ sentInto bytes (withRoom (length bytes) (server-calls.taken s x k j t))) where
     pub take-called : ServerCalled w (Take (numberAt w i)) j (replaced (slotAt (transitWords w) i .number) keeping (view w .transit)) (votes.receive j x (record { client = k; timestamp = t }) (serverAt (view w) (j .0) .state)) r bytes′
     take-called =
@@ -199,7 +200,7 @@ module _ (w : List ℕ) (i : ℕ) (x : Tag) (k : ClientId) (j : ServerId) (t : T
 
     -- the message is delivered in w₁, and the record is stored in w₂
     pub take-stored : (w₁ : List ℕ) → Becomes w w₁ (withTransit (view w) (replaced (slotAt (transitWords w) i .number) keeping (view w .transit)))
-        → (w₂ : List ℕ) → w₂ ≡ sets w₁ (1591 + 38 * (j .0 - 1)) (sets (serverBlockOf w₁ (j .0)) 1 (serverWords (r .server)))
+        → (w₂ : List ℕ) → w₂ ≡ sets w₁ (serversFrom + serverBlock * (j .0 - 1)) (sets (serverBlockOf w₁ (j .0)) 1 (serverWords (r .server)))
         → Becomes w w₂ (withServer (withTransit (view w) (replaced (slotAt (transitWords w) i .number) keeping (view w .transit))) (j .0) (record { up = serverAt (view w) (j .0) .up; state = votes.receive j x (record { client = k; timestamp = t }) (serverAt (view w) (j .0) .state) .state }))
     take-stored w₁ B w₂ z =
         let same : votes.receive j x asker (serverAt (view w) (j .0) .state) .state ≡ votes.receive j x asker (serverAt (view w₁) (j .0) .state) .state =
@@ -258,7 +259,7 @@ module _ (w : List ℕ) (i : ℕ) (k : ClientId) (j : ServerId) (o : Owner) (P :
       let B = its-facts w k response-client in
       rw (its-state w k response-client, B .threshold, B .servers, B .number)
 
-  module _ (lives : clientAt (view w) (k .0) .living ≡ true) (s : Client) (q : s ≡ clientFrom (clientRecord (clientBlockOf w (k .0)))) (r : ClientStepped) (bytes bytes′ : List ℕ) (long : length bytes ≡ 512)
+  module _ (lives : clientAt (view w) (k .0) .living ≡ true) (s : Client) (q : s ≡ clientFrom (clientRecord (clientBlockOf w (k .0)))) (r : ClientStepped) (bytes bytes′ : List ℕ) (long : length bytes ≡ outBytes)
       (f : r ≡ client-calls.result s (withRoom (length bytes) (stepped (client.responds (enough (s .m)) (s .n) (s .id) j o (client-record.view s)))))
       (g : bytes′ ≡ sentInto bytes (withRoom (length bytes) (stepped (client.responds (enough (s .m)) (s .n) (s .id) j o (client-record.view s))))) where
     pub respond-called : ClientCalled w (Take (numberAt w i)) k 1 (replaced (slotAt (transitWords w) i .number) gone (view w .transit)) (clientAt (view w) (k .0) .downs) (client.responds (enough (settingOf w .m)) (settingOf w .n) k j o (clientAt (view w) (k .0) .state)) r bytes′
@@ -274,7 +275,7 @@ module _ (w : List ℕ) (i : ℕ) (k : ClientId) (j : ServerId) (o : Owner) (P :
 
     -- the message is gone in w₁, and the record is stored in w₂
     pub respond-stored : (w₁ : List ℕ) → Becomes w w₁ (withTransit (view w) (replaced (slotAt (transitWords w) i .number) gone (view w .transit)))
-        → (w₂ : List ℕ) → w₂ ≡ sets w₁ (7 + 99 * (k .0 - 1)) (sets (clientBlockOf w₁ (k .0)) 1 (clientWords (r .client)))
+        → (w₂ : List ℕ) → w₂ ≡ sets w₁ (7 + clientBlock * (k .0 - 1)) (sets (clientBlockOf w₁ (k .0)) 1 (clientWords (r .client)))
         → Becomes w w₂ (withClient (withTransit (view w) (replaced (slotAt (transitWords w) i .number) gone (view w .transit))) (k .0) (record { living = clientAt (view w) (k .0) .living; state = client.responds (enough (settingOf w .m)) (settingOf w .n) k j o (clientAt (view w) (k .0) .state) .state; downs = clientAt (view w) (k .0) .downs }))
     respond-stored w₁ B w₂ z =
         let step : System → client.State = λ u. client.responds (enough (settingOf w .m)) (settingOf w .n) k j o (clientAt u (k .0) .state) .state in
@@ -312,7 +313,7 @@ module _ (w : List ℕ) (i : ℕ) (k : ClientId) (j : ServerId) (t : Timestamp) 
   asked-outcome : _≡_ {A = Outcome client.State} (stepped (client.checked (asked .id) j t (client-record.view asked))) (stepped checking)
   asked-outcome = rw (its-state w k check-client, its-facts w k check-client .number)
 
-  module _ (lives : clientAt (view w) (k .0) .living ≡ true) (s : Client) (q : s ≡ clientFrom (clientRecord (clientBlockOf w (k .0)))) (r : ClientStepped) (bytes bytes′ : List ℕ) (long : length bytes ≡ 512)
+  module _ (lives : clientAt (view w) (k .0) .living ≡ true) (s : Client) (q : s ≡ clientFrom (clientRecord (clientBlockOf w (k .0)))) (r : ClientStepped) (bytes bytes′ : List ℕ) (long : length bytes ≡ outBytes)
       (f : r ≡ client-calls.result s (withRoom (length bytes) (stepped (client.checked (s .id) j t (client-record.view s)))))
       (g : bytes′ ≡ sentInto bytes (withRoom (length bytes) (stepped (client.checked (s .id) j t (client-record.view s))))) where
     pub check-called : ClientCalled w (Take (numberAt w i)) k 1 (replaced (slotAt (transitWords w) i .number) gone (view w .transit)) (clientAt (view w) (k .0) .downs) (client.checked k j t (clientAt (view w) (k .0) .state)) r bytes′
@@ -327,7 +328,7 @@ module _ (w : List ℕ) (i : ℕ) (k : ClientId) (j : ServerId) (t : Timestamp) 
         r bytes bytes′ long (rw q at f) (rw q at g)
 
     pub check-stored-in : (w₁ : List ℕ) → Becomes w w₁ (withTransit (view w) (replaced (slotAt (transitWords w) i .number) gone (view w .transit)))
-        → (w₂ : List ℕ) → w₂ ≡ sets w₁ (7 + 99 * (k .0 - 1)) (sets (clientBlockOf w₁ (k .0)) 1 (clientWords (r .client)))
+        → (w₂ : List ℕ) → w₂ ≡ sets w₁ (7 + clientBlock * (k .0 - 1)) (sets (clientBlockOf w₁ (k .0)) 1 (clientWords (r .client)))
         → Becomes w w₂ (withClient (withTransit (view w) (replaced (slotAt (transitWords w) i .number) gone (view w .transit))) (k .0) (record { living = clientAt (view w) (k .0) .living; state = client.checked k j t (clientAt (view w) (k .0) .state) .state; downs = clientAt (view w) (k .0) .downs }))
     check-stored-in w₁ B w₂ z =
         let step : System → client.State = λ u. client.checked k j t (clientAt u (k .0) .state) .state in
@@ -340,7 +341,7 @@ below a b h n =
     ⊎-elim (λ (t : ltb a b ≡ true). ltb-true a b t) (λ (t : ltb a b ≡ false). absurd (n (omega (arith, ltb-false a b t)))) (decided (ltb a b))
 
 -- the message with a number is found
-module _ (w : List ℕ) (number : MessageNumber) (ok : valid w ≡ true) (i : ℕ) (F : FindsPending (number .0) (lengthOf w) (take 3584 (drop 2769 w)) i) where
+module _ (w : List ℕ) (number : MessageNumber) (ok : valid w ≡ true) (i : ℕ) (F : FindsPending (number .0) (lengthOf w) (take transitSize (drop transitFrom w)) i) where
   none-found : i ≡ lengthOf w → pending (number .0) (view w .transit) ≡ none
   unfolding view transitWords
   none-found e = F .missing (settingOf w .n) (settingOf w .clients) (sentOf w) (facts w ok .transit) e
@@ -356,7 +357,7 @@ module _ (w : List ℕ) (number : MessageNumber) (ok : valid w ≡ true) (i : �
     unfolding transitWords
     its-number = let e = F .numbered take-used in λ x. record { 0 = e x }
 
-    pub take-pends : (m : Message) → IsAt i (take 3584 (drop 2769 w)) m → (m′ : Message) → m ≡ m′ → Pends w i m′
+    pub take-pends : (m : Message) → IsAt i (take transitSize (drop transitFrom w)) m → (m′ : Message) → m ≡ m′ → Pends w i m′
     unfolding view transitWords
     take-pends m A m′ e =
         let v = facts w ok .transit in

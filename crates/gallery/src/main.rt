@@ -7,11 +7,12 @@ ghost use lib.ListN.{length};
 ghost use Rattle.console.specs.Fits.{Fits};
 ghost use Rattle.script.specs.State.{valid};
 ghost use Rattle.stream.specs.Answered.{Answered};
+ghost use Rattle.script.specs.Calls.{maxEnding};
 use console::Input;
 
 // What reading gave is answered. Whether to go on.
 fn answer(w: &mut [u32], part: &[u8], input: Input, out: &mut [u8]) -> bool
-    requires { ⌜ (valid (now w) ≡ true) × (104 ≤ length (now out)) × Fits (length (now part)) input ⌝ }
+    requires { ⌜ (valid (now w) ≡ true) × (maxEnding ≤ length (now out)) × Fits (length (now part)) input ⌝ }
     ensures { λ r. ⌜ (valid (now (w .exit)) ≡ true) × (r ≡ true → Answered (now (w .entry)) (now (part .entry)) input (now (w .exit))) ⌝ }
 {
     match input {
@@ -26,7 +27,7 @@ fn answer(w: &mut [u32], part: &[u8], input: Input, out: &mut [u8]) -> bool
 
 // Part by part. A proved loop has to end, and nothing says that the input does: so it counts down from a number that no run uses up.
 fn run(w: &mut [u32], part: &mut [u8], out: &mut [u8])
-    requires { ⌜ (valid (now w) ≡ true) × (104 ≤ length (now out)) ⌝ }
+    requires { ⌜ (valid (now w) ≡ true) × (maxEnding ≤ length (now out)) ⌝ }
 {
     let mut turns = u64::MAX;
     while turns > 0 {

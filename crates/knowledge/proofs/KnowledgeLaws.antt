@@ -32,6 +32,8 @@ use Rattle.sheet.specs.Sheet.{Sheet, puts, ends}
 use Rattle.sheet.proofs.SheetLaws.{then as behind}
 use Rattle.votes.specs.Queues as votes
 use Rattle.knowledge.specs.Knowledge.{requestText, requestsText, queueText, votesText, serverText, supportText, supportersText, stateText, clientText, serversText, clientsText}
+use Rattle.votes.specs.Queues.{maxQueue}
+use Rattle.system.specs.Limits.{systemServers}
 
 -- those who wait
 requests-append : (a b : List Request) → requestsText (a ++ b) ≡ requestsText a ++ requestsText b
@@ -52,7 +54,7 @@ module _ (l : List Request) where
   unfolding queueText
   queue-none len e = rw e
 
-pub queue-some : (l : List Request) (len : ℕ) → length l ≡ 16 → (len ≡ 0 → ⊥) → queueText (take len l) ≡ text " line" ∷ requestsText (take len l)
+pub queue-some : (l : List Request) (len : ℕ) → length l ≡ maxQueue → (len ≡ 0 → ⊥) → queueText (take len l) ≡ text " line" ∷ requestsText (take len l)
 unfolding queueText
 queue-some [] len e h = absurd (omega arith)
 queue-some (r ∷ l) zero e h = absurd (h refl)
@@ -105,7 +107,7 @@ module _ (w : List ℕ) (j : ℕ) (H : HasServer w j) where
   pub server-held : holdsServer (serverRecord (serverBlockOf w j)) ≡ true
   server-held = server-facts (settingOf w .n) (settingOf w .clients) j (serverBlockOf w j) (server-block w j H) .held
 
-  pub queue-few : serverFrom (serverRecord (serverBlockOf w j)) .votes .queue .len ≤ 16
+  pub queue-few : serverFrom (serverRecord (serverBlockOf w j)) .votes .queue .len ≤ maxQueue
   queue-few = valid-length _ (server-facts (settingOf w .n) (settingOf w .clients) j (serverBlockOf w j) (server-block w j H) .valid)
 
   pub server-text : (b : Bool) (s : Server) → b ≡ serverPlace (serverBlockOf w j) .up → s ≡ serverFrom (serverRecord (serverBlockOf w j))
@@ -120,7 +122,7 @@ module _ (w : List ℕ) (k : ℕ) (H : HasClient w k) where
   pub client-held : holdsClient (clientRecord (clientBlockOf w k)) ≡ true
   client-held = facts .held
 
-  pub servers-few : clientFrom (clientRecord (clientBlockOf w k)) .n ≤ 31
+  pub servers-few : clientFrom (clientRecord (clientBlockOf w k)) .n ≤ systemServers
   servers-few = omega (arith, facts .servers, client-few (settingOf w .n) (settingOf w .m) (settingOf w .clients) k (clientBlockOf w k) facts)
 
   pub client-text : (b : Bool) (c : Client) → b ≡ clientPlace (clientBlockOf w k) .living → c ≡ clientFrom (clientRecord (clientBlockOf w k))

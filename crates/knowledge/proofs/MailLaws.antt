@@ -9,25 +9,26 @@ use mathlib.Core.List.{List, [], _∷_, _++_, map-append, append-assoc, append-n
 use lib.ListN.{length, take, drop}
 use Rattle.wire.specs.declared.Message.{Message}
 use Rattle.system.specs.Transit.{InTransit}
-use Rattle.transit.specs.Slots.{rows, slots, slotOf, slotAt}
+use Rattle.transit.specs.Slots.{rows, slots, slotOf, slotAt, transitSize}
 use Rattle.transit.specs.Calls.{IsAt}
 use Rattle.transit.proofs.RowsLaws.{rows-next}
-use Rattle.layout.specs.Layout.{settingOf, lengthOf, sentOf, transitWords, valid}
+use Rattle.layout.specs.Layout.{settingOf, lengthOf, sentOf, transitWords, valid, transitFrom}
 use Rattle.layout.proofs.ValidLaws.{facts}
 use Rattle.changes.proofs.Messages.{lent-sized}
 use Rattle.sheet.specs.Sheet.{Sheet, puts}
 use Rattle.sheet.proofs.SheetLaws.{then as behind}
 use Rattle.knowledge.specs.Mail.{inTransitText, mailText}
+use Rattle.system.specs.Limits.{systemMessages}
 
 -- slot i, a used one, as the code lends and reads it
 module _ (w : List ℕ) (i : ℕ) (ok : valid w ≡ true) (h : i < lengthOf w) where
-  pub slot-lent : (length (take 3584 (drop 2769 w)) ≡ 3584) × (i < 512)
+  pub slot-lent : (length (take transitSize (drop transitFrom w)) ≡ transitSize) × (i < systemMessages)
   slot-lent = let s = lent-sized w ok in (s .size, omega (arith, s .few, h))
 
   pub slot-read : (number : ℕ) (delivered : Bool) (m : Message)
-      → number ≡ slotAt (take 3584 (drop 2769 w)) i .number
-      → delivered ≡ slotAt (take 3584 (drop 2769 w)) i .delivered
-      → IsAt i (take 3584 (drop 2769 w)) m
+      → number ≡ slotAt (take transitSize (drop transitFrom w)) i .number
+      → delivered ≡ slotAt (take transitSize (drop transitFrom w)) i .delivered
+      → IsAt i (take transitSize (drop transitFrom w)) m
       → slotAt (transitWords w) i ≡ record { number = number; delivered = delivered; message = m }
   unfolding transitWords
   slot-read number delivered m e f A =

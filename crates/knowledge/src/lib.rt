@@ -11,12 +11,13 @@ ghost use Rattle.language.specs.Decimals.{decimal};
 ghost use Rattle.language.specs.Words.{text};
 ghost use Rattle.layout.specs.Layout.{valid, view as systemOf, settingOf, lengthOf, transitWords};
 ghost use Rattle.sheet.specs.Sheet.{sheet as sheetOf, puts};
-ghost use Rattle.votes.specs.Queues.{listOf, view as votesView};
+ghost use Rattle.votes.specs.Queues.{listOf, view as votesView, maxQueue};
 ghost use Rattle.system.specs.Places.{clientAt, serverAt};
 ghost use Rattle.transit.specs.Slots.{slotAt};
 ghost use Rattle.wire.specs.declared.Message.the-variants.{Response, Check};
 ghost use Rattle.knowledge.specs.Knowledge.{requestText, requestsText, queueText, votesText, serverText, supportText, sectionText, supportersText, stateText, clientText, serversText, clientsText, slipsText};
 ghost use Rattle.knowledge.specs.Mail.{timestampText, toServerText, toClientText, ownerText, messageText, inTransitText, mailText, slipsMailText};
+ghost use Rattle.system.specs.Limits.{systemServers};
 use client::Client;
 use client::Section;
 use ids::ClientId;
@@ -45,7 +46,7 @@ fn put_next(out: &mut [u8], at: usize, r: Request) -> usize
 }
 
 fn put_requests(out: &mut [u8], at: usize, q: Queue) -> usize
-    requires { ⌜ q .len ≤ 16 ⌝ }
+    requires { ⌜ q .len ≤ maxQueue ⌝ }
     ensures { λ r. ⌜ sheetOf (now (out .exit)) r ≡ puts (requestsText (listOf q)) (sheetOf (now (out .entry)) at) ⌝ }
 {
     votes::sized(q);
@@ -61,7 +62,7 @@ fn put_requests(out: &mut [u8], at: usize, q: Queue) -> usize
 }
 
 fn put_queue(out: &mut [u8], at: usize, q: Queue) -> usize
-    requires { ⌜ q .len ≤ 16 ⌝ }
+    requires { ⌜ q .len ≤ maxQueue ⌝ }
     ensures { λ r. ⌜ sheetOf (now (out .exit)) r ≡ puts (queueText (listOf q)) (sheetOf (now (out .entry)) at) ⌝ }
 {
     votes::sized(q);
@@ -73,7 +74,7 @@ fn put_queue(out: &mut [u8], at: usize, q: Queue) -> usize
 }
 
 fn put_votes(out: &mut [u8], at: usize, v: Votes) -> usize
-    requires { ⌜ v .queue .len ≤ 16 ⌝ }
+    requires { ⌜ v .queue .len ≤ maxQueue ⌝ }
     ensures { λ r. ⌜ sheetOf (now (out .exit)) r ≡ puts (votesText (votesView v)) (sheetOf (now (out .entry)) at) ⌝ }
 {
     let owner = v.owner;
@@ -90,7 +91,7 @@ fn put_votes(out: &mut [u8], at: usize, v: Votes) -> usize
 
 // What a server that is up, or down, knows.
 fn put_knowledge(out: &mut [u8], at: usize, up: bool, v: Votes) -> usize
-    requires { ⌜ v .queue .len ≤ 16 ⌝ }
+    requires { ⌜ v .queue .len ≤ maxQueue ⌝ }
     ensures { λ r. ⌜ sheetOf (now (out .exit)) r ≡ puts (if up then votesText (votesView v) else text " down" ∷ []) (sheetOf (now (out .entry)) at) ⌝ }
 {
     if up {
@@ -135,7 +136,7 @@ fn put_support(out: &mut [u8], at: usize, r: Request, j: u16, q: Request) -> usi
 }
 
 fn put_supports(out: &mut [u8], at: usize, r: Request, c: Client) -> usize
-    requires { ⌜ c .n ≤ 31 ⌝ }
+    requires { ⌜ c .n ≤ systemServers ⌝ }
     ensures { λ e. ⌜ sheetOf (now (out .exit)) e ≡ puts (supportText r 1 (clientView c .responses)) (sheetOf (now (out .entry)) at) ⌝ }
 {
     client::sized(c);
@@ -162,7 +163,7 @@ fn put_section(out: &mut [u8], at: usize, s: Section, t: u32) -> usize
 }
 
 fn put_supporters(out: &mut [u8], at: usize, r: Request, c: Client) -> usize
-    requires { ⌜ c .n ≤ 31 ⌝ }
+    requires { ⌜ c .n ≤ systemServers ⌝ }
     ensures { λ e. ⌜ sheetOf (now (out .exit)) e ≡ puts (text " keepers" ∷ supportText r 1 (clientView c .responses)) (sheetOf (now (out .entry)) at) ⌝ }
 {
     let p = sheet::put(out, at, b" keepers");
@@ -170,7 +171,7 @@ fn put_supporters(out: &mut [u8], at: usize, r: Request, c: Client) -> usize
 }
 
 fn put_supporters_of(out: &mut [u8], at: usize, r: Request, c: Client) -> usize
-    requires { ⌜ c .n ≤ 31 ⌝ }
+    requires { ⌜ c .n ≤ systemServers ⌝ }
     ensures { λ e. ⌜ sheetOf (now (out .exit)) e ≡ puts (supportersText (c .section) (supportText r 1 (clientView c .responses))) (sheetOf (now (out .entry)) at) ⌝ }
 {
     let section = c.section;
@@ -182,7 +183,7 @@ fn put_supporters_of(out: &mut [u8], at: usize, r: Request, c: Client) -> usize
 }
 
 fn put_state(out: &mut [u8], at: usize, k: u16, c: Client) -> usize
-    requires { ⌜ c .n ≤ 31 ⌝ }
+    requires { ⌜ c .n ≤ systemServers ⌝ }
     ensures { λ e. ⌜ sheetOf (now (out .exit)) e ≡ puts (stateText k (clientView c)) (sheetOf (now (out .entry)) at) ⌝ }
 {
     let client = ClientId(k);
@@ -195,7 +196,7 @@ fn put_state(out: &mut [u8], at: usize, k: u16, c: Client) -> usize
 
 // What a client that lives, or has fallen, knows.
 fn put_life(out: &mut [u8], at: usize, k: u16, living: bool, c: Client) -> usize
-    requires { ⌜ c .n ≤ 31 ⌝ }
+    requires { ⌜ c .n ≤ systemServers ⌝ }
     ensures { λ r. ⌜ sheetOf (now (out .exit)) r ≡ puts (if living then stateText k (clientView c) else text " fallen" ∷ []) (sheetOf (now (out .entry)) at) ⌝ }
 {
     if living {

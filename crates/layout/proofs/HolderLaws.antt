@@ -10,6 +10,7 @@ use Rattle.ids.specs.Choice.{if_then_else_}
 use Rattle.client.specs.Figure1.{count}
 use Rattle.regions.specs.Blocks.{blocks}
 use Rattle.system.specs.Places.{ClientPlace, isInside}
+use Rattle.places.specs.Blocks.{clientBlock}
 
 module _ (s : ℕ) (f : List ℕ → ClientPlace) where
   abbrev insideIn : ℕ → List ℕ → ℕ
@@ -27,20 +28,20 @@ module _ (s : ℕ) (f : List ℕ → ClientPlace) where
 module _ (f : List ℕ → ClientPlace) (l : List ℕ) where
   pub record Found (i found : ℕ) : Type 0 where
     pub few : found ≤ i
-    pub counted : found ≡ count (map isInside (blocks 99 f i l))
+    pub counted : found ≡ count (map isInside (blocks clientBlock f i l))
 
   pub found-none : Found 0 0
   unfolding blocks
   found-none = record { few = omega arith; counted = refl }
 
-  module _ (i found : ℕ) (S : Found i found) (b : Bool) (e : b ≡ isInside (f (take 99 (drop ((i + 1 - 1) * 99) l)))) where
-    next-count : (x : Bool) → b ≡ x → count (map isInside (blocks 99 f (i + 1) l)) ≡ found + (if x then 1 else 0)
+  module _ (i found : ℕ) (S : Found i found) (b : Bool) (e : b ≡ isInside (f (take clientBlock (drop ((i + 1 - 1) * clientBlock) l)))) where
+    next-count : (x : Bool) → b ≡ x → count (map isInside (blocks clientBlock f (i + 1) l)) ≡ found + (if x then 1 else 0)
     next-count x t =
         let z : i + 1 - 1 ≡ i = omega arith in
         let y : i + 1 ≡ suc i = omega arith in
-        let is : isInside (f (take 99 (drop (i * 99) l))) ≡ x = ap (λ (k : ℕ). isInside (f (take 99 (drop (k * 99) l)))) (sym z) ∙ (sym e ∙ t) in
-        ap (λ (k : ℕ). count (map isInside (blocks 99 f k l))) y ∙
-        (count-more 99 f i l ∙ (ap (λ (k : ℕ). k + (if isInside (f (take 99 (drop (i * 99) l))) then 1 else 0)) (sym (S .counted)) ∙ ap (λ (v : Bool). found + (if v then 1 else 0)) is))
+        let is : isInside (f (take clientBlock (drop (i * clientBlock) l))) ≡ x = ap (λ (k : ℕ). isInside (f (take clientBlock (drop (k * clientBlock) l)))) (sym z) ∙ (sym e ∙ t) in
+        ap (λ (k : ℕ). count (map isInside (blocks clientBlock f k l))) y ∙
+        (count-more clientBlock f i l ∙ (ap (λ (k : ℕ). k + (if isInside (f (take clientBlock (drop (i * clientBlock) l))) then 1 else 0)) (sym (S .counted)) ∙ ap (λ (v : Bool). found + (if v then 1 else 0)) is))
 
     pub found-one : (r : ℕ) → b ≡ true → r ≡ found + 1 → Found (i + 1) r
     found-one r t g = record { few = omega (arith, S .few); counted = g ∙ sym (next-count true t) }
@@ -48,5 +49,5 @@ module _ (f : List ℕ → ClientPlace) (l : List ℕ) where
     pub found-same : (r : ℕ) → b ≡ false → r ≡ found → Found (i + 1) r
     found-same r t g = record { few = omega (arith, S .few); counted = omega (arith, g, next-count false t) }
 
-  pub found-all : (i c r : ℕ) → i ≤ c → c ≤ i → Found i r → r ≡ count (map isInside (blocks 99 f c l))
-  found-all i c r p q S = let z : i ≡ c = omega arith in S .counted ∙ ap (λ (k : ℕ). count (map isInside (blocks 99 f k l))) z
+  pub found-all : (i c r : ℕ) → i ≤ c → c ≤ i → Found i r → r ≡ count (map isInside (blocks clientBlock f c l))
+  found-all i c r p q S = let z : i ≡ c = omega arith in S .counted ∙ ap (λ (k : ℕ). count (map isInside (blocks clientBlock f k l))) z

@@ -9,23 +9,23 @@ use Rattle.regions.specs.Blocks.{blocks}
 use Rattle.regions.proofs.SetsLaws.{take-sets-after}
 use Rattle.system.specs.Places.{System}
 use Rattle.places.specs.Blocks.{clientBlock, serverBlock, clientPlace, serverPlace}
-use Rattle.transit.specs.Slots.{slots}
-use Rattle.layout.specs.Layout.{size, Setting, settingOf, clientWords, serverWords, transitWords, view}
+use Rattle.transit.specs.Slots.{slots, transitSize}
+use Rattle.layout.specs.Layout.{simulationSize, Setting, settingOf, clientWords, serverWords, transitWords, view, clientsSize, serversSize, serversFrom, transitFrom}
 use Rattle.layout.proofs.ViewLaws.{in-clients, clients-servers, clients-transit, servers-clients, in-servers, servers-transit, transit-clients, transit-servers, in-transit}
 
 -- w is these parts
 pub record Is (w h c s t : List ℕ) : Type 0 where
-  pub long : length w ≡ size
+  pub long : length w ≡ simulationSize
   pub head : take 7 w ≡ h
   pub clients : clientWords w ≡ c
   pub servers : serverWords w ≡ s
   pub transit : transitWords w ≡ t
 
-pub itself-is : (w : List ℕ) → length w ≡ size → Is w (take 7 w) (clientWords w) (serverWords w) (transitWords w)
+pub itself-is : (w : List ℕ) → length w ≡ simulationSize → Is w (take 7 w) (clientWords w) (serverWords w) (transitWords w)
 itself-is w h = record { long = h; head = refl; clients = refl; servers = refl; transit = refl }
 
 module _ {w h c s t : List ℕ} (p : Is w h c s t) where
-  pub is-client-store : (a : ℕ) (vs : List ℕ) → a + length vs ≤ 1584 → Is (sets w (7 + a) vs) h (sets c a vs) s t
+  pub is-client-store : (a : ℕ) (vs : List ℕ) → a + length vs ≤ clientsSize → Is (sets w (7 + a) vs) h (sets c a vs) s t
   is-client-store a vs le =
       record {
         long = length-sets w (7 + a) vs ∙ p .long;
@@ -35,21 +35,21 @@ module _ {w h c s t : List ℕ} (p : Is w h c s t) where
         transit = clients-transit w a vs le ∙ p .transit;
       }
 
-  pub is-server-store : (a : ℕ) (vs : List ℕ) → a + length vs ≤ 1178 → Is (sets w (1591 + a) vs) h c (sets s a vs) t
+  pub is-server-store : (a : ℕ) (vs : List ℕ) → a + length vs ≤ serversSize → Is (sets w (serversFrom + a) vs) h c (sets s a vs) t
   is-server-store a vs le =
       record {
-        long = length-sets w (1591 + a) vs ∙ p .long;
-        head = take-sets-after 7 w (1591 + a) vs (omega arith) ∙ p .head;
+        long = length-sets w (serversFrom + a) vs ∙ p .long;
+        head = take-sets-after 7 w (serversFrom + a) vs (omega arith) ∙ p .head;
         clients = servers-clients w a vs le ∙ p .clients;
         servers = in-servers w a vs le ∙ ap (λ (l : List ℕ). sets l a vs) (p .servers);
         transit = servers-transit w a vs le ∙ p .transit;
       }
 
-  pub is-transit-store : (a : ℕ) (vs : List ℕ) → a + length vs ≤ 3584 → Is (sets w (2769 + a) vs) h c s (sets t a vs)
+  pub is-transit-store : (a : ℕ) (vs : List ℕ) → a + length vs ≤ transitSize → Is (sets w (transitFrom + a) vs) h c s (sets t a vs)
   is-transit-store a vs le =
       record {
-        long = length-sets w (2769 + a) vs ∙ p .long;
-        head = take-sets-after 7 w (2769 + a) vs (omega arith) ∙ p .head;
+        long = length-sets w (transitFrom + a) vs ∙ p .long;
+        head = take-sets-after 7 w (transitFrom + a) vs (omega arith) ∙ p .head;
         clients = transit-clients w a vs le ∙ p .clients;
         servers = transit-servers w a vs le ∙ p .servers;
         transit = in-transit w a vs le ∙ ap (λ (l : List ℕ). sets l a vs) (p .transit);
@@ -61,9 +61,9 @@ module _ {w h c s t : List ℕ} (p : Is w h c s t) where
       record {
         long = length-set w i v ∙ p .long;
         head = take-set-lt 7 w i v lt ∙ ap (λ (l : List ℕ). set l i v) (p .head);
-        clients = ap (take 1584) (drop-set-lt 7 w i v (omega arith)) ∙ p .clients;
-        servers = ap (take 1178) (drop-set-lt 1591 w i v (omega arith)) ∙ p .servers;
-        transit = ap (take 3584) (drop-set-lt 2769 w i v (omega arith)) ∙ p .transit;
+        clients = ap (take clientsSize) (drop-set-lt 7 w i v (omega arith)) ∙ p .clients;
+        servers = ap (take serversSize) (drop-set-lt serversFrom w i v (omega arith)) ∙ p .servers;
+        transit = ap (take transitSize) (drop-set-lt transitFrom w i v (omega arith)) ∙ p .transit;
       }
 
 -- the setting and the system of the parts

@@ -10,7 +10,7 @@ use Rattle.ids.specs.Limits.{within}
 use Rattle.regions.proofs.BlockLaws.{block-at, length-blocks}
 use Rattle.system.specs.Numbered.{put, has}
 use Rattle.system.specs.Places.{noClient, noServer, clientAt, serverAt}
-use Rattle.places.specs.Blocks.{clientPlace, serverPlace}
+use Rattle.places.specs.Blocks.{clientPlace, serverPlace, clientBlock, serverBlock}
 use Rattle.layout.specs.Layout.{settingOf, clientWords, serverWords, view}
 use Rattle.layout.specs.Parts.{clientBlockOf, serverBlockOf}
 
@@ -20,22 +20,22 @@ module _ (w : List ℕ) where
   client-place zero p q = absurd (omega arith)
   client-place (suc i) p q =
       let z : suc i - 1 ≡ i = omega arith in
-      rw z (block-at 99 clientPlace (settingOf w .clients) i (clientWords w) noClient q)
+      rw z (block-at clientBlock clientPlace (settingOf w .clients) i (clientWords w) noClient q)
 
   pub server-place : (j : ℕ) → 0 < j → j ≤ settingOf w .n → serverAt (view w) j ≡ serverPlace (serverBlockOf w j)
   unfolding view
   server-place zero p q = absurd (omega arith)
   server-place (suc i) p q =
       let z : suc i - 1 ≡ i = omega arith in
-      rw z (block-at 38 serverPlace (settingOf w .n) i (serverWords w) noServer q)
+      rw z (block-at serverBlock serverPlace (settingOf w .n) i (serverWords w) noServer q)
 
   pub client-there : (k : ℕ) → has (view w .clients) k ≡ within k (settingOf w .clients)
   unfolding view
-  client-there k = ap (λ (c : ℕ). ltb 0 k && leb k c) (length-blocks 99 clientPlace (settingOf w .clients) (clientWords w))
+  client-there k = ap (λ (c : ℕ). ltb 0 k && leb k c) (length-blocks clientBlock clientPlace (settingOf w .clients) (clientWords w))
 
   pub server-there : (j : ℕ) → has (view w .servers) j ≡ within j (settingOf w .n)
   unfolding view
-  server-there j = ap (λ (c : ℕ). ltb 0 j && leb j c) (length-blocks 38 serverPlace (settingOf w .n) (serverWords w))
+  server-there j = ap (λ (c : ℕ). ltb 0 j && leb j c) (length-blocks serverBlock serverPlace (settingOf w .n) (serverWords w))
 
 -- a place set by its number is set by its block
 pub put-set : {A : Type 0} (l : List A) (k : ℕ) (v : A) → 0 < k → set l (k - 1) v ≡ put l k v

@@ -10,13 +10,14 @@ use borrow.Author.Tests.{le-leb, lt-leb, leb-true}
 use Rattle.ids.specs.Limits.{within}
 use Rattle.quorum.specs.Check.{inRange}
 use Rattle.quorum.proofs.CheckLaws.{range}
-use Rattle.transit.specs.Slots.{validSlots}
+use Rattle.transit.specs.Slots.{validSlots, transitSize}
 use lib.Seq.{drop-drop}
 use Rattle.ids.proofs.Choice.{both, clash, holds, fails}
 use Rattle.regions.specs.Blocks.{blocks}
+use Rattle.system.specs.Limits.{systemClients, systemServers}
 use Rattle.system.specs.Places.{ClientPlace, worst}
 use Rattle.places.specs.Blocks.{clientBlock, serverBlock, clientPlace, validClientBlock, validServerBlock}
-use Rattle.layout.specs.Layout.{size, maxClients, settingOf, clientWords, serverWords, transitWords, lengthOf, sentOf, mostOf, view, validFrom, itself, blank, valid}
+use Rattle.layout.specs.Layout.{simulationSize, settingOf, clientWords, serverWords, transitWords, lengthOf, sentOf, mostOf, view, validFrom, itself, blank, valid, serversFrom, transitFrom}
 use Rattle.layout.specs.Parts.{blocksValid, partsValid}
 use Rattle.layout.proofs.ValidLaws.{Facts, facts, from-facts}
 use Rattle.layout.proofs.LendLaws.{clients-rest, servers-rest}
@@ -32,22 +33,22 @@ worst-more s f (suc i) l =
     rw (← at) (omega (arith, worst-more s f i (drop s l)))
 
 module _ (f : List ℕ → ClientPlace) (l : List ℕ) where
-  pub worst-start : 0 ≡ worst (blocks 99 f 0 l)
+  pub worst-start : 0 ≡ worst (blocks clientBlock f 0 l)
   unfolding worst blocks
   worst-start = refl
 
-  pub worst-step : (i most x r : ℕ) → most ≡ worst (blocks 99 f i l) → x ≡ length (f (take 99 (drop ((i + 1 - 1) * 99) l)) .downs) → r ≡ max most x → r ≡ worst (blocks 99 f (i + 1) l)
+  pub worst-step : (i most x r : ℕ) → most ≡ worst (blocks clientBlock f i l) → x ≡ length (f (take clientBlock (drop ((i + 1 - 1) * clientBlock) l)) .downs) → r ≡ max most x → r ≡ worst (blocks clientBlock f (i + 1) l)
   worst-step i most x r e g h =
       let z : i + 1 - 1 ≡ i = omega arith in
       let y : i + 1 ≡ suc i = omega arith in
-      let x′ : x ≡ length (f (take 99 (drop (i * 99) l)) .downs) = g ∙ ap (λ (k : ℕ). length (f (take 99 (drop (k * 99) l)) .downs)) z in
-      h ∙ (omega (arith, e, x′, worst-more 99 f i l) ∙ ap (λ (k : ℕ). worst (blocks 99 f k l)) (sym y))
+      let x′ : x ≡ length (f (take clientBlock (drop (i * clientBlock) l)) .downs) = g ∙ ap (λ (k : ℕ). length (f (take clientBlock (drop (k * clientBlock) l)) .downs)) z in
+      h ∙ (omega (arith, e, x′, worst-more clientBlock f i l) ∙ ap (λ (k : ℕ). worst (blocks clientBlock f k l)) (sym y))
 
-  pub worst-end : (i c r : ℕ) → i ≤ c → c ≤ i → r ≡ worst (blocks 99 f i l) → r ≡ worst (blocks 99 f c l)
-  worst-end i c r p q e = let z : i ≡ c = omega arith in e ∙ ap (λ (k : ℕ). worst (blocks 99 f k l)) z
+  pub worst-end : (i c r : ℕ) → i ≤ c → c ≤ i → r ≡ worst (blocks clientBlock f i l) → r ≡ worst (blocks clientBlock f c l)
+  worst-end i c r p q e = let z : i ≡ c = omega arith in e ∙ ap (λ (k : ℕ). worst (blocks clientBlock f k l)) z
 
 -- blocks_valid
-module _ (n m clients : ℕ) (w : List ℕ) (r : (length w ≡ 6353) × (n ≤ 31) × (clients ≤ 16)) (a : Bool)
+module _ (n m clients : ℕ) (w : List ℕ) (r : (length w ≡ simulationSize) × (n ≤ systemServers) × (clients ≤ systemClients)) (a : Bool)
     (p : a ≡ validFrom (validClientBlock n m clients) 1 (blocks clientBlock itself clients (clientWords w))) where
   abbrev C : Bool
   C = validFrom (validClientBlock n m clients) 1 (blocks clientBlock itself clients (clientWords w))
@@ -65,7 +66,7 @@ module _ (n m clients : ℕ) (w : List ℕ) (r : (length w ≡ 6353) × (n ≤ 3
   unfolding blocksValid
   clients-bad t = rw (fails a C p t)
 
-  module _ (t : not a ≡ false) (b : Bool) (q : b ≡ blank (take (1591 - (7 + 99 * clients)) (drop (7 + 99 * clients) w))) where
+  module _ (t : not a ≡ false) (b : Bool) (q : b ≡ blank (take (serversFrom - (7 + clientBlock * clients)) (drop (7 + clientBlock * clients) w))) where
     behind : b ≡ D
     behind = q ∙ ap blank (clients-rest w clients (r .2))
 
@@ -78,7 +79,7 @@ module _ (n m clients : ℕ) (w : List ℕ) (r : (length w ≡ 6353) × (n ≤ 3
       unfolding blocksValid
       servers-bad v = rw (holds a C p t, holds b D behind u, fails d E s v)
 
-      pub behind-servers : (e : Bool) → not d ≡ false → e ≡ blank (take (2769 - (1591 + 38 * n)) (drop (1591 + 38 * n) w)) → e ≡ blocksValid n m clients w
+      pub behind-servers : (e : Bool) → not d ≡ false → e ≡ blank (take (transitFrom - (serversFrom + serverBlock * n)) (drop (serversFrom + serverBlock * n) w)) → e ≡ blocksValid n m clients w
       unfolding blocksValid
       behind-servers e v g = rw (holds a C p t, holds b D behind u, holds d E s v) (g ∙ ap blank (servers-rest w n (r .1)))
 
@@ -120,7 +121,7 @@ module _ (w : List ℕ) where
   parts-of f =
       rw (f .clients, f .noClients, f .servers, f .noServers, f .transit, le-leb (mostOf w) (settingOf w .n) (f .few), le-leb (worst (blocks clientBlock clientPlace (settingOf w .clients) (clientWords w))) (mostOf w) (f .noted))
 
-  facts-of : length w ≡ size → inRange (settingOf w .n) (settingOf w .m) (settingOf w .f) ≡ true → within (settingOf w .clients) maxClients ≡ true → inParts ≡ true → Facts w
+  facts-of : length w ≡ simulationSize → inRange (settingOf w .n) (settingOf w .m) (settingOf w .f) ≡ true → within (settingOf w .clients) systemClients ≡ true → inParts ≡ true → Facts w
   unfolding partsValid blocksValid view
   facts-of l r k h =
       let d = both _ (leb (worst (blocks clientBlock clientPlace (settingOf w .clients) (clientWords w))) (mostOf w)) h in
@@ -146,10 +147,10 @@ module _ (w : List ℕ) where
   by-fact : (b : Bool) → (Facts w → b ≡ true) → b ≡ false → false ≡ valid w
   by-fact b f e = same-truth false (valid w) (λ z. clash false z refl) (λ z. clash b (f (facts w z)) e)
 
-  pub size-wrong : (length w ≡ 6353 → ⊥) → false ≡ valid w
+  pub size-wrong : (length w ≡ simulationSize → ⊥) → false ≡ valid w
   size-wrong n = same-truth false (valid w) (λ z. clash false z refl) (λ z. absurd (n (facts w z .long)))
 
-  module _ (l : length w ≡ 6353) (a : Bool) (p : a ≡ inRange (getD w 0 0) (getD w 1 0) (getD w 2 0)) where
+  module _ (l : length w ≡ simulationSize) (a : Bool) (p : a ≡ inRange (getD w 0 0) (getD w 1 0) (getD w 2 0)) where
     its-range : inRange (settingOf w .n) (settingOf w .m) (settingOf w .f) ≡ inRange (getD w 0 0) (getD w 1 0) (getD w 2 0)
     unfolding settingOf
     its-range = refl
@@ -157,19 +158,19 @@ module _ (w : List ℕ) where
     pub range-wrong : not a ≡ true → false ≡ valid w
     range-wrong t = by-fact (inRange (settingOf w .n) (settingOf w .m) (settingOf w .f)) (λ f. f .range) (its-range ∙ fails a (inRange (getD w 0 0) (getD w 1 0) (getD w 2 0)) p t)
 
-    module _ (t : not a ≡ false) (b : Bool) (q : b ≡ within (getD w 3 0) 16) where
-      its-clients : within (settingOf w .clients) maxClients ≡ within (getD w 3 0) 16
+    module _ (t : not a ≡ false) (b : Bool) (q : b ≡ within (getD w 3 0) systemClients) where
+      its-clients : within (settingOf w .clients) systemClients ≡ within (getD w 3 0) systemClients
       unfolding settingOf
       its-clients = refl
 
       pub clients-wrong : not b ≡ true → false ≡ valid w
-      clients-wrong u = by-fact (within (settingOf w .clients) maxClients) (λ f. f .some) (its-clients ∙ fails b (within (getD w 3 0) 16) q u)
+      clients-wrong u = by-fact (within (settingOf w .clients) systemClients) (λ f. f .some) (its-clients ∙ fails b (within (getD w 3 0) systemClients) q u)
 
-      pub bounds : not b ≡ false → (length w ≡ 6353) × (getD w 0 0 ≤ 31) × (getD w 3 0 ≤ 16)
+      pub bounds : not b ≡ false → (length w ≡ simulationSize) × (getD w 0 0 ≤ systemServers) × (getD w 3 0 ≤ systemClients)
       bounds u =
           let r = range (getD w 0 0) (getD w 1 0) (getD w 2 0) (holds a (inRange (getD w 0 0) (getD w 1 0) (getD w 2 0)) p t) in
-          let k = both (leb 1 (getD w 3 0)) (leb (getD w 3 0) 16) (holds b (within (getD w 3 0) 16) q u) in
-          (l, r .servers, leb-true (getD w 3 0) 16 (k .1))
+          let k = both (leb 1 (getD w 3 0)) (leb (getD w 3 0) systemClients) (holds b (within (getD w 3 0) systemClients) q u) in
+          (l, r .servers, leb-true (getD w 3 0) systemClients (k .1))
 
       its-parts : inParts ≡ partsValid (getD w 0 0) (getD w 1 0) (getD w 3 0) w
       unfolding settingOf
@@ -178,10 +179,10 @@ module _ (w : List ℕ) where
       pub parts-decide : (r : Bool) → not b ≡ false → r ≡ partsValid (getD w 0 0) (getD w 1 0) (getD w 3 0) w → r ≡ valid w
       parts-decide r u e =
           e ∙ (sym its-parts ∙ same-truth inParts (valid w)
-          (λ h. from-facts w (facts-of l (its-range ∙ holds a (inRange (getD w 0 0) (getD w 1 0) (getD w 2 0)) p t) (its-clients ∙ holds b (within (getD w 3 0) 16) q u) h))
+          (λ h. from-facts w (facts-of l (its-range ∙ holds a (inRange (getD w 0 0) (getD w 1 0) (getD w 2 0)) p t) (its-clients ∙ holds b (within (getD w 3 0) systemClients) q u) h))
           (λ h. parts-of (facts w h)))
 
 -- transit_valid
-pub transit-part : (n clients : ℕ) (w : List ℕ) → validSlots n clients (sentOf w) (lengthOf w) (transitWords w) ≡ validSlots n clients (getD w 5 0) (getD w 4 0) (take 3584 (drop 2769 w))
+pub transit-part : (n clients : ℕ) (w : List ℕ) → validSlots n clients (sentOf w) (lengthOf w) (transitWords w) ≡ validSlots n clients (getD w 5 0) (getD w 4 0) (take transitSize (drop transitFrom w))
 unfolding transitWords
 transit-part n clients w = refl

@@ -14,10 +14,11 @@ use Rattle.ids.proofs.Choice.{both, decided}
 use Rattle.quorum.specs.Check.{inRange}
 use Rattle.regions.specs.Blocks.{blocks}
 use Rattle.regions.proofs.BlockLaws.{block-stored, block-at, length-blocks}
+use Rattle.system.specs.Limits.{systemClients}
 use Rattle.system.specs.Places.{worst}
 use Rattle.places.specs.Blocks.{clientBlock, serverBlock, validClientBlock, validServerBlock}
 use Rattle.transit.specs.Slots.{validSlots}
-use Rattle.layout.specs.Layout.{size, maxClients, settingOf, clientWords, serverWords, transitWords, lengthOf, sentOf, mostOf, view, validFrom, blank, itself, valid}
+use Rattle.layout.specs.Layout.{simulationSize, settingOf, clientWords, serverWords, transitWords, lengthOf, sentOf, mostOf, view, validFrom, blank, itself, valid}
 
 -- every block as its number, block by block
 module _ (f : ℕ → List ℕ → Bool) (s : ℕ) where
@@ -77,9 +78,9 @@ still-valid f s c k i l a vs lt h v new =
 
 -- the facts of a valid simulation
 pub record Facts (w : List ℕ) : Type 0 where
-  pub long : length w ≡ size
+  pub long : length w ≡ simulationSize
   pub range : inRange (settingOf w .n) (settingOf w .m) (settingOf w .f) ≡ true
-  pub some : within (settingOf w .clients) maxClients ≡ true
+  pub some : within (settingOf w .clients) systemClients ≡ true
   pub clients : validFrom (validClientBlock (settingOf w .n) (settingOf w .m) (settingOf w .clients)) 1 (blocks clientBlock itself (settingOf w .clients) (clientWords w)) ≡ true
   pub noClients : blank (drop (settingOf w .clients * clientBlock) (clientWords w)) ≡ true
   pub servers : validFrom (validServerBlock (settingOf w .n) (settingOf w .clients)) 1 (blocks serverBlock itself (settingOf w .n) (serverWords w)) ≡ true
@@ -98,10 +99,10 @@ facts w h =
     let e = both _ (validFrom (validServerBlock (settingOf w .n) (settingOf w .clients)) 1 (blocks serverBlock itself (settingOf w .n) (serverWords w))) (f .0) in
     let d = both _ (blank (drop (settingOf w .clients * clientBlock) (clientWords w))) (e .0) in
     let c = both _ (validFrom (validClientBlock (settingOf w .n) (settingOf w .m) (settingOf w .clients)) 1 (blocks clientBlock itself (settingOf w .clients) (clientWords w))) (d .0) in
-    let b = both _ (within (settingOf w .clients) maxClients) (c .0) in
-    let a = both (eqb (length w) size) (inRange (settingOf w .n) (settingOf w .m) (settingOf w .f)) (b .0) in
+    let b = both _ (within (settingOf w .clients) systemClients) (c .0) in
+    let a = both (eqb (length w) simulationSize) (inRange (settingOf w .n) (settingOf w .m) (settingOf w .f)) (b .0) in
     record {
-      long = eqb-true (length w) size (a .0);
+      long = eqb-true (length w) simulationSize (a .0);
       range = a .1;
       some = b .1;
       clients = c .1;
@@ -116,4 +117,4 @@ facts w h =
 pub from-facts : (w : List ℕ) → Facts w → valid w ≡ true
 unfolding valid
 from-facts w f =
-    rw (eq-eqb (length w) size (f .long), f .range, f .some, f .clients, f .noClients, f .servers, f .noServers, f .transit, le-leb (mostOf w) (settingOf w .n) (f .few), le-leb (worst (view w .clients)) (mostOf w) (f .noted))
+    rw (eq-eqb (length w) simulationSize (f .long), f .range, f .some, f .clients, f .noClients, f .servers, f .noServers, f .transit, le-leb (mostOf w) (settingOf w .n) (f .few), le-leb (worst (view w .clients)) (mostOf w) (f .noted))

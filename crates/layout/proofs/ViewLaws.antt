@@ -8,8 +8,10 @@ use lib.Seq.{sets, getD-take}
 use Rattle.regions.specs.Blocks.{region}
 use Rattle.regions.proofs.SetsLaws.{region-inside, region-before, region-behind, take-sets-after}
 use Rattle.regions.proofs.BlockLaws.{block-stored}
-use Rattle.places.specs.Blocks.{clientPlace, serverPlace}
-use Rattle.layout.specs.Layout.{settingOf, clientWords, serverWords, transitWords, view}
+use Rattle.places.specs.Blocks.{clientPlace, serverPlace, clientBlock, serverBlock}
+use Rattle.layout.specs.Layout.{settingOf, clientWords, serverWords, transitWords, view, clientsSize, serversFrom, serversSize, transitFrom}
+use Rattle.transit.specs.Slots.{transitSize}
+use Rattle.system.specs.Limits.{systemClients, systemServers}
 
 -- the head's words, after a store behind the head
 pub head-kept : (w : List ℕ) (a : ℕ) (vs : List ℕ) (i : ℕ) → i < a → getD (sets w a vs) i 0 ≡ getD w i 0
@@ -31,52 +33,52 @@ abbrev Parts : List ℕ → List ℕ → Type 0
 Parts w w′ = (clientWords w′ ≡ clientWords w) × (serverWords w′ ≡ serverWords w) × (transitWords w′ ≡ transitWords w)
 
 -- a store in the client blocks
-module _ (w : List ℕ) (a : ℕ) (vs : List ℕ) (h : a + length vs ≤ 1584) where
+module _ (w : List ℕ) (a : ℕ) (vs : List ℕ) (h : a + length vs ≤ clientsSize) where
   pub in-clients : clientWords (sets w (7 + a) vs) ≡ sets (clientWords w) a vs
   unfolding clientWords
-  in-clients = region-inside 7 1584 w a vs h
+  in-clients = region-inside 7 clientsSize w a vs h
 
   pub clients-servers : serverWords (sets w (7 + a) vs) ≡ serverWords w
   unfolding serverWords
-  clients-servers = region-before 1591 1178 w (7 + a) vs (omega arith)
+  clients-servers = region-before serversFrom serversSize w (7 + a) vs (omega arith)
 
   pub clients-transit : transitWords (sets w (7 + a) vs) ≡ transitWords w
   unfolding transitWords
-  clients-transit = region-before 2769 3584 w (7 + a) vs (omega arith)
+  clients-transit = region-before transitFrom transitSize w (7 + a) vs (omega arith)
 
 -- a store in the server blocks
-module _ (w : List ℕ) (a : ℕ) (vs : List ℕ) (h : a + length vs ≤ 1178) where
-  pub servers-clients : clientWords (sets w (1591 + a) vs) ≡ clientWords w
+module _ (w : List ℕ) (a : ℕ) (vs : List ℕ) (h : a + length vs ≤ serversSize) where
+  pub servers-clients : clientWords (sets w (serversFrom + a) vs) ≡ clientWords w
   unfolding clientWords
-  servers-clients = region-behind 7 1584 w a vs
+  servers-clients = region-behind 7 clientsSize w a vs
 
-  pub in-servers : serverWords (sets w (1591 + a) vs) ≡ sets (serverWords w) a vs
+  pub in-servers : serverWords (sets w (serversFrom + a) vs) ≡ sets (serverWords w) a vs
   unfolding serverWords
-  in-servers = region-inside 1591 1178 w a vs h
+  in-servers = region-inside serversFrom serversSize w a vs h
 
-  pub servers-transit : transitWords (sets w (1591 + a) vs) ≡ transitWords w
+  pub servers-transit : transitWords (sets w (serversFrom + a) vs) ≡ transitWords w
   unfolding transitWords
-  servers-transit = region-before 2769 3584 w (1591 + a) vs (omega arith)
+  servers-transit = region-before transitFrom transitSize w (serversFrom + a) vs (omega arith)
 
 -- a store in the messages in transit
-module _ (w : List ℕ) (a : ℕ) (vs : List ℕ) (h : a + length vs ≤ 3584) where
-  pub transit-clients : clientWords (sets w (2769 + a) vs) ≡ clientWords w
+module _ (w : List ℕ) (a : ℕ) (vs : List ℕ) (h : a + length vs ≤ transitSize) where
+  pub transit-clients : clientWords (sets w (transitFrom + a) vs) ≡ clientWords w
   unfolding clientWords
-  transit-clients = let z : 2769 + a ≡ 7 + 1584 + (1178 + a) = omega arith in ap (λ (i : ℕ). region 7 1584 (sets w i vs)) z ∙ region-behind 7 1584 w (1178 + a) vs
+  transit-clients = let z : transitFrom + a ≡ 7 + clientsSize + (serversSize + a) = omega arith in ap (λ (i : ℕ). region 7 clientsSize (sets w i vs)) z ∙ region-behind 7 clientsSize w (serversSize + a) vs
 
-  pub transit-servers : serverWords (sets w (2769 + a) vs) ≡ serverWords w
+  pub transit-servers : serverWords (sets w (transitFrom + a) vs) ≡ serverWords w
   unfolding serverWords
-  transit-servers = region-behind 1591 1178 w a vs
+  transit-servers = region-behind serversFrom serversSize w a vs
 
-  pub in-transit : transitWords (sets w (2769 + a) vs) ≡ sets (transitWords w) a vs
+  pub in-transit : transitWords (sets w (transitFrom + a) vs) ≡ sets (transitWords w) a vs
   unfolding transitWords
-  in-transit = region-inside 2769 3584 w a vs h
+  in-transit = region-inside transitFrom transitSize w a vs h
 
 -- client block i, counted from 0
-pub client-stored : (w : List ℕ) (i a : ℕ) (vs : List ℕ) → i < settingOf w .clients → settingOf w .clients ≤ 16 → a + length vs ≤ 99 →
-    view (sets w (7 + (i * 99 + a)) vs) ≡
+pub client-stored : (w : List ℕ) (i a : ℕ) (vs : List ℕ) → i < settingOf w .clients → settingOf w .clients ≤ systemClients → a + length vs ≤ clientBlock →
+    view (sets w (7 + (i * clientBlock + a)) vs) ≡
     record {
-      clients = set (view w .clients) i (clientPlace (sets (take 99 (drop (i * 99) (clientWords w))) a vs));
+      clients = set (view w .clients) i (clientPlace (sets (take clientBlock (drop (i * clientBlock) (clientWords w))) a vs));
       servers = view w .servers;
       transit = view w .transit;
       sent = view w .sent;
@@ -84,24 +86,24 @@ pub client-stored : (w : List ℕ) (i a : ℕ) (vs : List ℕ) → i < settingOf
     }
 unfolding view
 client-stored w i a vs lt few h =
-    let within : i * 99 + a + length vs ≤ 1584 = omega arith in
-    let s = setting-kept w (7 + (i * 99 + a)) vs (omega arith) in
-    let head : (j : ℕ) → j < 7 → getD (sets w (7 + (i * 99 + a)) vs) j 0 ≡ getD w j 0 = λ j q. head-kept w (7 + (i * 99 + a)) vs j (omega arith) in
-    rw (s, in-clients w (i * 99 + a) vs within, clients-servers w (i * 99 + a) vs within, clients-transit w (i * 99 + a) vs within, head 4 (omega arith), head 5 (omega arith), head 6 (omega arith), block-stored 99 clientPlace (settingOf w .clients) i (clientWords w) a vs lt h)
+    let within : i * clientBlock + a + length vs ≤ clientsSize = omega arith in
+    let s = setting-kept w (7 + (i * clientBlock + a)) vs (omega arith) in
+    let head : (j : ℕ) → j < 7 → getD (sets w (7 + (i * clientBlock + a)) vs) j 0 ≡ getD w j 0 = λ j q. head-kept w (7 + (i * clientBlock + a)) vs j (omega arith) in
+    rw (s, in-clients w (i * clientBlock + a) vs within, clients-servers w (i * clientBlock + a) vs within, clients-transit w (i * clientBlock + a) vs within, head 4 (omega arith), head 5 (omega arith), head 6 (omega arith), block-stored clientBlock clientPlace (settingOf w .clients) i (clientWords w) a vs lt h)
 
 -- server block i, counted from 0
-pub server-stored : (w : List ℕ) (i a : ℕ) (vs : List ℕ) → i < settingOf w .n → settingOf w .n ≤ 31 → a + length vs ≤ 38 →
-    view (sets w (1591 + (i * 38 + a)) vs) ≡
+pub server-stored : (w : List ℕ) (i a : ℕ) (vs : List ℕ) → i < settingOf w .n → settingOf w .n ≤ systemServers → a + length vs ≤ serverBlock →
+    view (sets w (serversFrom + (i * serverBlock + a)) vs) ≡
     record {
       clients = view w .clients;
-      servers = set (view w .servers) i (serverPlace (sets (take 38 (drop (i * 38) (serverWords w))) a vs));
+      servers = set (view w .servers) i (serverPlace (sets (take serverBlock (drop (i * serverBlock) (serverWords w))) a vs));
       transit = view w .transit;
       sent = view w .sent;
       most = view w .most;
     }
 unfolding view
 server-stored w i a vs lt few h =
-    let within : i * 38 + a + length vs ≤ 1178 = omega arith in
-    let s = setting-kept w (1591 + (i * 38 + a)) vs (omega arith) in
-    let head : (j : ℕ) → j < 7 → getD (sets w (1591 + (i * 38 + a)) vs) j 0 ≡ getD w j 0 = λ j q. head-kept w (1591 + (i * 38 + a)) vs j (omega arith) in
-    rw (s, servers-clients w (i * 38 + a) vs within, in-servers w (i * 38 + a) vs within, servers-transit w (i * 38 + a) vs within, head 4 (omega arith), head 5 (omega arith), head 6 (omega arith), block-stored 38 serverPlace (settingOf w .n) i (serverWords w) a vs lt h)
+    let within : i * serverBlock + a + length vs ≤ serversSize = omega arith in
+    let s = setting-kept w (serversFrom + (i * serverBlock + a)) vs (omega arith) in
+    let head : (j : ℕ) → j < 7 → getD (sets w (serversFrom + (i * serverBlock + a)) vs) j 0 ≡ getD w j 0 = λ j q. head-kept w (serversFrom + (i * serverBlock + a)) vs j (omega arith) in
+    rw (s, servers-clients w (i * serverBlock + a) vs within, in-servers w (i * serverBlock + a) vs within, servers-transit w (i * serverBlock + a) vs within, head 4 (omega arith), head 5 (omega arith), head 6 (omega arith), block-stored serverBlock serverPlace (settingOf w .n) i (serverWords w) a vs lt h)

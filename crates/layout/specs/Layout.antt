@@ -1,6 +1,6 @@
--- The simulation's state as words: a head, 16 client blocks, 31 server blocks, 512 slots of messages in transit. 0 is none.
+-- The simulation's state as words: a head, the client blocks, the server blocks, the slots of messages in transit. 0 is none.
 -- Document 01 says gallery for simulation.
-use Prim.Native.Nat.{ℕ, suc, _*_}
+use Prim.Native.Nat.{ℕ, suc, _+_, _*_}
 use mathlib.Core.Bool.{Bool, true, _&&_}
 use mathlib.Core.List.{List, [], _∷_}
 use lib.Dec.{eqb, leb}
@@ -8,35 +8,30 @@ use lib.ListN.{length, getD, drop}
 use Rattle.ids.specs.Limits.{within}
 use Rattle.ids.specs.Lists.{every}
 use Rattle.quorum.specs.Check.{inRange}
+use Rattle.system.specs.Limits.{systemClients, systemServers}
 use Rattle.system.specs.Places.{System, worst}
 use Rattle.regions.specs.Blocks.{blocks, region}
 use Rattle.places.specs.Blocks.{clientBlock, serverBlock, clientPlace, serverPlace, validClientBlock, validServerBlock}
-use Rattle.transit.specs.Slots.{slots, validSlots}
-
-abbrev pub maxClients : ℕ
-maxClients = 16
+use Rattle.transit.specs.Slots.{transitSize, slots, validSlots}
 
 -- the head: n, m, f, the number of clients, the messages in transit, the messages sent, the most servers down within an epoch
 abbrev pub clientsFrom : ℕ
 clientsFrom = 7
 
 abbrev pub clientsSize : ℕ
-clientsSize = 1584
+clientsSize = systemClients * clientBlock
 
 abbrev pub serversFrom : ℕ
-serversFrom = 1591
+serversFrom = clientsFrom + clientsSize
 
 abbrev pub serversSize : ℕ
-serversSize = 1178
+serversSize = systemServers * serverBlock
 
 abbrev pub transitFrom : ℕ
-transitFrom = 2769
+transitFrom = serversFrom + serversSize
 
-abbrev pub transitSize : ℕ
-transitSize = 3584
-
-abbrev pub size : ℕ
-size = 6353
+abbrev pub simulationSize : ℕ
+simulationSize = transitFrom + transitSize
 
 -- the setting: n servers, threshold m, f faults, and the number of clients
 pub record Setting : Type 0 where
@@ -93,8 +88,8 @@ itself b = b
 -- servers down than was noted
 unfoldable pub valid : List ℕ → Bool
 valid w =
-    eqb (length w) size
-    && inRange (settingOf w .n) (settingOf w .m) (settingOf w .f) && within (settingOf w .clients) maxClients
+    eqb (length w) simulationSize
+    && inRange (settingOf w .n) (settingOf w .m) (settingOf w .f) && within (settingOf w .clients) systemClients
     && validFrom (validClientBlock (settingOf w .n) (settingOf w .m) (settingOf w .clients)) 1 (blocks clientBlock itself (settingOf w .clients) (clientWords w))
     && blank (drop (settingOf w .clients * clientBlock) (clientWords w))
     && validFrom (validServerBlock (settingOf w .n) (settingOf w .clients)) 1 (blocks serverBlock itself (settingOf w .n) (serverWords w))

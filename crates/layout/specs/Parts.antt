@@ -6,27 +6,28 @@ use mathlib.Core.List.{List}
 use lib.ListN.{length, take, drop}
 use Rattle.regions.specs.Blocks.{blocks}
 use Rattle.places.specs.Blocks.{clientBlock, serverBlock, clientPlace, validClientBlock, validServerBlock}
-use Rattle.layout.specs.Layout.{clientWords, serverWords, transitWords, lengthOf, sentOf, mostOf, validFrom, itself, blank}
+use Rattle.layout.specs.Layout.{clientWords, serverWords, transitWords, lengthOf, sentOf, mostOf, validFrom, itself, blank, simulationSize}
 use Rattle.transit.specs.Slots.{validSlots}
 use Rattle.system.specs.Places.{worst}
 use lib.Dec.{leb}
+use Rattle.system.specs.Limits.{systemClients, systemServers}
 
 abbrev pub clientBlockOf : List ℕ → ℕ → List ℕ
-clientBlockOf w k = take 99 (drop ((k - 1) * 99) (clientWords w))
+clientBlockOf w k = take clientBlock (drop ((k - 1) * clientBlock) (clientWords w))
 
 abbrev pub serverBlockOf : List ℕ → ℕ → List ℕ
-serverBlockOf w j = take 38 (drop ((j - 1) * 38) (serverWords w))
+serverBlockOf w j = take serverBlock (drop ((j - 1) * serverBlock) (serverWords w))
 
 -- there is a client block, or a server block, with this number
 pub record ClientIn (w : List ℕ) (k : ℕ) : Type 0 where
-  pub long : length w ≡ 6353
+  pub long : length w ≡ simulationSize
   pub first : 1 ≤ k
-  pub last : k ≤ 16
+  pub last : k ≤ systemClients
 
 pub record ServerIn (w : List ℕ) (j : ℕ) : Type 0 where
-  pub long : length w ≡ 6353
+  pub long : length w ≡ simulationSize
   pub first : 1 ≤ j
-  pub last : j ≤ 31
+  pub last : j ≤ systemServers
 
 -- the blocks are valid, each as its number, and the places behind them empty
 unfoldable pub blocksValid : ℕ → ℕ → ℕ → List ℕ → Bool

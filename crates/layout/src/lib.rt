@@ -9,22 +9,35 @@ ghost use mathlib.Core.List.{map};
 ghost use Rattle.ids.specs.Choice.{if_then_else_};
 ghost use Rattle.client.specs.Figure1.{count};
 ghost use Rattle.system.specs.Places.{isInside, inEpoch, worst};
-ghost use Rattle.words.specs.Records.{holdsClient, clientFrom, clientWords, holdsServer, serverFrom, serverWords};
-ghost use Rattle.places.specs.Blocks.{clientPlace, serverPlace, clientRecord, serverRecord, cleared, emptied, validClientBlock, validServerBlock};
+ghost use Rattle.words.specs.Records.{holdsClient, clientFrom, clientWords, holdsServer, serverFrom, serverWords, clientSize};
+ghost use Rattle.places.specs.Blocks.{clientPlace, serverPlace, clientRecord, serverRecord, cleared, emptied, validClientBlock, validServerBlock, clientBlock, serverBlock};
 ghost use Rattle.regions.specs.Blocks.{blocks};
-ghost use Rattle.layout.specs.Layout.{clientWords as clientsPart, serverWords as serversPart, transitWords, lengthOf, sentOf, validFrom, itself, blank, valid as isValid};
+ghost use Rattle.layout.specs.Layout.{clientWords as clientsPart, serverWords as serversPart, transitWords, lengthOf, sentOf, validFrom, itself, blank, valid as isValid, serversFrom, simulationSize};
 ghost use Rattle.transit.specs.Slots.{validSlots};
 ghost use Rattle.layout.specs.Parts.{clientBlockOf, serverBlockOf, ClientIn, ServerIn, blocksValid, partsValid};
+ghost use Rattle.system.specs.Limits.{systemServers, systemClients};
+ghost use Rattle.votes.specs.Queues.{maxQueue};
 use client::Client;
 use ids::ServerId;
+use places::CLIENT_BLOCK;
+use places::SERVER_BLOCK;
 use server::Server;
+
+// Where the parts begin, behind the seven words of the head, and the words of all.
+const CLIENTS_FROM: usize = 7;
+
+const SERVERS_FROM: usize = CLIENTS_FROM + CLIENT_BLOCK * system::MAX_CLIENTS as usize;
+
+const TRANSIT_FROM: usize = SERVERS_FROM + SERVER_BLOCK * system::MAX_SERVERS as usize;
+
+pub const SIMULATION_WORDS: usize = TRANSIT_FROM + transit::TRANSIT_WORDS;
 
 pub fn is_living(w: &[u32], k: u16) -> bool
     requires { ⌜ ClientIn (now w) k ⌝ }
     ensures { λ r. ⌜ r ≡ clientPlace (clientBlockOf (now (w .entry)) k) .living ⌝ }
 {
-    let a = 7 + 99 * (k as usize - 1);
-    let e = a + 99;
+    let a = CLIENTS_FROM + CLIENT_BLOCK * (k as usize - 1);
+    let e = a + CLIENT_BLOCK;
     places::is_living(&w[a..e])
 }
 
@@ -32,8 +45,8 @@ fn is_inside(w: &[u32], k: u16) -> bool
     requires { ⌜ ClientIn (now w) k ⌝ }
     ensures { λ r. ⌜ r ≡ isInside (clientPlace (clientBlockOf (now (w .entry)) k)) ⌝ }
 {
-    let a = 7 + 99 * (k as usize - 1);
-    let e = a + 99;
+    let a = CLIENTS_FROM + CLIENT_BLOCK * (k as usize - 1);
+    let e = a + CLIENT_BLOCK;
     places::is_inside(&w[a..e])
 }
 
@@ -41,56 +54,56 @@ pub fn client_record(w: &[u32], k: u16) -> Client
     requires { ⌜ ClientIn (now w) k × (holdsClient (clientRecord (clientBlockOf (now w) k)) ≡ true) ⌝ }
     ensures { λ c. ⌜ c ≡ clientFrom (clientRecord (clientBlockOf (now (w .entry)) k)) ⌝ }
 {
-    let a = 7 + 99 * (k as usize - 1);
-    let e = a + 99;
+    let a = CLIENTS_FROM + CLIENT_BLOCK * (k as usize - 1);
+    let e = a + CLIENT_BLOCK;
     places::client_record(&w[a..e])
 }
 
 pub fn put_client(w: &mut [u32], k: u16, c: Client)
     requires { ⌜ ClientIn (now w) k ⌝ }
-    ensures { λ _. ⌜ now (w .exit) ≡ sets (now (w .entry)) (7 + 99 * (k - 1)) (sets (clientBlockOf (now (w .entry)) k) 1 (clientWords c)) ⌝ }
+    ensures { λ _. ⌜ now (w .exit) ≡ sets (now (w .entry)) (7 + clientBlock * (k - 1)) (sets (clientBlockOf (now (w .entry)) k) 1 (clientWords c)) ⌝ }
 {
-    let a = 7 + 99 * (k as usize - 1);
-    let e = a + 99;
+    let a = CLIENTS_FROM + CLIENT_BLOCK * (k as usize - 1);
+    let e = a + CLIENT_BLOCK;
     places::put_client(&mut w[a..e], c);
 }
 
 pub fn fall_client(w: &mut [u32], k: u16)
     requires { ⌜ ClientIn (now w) k ⌝ }
-    ensures { λ _. ⌜ now (w .exit) ≡ sets (now (w .entry)) (7 + 99 * (k - 1)) (cleared (set (clientBlockOf (now (w .entry)) k) 0 0)) ⌝ }
+    ensures { λ _. ⌜ now (w .exit) ≡ sets (now (w .entry)) (7 + clientBlock * (k - 1)) (cleared (set (clientBlockOf (now (w .entry)) k) 0 0)) ⌝ }
 {
-    let a = 7 + 99 * (k as usize - 1);
-    let e = a + 99;
+    let a = CLIENTS_FROM + CLIENT_BLOCK * (k as usize - 1);
+    let e = a + CLIENT_BLOCK;
     places::fall(&mut w[a..e]);
 }
 
 // No server counts in the client's epoch any more.
 pub fn clear_client(w: &mut [u32], k: u16)
     requires { ⌜ ClientIn (now w) k ⌝ }
-    ensures { λ _. ⌜ now (w .exit) ≡ sets (now (w .entry)) (7 + 99 * (k - 1)) (cleared (clientBlockOf (now (w .entry)) k)) ⌝ }
+    ensures { λ _. ⌜ now (w .exit) ≡ sets (now (w .entry)) (7 + clientBlock * (k - 1)) (cleared (clientBlockOf (now (w .entry)) k)) ⌝ }
 {
-    let a = 7 + 99 * (k as usize - 1);
-    let e = a + 99;
+    let a = CLIENTS_FROM + CLIENT_BLOCK * (k as usize - 1);
+    let e = a + CLIENT_BLOCK;
     places::clear_flags(&mut w[a..e]);
 }
 
 // Whether server j counts in the client's epoch.
 pub fn put_flag(w: &mut [u32], k: u16, j: ServerId, x: u32)
-    requires { ⌜ ClientIn (now w) k × (1 ≤ j .0) × (j .0 ≤ 31) ⌝ }
-    ensures { λ _. ⌜ now (w .exit) ≡ sets (now (w .entry)) (7 + 99 * (k - 1)) (set (clientBlockOf (now (w .entry)) k) (67 + j .0) x) ⌝ }
+    requires { ⌜ ClientIn (now w) k × (1 ≤ j .0) × (j .0 ≤ systemServers) ⌝ }
+    ensures { λ _. ⌜ now (w .exit) ≡ sets (now (w .entry)) (7 + clientBlock * (k - 1)) (set (clientBlockOf (now (w .entry)) k) (clientSize + j .0) x) ⌝ }
 {
-    let a = 7 + 99 * (k as usize - 1);
-    let e = a + 99;
+    let a = CLIENTS_FROM + CLIENT_BLOCK * (k as usize - 1);
+    let e = a + CLIENT_BLOCK;
     places::put_flag(&mut w[a..e], j, x);
 }
 
 // Server j goes down: noted if the client's epoch runs.
 pub fn mark_client(w: &mut [u32], k: u16, j: ServerId)
-    requires { ⌜ ClientIn (now w) k × (1 ≤ j .0) × (j .0 ≤ 31) ⌝ }
-    ensures { λ _. ⌜ now (w .exit) ≡ sets (now (w .entry)) (7 + 99 * (k - 1)) (if inEpoch (clientPlace (clientBlockOf (now (w .entry)) k)) then set (clientBlockOf (now (w .entry)) k) (67 + j .0) 1 else clientBlockOf (now (w .entry)) k) ⌝ }
+    requires { ⌜ ClientIn (now w) k × (1 ≤ j .0) × (j .0 ≤ systemServers) ⌝ }
+    ensures { λ _. ⌜ now (w .exit) ≡ sets (now (w .entry)) (7 + clientBlock * (k - 1)) (if inEpoch (clientPlace (clientBlockOf (now (w .entry)) k)) then set (clientBlockOf (now (w .entry)) k) (clientSize + j .0) 1 else clientBlockOf (now (w .entry)) k) ⌝ }
 {
-    let a = 7 + 99 * (k as usize - 1);
-    let e = a + 99;
+    let a = CLIENTS_FROM + CLIENT_BLOCK * (k as usize - 1);
+    let e = a + CLIENT_BLOCK;
     places::mark_down(&mut w[a..e], j);
 }
 
@@ -98,8 +111,8 @@ pub fn is_up(w: &[u32], j: u16) -> bool
     requires { ⌜ ServerIn (now w) j ⌝ }
     ensures { λ r. ⌜ r ≡ serverPlace (serverBlockOf (now (w .entry)) j) .up ⌝ }
 {
-    let a = 1591 + 38 * (j as usize - 1);
-    let e = a + 38;
+    let a = SERVERS_FROM + SERVER_BLOCK * (j as usize - 1);
+    let e = a + SERVER_BLOCK;
     places::is_up(&w[a..e])
 }
 
@@ -107,35 +120,35 @@ pub fn server_record(w: &[u32], j: u16) -> Server
     requires { ⌜ ServerIn (now w) j × (holdsServer (serverRecord (serverBlockOf (now w) j)) ≡ true) ⌝ }
     ensures { λ s. ⌜ s ≡ serverFrom (serverRecord (serverBlockOf (now (w .entry)) j)) ⌝ }
 {
-    let a = 1591 + 38 * (j as usize - 1);
-    let e = a + 38;
+    let a = SERVERS_FROM + SERVER_BLOCK * (j as usize - 1);
+    let e = a + SERVER_BLOCK;
     places::server_record(&w[a..e])
 }
 
 pub fn put_server(w: &mut [u32], j: u16, s: Server)
-    requires { ⌜ ServerIn (now w) j × (s .votes .queue .len ≤ 16) ⌝ }
-    ensures { λ _. ⌜ now (w .exit) ≡ sets (now (w .entry)) (1591 + 38 * (j - 1)) (sets (serverBlockOf (now (w .entry)) j) 1 (serverWords s)) ⌝ }
+    requires { ⌜ ServerIn (now w) j × (s .votes .queue .len ≤ maxQueue) ⌝ }
+    ensures { λ _. ⌜ now (w .exit) ≡ sets (now (w .entry)) (serversFrom + serverBlock * (j - 1)) (sets (serverBlockOf (now (w .entry)) j) 1 (serverWords s)) ⌝ }
 {
-    let a = 1591 + 38 * (j as usize - 1);
-    let e = a + 38;
+    let a = SERVERS_FROM + SERVER_BLOCK * (j as usize - 1);
+    let e = a + SERVER_BLOCK;
     places::put_server(&mut w[a..e], s);
 }
 
 pub fn sink_server(w: &mut [u32], j: u16)
     requires { ⌜ ServerIn (now w) j × (holdsServer (serverRecord (serverBlockOf (now w) j)) ≡ true) ⌝ }
-    ensures { λ _. ⌜ now (w .exit) ≡ sets (now (w .entry)) (1591 + 38 * (j - 1)) (set (sets (serverBlockOf (now (w .entry)) j) 1 (serverWords (emptied (serverFrom (serverRecord (serverBlockOf (now (w .entry)) j)))))) 0 0) ⌝ }
+    ensures { λ _. ⌜ now (w .exit) ≡ sets (now (w .entry)) (serversFrom + serverBlock * (j - 1)) (set (sets (serverBlockOf (now (w .entry)) j) 1 (serverWords (emptied (serverFrom (serverRecord (serverBlockOf (now (w .entry)) j)))))) 0 0) ⌝ }
 {
-    let a = 1591 + 38 * (j as usize - 1);
-    let e = a + 38;
+    let a = SERVERS_FROM + SERVER_BLOCK * (j as usize - 1);
+    let e = a + SERVER_BLOCK;
     places::sink(&mut w[a..e]);
 }
 
 pub fn rise_server(w: &mut [u32], j: u16)
     requires { ⌜ ServerIn (now w) j ⌝ }
-    ensures { λ _. ⌜ now (w .exit) ≡ sets (now (w .entry)) (1591 + 38 * (j - 1)) (set (serverBlockOf (now (w .entry)) j) 0 1) ⌝ }
+    ensures { λ _. ⌜ now (w .exit) ≡ sets (now (w .entry)) (serversFrom + serverBlock * (j - 1)) (set (serverBlockOf (now (w .entry)) j) 0 1) ⌝ }
 {
-    let a = 1591 + 38 * (j as usize - 1);
-    let e = a + 38;
+    let a = SERVERS_FROM + SERVER_BLOCK * (j as usize - 1);
+    let e = a + SERVER_BLOCK;
     places::rise(&mut w[a..e]);
 }
 
@@ -158,15 +171,15 @@ fn client_valid(w: &[u32], n: u32, m: u32, clients: u32, k: u16) -> bool
     requires { ⌜ ClientIn (now w) k ⌝ }
     ensures { λ r. ⌜ r ≡ validClientBlock n m clients k (clientBlockOf (now (w .entry)) k) ⌝ }
 {
-    let a = 7 + 99 * (k as usize - 1);
-    let e = a + 99;
+    let a = CLIENTS_FROM + CLIENT_BLOCK * (k as usize - 1);
+    let e = a + CLIENT_BLOCK;
     places::valid_client_block(&w[a..e], n, m, clients, k as u32)
 }
 
 // Whether the blocks of the first clients are valid, each as its number.
 fn clients_valid(w: &[u32], n: u32, m: u32, clients: u16) -> bool
-    requires { ⌜ (length (now w) ≡ 6353) × (clients ≤ 16) ⌝ }
-    ensures { λ r. ⌜ r ≡ validFrom (validClientBlock n m clients) 1 (blocks 99 itself clients (clientsPart (now (w .entry)))) ⌝ }
+    requires { ⌜ (length (now w) ≡ simulationSize) × (clients ≤ systemClients) ⌝ }
+    ensures { λ r. ⌜ r ≡ validFrom (validClientBlock n m clients) 1 (blocks clientBlock itself clients (clientsPart (now (w .entry)))) ⌝ }
 {
     let mut i: u16 = 0;
     while i < clients {
@@ -182,15 +195,15 @@ fn server_valid(w: &[u32], n: u32, clients: u32, j: u16) -> bool
     requires { ⌜ ServerIn (now w) j ⌝ }
     ensures { λ r. ⌜ r ≡ validServerBlock n clients j (serverBlockOf (now (w .entry)) j) ⌝ }
 {
-    let a = 1591 + 38 * (j as usize - 1);
-    let e = a + 38;
+    let a = SERVERS_FROM + SERVER_BLOCK * (j as usize - 1);
+    let e = a + SERVER_BLOCK;
     places::valid_server_block(&w[a..e], n, clients, j as u32)
 }
 
 // Whether the blocks of the servers are valid, each as its number.
 fn servers_valid(w: &[u32], n: u16, clients: u32) -> bool
-    requires { ⌜ (length (now w) ≡ 6353) × (n ≤ 31) ⌝ }
-    ensures { λ r. ⌜ r ≡ validFrom (validServerBlock n clients) 1 (blocks 38 itself n (serversPart (now (w .entry)))) ⌝ }
+    requires { ⌜ (length (now w) ≡ simulationSize) × (n ≤ systemServers) ⌝ }
+    ensures { λ r. ⌜ r ≡ validFrom (validServerBlock n clients) 1 (blocks serverBlock itself n (serversPart (now (w .entry)))) ⌝ }
 {
     let mut i: u16 = 0;
     while i < n {
@@ -216,15 +229,15 @@ fn downs_of(w: &[u32], k: u16) -> u32
     requires { ⌜ ClientIn (now w) k ⌝ }
     ensures { λ r. ⌜ r ≡ length (clientPlace (clientBlockOf (now (w .entry)) k) .downs) ⌝ }
 {
-    let a = 7 + 99 * (k as usize - 1);
-    let e = a + 99;
+    let a = CLIENTS_FROM + CLIENT_BLOCK * (k as usize - 1);
+    let e = a + CLIENT_BLOCK;
     places::count_flags(&w[a..e])
 }
 
 // The most servers ever down within an epoch that runs.
 pub fn worst_down(w: &[u32], clients: u16) -> u32
-    requires { ⌜ (length (now w) ≡ 6353) × (clients ≤ 16) ⌝ }
-    ensures { λ r. ⌜ r ≡ worst (blocks 99 clientPlace clients (clientsPart (now (w .entry)))) ⌝ }
+    requires { ⌜ (length (now w) ≡ simulationSize) × (clients ≤ systemClients) ⌝ }
+    ensures { λ r. ⌜ r ≡ worst (blocks clientBlock clientPlace clients (clientsPart (now (w .entry)))) ⌝ }
 {
     let mut most: u32 = 0;
     let mut i: u16 = 0;
@@ -238,8 +251,8 @@ pub fn worst_down(w: &[u32], clients: u16) -> u32
 
 // How many living clients are in the critical section.
 pub fn count_inside(w: &[u32], clients: u16) -> u32
-    requires { ⌜ (length (now w) ≡ 6353) × (clients ≤ 16) ⌝ }
-    ensures { λ r. ⌜ r ≡ count (map isInside (blocks 99 clientPlace clients (clientsPart (now (w .entry))))) ⌝ }
+    requires { ⌜ (length (now w) ≡ simulationSize) × (clients ≤ systemClients) ⌝ }
+    ensures { λ r. ⌜ r ≡ count (map isInside (blocks clientBlock clientPlace clients (clientsPart (now (w .entry))))) ⌝ }
 {
     let mut found: u32 = 0;
     let mut i: u16 = 0;
@@ -254,33 +267,43 @@ pub fn count_inside(w: &[u32], clients: u16) -> u32
 
 // The tests of the blocks and of what stands behind them, in a setting in range.
 fn blocks_valid(w: &[u32], n: u16, m: u32, clients: u16) -> bool
-    requires { ⌜ (length (now w) ≡ 6353) × (n ≤ 31) × (clients ≤ 16) ⌝ }
+    requires { ⌜ (length (now w) ≡ simulationSize) × (n ≤ systemServers) × (clients ≤ systemClients) ⌝ }
     ensures { λ r. ⌜ r ≡ blocksValid n m clients (now (w .entry)) ⌝ }
 {
     if !clients_valid(w, n as u32, m, clients) {
         return false;
     }
-    if !is_blank(w, 7 + 99 * (clients as usize), 1591) {
+    if !is_blank(
+        w,
+        CLIENTS_FROM + CLIENT_BLOCK * (clients as usize),
+        SERVERS_FROM,
+    ) {
         return false;
     }
     if !servers_valid(w, n, clients as u32) {
         return false;
     }
-    is_blank(w, 1591 + 38 * (n as usize), 2769)
+    is_blank(w, SERVERS_FROM + SERVER_BLOCK * (n as usize), TRANSIT_FROM)
 }
 
 fn transit_valid(w: &[u32], n: u32, clients: u32) -> bool
-    requires { ⌜ length (now w) ≡ 6353 ⌝ }
+    requires { ⌜ length (now w) ≡ simulationSize ⌝ }
     ensures { λ r. ⌜ r ≡ validSlots n clients (sentOf (now (w .entry))) (lengthOf (now (w .entry))) (transitWords (now (w .entry))) ⌝ }
 {
     let len = w[4];
     let sent = w[5];
-    transit::valid(&w[2769..6353], len as usize, sent, n, clients)
+    transit::valid(
+        &w[TRANSIT_FROM..SIMULATION_WORDS],
+        len as usize,
+        sent,
+        n,
+        clients,
+    )
 }
 
 // The tests of all that stands behind the setting, which is in range.
 fn parts_valid(w: &[u32], n: u16, m: u32, clients: u16) -> bool
-    requires { ⌜ (length (now w) ≡ 6353) × (n ≤ 31) × (clients ≤ 16) ⌝ }
+    requires { ⌜ (length (now w) ≡ simulationSize) × (n ≤ systemServers) × (clients ≤ systemClients) ⌝ }
     ensures { λ r. ⌜ r ≡ partsValid n m clients (now (w .entry)) ⌝ }
 {
     if !blocks_valid(w, n, m, clients) {
@@ -300,7 +323,7 @@ fn parts_valid(w: &[u32], n: u16, m: u32, clients: u16) -> bool
 pub fn valid(w: &[u32]) -> bool
     ensures { λ r. ⌜ r ≡ isValid (now (w .entry)) ⌝ }
 {
-    if w.len() != 6353 {
+    if w.len() != SIMULATION_WORDS {
         return false;
     }
     let n = w[0];
@@ -310,7 +333,7 @@ pub fn valid(w: &[u32]) -> bool
         return false;
     }
     let clients = w[3];
-    if !ids::within_limit(clients, 16) {
+    if !ids::within_limit(clients, system::MAX_CLIENTS) {
         return false;
     }
     parts_valid(w, n as u16, m, clients as u16)

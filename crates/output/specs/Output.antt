@@ -10,11 +10,11 @@ use Rattle.ids.specs.declared.Refusal.the-variants.{BadLine, ParameterOutOfRang
 use Rattle.wire.specs.Step.{refused, stepped}
 use Rattle.client.specs.Figure1.{enough}
 use Rattle.quorum.specs.Check.{inRange}
+use Rattle.system.specs.Limits.{systemClients}
 use Rattle.system.specs.declared.Event.{Event}
 use Rattle.system.specs.Places.{System, holders}
 use Rattle.system.specs.Events.{Result}
 use Rattle.system.specs.Runs.{after, start, runBy, acceptedEvents, mostHolders}
-use Rattle.layout.specs.Layout.{maxClients}
 use Rattle.bounded.specs.Happens.{bounded}
 use Rattle.language.specs.Words.{newline}
 use Rattle.language.specs.Lines.{eventIn, settingIn}
@@ -70,7 +70,7 @@ endOf s es =
 
 -- a setting in range; an unsafe or stalling one runs
 abbrev pub runs : Setting → Bool
-runs s = inRange (s .n) (s .m) (s .f) && within (s .clients) maxClients
+runs s = inRange (s .n) (s .m) (s .f) && within (s .clients) systemClients
 
 -- what a setting and the lines after it print
 unfoldable pub played : Setting → List (List ℕ) → List ℕ

@@ -13,15 +13,16 @@ use Rattle.ids.specs.Requests.{noRequest}
 use Rattle.ids.specs.Choice.{if_then_else_}
 use Rattle.ids.specs.declared.Request.{Request}
 use Rattle.ids.specs.declared.Owner.the-variants.{Nobody}
-use Rattle.votes.specs.Queues.{queueOf}
+use Rattle.votes.specs.Queues.{queueOf, maxQueue}
 use Rattle.server.specs.declared.Server.{Server}
 use Rattle.client.specs.declared.Client.{Client}
 use Rattle.system.specs.Places.{inEpoch}
-use Rattle.words.specs.Records.{requestsIn, clientWords, serverWords, serverFrom}
+use Rattle.words.specs.Records.{requestsIn, clientWords, serverWords, serverFrom, clientSize, serverSize}
 use Rattle.words.proofs.RecordsLaws.{requests-at, length-words}
-use Rattle.places.specs.Blocks.{namedPair, cleared, serverRecord, clientPlace, emptied}
+use Rattle.places.specs.Blocks.{namedPair, cleared, serverRecord, clientPlace, emptied, flagsFrom}
 use Rattle.ids.specs.Lists.{every}
 use Rattle.places.proofs.Fronts.{Passing, passing-none, passing-more, passing-failed, passing-all, Clearing, clearing-all}
+use Rattle.system.specs.Limits.{systemServers}
 
 module _ (l : List ℕ) (most : ℕ) where
   abbrev below : ℕ → Bool
@@ -99,21 +100,21 @@ part-stored b ys vs a k h e p =
 
 pub length-cleared : (b : List ℕ) → length (cleared b) ≡ length b
 unfolding cleared
-length-cleared b = length-sets b 68 (replicate 31 0)
+length-cleared b = length-sets b flagsFrom (replicate systemServers 0)
 
-pub all-cleared : (b l : List ℕ) (i : ℕ) → Clearing b 68 31 l i → 31 ≤ i → l ≡ cleared b
+pub all-cleared : (b l : List ℕ) (i : ℕ) → Clearing b flagsFrom systemServers l i → systemServers ≤ i → l ≡ cleared b
 unfolding cleared
-all-cleared b l i S h = clearing-all b 68 31 l i S h
+all-cleared b l i S h = clearing-all b flagsFrom systemServers l i S h
 
 -- the flags behind those of n servers
-pub rest-of : (l : List ℕ) (n : ℕ) (y : Bool) → length l ≡ 31 → y ≡ every (λ x. leb x 0) (take (31 - n) (drop n l)) → y ≡ every (λ x. leb x 0) (drop n l)
-rest-of l n y e q = q ∙ ap (every (λ (x : ℕ). leb x 0)) (take-all (31 - n) (drop n l) (omega (arith, length-drop n l)))
+pub rest-of : (l : List ℕ) (n : ℕ) (y : Bool) → length l ≡ systemServers → y ≡ every (λ x. leb x 0) (take (systemServers - n) (drop n l)) → y ≡ every (λ x. leb x 0) (drop n l)
+rest-of l n y e q = q ∙ ap (every (λ (x : ℕ). leb x 0)) (take-all (systemServers - n) (drop n l) (omega (arith, length-drop n l)))
 
-pub client-long : (c : Client) → length (c .places) ≡ 31 → length (clientWords c) ≡ 67
+pub client-long : (c : Client) → length (c .places) ≡ systemServers → length (clientWords c) ≡ clientSize
 unfolding clientWords
 client-long c e = omega (arith, length-words (c .places))
 
-pub server-long : (s : Server) → length (s .votes .queue .places) ≡ 16 → length (serverWords s) ≡ 37
+pub server-long : (s : Server) → length (s .votes .queue .places) ≡ maxQueue → length (serverWords s) ≡ serverSize
 unfolding serverWords
 server-long s e = omega (arith, length-words (s .votes .queue .places))
 
@@ -126,11 +127,11 @@ module _ (b : List ℕ) (at : ℕ) (x : Bool) (e : x ≡ inEpoch (clientPlace b)
   unmarked t = rw (← e, t)
 
 -- a server that forgets
-pub forgot : (s : Server) (q : Request) → q ≡ noRequest → record { n = s .n; id = s .id; votes = record { owner = Nobody; queue = record { len = 0; places = replicate 16 q } } } ≡ emptied s
+pub forgot : (s : Server) (q : Request) → q ≡ noRequest → record { n = s .n; id = s .id; votes = record { owner = Nobody; queue = record { len = 0; places = replicate maxQueue q } } } ≡ emptied s
 unfolding queueOf
 forgot s q e = rw e
 
-pub empty-queue : (s e : Server) → e ≡ emptied s → e .votes .queue .len ≤ 16
+pub empty-queue : (s e : Server) → e ≡ emptied s → e .votes .queue .len ≤ maxQueue
 unfolding queueOf
 empty-queue s e p = rw p (omega arith)
 

@@ -15,13 +15,14 @@ use Rattle.client.specs.Figure1.{State}
 use Rattle.client.specs.Record as client
 use Rattle.client.specs.Calls.{isRemainder}
 use Rattle.client.proofs.KeepsValid.{Fits, view-store, store-valid}
-use Rattle.words.specs.Records.{holdsClient, clientFrom, clientWords}
+use Rattle.words.specs.Records.{holdsClient, clientFrom, clientWords, clientSize}
 use Rattle.words.proofs.RoundTrip.{client-read-back}
 use Rattle.regions.proofs.SetsLaws.{region-inside, region-before}
 use Rattle.system.specs.Places.{ClientPlace, inEpoch}
-use Rattle.places.specs.Blocks.{clientRecord, flags, flagged, clientPlace, bitWord, zeroWord, named, validClientBlock}
+use Rattle.places.specs.Blocks.{clientRecord, flags, flagged, clientPlace, bitWord, zeroWord, named, validClientBlock, clientBlock, flagsFrom}
 use Rattle.places.proofs.BlockParts.{read-in, covered, client-long, first-kept}
 use Rattle.places.proofs.Facts.{ClientBlock, client-facts, client-block, outside-clear}
+use Rattle.system.specs.Limits.{systemServers}
 
 -- these words are a valid block, which is place p
 pub record ClientIs (n m clients k : ℕ) (b : List ℕ) (p : ClientPlace) : Type 0 where
@@ -29,17 +30,17 @@ pub record ClientIs (n m clients k : ℕ) (b : List ℕ) (p : ClientPlace) : Typ
   pub valid : validClientBlock n m clients k b ≡ true
 
 -- a store of a record, seen through the parts
-module _ (b ws : List ℕ) (l : length b ≡ 99) (w : length ws ≡ 67) where
+module _ (b ws : List ℕ) (l : length b ≡ clientBlock) (w : length ws ≡ clientSize) where
   pub record-stored : clientRecord (sets b 1 ws) ≡ ws
   record-stored =
-      region-inside 1 67 b 0 ws (omega arith) ∙ covered (clientRecord b) ws (simp (length-take, length-drop) (omega arith))
+      region-inside 1 clientSize b 0 ws (omega arith) ∙ covered (clientRecord b) ws (simp (length-take, length-drop) (omega arith))
 
   pub flags-kept : flags (sets b 1 ws) ≡ flags b
-  flags-kept = region-before 68 31 b 1 ws (omega arith)
+  flags-kept = region-before flagsFrom systemServers b 1 ws (omega arith)
 
 -- what a block has beside its record: a fallen client has no flag
 pub record Frame (n : ℕ) (b : List ℕ) : Type 0 where
-  pub size : length b ≡ 99
+  pub size : length b ≡ clientBlock
   pub bit : getD b 0 0 ≤ 1
   pub bits : every bitWord (flags b) ≡ true
   pub behind : every zeroWord (drop n (flags b)) ≡ true
@@ -57,7 +58,7 @@ module _ (n m clients k : ℕ) (b : List ℕ) (B : Frame n b) where
     abbrev kept : Client
     kept = client.store n m (record { 0 = k }) s
 
-    kept-places : length (kept .places) ≡ 31
+    kept-places : length (kept .places) ≡ systemServers
     unfolding client.store
     kept-places = simp (length-append, length-map, length-replicate) (omega (arith, F .long, F .ranges .few))
 

@@ -18,17 +18,18 @@ use Rattle.wire.proofs.BytesLaws.{stored-on}
 use Rattle.client.specs.Figure1.{tries, exits}
 use Rattle.client.specs.Record as client
 use Rattle.client.specs.Calls.{isRemainder, lastTry}
-use Rattle.words.specs.Records.{clientFrom}
+use Rattle.words.specs.Records.{clientFrom, clientSize}
 use Rattle.regions.proofs.SetsLaws.{region-inside, region-behind}
 use Rattle.system.specs.Numbered.{added}
 use Rattle.system.specs.Places.{ServerPlace, inEpoch, downed, downFrom}
-use Rattle.places.specs.Blocks.{clientRecord, flags, flagged, cleared, clientPlace, bitWord, zeroWord, validClientBlock}
+use Rattle.places.specs.Blocks.{clientRecord, flags, flagged, cleared, clientPlace, bitWord, zeroWord, validClientBlock, clientBlock, flagsFrom}
 use Rattle.ids.proofs.ListLaws.{every-append, every-drop, every-set}
 use Rattle.places.proofs.BlockParts.{covered, first-kept, length-cleared}
 use Rattle.places.proofs.Facts.{ClientBlock, client-facts, client-block, client-few}
 use Rattle.places.proofs.FlagLaws.{none-flagged, flag-adds, downBit, down-flagged}
 use Rattle.places.proofs.ClientLaws.{ClientIs}
 use Rattle.places.proofs.ClientSteps.{written, tries-block, exits-block}
+use Rattle.system.specs.Limits.{systemServers}
 
 -- a block with the record of a valid one, and flags that fit
 module _ (n m clients k : ℕ) (b b′ : List ℕ) (ok : validClientBlock n m clients k b ≡ true) where
@@ -40,7 +41,7 @@ module _ (n m clients k : ℕ) (b b′ : List ℕ) (ok : validClientBlock n m cl
     unfolding clientPlace
     moved-place = ap (λ (l : List ℕ). record { living = eqb (getD b′ 0 0) 1; state = client.view (clientFrom l); downs = flagged 1 (flags b′) }) e
 
-    moved : length b′ ≡ 99 → getD b′ 0 0 ≤ 1 → every bitWord (flags b′) ≡ true → every zeroWord (drop n (flags b′)) ≡ true
+    moved : length b′ ≡ clientBlock → getD b′ 0 0 ≤ 1 → every bitWord (flags b′) ≡ true → every zeroWord (drop n (flags b′)) ≡ true
         → (inEpoch (record { living = eqb (getD b′ 0 0) 1; state = clientPlace b .state; downs = flagged 1 (flags b′) }) || every zeroWord (flags b′)) ≡ true
         → ClientIs n m clients k b′ (record { living = eqb (getD b′ 0 0) 1; state = clientPlace b .state; downs = flagged 1 (flags b′) })
     moved l f p q r =
@@ -66,21 +67,21 @@ or-true true = refl
 or-true false = refl
 
 -- the flags cleared
-module _ (b : List ℕ) (l : length b ≡ 99) where
-  cleared-flags : flags (cleared b) ≡ replicate 31 0
+module _ (b : List ℕ) (l : length b ≡ clientBlock) where
+  cleared-flags : flags (cleared b) ≡ replicate systemServers 0
   unfolding cleared
-  cleared-flags = region-inside 68 31 b 0 (replicate 31 0) (omega arith) ∙ covered (flags b) (replicate 31 0) (simp (length-take, length-drop) (omega arith))
+  cleared-flags = region-inside flagsFrom systemServers b 0 (replicate systemServers 0) (omega arith) ∙ covered (flags b) (replicate systemServers 0) (simp (length-take, length-drop) (omega arith))
 
   cleared-zero : every zeroWord (flags (cleared b)) ≡ true
   cleared-zero = ap (every zeroWord) cleared-flags
 
   cleared-record : clientRecord (cleared b) ≡ clientRecord b
   unfolding cleared
-  cleared-record = region-behind 1 67 b 0 (replicate 31 0)
+  cleared-record = region-behind 1 clientSize b 0 (replicate systemServers 0)
 
   cleared-first : getD (cleared b) 0 0 ≡ getD b 0 0
   unfolding cleared
-  cleared-first = first-kept b 67 (replicate 31 0)
+  cleared-first = first-kept b clientSize (replicate systemServers 0)
 
 zero-bits : (l : List ℕ) → every zeroWord l ≡ true → every bitWord l ≡ true
 zero-bits [] h = refl
@@ -90,7 +91,7 @@ zero-bits (x ∷ l) h =
     rw (le-leb x 1 (omega arith)) (zero-bits l g)
 
 module _ (n m clients k : ℕ) (b b′ : List ℕ) (ok : validClientBlock n m clients k b ≡ true) (e : clientRecord b′ ≡ clientRecord b) (z : every zeroWord (flags b′) ≡ true) where
-  no-flags : length b′ ≡ 99 → getD b′ 0 0 ≤ 1 → ClientIs n m clients k b′ (record { living = eqb (getD b′ 0 0) 1; state = clientPlace b .state; downs = [] })
+  no-flags : length b′ ≡ clientBlock → getD b′ 0 0 ≤ 1 → ClientIs n m clients k b′ (record { living = eqb (getD b′ 0 0) 1; state = clientPlace b .state; downs = [] })
   no-flags l f =
       let M = moved n m clients k b b′ ok e l f (zero-bits (flags b′) z) (every-drop zeroWord n (flags b′) z) (rw z (or-true (eqb (getD b′ 0 0) 1 && not (isRemainder (clientPlace b .state .section))))) in
       record { place = M .place ∙ ap (λ (d : List ℕ). record { living = eqb (getD b′ 0 0) 1; state = clientPlace b .state; downs = d }) (none-flagged 1 (flags b′) z); valid = M .valid }
@@ -117,49 +118,49 @@ module _ (n m clients k : ℕ) (b : List ℕ) (ok : validClientBlock n m clients
   -- what `fall` leaves
   pub fall-block : ClientIs n m clients k (cleared (set b 0 0)) (record { living = false; state = clientPlace b .state; downs = [] })
   fall-block =
-      let l : length (set b 0 0) ≡ 99 = length-set b 0 0 ∙ C .size in
-      let r : clientRecord (set b 0 0) ≡ clientRecord b = ap (take 67) (drop-set-lt 1 b 0 0 (omega arith)) in
+      let l : length (set b 0 0) ≡ clientBlock = length-set b 0 0 ∙ C .size in
+      let r : clientRecord (set b 0 0) ≡ clientRecord b = ap (take clientSize) (drop-set-lt 1 b 0 0 (omega arith)) in
       let f : getD (cleared (set b 0 0)) 0 0 ≡ 0 = cleared-first (set b 0 0) l ∙ getD-set-same b 0 0 0 (omega (arith, C .size)) in
       let M = no-flags n m clients k b (cleared (set b 0 0)) ok (cleared-record (set b 0 0) l ∙ r) (cleared-zero (set b 0 0) l) (length-cleared (set b 0 0) ∙ l) (rw f (omega arith)) in
       record { place = M .place ∙ rw f; valid = M .valid }
 
   -- what `put_flag` with 1 leaves, in an epoch
   module _ (j : ℕ) (first : 1 ≤ j) (last : j ≤ n) (epoch : inEpoch (clientPlace b) ≡ true) where
-    few : n ≤ 31
+    few : n ≤ systemServers
     few = client-few n m clients k b C
 
-    long : length (flags b) ≡ 31
+    long : length (flags b) ≡ systemServers
     long = simp (length-take, length-drop) (omega (arith, C .size))
 
-    set-flags : flags (set b (67 + j) 1) ≡ set (flags b) (j - 1) 1
+    set-flags : flags (set b (clientSize + j) 1) ≡ set (flags b) (j - 1) 1
     set-flags =
-        let z : 67 + j ≡ 68 + (j - 1) = omega arith in
-        rw z (region-inside 68 31 b (j - 1) (1 ∷ []) (omega (arith, few)))
+        let z : clientSize + j ≡ flagsFrom + (j - 1) = omega arith in
+        rw z (region-inside flagsFrom systemServers b (j - 1) (1 ∷ []) (omega (arith, few)))
 
-    set-record : clientRecord (set b (67 + j) 1) ≡ clientRecord b
+    set-record : clientRecord (set b (clientSize + j) 1) ≡ clientRecord b
     set-record =
-        let z : 67 + j ≡ 1 + 67 + (j - 1) = omega arith in
-        rw z (region-behind 1 67 b (j - 1) (1 ∷ []))
+        let z : clientSize + j ≡ 1 + clientSize + (j - 1) = omega arith in
+        rw z (region-behind 1 clientSize b (j - 1) (1 ∷ []))
 
-    set-first : getD (set b (67 + j) 1) 0 0 ≡ getD b 0 0
-    set-first = let z : 67 + j ≡ suc (66 + j) = omega arith in rw z (first-kept b (66 + j) (1 ∷ []))
+    set-first : getD (set b (clientSize + j) 1) 0 0 ≡ getD b 0 0
+    set-first = let z : clientSize + j ≡ suc (66 + j) = omega arith in rw z (first-kept b (66 + j) (1 ∷ []))
 
-    flag-downs : flagged 1 (flags (set b (67 + j) 1)) ≡ added j (flagged 1 (flags b))
+    flag-downs : flagged 1 (flags (set b (clientSize + j) 1)) ≡ added j (flagged 1 (flags b))
     flag-downs =
         let z : 1 + (j - 1) ≡ j = omega arith in
         ap (flagged 1) set-flags ∙ flag-adds 1 (j - 1) (flags b) (omega (arith, long, few)) ∙ ap (λ (x : ℕ). added x (flagged 1 (flags b))) z
 
-    pub flag-block : ClientIs n m clients k (set b (67 + j) 1) (record { living = clientPlace b .living; state = clientPlace b .state; downs = added j (clientPlace b .downs) })
+    pub flag-block : ClientIs n m clients k (set b (clientSize + j) 1) (record { living = clientPlace b .living; state = clientPlace b .state; downs = added j (clientPlace b .downs) })
     flag-block =
         let M =
-        moved n m clients k b (set b (67 + j) 1) ok set-record (length-set b (67 + j) 1 ∙ C .size) (rw set-first (C .bit)) (rw set-flags (every-set bitWord (flags b) (j - 1) 1 (C .bits) refl))
+        moved n m clients k b (set b (clientSize + j) 1) ok set-record (length-set b (clientSize + j) 1 ∙ C .size) (rw set-first (C .bit)) (rw set-flags (every-set bitWord (flags b) (j - 1) 1 (C .bits) refl))
         (rw (set-flags, drop-set-lt n (flags b) (j - 1) 1 (omega arith)) (C .behind))
         (rw (set-first, living-is, epoch)) in
         record { place = M .place ∙ rw (set-first, living-is, flag-downs, downs-are); valid = M .valid }
 
   -- what `mark_down` leaves
   pub mark-block : (j : ServerId) → 1 ≤ j .0 → j .0 ≤ n
-      → ClientIs n m clients k (if inEpoch (clientPlace b) then set b (67 + j .0) 1 else b) (downed j (clientPlace b))
+      → ClientIs n m clients k (if inEpoch (clientPlace b) then set b (clientSize + j .0) 1 else b) (downed j (clientPlace b))
   mark-block j h g =
       ⊎-elim
       (λ (t : inEpoch (clientPlace b) ≡ true). rw t (flag-block (j .0) h g t))
@@ -174,11 +175,11 @@ module _ (n m clients k : ℕ) (b : List ℕ) (ok : validClientBlock n m clients
       rw (D .place) at E
 
 -- an epoch begins: the flags of the servers, put one after another
-pub flag-next : (b vs : List ℕ) (i : ℕ) → i < length vs → set (sets b 68 (take i vs)) (67 + (i + 1)) (getD vs i 0) ≡ sets b 68 (take (i + 1) vs)
+pub flag-next : (b vs : List ℕ) (i : ℕ) → i < length vs → set (sets b flagsFrom (take i vs)) (clientSize + (i + 1)) (getD vs i 0) ≡ sets b flagsFrom (take (i + 1) vs)
 flag-next b vs i h =
-    let z : 67 + (i + 1) ≡ 68 + i = omega arith in
+    let z : clientSize + (i + 1) ≡ flagsFrom + i = omega arith in
     let t : take (i + 1) vs ≡ take i vs ++ (getD vs i 0 ∷ []) = rw add-one (take-suc vs i 0 h) in
-    rw (z, t) (stored-on b (sets b 68 (take i vs)) (set (sets b 68 (take i vs)) (68 + i) (getD vs i 0)) (take i vs) (getD vs i 0 ∷ []) 68 (68 + i) refl refl (omega (arith, length-take-le i vs (omega arith))))
+    rw (z, t) (stored-on b (sets b flagsFrom (take i vs)) (set (sets b flagsFrom (take i vs)) (flagsFrom + i) (getD vs i 0)) (take i vs) (getD vs i 0 ∷ []) flagsFrom (flagsFrom + i) refl refl (omega (arith, length-take-le i vs (omega arith))))
 
 down-bits : (qs : List ServerPlace) → every bitWord (map downBit qs) ≡ true
 down-bits [] = refl
@@ -192,35 +193,35 @@ module _ (n m clients k : ℕ) (b : List ℕ) (ok : validClientBlock n m clients
   abbrev bits : List ℕ
   bits = map downBit qs
 
-  few-servers : n ≤ 31
+  few-servers : n ≤ systemServers
   few-servers = client-few n m clients k b D
 
   count : length bits ≡ n
   count = length-map qs downBit ∙ all
 
-  put-flags : flags (sets b 68 bits) ≡ bits ++ drop n (flags b)
+  put-flags : flags (sets b flagsFrom bits) ≡ bits ++ drop n (flags b)
   put-flags =
-      let l : length (flags b) ≡ 31 = simp (length-take, length-drop) (omega (arith, D .size)) in
+      let l : length (flags b) ≡ systemServers = simp (length-take, length-drop) (omega (arith, D .size)) in
       let z : 0 + length bits ≡ n = omega (arith, count, few-servers) in
-      region-inside 68 31 b 0 bits (omega (arith, count, few-servers)) ∙ sets-eq bits (flags b) 0 (omega (arith, count, few-servers)) ∙ ap (λ (x : ℕ). bits ++ drop x (flags b)) z
+      region-inside flagsFrom systemServers b 0 bits (omega (arith, count, few-servers)) ∙ sets-eq bits (flags b) 0 (omega (arith, count, few-servers)) ∙ ap (λ (x : ℕ). bits ++ drop x (flags b)) z
 
-  put-record : clientRecord (sets b 68 bits) ≡ clientRecord b
-  put-record = region-behind 1 67 b 0 bits
+  put-record : clientRecord (sets b flagsFrom bits) ≡ clientRecord b
+  put-record = region-behind 1 clientSize b 0 bits
 
-  put-first : getD (sets b 68 bits) 0 0 ≡ getD b 0 0
-  put-first = first-kept b 67 bits
+  put-first : getD (sets b flagsFrom bits) 0 0 ≡ getD b 0 0
+  put-first = first-kept b clientSize bits
 
-  pub put-block : inEpoch (clientPlace b) ≡ true → ClientIs n m clients k (sets b 68 (map downBit qs)) (record { living = clientPlace b .living; state = clientPlace b .state; downs = downFrom 1 qs })
+  pub put-block : inEpoch (clientPlace b) ≡ true → ClientIs n m clients k (sets b flagsFrom (map downBit qs)) (record { living = clientPlace b .living; state = clientPlace b .state; downs = downFrom 1 qs })
   put-block epoch =
-      let p : every bitWord (flags (sets b 68 bits)) ≡ true = rw put-flags (every-append bitWord bits (drop n (flags b)) (down-bits qs) (every-drop bitWord n (flags b) (D .bits))) in
-      let r : every zeroWord (drop n (flags (sets b 68 bits))) ≡ true = rw (put-flags, drop-at bits (drop n (flags b)) n count) (D .behind) in
-      let M = moved n m clients k b (sets b 68 bits) ok put-record (length-sets b 68 bits ∙ D .size) (rw put-first (D .bit)) p r (rw (put-first, living-is n m clients k b ok, epoch)) in
+      let p : every bitWord (flags (sets b flagsFrom bits)) ≡ true = rw put-flags (every-append bitWord bits (drop n (flags b)) (down-bits qs) (every-drop bitWord n (flags b) (D .bits))) in
+      let r : every zeroWord (drop n (flags (sets b flagsFrom bits))) ≡ true = rw (put-flags, drop-at bits (drop n (flags b)) n count) (D .behind) in
+      let M = moved n m clients k b (sets b flagsFrom bits) ok put-record (length-sets b flagsFrom bits ∙ D .size) (rw put-first (D .bit)) p r (rw (put-first, living-is n m clients k b ok, epoch)) in
       record { place = M .place ∙ rw (put-first, living-is n m clients k b ok, put-flags, down-flagged 1 qs (drop n (flags b)) (D .behind)); valid = M .valid }
 
 -- the record of a try is written, and the flags of the servers are put
 pub tried-block : (n m clients k : ℕ) (b : List ℕ) → validClientBlock n m clients k b ≡ true → clientPlace b .living ≡ true → isRemainder (clientPlace b .state .section) ≡ true
     → leb (clientPlace b .state .timestamp .0) lastTry ≡ true → (qs : List ServerPlace) → length qs ≡ n
-    → ClientIs n m clients k (sets (written n m k b (tries n (record { 0 = k }) (clientPlace b .state) .state)) 68 (map downBit qs)) (record { living = true; state = tries n (record { 0 = k }) (clientPlace b .state) .state; downs = downFrom 1 qs })
+    → ClientIs n m clients k (sets (written n m k b (tries n (record { 0 = k }) (clientPlace b .state) .state)) flagsFrom (map downBit qs)) (record { living = true; state = tries n (record { 0 = k }) (clientPlace b .state) .state; downs = downFrom 1 qs })
 unfolding tries
 tried-block n m clients k b ok alive h g qs all =
     let T = tries-block n m clients k b ok h g in

@@ -24,11 +24,12 @@ use Rattle.client.proofs.ValidLaws.{valid-known}
 use Rattle.words.specs.Records.{holdsServer, serverFrom, holdsClient, clientFrom}
 use Rattle.words.proofs.RecordsLaws.{client-held, length-requests}
 use Rattle.system.specs.Places.{inEpoch}
-use Rattle.places.specs.Blocks.{clientRecord, flags, serverRecord, clientPlace, serverPlace, bitWord, zeroWord, named, namedPair, fitsClient, fitsFlags, validClientBlock, fitsServer, validServerBlock}
+use Rattle.places.specs.Blocks.{clientRecord, flags, serverRecord, clientPlace, serverPlace, bitWord, zeroWord, named, namedPair, fitsClient, fitsFlags, validClientBlock, fitsServer, validServerBlock, clientBlock, serverBlock}
+use Rattle.system.specs.Limits.{systemServers}
 
 -- block k of a client
 pub record ClientBlock (n m clients k : ℕ) (b : List ℕ) : Type 0 where
-  pub size : length b ≡ 99
+  pub size : length b ≡ clientBlock
   pub bit : getD b 0 0 ≤ 1
   pub held : holdsClient (clientRecord b) ≡ true
   pub valid : client.valid (clientFrom (clientRecord b)) ≡ true
@@ -87,16 +88,16 @@ module _ (n m clients k : ℕ) (b : List ℕ) where
     client-block =
         rw (eq-eqb _ _ (B .size), le-leb _ _ (B .bit), B .held, B .valid, eq-eqb _ _ (B .servers), eq-eqb _ _ (B .threshold), eq-eqb _ _ (ap (λ (i : ClientId). i .0) (B .number)), B .names, B .bits, B .behind, B .outside)
 
-    client-places : length (its .places) ≡ 31
+    client-places : length (its .places) ≡ systemServers
     unfolding clientFrom
-    client-places = length-requests (drop 5 (clientRecord b)) 31 (simp length-drop (omega (arith, client-held (clientRecord b) (B .held) .fitting .size)))
+    client-places = length-requests (drop 5 (clientRecord b)) systemServers (simp length-drop (omega (arith, client-held (clientRecord b) (B .held) .fitting .size)))
 
     -- its state fits its numbers
     pub client-fits : Fits n m (record { 0 = k }) (clientPlace b .state)
     unfolding clientPlace
     client-fits = fits-as (B .servers) (B .threshold) (B .number) (view-fits its client-places (valid-known its (B .valid)))
 
-    pub client-few : n ≤ 31
+    pub client-few : n ≤ systemServers
     client-few = client-fits .ranges .few
 
     pub outside-clear : inEpoch (clientPlace b) ≡ false → every zeroWord (flags b) ≡ true
@@ -104,7 +105,7 @@ module _ (n m clients k : ℕ) (b : List ℕ) where
 
 -- block j of a server
 pub record ServerBlock (n clients j : ℕ) (b : List ℕ) : Type 0 where
-  pub size : length b ≡ 38
+  pub size : length b ≡ serverBlock
   pub bit : getD b 0 0 ≤ 1
   pub held : holdsServer (serverRecord b) ≡ true
   pub valid : server.valid (serverFrom (serverRecord b)) ≡ true

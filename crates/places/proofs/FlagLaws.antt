@@ -15,7 +15,8 @@ use Rattle.ids.specs.Lists.{every}
 use Rattle.ids.proofs.Choice.{decided, both}
 use Rattle.system.specs.Numbered.{added}
 use Rattle.system.specs.Places.{ServerPlace, downFrom}
-use Rattle.places.specs.Blocks.{flagged, clientPlace, zeroWord}
+use Rattle.places.specs.Blocks.{flagged, clientPlace, zeroWord, flagsFrom}
+use Rattle.system.specs.Limits.{systemServers}
 
 -- how many words are not 0
 abbrev pub ones : List ℕ → ℕ
@@ -43,16 +44,16 @@ one-at-most x r e = rw e (by-test (eqb x 0)) where
 
 -- what `flags_set` knows before flag i
 pub record Counting (l : List ℕ) (count i : ℕ) : Type 0 where
-  pub within : i ≤ 31
-  pub size : length l ≡ 31
+  pub within : i ≤ systemServers
+  pub size : length l ≡ systemServers
   pub few : count ≤ i
   pub done : count ≡ ones (take i l)
 
-pub counting-none : (l : List ℕ) → length l ≡ 31 → Counting l 0 0
+pub counting-none : (l : List ℕ) → length l ≡ systemServers → Counting l 0 0
 counting-none l e = record { within = omega arith; size = e; few = omega arith; done = refl }
 
 module _ (l : List ℕ) (count i : ℕ) (S : Counting l count i) where
-  pub counting-more : (r : ℕ) → i < 31 → r ≡ (if eqb (getD l i 0) 0 then 0 else 1) → Counting l (count + r) (i + 1)
+  pub counting-more : (r : ℕ) → i < systemServers → r ≡ (if eqb (getD l i 0) 0 then 0 else 1) → Counting l (count + r) (i + 1)
   counting-more r h e =
       let a : take (i + 1) l ≡ take i l ++ (getD l i 0 ∷ []) = rw add-one (take-suc l i 0 (omega (arith, S .size))) in
       let o = ones-append (take i l) (getD l i 0 ∷ []) in
@@ -63,10 +64,10 @@ module _ (l : List ℕ) (count i : ℕ) (S : Counting l count i) where
         done = rw a (omega (arith, o, S .done));
       }
 
-  pub counting-all : 31 ≤ i → count ≡ length (flagged 1 l)
+  pub counting-all : systemServers ≤ i → count ≡ length (flagged 1 l)
   counting-all h = S .done ∙ ap ones (take-all i l (omega (arith, S .size))) ∙ sym (length-flagged 1 l)
 
-pub downs-counted : (b : List ℕ) (r : ℕ) → r ≡ length (flagged 1 (take 31 (drop 68 b))) → r ≡ length (clientPlace b .downs)
+pub downs-counted : (b : List ℕ) (r : ℕ) → r ≡ length (flagged 1 (take systemServers (drop flagsFrom b))) → r ≡ length (clientPlace b .downs)
 unfolding clientPlace
 downs-counted b r e = e
 

@@ -15,13 +15,14 @@ use Rattle.votes.specs.Queues as votes
 use Rattle.server.specs.Record as server
 use Rattle.server.specs.declared.Server.{Server}
 use Rattle.server.proofs.KeepsValid.{Good, stored-valid}
-use Rattle.words.specs.Records.{holdsServer, serverFrom, serverWords}
+use Rattle.words.specs.Records.{holdsServer, serverFrom, serverWords, serverSize}
 use Rattle.words.proofs.RoundTrip.{server-read-back}
 use Rattle.regions.proofs.SetsLaws.{region-inside}
 use Rattle.system.specs.Places.{ServerPlace}
-use Rattle.places.specs.Blocks.{serverRecord, serverPlace, namedPair, validServerBlock, emptied}
+use Rattle.places.specs.Blocks.{serverRecord, serverPlace, namedPair, validServerBlock, emptied, serverBlock}
 use Rattle.places.proofs.BlockParts.{read-in, covered, server-long, first-kept}
 use Rattle.places.proofs.Facts.{ServerBlock, server-facts, server-block, server-sizes}
+use Rattle.votes.specs.Queues.{maxQueue}
 
 -- these words are a valid block, which is place p
 pub record ServerIs (n clients j : ℕ) (b : List ℕ) (p : ServerPlace) : Type 0 where
@@ -38,20 +39,20 @@ server-written n j b q = sets b 1 (serverWords (record { n = n; id = record { 0 
 view-again : (q : State) → votes.view (votes.store q) ≡ q
 unfolding votes.queueOf
 view-again q =
-    let e : take (length (q .queue)) (q .queue ++ replicate (16 - length (q .queue)) noRequest) ≡ q .queue = take-at (q .queue) _ (length (q .queue)) refl in
+    let e : take (length (q .queue)) (q .queue ++ replicate (maxQueue - length (q .queue)) noRequest) ≡ q .queue = take-at (q .queue) _ (length (q .queue)) refl in
     λ i. record { owner = q .owner; queue = e i }
 
 -- what `put_server` asks of a step's record
-pub stored-short : (q : State) → length (q .queue) ≤ 16 → votes.store q .queue .len ≤ 16
+pub stored-short : (q : State) → length (q .queue) ≤ maxQueue → votes.store q .queue .len ≤ maxQueue
 unfolding votes.queueOf
 stored-short q h = h
 
-module _ (n clients j : ℕ) (b : List ℕ) (size : length b ≡ 38) (bit : getD b 0 0 ≤ 1) (sizes : server.validSizes n (record { 0 = j }) ≡ true) where
-  module _ (q : State) (g : Good q) (names : every (namedPair clients) (candidates q) ≡ true) (short : length (q .queue) ≤ 16) where
+module _ (n clients j : ℕ) (b : List ℕ) (size : length b ≡ serverBlock) (bit : getD b 0 0 ≤ 1) (sizes : server.validSizes n (record { 0 = j }) ≡ true) where
+  module _ (q : State) (g : Good q) (names : every (namedPair clients) (candidates q) ≡ true) (short : length (q .queue) ≤ maxQueue) where
     abbrev kept : Server
     kept = server-of n j q
 
-    kept-places : length (kept .votes .queue .places) ≡ 16
+    kept-places : length (kept .votes .queue .places) ≡ maxQueue
     unfolding votes.queueOf
     kept-places = simp (length-append, length-replicate) (omega arith)
 
@@ -64,7 +65,7 @@ module _ (n clients j : ℕ) (b : List ℕ) (size : length b ≡ 38) (bit : getD
     its-record : serverRecord (server-written n j b q) ≡ serverWords kept
     its-record =
         let w = server-long kept kept-places in
-        region-inside 1 37 b 0 (serverWords kept) (omega arith) ∙ covered (serverRecord b) (serverWords kept) (simp (length-take, length-drop) (omega arith))
+        region-inside 1 serverSize b 0 (serverWords kept) (omega arith) ∙ covered (serverRecord b) (serverWords kept) (simp (length-take, length-drop) (omega arith))
 
     its-server : serverFrom (serverRecord (server-written n j b q)) ≡ kept
     its-server = ap serverFrom its-record ∙ words-held .1
@@ -91,7 +92,7 @@ module _ (n clients j : ℕ) (b : List ℕ) (size : length b ≡ 38) (bit : getD
           });
         }
 
-pub stored-server : (n clients j : ℕ) (b : List ℕ) → validServerBlock n clients j b ≡ true → (q : State) → Good q → every (namedPair clients) (candidates q) ≡ true → length (q .queue) ≤ 16
+pub stored-server : (n clients j : ℕ) (b : List ℕ) → validServerBlock n clients j b ≡ true → (q : State) → Good q → every (namedPair clients) (candidates q) ≡ true → length (q .queue) ≤ maxQueue
     → ServerIs n clients j (server-written n j b q) (record { up = serverPlace b .up; state = q })
 stored-server n clients j b ok q g names short =
     let B = server-facts n clients j b ok in
@@ -103,7 +104,7 @@ module _ (n clients j : ℕ) (b : List ℕ) (ok : validServerBlock n clients j b
   facts = server-facts n clients j b ok
 
   same-record : serverRecord (set b 0 x) ≡ serverRecord b
-  same-record = ap (take 37) (drop-set-lt 1 b 0 x (omega arith))
+  same-record = ap (take serverSize) (drop-set-lt 1 b 0 x (omega arith))
 
   first-set : getD (set b 0 x) 0 0 ≡ x
   first-set = getD-set-same b 0 x 0 (omega (arith, facts .size))
@@ -134,7 +135,7 @@ unfolding validOwner
 idle-good = record { owner = refl; all = refl; behind = refl; sorted = tt; single = tt }
 
 -- a new server's record
-pub idle-block : (n clients j : ℕ) (b : List ℕ) → length b ≡ 38 → getD b 0 0 ≤ 1 → server.validSizes n (record { 0 = j }) ≡ true
+pub idle-block : (n clients j : ℕ) (b : List ℕ) → length b ≡ serverBlock → getD b 0 0 ≤ 1 → server.validSizes n (record { 0 = j }) ≡ true
     → ServerIs n clients j (server-written n j b idle) (record { up = serverPlace b .up; state = idle })
 idle-block n clients j b size bit sizes = stored-record n clients j b size bit sizes idle idle-good refl (omega arith)
 

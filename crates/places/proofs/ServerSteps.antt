@@ -32,6 +32,8 @@ use Rattle.places.specs.Blocks.{serverRecord, serverPlace, namedPair, va
 use Rattle.places.proofs.Facts.{ServerBlock, server-facts, server-good}
 use Rattle.places.proofs.Pigeonhole.{queue-fits}
 use Rattle.places.proofs.ServerLaws.{ServerIs, server-of, server-written, stored-server}
+use Rattle.system.specs.Limits.{systemClients}
+use Rattle.votes.specs.Queues.{maxQueue}
 
 -- r is a request of one of so many clients
 abbrev pub OfClients : ℕ → Request → Type 0
@@ -123,7 +125,7 @@ module _ (n clients j : ℕ) (b : List ℕ) (ok : validServerBlock n clients j b
       pub receive-short : length (receive (record { 0 = j }) tag r (serverPlace b .state) .state .queue) ≤ clients
       receive-short = queue-fits clients (receive me tag r at .state) (receive-good me tag r at v good) receive-names
 
-      pub receive-block : clients ≤ 16
+      pub receive-block : clients ≤ systemClients
           → ServerIs n clients j (server-written n j b (receive (record { 0 = j }) tag r (serverPlace b .state) .state)) (record { up = serverPlace b .up; state = receive (record { 0 = j }) tag r (serverPlace b .state) .state })
       receive-block few = stored-server n clients j b ok (receive me tag r at .state) (receive-good me tag r at v good) receive-names (omega (arith, receive-short))
 
@@ -136,7 +138,7 @@ module _ (n clients j : ℕ) (b : List ℕ) (ok : validServerBlock n clients j b
   pub suspect-short : length (suspect (record { 0 = j }) (serverPlace b .state) .state .queue) ≤ clients
   suspect-short = queue-fits clients (suspect me at .state) (suspect-good me at good) suspect-names
 
-  pub suspect-block : clients ≤ 16
+  pub suspect-block : clients ≤ systemClients
       → ServerIs n clients j (server-written n j b (suspect (record { 0 = j }) (serverPlace b .state) .state)) (record { up = serverPlace b .up; state = suspect (record { 0 = j }) (serverPlace b .state) .state })
   suspect-block few =
       stored-server n clients j b ok (suspect me at .state) (suspect-good me at good) suspect-names (omega (arith, suspect-short))
@@ -150,7 +152,7 @@ module _ (n clients j : ℕ) (b : List ℕ) (ok : validServerBlock n clients j b
   pub check-short : length (check (record { 0 = j }) (serverPlace b .state) .state .queue) ≤ clients
   check-short = queue-fits clients (check me at .state) (check-good me at good) check-names
 
-  pub check-block : clients ≤ 16
+  pub check-block : clients ≤ systemClients
       → ServerIs n clients j (server-written n j b (check (record { 0 = j }) (serverPlace b .state) .state)) (record { up = serverPlace b .up; state = check (record { 0 = j }) (serverPlace b .state) .state })
   check-block few =
       stored-server n clients j b ok (check me at .state) (check-good me at good) check-names (omega (arith, check-short))
@@ -160,13 +162,13 @@ module _ (n clients j : ℕ) (b : List ℕ) (ok : validServerBlock n clients j b
   server-after p = rw (B .servers, B .number)
 
   -- what the calls do
-  pub receive-outcome : (tag : Tag) (k : ClientId) (t : Timestamp) → format.valid (message tag k (record { 0 = j }) t) ≡ true → leb (k .0) clients ≡ true → clients ≤ 16
+  pub receive-outcome : (tag : Tag) (k : ClientId) (t : Timestamp) → format.valid (message tag k (record { 0 = j }) t) ≡ true → leb (k .0) clients ≡ true → clients ≤ systemClients
       → messageOutcome (serverFrom (serverRecord b)) (message tag k (record { 0 = j }) t) ≡ stepped (receive (record { 0 = j }) tag (record { client = k; timestamp = t }) (serverPlace b .state))
   unfolding messageOutcome
   receive-outcome tag k t w c few =
       let r : Request = record { client = k; timestamp = t } in
       let s = receive-short tag r c (message-request tag k me t w) in
-      let f : ltb 16 (length (receive me tag r at .state .queue)) ≡ false = le-ltb 16 (length (receive me tag r at .state .queue)) (omega arith) in
+      let f : ltb maxQueue (length (receive me tag r at .state .queue)) ≡ false = le-ltb maxQueue (length (receive me tag r at .state .queue)) (omega arith) in
       rw (B .valid, w, received-as its tag k me t, shows, B .number, eq-eqb j j refl, f)
 
   pub suspect-outcome : (o : Request) → serverPlace b .state .owner ≡ Of o → suspectOutcome (serverFrom (serverRecord b)) ≡ stepped (suspect (record { 0 = j }) (serverPlace b .state))

@@ -24,10 +24,12 @@ use Rattle.client.specs.Record as client
 use Rattle.client.specs.Record.{shown}
 use Rattle.client.specs.declared.Client.{Client}
 use Rattle.client.proofs.ValidLaws.{valid-known}
-use Rattle.words.specs.Records.{requestsIn, holdsServer, serverFrom, holdsClient, clientFrom, sectionOf}
+use Rattle.words.specs.Records.{requestsIn, holdsServer, serverFrom, holdsClient, clientFrom, sectionOf, clientSize}
 use Rattle.words.proofs.RecordsLaws.{server-held}
 use Rattle.system.specs.Places.{inEpoch, isInside}
-use Rattle.places.specs.Blocks.{clientRecord, flags, serverRecord, clientPlace, serverPlace, bitWord, zeroWord, named, namedPair, fitsClient, fitsFlags, validClientBlock, fitsServer, validServerBlock}
+use Rattle.places.specs.Blocks.{clientRecord, flags, serverRecord, clientPlace, serverPlace, bitWord, zeroWord, named, namedPair, fitsClient, fitsFlags, validClientBlock, fitsServer, validServerBlock, clientBlock, serverBlock}
+use Rattle.system.specs.Limits.{systemServers}
+use Rattle.votes.specs.Queues.{maxQueue}
 
 -- the living and the section
 critical-word : (w : ℕ) → isCritical (sectionOf w) ≡ leb 2 w
@@ -42,7 +44,7 @@ remainder-word (suc (suc w)) = rw (ne-eqb (suc (suc w)) 0 (λ h. omega arith), n
 
 module _ (b : List ℕ) where
   section-word : getD (clientRecord b) 3 0 ≡ getD b 4 0
-  section-word = getD-take 67 (drop 1 b) 3 0 (omega arith) ∙ getD-drop 1 b 3 0
+  section-word = getD-take clientSize (drop 1 b) 3 0 (omega arith) ∙ getD-drop 1 b 3 0
 
   pub living-word : eqb (getD b 0 0) 1 ≡ clientPlace b .living
   unfolding clientPlace
@@ -123,7 +125,7 @@ module _ (n m clients k : ℕ) (ws : List ℕ) (c : Client) (e : c ≡ clientFro
     servers-differ h = rw (good, ne-eqb (getD ws 0 0) n h)
 
     module _ (f : getD ws 0 0 ≡ n) where
-      pub servers-few : n ≤ 31
+      pub servers-few : n ≤ systemServers
       unfolding clientFrom
       servers-few = let K = valid-known (clientFrom ws) good in omega (arith, K .few)
 
@@ -151,12 +153,12 @@ named-owner clients k t l =
     (λ (e : eqb k 0 && eqb t 0 ≡ false). rw e)
     (decided (eqb k 0 && eqb t 0))
 
-pub queue-short : (s : Server) → server.valid s ≡ true → s .votes .queue .len ≤ 16
+pub queue-short : (s : Server) → server.valid s ≡ true → s .votes .queue .len ≤ maxQueue
 unfolding server.valid server.validQueue
 queue-short s v =
     let (ab, c) = both (server.validSizes (s .n) (s .id) && server.validQueue (s .votes .queue)) (server.validState (votes.view (s .votes))) v in
     let q = both (server.validSizes (s .n) (s .id)) (server.validQueue (s .votes .queue)) ab .1 in
-    leb-true (s .votes .queue .len) 16 (both (leb (s .votes .queue .len) votes.maxQueue) (every (same noRequest) (drop (s .votes .queue .len) (s .votes .queue .places))) q .0)
+    leb-true (s .votes .queue .len) maxQueue (both (leb (s .votes .queue .len) votes.maxQueue) (every (same noRequest) (drop (s .votes .queue .len) (s .votes .queue .places))) q .0)
 
 module _ (n clients j : ℕ) (ws : List ℕ) (s : Server) (e : s ≡ serverFrom ws) (x : Bool) (p : x ≡ server.valid s) where
   pub server-broken : not x ≡ true → false ≡ fitsServer n clients j (serverFrom ws)
@@ -195,7 +197,7 @@ module _ (n clients j : ℕ) (ws : List ℕ) (s : Server) (e : s ≡ serverFrom 
             rw (sound, eq-eqb (getD ws 0 0) n f, eq-eqb (getD ws 1 0) j g, named-owner clients (getD ws 2 0) (getD ws 3 0) queue, le-leb (getD ws 2 0) clients h) q
 
 -- a whole block
-pub few-servers : (n m clients k : ℕ) (c : Client) → fitsClient n m clients k c ≡ true → n ≤ 31
+pub few-servers : (n m clients k : ℕ) (c : Client) → fitsClient n m clients k c ≡ true → n ≤ systemServers
 unfolding fitsClient
 few-servers n m clients k c h =
     let (v, r) = both (client.valid c) (eqb (c .n) n && (eqb (c .m) m && (eqb (c .id .0) k && every (named clients) (client.view c .responses)))) h in
@@ -211,17 +213,17 @@ module _ (n m clients k : ℕ) (b : List ℕ) where
     pub record-unfit : not x ≡ true → false ≡ fits
     record-unfit t = rw (fails x (fitsClient n m clients k (clientFrom (clientRecord b))) p t)
 
-    pub record-few : not x ≡ false → n ≤ 31
+    pub record-few : not x ≡ false → n ≤ systemServers
     record-few t = few-servers n m clients k (clientFrom (clientRecord b)) (holds x (fitsClient n m clients k (clientFrom (clientRecord b))) p t)
 
     pub flags-decide : not x ≡ false → (r : Bool) → r ≡ inEpoch (clientPlace b) → (y : Bool) → y ≡ fitsFlags n r (flags b) → y ≡ fits
     flags-decide t r e y q = rw (holds x (fitsClient n m clients k (clientFrom (clientRecord b))) p t) (q ∙ ap (λ (z : Bool). fitsFlags n z (flags b)) e)
 
-  pub client-size : (length b ≡ 99 → ⊥) → false ≡ validClientBlock n m clients k b
+  pub client-size : (length b ≡ clientBlock → ⊥) → false ≡ validClientBlock n m clients k b
   unfolding validClientBlock
-  client-size h = rw (ne-eqb (length b) 99 h)
+  client-size h = rw (ne-eqb (length b) clientBlock h)
 
-  module _ (l : length b ≡ 99) where
+  module _ (l : length b ≡ clientBlock) where
     pub client-bit : 1 < getD b 0 0 → false ≡ validClientBlock n m clients k b
     unfolding validClientBlock
     client-bit h = rw (l, lt-leb (getD b 0 0) 1 h)
@@ -236,11 +238,11 @@ module _ (n m clients k : ℕ) (b : List ℕ) where
       client-decided t y q = rw (l, le-leb (getD b 0 0) 1 h, holds x (holdsClient (clientRecord b)) p t) q
 
 module _ (n clients j : ℕ) (b : List ℕ) where
-  pub server-size : (length b ≡ 38 → ⊥) → false ≡ validServerBlock n clients j b
+  pub server-size : (length b ≡ serverBlock → ⊥) → false ≡ validServerBlock n clients j b
   unfolding validServerBlock
-  server-size h = rw (ne-eqb (length b) 38 h)
+  server-size h = rw (ne-eqb (length b) serverBlock h)
 
-  module _ (l : length b ≡ 38) where
+  module _ (l : length b ≡ serverBlock) where
     pub server-bit : 1 < getD b 0 0 → false ≡ validServerBlock n clients j b
     unfolding validServerBlock
     server-bit h = rw (l, lt-leb (getD b 0 0) 1 h)

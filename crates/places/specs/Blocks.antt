@@ -1,7 +1,7 @@
 -- A client and a server of a simulation as words: a block each. 0 is none.
--- Client, 99 words: living (1) or fallen (0), its record (67), and a flag for each of 31 servers, 1 if it was down in the epoch.
--- Server, 38 words: up (1) or down (0), and its record (37).
-use Prim.Native.Nat.{ℕ, suc}
+-- Client: living (1) or fallen (0), its record, and a flag for each server that a simulation can have, 1 if it was down in the epoch.
+-- Server: up (1) or down (0), and its record.
+use Prim.Native.Nat.{ℕ, suc, _+_}
 use mathlib.Core.Bool.{Bool, true, _&&_, _||_}
 use mathlib.Core.List.{List, [], _∷_}
 use lib.Dec.{eqb, leb}
@@ -18,28 +18,32 @@ use Rattle.server.specs.Record as server
 use Rattle.server.specs.declared.Server.{Server}
 use Rattle.client.specs.Record as client
 use Rattle.client.specs.declared.Client.{Client}
-use Rattle.words.specs.Records.{holdsServer, serverFrom, holdsClient, clientFrom}
+use Rattle.words.specs.Records.{clientSize, serverSize, holdsServer, serverFrom, holdsClient, clientFrom}
+use Rattle.system.specs.Limits.{systemServers}
 use Rattle.system.specs.Places.{ClientPlace, ServerPlace, inEpoch}
 
+abbrev pub flagsFrom : ℕ
+flagsFrom = 1 + clientSize
+
 abbrev pub clientBlock : ℕ
-clientBlock = 99
+clientBlock = flagsFrom + systemServers
 
 abbrev pub serverBlock : ℕ
-serverBlock = 38
+serverBlock = 1 + serverSize
 
 -- the parts of a block
 abbrev pub clientRecord : List ℕ → List ℕ
-clientRecord b = take 67 (drop 1 b)
+clientRecord b = take clientSize (drop 1 b)
 
 abbrev pub flags : List ℕ → List ℕ
-flags b = take 31 (drop 68 b)
+flags b = take systemServers (drop flagsFrom b)
 
 abbrev pub serverRecord : List ℕ → List ℕ
-serverRecord b = take 37 (drop 1 b)
+serverRecord b = take serverSize (drop 1 b)
 
 -- the block with no flag set
 unfoldable pub cleared : List ℕ → List ℕ
-cleared b = sets b 68 (replicate 31 0)
+cleared b = sets b flagsFrom (replicate systemServers 0)
 
 -- the numbers of the flags that are set, counted from j
 unfoldable pub flagged : ℕ → List ℕ → List ℕ

@@ -1,4 +1,4 @@
-// A client and a server of a simulation as words: a block each, lent as its own slice of 99 or 38 words.
+// A client and a server of a simulation as words: a block each, lent as its own slice.
 // For the simulation, whose state is valid: but for the two tests, the functions ask what a valid block has.
 ghost use mathlib.Core.Path.{_≡_};
 ghost use mathlib.Core.Bool.{true, _&&_};
@@ -8,15 +8,26 @@ ghost use lib.Seq.{sets};
 ghost use lib.Dec.{eqb, leb};
 ghost use Rattle.ids.specs.Choice.{if_then_else_};
 ghost use Rattle.ids.specs.Lists.{every};
-ghost use Rattle.words.specs.Records.{requestsIn, holdsServer, serverFrom, serverWords, holdsClient, clientFrom, clientWords};
+ghost use Rattle.words.specs.Records.{requestsIn, holdsServer, serverFrom, serverWords, holdsClient, clientFrom, clientWords, clientSize};
 ghost use Rattle.system.specs.Places.{inEpoch, isInside};
-ghost use Rattle.places.specs.Blocks.{clientRecord, flags, flagged, cleared, serverRecord, clientPlace, serverPlace, namedPair, fitsClient, fitsFlags, validClientBlock, fitsServer, validServerBlock, emptied};
+ghost use Rattle.places.specs.Blocks.{clientRecord, flags, flagged, cleared, serverRecord, clientPlace, serverPlace, namedPair, fitsClient, fitsFlags, validClientBlock, fitsServer, validServerBlock, emptied, clientBlock, serverBlock};
+ghost use Rattle.system.specs.Limits.{systemServers};
+ghost use Rattle.votes.specs.Queues.{maxQueue};
 use client::Client;
 use ids::Owner;
 use ids::ServerId;
 use server::Server;
 use votes::Queue;
 use votes::Votes;
+
+// A flag for each server; where the flags begin; the words of a client's block and of a server's.
+const FLAGS: usize = system::MAX_SERVERS as usize;
+
+const FLAGS_FROM: usize = 1 + words::CLIENT_WORDS;
+
+pub const CLIENT_BLOCK: usize = FLAGS_FROM + FLAGS;
+
+pub const SERVER_BLOCK: usize = 1 + words::SERVER_WORDS;
 
 // Whether no word is above `most`.
 fn at_most(words: &[u32], most: u32) -> bool
@@ -68,14 +79,14 @@ fn fits_client(words: &[u32], n: u32, m: u32, clients: u32, k: u32) -> bool
 }
 
 fn fits_flags(words: &[u32], n: u32, running: bool) -> bool
-    requires { ⌜ (length (now words) ≡ 31) × (n ≤ 31) ⌝ }
+    requires { ⌜ (length (now words) ≡ systemServers) × (n ≤ systemServers) ⌝ }
     ensures { λ r. ⌜ r ≡ fitsFlags n running (now (words .entry)) ⌝ }
 {
     if !at_most(words, 1) {
         return false;
     }
     let first = n as usize;
-    if !at_most(&words[first..31], 0) {
+    if !at_most(&words[first..FLAGS], 0) {
         return false;
     }
     if running {
@@ -86,7 +97,7 @@ fn fits_flags(words: &[u32], n: u32, running: bool) -> bool
 
 // Whether the client lives.
 pub fn is_living(b: &[u32]) -> bool
-    requires { ⌜ length (now b) ≡ 99 ⌝ }
+    requires { ⌜ length (now b) ≡ clientBlock ⌝ }
     ensures { λ r. ⌜ r ≡ clientPlace (now (b .entry)) .living ⌝ }
 {
     b[0] == 1
@@ -94,7 +105,7 @@ pub fn is_living(b: &[u32]) -> bool
 
 // Whether the client lives and is in the critical section.
 pub fn is_inside(b: &[u32]) -> bool
-    requires { ⌜ length (now b) ≡ 99 ⌝ }
+    requires { ⌜ length (now b) ≡ clientBlock ⌝ }
     ensures { λ r. ⌜ r ≡ isInside (clientPlace (now (b .entry))) ⌝ }
 {
     if b[0] == 1 {
@@ -105,7 +116,7 @@ pub fn is_inside(b: &[u32]) -> bool
 
 // Whether the client is in an epoch: it lives, and is trying or in the critical section.
 fn in_epoch(b: &[u32]) -> bool
-    requires { ⌜ length (now b) ≡ 99 ⌝ }
+    requires { ⌜ length (now b) ≡ clientBlock ⌝ }
     ensures { λ r. ⌜ r ≡ inEpoch (clientPlace (now (b .entry))) ⌝ }
 {
     if b[0] != 1 {
@@ -116,27 +127,27 @@ fn in_epoch(b: &[u32]) -> bool
 
 // What is asked of the record and of the flags.
 fn fits_client_block(b: &[u32], n: u32, m: u32, clients: u32, k: u32) -> bool
-    requires { ⌜ (length (now b) ≡ 99) × (holdsClient (clientRecord (now b)) ≡ true) ⌝ }
+    requires { ⌜ (length (now b) ≡ clientBlock) × (holdsClient (clientRecord (now b)) ≡ true) ⌝ }
     ensures { λ r. ⌜ r ≡ (fitsClient n m clients k (clientFrom (clientRecord (now (b .entry)))) && fitsFlags n (inEpoch (clientPlace (now (b .entry)))) (flags (now (b .entry)))) ⌝ }
 {
-    if !fits_client(&b[1..68], n, m, clients, k) {
+    if !fits_client(&b[1..FLAGS_FROM], n, m, clients, k) {
         return false;
     }
     let running = in_epoch(b);
-    fits_flags(&b[68..99], n, running)
+    fits_flags(&b[FLAGS_FROM..CLIENT_BLOCK], n, running)
 }
 
 // Whether the words are block `k` of a simulation with `n` servers, threshold `m` and so many clients.
 pub fn valid_client_block(b: &[u32], n: u32, m: u32, clients: u32, k: u32) -> bool
     ensures { λ r. ⌜ r ≡ validClientBlock n m clients k (now (b .entry)) ⌝ }
 {
-    if b.len() != 99 {
+    if b.len() != CLIENT_BLOCK {
         return false;
     }
     if 1 < b[0] {
         return false;
     }
-    if !words::holds_client(&b[1..68]) {
+    if !words::holds_client(&b[1..FLAGS_FROM]) {
         return false;
     }
     fits_client_block(b, n, m, clients, k)
@@ -144,36 +155,36 @@ pub fn valid_client_block(b: &[u32], n: u32, m: u32, clients: u32, k: u32) -> bo
 
 // The client's record.
 pub fn client_record(b: &[u32]) -> Client
-    requires { ⌜ (length (now b) ≡ 99) × (holdsClient (clientRecord (now b)) ≡ true) ⌝ }
+    requires { ⌜ (length (now b) ≡ clientBlock) × (holdsClient (clientRecord (now b)) ≡ true) ⌝ }
     ensures { λ c. ⌜ c ≡ clientFrom (clientRecord (now (b .entry))) ⌝ }
 {
-    words::load_client(&b[1..68])
+    words::load_client(&b[1..FLAGS_FROM])
 }
 
 // Writes the client's record.
 pub fn put_client(b: &mut [u32], c: Client)
-    requires { ⌜ length (now b) ≡ 99 ⌝ }
+    requires { ⌜ length (now b) ≡ clientBlock ⌝ }
     ensures { λ _. ⌜ now (b .exit) ≡ sets (now (b .entry)) 1 (clientWords c) ⌝ }
 {
     client::sized(c);
-    words::store_client(&mut b[1..68], c);
+    words::store_client(&mut b[1..FLAGS_FROM], c);
 }
 
 // No server counts any more.
 pub fn clear_flags(b: &mut [u32])
-    requires { ⌜ length (now b) ≡ 99 ⌝ }
+    requires { ⌜ length (now b) ≡ clientBlock ⌝ }
     ensures { λ _. ⌜ now (b .exit) ≡ cleared (now (b .entry)) ⌝ }
 {
     let mut i: usize = 0;
-    while i < 31 {
-        b[68 + i] = 0;
+    while i < FLAGS {
+        b[FLAGS_FROM + i] = 0;
         i += 1;
     }
 }
 
 // The client falls: it does not live, and its epoch is over.
 pub fn fall(b: &mut [u32])
-    requires { ⌜ length (now b) ≡ 99 ⌝ }
+    requires { ⌜ length (now b) ≡ clientBlock ⌝ }
     ensures { λ _. ⌜ now (b .exit) ≡ cleared (set (now (b .entry)) 0 0) ⌝ }
 {
     b[0] = 0;
@@ -182,17 +193,17 @@ pub fn fall(b: &mut [u32])
 
 // Writes the flag of server `j`.
 pub fn put_flag(b: &mut [u32], j: ServerId, x: u32)
-    requires { ⌜ (length (now b) ≡ 99) × (1 ≤ j .0) × (j .0 ≤ 31) ⌝ }
-    ensures { λ _. ⌜ now (b .exit) ≡ set (now (b .entry)) (67 + j .0) x ⌝ }
+    requires { ⌜ (length (now b) ≡ clientBlock) × (1 ≤ j .0) × (j .0 ≤ systemServers) ⌝ }
+    ensures { λ _. ⌜ now (b .exit) ≡ set (now (b .entry)) (clientSize + j .0) x ⌝ }
 {
-    let at = 67 + j.0 as usize;
+    let at = words::CLIENT_WORDS + j.0 as usize;
     b[at] = x;
 }
 
 // Server `j` went down: it counts if the client is in an epoch.
 pub fn mark_down(b: &mut [u32], j: ServerId)
-    requires { ⌜ (length (now b) ≡ 99) × (1 ≤ j .0) × (j .0 ≤ 31) ⌝ }
-    ensures { λ _. ⌜ now (b .exit) ≡ if inEpoch (clientPlace (now (b .entry))) then set (now (b .entry)) (67 + j .0) 1 else now (b .entry) ⌝ }
+    requires { ⌜ (length (now b) ≡ clientBlock) × (1 ≤ j .0) × (j .0 ≤ systemServers) ⌝ }
+    ensures { λ _. ⌜ now (b .exit) ≡ if inEpoch (clientPlace (now (b .entry))) then set (now (b .entry)) (clientSize + j .0) 1 else now (b .entry) ⌝ }
 {
     if in_epoch(b) {
         put_flag(b, j, 1);
@@ -211,12 +222,12 @@ fn bit_of(x: u32) -> u32
 
 // How many flags are set.
 fn flags_set(words: &[u32]) -> u32
-    requires { ⌜ length (now words) ≡ 31 ⌝ }
+    requires { ⌜ length (now words) ≡ systemServers ⌝ }
     ensures { λ r. ⌜ r ≡ length (flagged 1 (now (words .entry))) ⌝ }
 {
     let mut count: u32 = 0;
     let mut i: usize = 0;
-    while i < 31 {
+    while i < FLAGS {
         count += bit_of(words[i]);
         i += 1;
     }
@@ -225,10 +236,10 @@ fn flags_set(words: &[u32]) -> u32
 
 // How many servers were down in the client's epoch.
 pub fn count_flags(b: &[u32]) -> u32
-    requires { ⌜ length (now b) ≡ 99 ⌝ }
+    requires { ⌜ length (now b) ≡ clientBlock ⌝ }
     ensures { λ r. ⌜ r ≡ length (clientPlace (now (b .entry)) .downs) ⌝ }
 {
-    flags_set(&b[68..99])
+    flags_set(&b[FLAGS_FROM..CLIENT_BLOCK])
 }
 
 fn fits_server(words: &[u32], n: u32, clients: u32, j: u32) -> bool
@@ -255,13 +266,13 @@ fn fits_server(words: &[u32], n: u32, clients: u32, j: u32) -> bool
 pub fn valid_server_block(b: &[u32], n: u32, clients: u32, j: u32) -> bool
     ensures { λ r. ⌜ r ≡ validServerBlock n clients j (now (b .entry)) ⌝ }
 {
-    if b.len() != 38 {
+    if b.len() != SERVER_BLOCK {
         return false;
     }
     if 1 < b[0] {
         return false;
     }
-    let words = &b[1..38];
+    let words = &b[1..SERVER_BLOCK];
     if !words::holds_server(words) {
         return false;
     }
@@ -270,7 +281,7 @@ pub fn valid_server_block(b: &[u32], n: u32, clients: u32, j: u32) -> bool
 
 // Whether the server is up.
 pub fn is_up(b: &[u32]) -> bool
-    requires { ⌜ length (now b) ≡ 38 ⌝ }
+    requires { ⌜ length (now b) ≡ serverBlock ⌝ }
     ensures { λ r. ⌜ r ≡ serverPlace (now (b .entry)) .up ⌝ }
 {
     b[0] == 1
@@ -278,21 +289,21 @@ pub fn is_up(b: &[u32]) -> bool
 
 // The server's record.
 pub fn server_record(b: &[u32]) -> Server
-    requires { ⌜ (length (now b) ≡ 38) × (holdsServer (serverRecord (now b)) ≡ true) ⌝ }
+    requires { ⌜ (length (now b) ≡ serverBlock) × (holdsServer (serverRecord (now b)) ≡ true) ⌝ }
     ensures { λ s. ⌜ s ≡ serverFrom (serverRecord (now (b .entry))) ⌝ }
 {
-    words::load_server(&b[1..38])
+    words::load_server(&b[1..SERVER_BLOCK])
 }
 
 // Writes the server's record.
 pub fn put_server(b: &mut [u32], s: Server)
-    requires { ⌜ (length (now b) ≡ 38) × (s .votes .queue .len ≤ 16) ⌝ }
+    requires { ⌜ (length (now b) ≡ serverBlock) × (s .votes .queue .len ≤ maxQueue) ⌝ }
     ensures { λ _. ⌜ now (b .exit) ≡ sets (now (b .entry)) 1 (serverWords s) ⌝ }
 {
     let v = s.votes;
     let q = v.queue;
     votes::sized(q);
-    words::store_server(&mut b[1..38], s);
+    words::store_server(&mut b[1..SERVER_BLOCK], s);
 }
 
 fn forgetful(s: Server) -> Server
@@ -310,7 +321,7 @@ fn forgetful(s: Server) -> Server
 
 // The server goes down, and forgets everything.
 pub fn sink(b: &mut [u32])
-    requires { ⌜ (length (now b) ≡ 38) × (holdsServer (serverRecord (now b)) ≡ true) ⌝ }
+    requires { ⌜ (length (now b) ≡ serverBlock) × (holdsServer (serverRecord (now b)) ≡ true) ⌝ }
     ensures { λ _. ⌜ now (b .exit) ≡ set (sets (now (b .entry)) 1 (serverWords (emptied (serverFrom (serverRecord (now (b .entry))))))) 0 0 ⌝ }
 {
     let s = server_record(b);
@@ -321,7 +332,7 @@ pub fn sink(b: &mut [u32])
 
 // The server comes up, as it went down.
 pub fn rise(b: &mut [u32])
-    requires { ⌜ length (now b) ≡ 38 ⌝ }
+    requires { ⌜ length (now b) ≡ serverBlock ⌝ }
     ensures { λ _. ⌜ now (b .exit) ≡ set (now (b .entry)) 0 1 ⌝ }
 {
     b[0] = 1;

@@ -26,51 +26,51 @@ use Rattle.language.proofs.PrintedLaws.{refused-short, no-short, ok-short, head
 use Rattle.output.specs.Output.{maxLines, answerLine, runs}
 use Rattle.script.specs.declared.Progress.{Progress}
 use Rattle.script.specs.declared.Progress.the-variants.{Took, Refused}
-use Rattle.output.specs.Reader.{Run, Stage, opening, running, closed, Reader, Printed, opened, lineTaken, worked, taken, Fed, maxPrinted, followed, fedWithin, ended, lastLine, finished}
-use Rattle.script.specs.State.{keptIn, simulationIn, stageOf, view, valid}
-use Rattle.script.specs.Calls.{feedAnswer, FeedLeaves, finishAnswer, FinishLeaves, Sound, Ready, Does, Takes, FedAs}
+use Rattle.output.specs.Reader.{Run, Stage, opening, running, closed, Reader, Printed, opened, lineTaken, worked, taken, Fed, maxPrinted, followed, fedWithin, ended, lastLine, finished, maxKept}
+use Rattle.script.specs.State.{keptIn, simulationIn, stageOf, view, valid, stateSize}
+use Rattle.script.specs.Calls.{feedAnswer, FeedLeaves, finishAnswer, FinishLeaves, Sound, Ready, Does, Takes, FedAs, maxEnding}
 use Rattle.script.proofs.StateLaws.{itself-is, view-is, valid-is, store-stage, store-length, from-facts}
 use Rattle.script.proofs.LineLaws.{known, sound}
 
 -- no line is longer than 52 bytes
-answer-short : (i : ℕ) (u : System) (o : Result) → length (answerLine i u o) ≤ 52
+answer-short : (i : ℕ) (u : System) (o : Result) → length (answerLine i u o) ≤ maxPrinted
 unfolding answerLine
 answer-short i u (refused x) = omega (arith, no-short i x)
 answer-short i u (stepped s) = omega (arith, ok-short i (length (s .sent)) (holders (after u (stepped s))))
 
-opened-short : (o : Option Setting) → length (opened o .out) ≤ 52
+opened-short : (o : Option Setting) → length (opened o .out) ≤ maxPrinted
 unfolding opened
 opened-short none = omega (arith, refused-short BadLine)
 opened-short (some s) = by-range (decided (runs s))
   where
-    by-range : Test (runs s) → length (opened (some s) .out) ≤ 52
+    by-range : Test (runs s) → length (opened (some s) .out) ≤ maxPrinted
     by-range (inl e) = rw e (header-short s)
     by-range (inr e) = rw e (omega (arith, refused-short ParameterOutOfRange))
 
-line-short : (r : Run) (l : List ℕ) → length (lineTaken r l .out) ≤ 52
+line-short : (r : Run) (l : List ℕ) → length (lineTaken r l .out) ≤ maxPrinted
 unfolding lineTaken
 line-short r l = by-count (decided (ltb (r .answered) maxLines)) (eventIn l) refl
   where
-    by-count : Test (ltb (r .answered) maxLines) → (o : Option Event) → eventIn l ≡ o → length (lineTaken r l .out) ≤ 52
+    by-count : Test (ltb (r .answered) maxLines) → (o : Option Event) → eventIn l ≡ o → length (lineTaken r l .out) ≤ maxPrinted
     by-count (inl e) none q = rw (e, q) (omega (arith, no-short (suc (r .answered)) BadLine))
     by-count (inl e) (some x) q = rw (e, q) (answer-short _ _ _)
     by-count (inr e) o q = rw e (omega arith)
 
-worked-short : (st : Stage) (l : List ℕ) → length (worked st l .out) ≤ 52
+worked-short : (st : Stage) (l : List ℕ) → length (worked st l .out) ≤ maxPrinted
 unfolding worked
 worked-short opening l = opened-short (settingIn l)
 worked-short (running r) l = line-short r l
 worked-short closed l = omega arith
 
-taken-short : (r : Reader) (b : ℕ) → length (taken r b .out) ≤ 52
+taken-short : (r : Reader) (b : ℕ) → length (taken r b .out) ≤ maxPrinted
 unfolding taken
 taken-short r b = by-byte (decided (eqb b newline))
   where
-    by-byte : Test (eqb b newline) → length (taken r b .out) ≤ 52
+    by-byte : Test (eqb b newline) → length (taken r b .out) ≤ maxPrinted
     by-byte (inl e) = rw e (worked-short (r .stage) (r .line))
     by-byte (inr e) = rw e (omega arith)
 
-ended-short : (st : Stage) → length (ended st) ≤ 52
+ended-short : (st : Stage) → length (ended st) ≤ maxPrinted
 unfolding ended
 ended-short opening = omega (arith, refused-short BadLine)
 ended-short (running r) = omega (arith, end-short (r .accepted) (r .holding) (r .system .most))
@@ -85,14 +85,14 @@ stop-end : (room : ℕ) (r : Reader) → fedWithin room r [] ≡ record { now = 
 unfolding fedWithin
 stop-end room r = refl
 
-stop-room : (room : ℕ) (r : Reader) (s : List ℕ) → room < 52 → fedWithin room r s ≡ record { now = r; out = []; used = 0 }
+stop-room : (room : ℕ) (r : Reader) (s : List ℕ) → room < maxPrinted → fedWithin room r s ≡ record { now = r; out = []; used = 0 }
 unfolding fedWithin
 stop-room room r [] h = refl
-stop-room room r (b ∷ s) h = rw (lt-ltb room 52 h)
+stop-room room r (b ∷ s) h = rw (lt-ltb room maxPrinted h)
 
-one-more : (room : ℕ) (r : Reader) (b : ℕ) (s : List ℕ) → 52 ≤ room → fedWithin room r (b ∷ s) ≡ followed (taken r b) (fedWithin (room - length (taken r b .out)) (taken r b .now) s)
+one-more : (room : ℕ) (r : Reader) (b : ℕ) (s : List ℕ) → maxPrinted ≤ room → fedWithin room r (b ∷ s) ≡ followed (taken r b) (fedWithin (room - length (taken r b .out)) (taken r b .now) s)
 unfolding fedWithin
-one-more room r b s h = rw (le-ltb room 52 h)
+one-more room r b s h = rw (le-ltb room maxPrinted h)
 
 -- no more is printed than there is room for
 pub wrote-few : (room : ℕ) (r : Reader) (s : List ℕ) → length (fedWithin room r s .out) ≤ room
@@ -110,9 +110,9 @@ wrote-few room r (b ∷ s) =
 -- what the loop knows before byte `used`
 pub record Feeding (w₀ input out₀ w out : List ℕ) (used at : ℕ) : Type 0 where
   pub valid : valid w ≡ true
-  pub long : length w ≡ 6399
-  pub begun : length w₀ ≡ 6399
-  pub short : getD w 4 0 ≤ 41
+  pub long : length w ≡ stateSize
+  pub begun : length w₀ ≡ stateSize
+  pub short : getD w 4 0 ≤ maxKept
   pub within : used ≤ length input
   pub fits : at ≤ length out
   pub size : length out ≡ length out₀
@@ -141,10 +141,10 @@ feeding-none w input out S =
     }
 
 module _ {w₀ input out₀ w out : List ℕ} {used at : ℕ} (F : Feeding w₀ input out₀ w out used at) where
-  pub feeding-ready : 52 ≤ length out - at → Ready w out at
+  pub feeding-ready : maxPrinted ≤ length out - at → Ready w out at
   feeding-ready h = record { valid = F .valid; long = F .long; short = F .short; room = omega (arith, F .size, F .fits) }
 
-  pub feeding-more : used < length input → 52 ≤ length out - at → (w′ out′ : List ℕ) (r : ℕ) → Takes out at (taken (view w) (getD input used 0)) w′ out′ r → Feeding w₀ input out₀ w′ out′ (used + 1) r
+  pub feeding-more : used < length input → maxPrinted ≤ length out - at → (w′ out′ : List ℕ) (r : ℕ) → Takes out at (taken (view w) (getD input used 0)) w′ out′ r → Feeding w₀ input out₀ w′ out′ (used + 1) r
   feeding-more lt room w′ out′ r T =
       let S = sound w′ (T .again) in
       let b : ℕ = getD input used 0 in
@@ -164,7 +164,7 @@ module _ {w₀ input out₀ w out : List ℕ} {used at : ℕ} (F : Feeding w₀ 
         rest = F .rest ∙ (ap (follows (F .printed) used) (next T few) ∙ regroup T);
       }
     where
-      next : (T : Takes out at (taken (view w) (getD input used 0)) w′ out′ r) → length (taken (view w) (getD input used 0) .out) ≤ 52 →
+      next : (T : Takes out at (taken (view w) (getD input used 0)) w′ out′ r) → length (taken (view w) (getD input used 0) .out) ≤ maxPrinted →
           fedWithin (length out₀ - at) (view w) (drop used input) ≡ followed (taken (view w) (getD input used 0)) (fedWithin (length out₀ - r) (view w′) (drop (used + 1) input))
       next T few =
           let z : length out₀ - at - length (taken (view w) (getD input used 0) .out) ≡ length out₀ - r = omega (arith, T .place) in
@@ -189,7 +189,7 @@ module _ {w₀ input out₀ w out : List ℕ} {used at : ℕ} (F : Feeding w₀ 
       let g : fedWithin (length out₀) (view w₀) input ≡ record { now = view w; out = F .printed; used = used } = f ∙ (λ i. record { now = view w; out = append-nil (F .printed) i; used = z i }) in
       record { answer = rw (g, F .place); reader = rw g; again = F .valid; bytes = rw g (F .bytes) }
 
-  pub feeding-short : length out - at < 52 → FedAs w₀ input out₀ w out (Took used at)
+  pub feeding-short : length out - at < maxPrinted → FedAs w₀ input out₀ w out (Took used at)
   feeding-short h = stopped (stop-room (length out₀ - at) (view w) (drop used input) (omega (arith, h, F .size)))
 
   pub feeding-all : length input ≤ used → FedAs w₀ input out₀ w out (Took used at)
@@ -209,7 +209,7 @@ module _ (w input out : List ℕ) (x : Bool) (e : x ≡ valid w) where
       let f : valid w ≡ false = sym e ∙ not-true x n in
       (rw f, record { reader = λ t. absurd (never f t); again = λ t. absurd (never f t); bytes = λ t. absurd (never f t); kept = λ t. (refl, refl) })
     where
-      never : valid w ≡ false → valid w && leb 52 (length out) ≡ true → ⊥
+      never : valid w ≡ false → valid w && leb maxPrinted (length out) ≡ true → ⊥
       never f t = let z : false ≡ true = rw f at t in let y : _≡_ {A = ℕ} 0 1 = cc in omega arith
 
   module _ (n : not x ≡ false) where
@@ -219,35 +219,35 @@ module _ (w input out : List ℕ) (x : Bool) (e : x ≡ valid w) where
     pub feed-sound : Sound w
     feed-sound = sound w good
 
-    pub feed-short : length out < 52 → Feeds w out (Refused RoomShort)
+    pub feed-short : length out < maxPrinted → Feeds w out (Refused RoomShort)
     unfolding feedAnswer
     feed-short h =
-        (rw (good, lt-ltb (length out) 52 h), record { reader = λ t. absurd (never t); again = λ t. absurd (never t); bytes = λ t. absurd (never t); kept = λ t. (refl, refl) })
+        (rw (good, lt-ltb (length out) maxPrinted h), record { reader = λ t. absurd (never t); again = λ t. absurd (never t); bytes = λ t. absurd (never t); kept = λ t. (refl, refl) })
       where
-        never : valid w && leb 52 (length out) ≡ true → ⊥
-        never t = let z : false ≡ true = rw (good, lt-leb 52 (length out) h) at t in let y : _≡_ {A = ℕ} 0 1 = cc in omega arith
+        never : valid w && leb maxPrinted (length out) ≡ true → ⊥
+        never t = let z : false ≡ true = rw (good, lt-leb maxPrinted (length out) h) at t in let y : _≡_ {A = ℕ} 0 1 = cc in omega arith
 
-    pub feed-done : 52 ≤ length out → (w′ out′ : List ℕ) (r : Progress) → FedAs w input out w′ out′ r → Feeds w′ out′ r
+    pub feed-done : maxPrinted ≤ length out → (w′ out′ : List ℕ) (r : Progress) → FedAs w input out w′ out′ r → Feeds w′ out′ r
     unfolding feedAnswer
     feed-done h w′ out′ r A =
-        (rw (good, le-ltb (length out) 52 h) (A .answer), record { reader = λ t. A .reader; again = λ t. A .again; bytes = λ t. A .bytes; kept = λ t. absurd (never t) })
+        (rw (good, le-ltb (length out) maxPrinted h) (A .answer), record { reader = λ t. A .reader; again = λ t. A .again; bytes = λ t. A .bytes; kept = λ t. absurd (never t) })
       where
-        never : valid w && leb 52 (length out) ≡ false → ⊥
-        never t = let z : true ≡ false = rw (good, le-leb 52 (length out) h) at t in let y : _≡_ {A = ℕ} 0 1 = cc in omega arith
+        never : valid w && leb maxPrinted (length out) ≡ false → ⊥
+        never t = let z : true ≡ false = rw (good, le-leb maxPrinted (length out) h) at t in let y : _≡_ {A = ℕ} 0 1 = cc in omega arith
 
 -- the end
-last-short : (r : Reader) → length (lastLine r .out) ≤ 52
+last-short : (r : Reader) → length (lastLine r .out) ≤ maxPrinted
 last-short r = by-length (decided (eqb (length (r .line)) 0))
   where
-    by-length : Test (eqb (length (r .line)) 0) → length (lastLine r .out) ≤ 52
+    by-length : Test (eqb (length (r .line)) 0) → length (lastLine r .out) ≤ maxPrinted
     by-length (inl e) = rw e (omega arith)
     by-length (inr e) = rw e (worked-short (r .stage) (r .line))
 
-pub finished-short : (r : Reader) → length (finished r) ≤ 104
+pub finished-short : (r : Reader) → length (finished r) ≤ maxEnding
 unfolding finished
 finished-short r = omega (arith, last-short r, ended-short (lastLine r .now), length-append (lastLine r .out) (ended (lastLine r .now)))
 
-module _ (w out : List ℕ) (S : Sound w) (room : 104 ≤ length out) where
+module _ (w out : List ℕ) (S : Sound w) (room : maxEnding ≤ length out) where
   pub closing-ready : Ready w out 0
   closing-ready = record { valid = S .valid; long = S .long; short = S .short; room = omega arith }
 
@@ -289,7 +289,7 @@ module _ (w out : List ℕ) (x : Bool) (e : x ≡ valid w) where
       let f : valid w ≡ false = sym e ∙ not-true x n in
       (rw f, record { reader = λ t. absurd (never f t); again = λ t. absurd (never f t); bytes = λ t. absurd (never f t); kept = λ t. (refl, refl) })
     where
-      never : valid w ≡ false → valid w && leb 104 (length out) ≡ true → ⊥
+      never : valid w ≡ false → valid w && leb maxEnding (length out) ≡ true → ⊥
       never f t = let z : false ≡ true = rw f at t in let y : _≡_ {A = ℕ} 0 1 = cc in omega arith
 
   module _ (n : not x ≡ false) where
@@ -299,19 +299,19 @@ module _ (w out : List ℕ) (x : Bool) (e : x ≡ valid w) where
     pub finish-sound : Sound w
     finish-sound = sound w fine
 
-    pub finish-short : length out < 104 → Finishes w out (Refused RoomShort)
+    pub finish-short : length out < maxEnding → Finishes w out (Refused RoomShort)
     unfolding finishAnswer
     finish-short h =
-        (rw (fine, lt-ltb (length out) 104 h), record { reader = λ t. absurd (never t); again = λ t. absurd (never t); bytes = λ t. absurd (never t); kept = λ t. (refl, refl) })
+        (rw (fine, lt-ltb (length out) maxEnding h), record { reader = λ t. absurd (never t); again = λ t. absurd (never t); bytes = λ t. absurd (never t); kept = λ t. (refl, refl) })
       where
-        never : valid w && leb 104 (length out) ≡ true → ⊥
-        never t = let z : false ≡ true = rw (fine, lt-leb 104 (length out) h) at t in let y : _≡_ {A = ℕ} 0 1 = cc in omega arith
+        never : valid w && leb maxEnding (length out) ≡ true → ⊥
+        never t = let z : false ≡ true = rw (fine, lt-leb maxEnding (length out) h) at t in let y : _≡_ {A = ℕ} 0 1 = cc in omega arith
 
-    pub finish-done : 104 ≤ length out → (w′ out′ : List ℕ) (r : ℕ) →
+    pub finish-done : maxEnding ≤ length out → (w′ out′ : List ℕ) (r : ℕ) →
         (r ≡ length (finished (view w))) × (view w′ ≡ record { stage = closed; line = [] }) × (valid w′ ≡ true) × (out′ ≡ sets out 0 (finished (view w))) → Finishes w′ out′ (Took 0 r)
     unfolding finishAnswer
     finish-done h w′ out′ r A =
-        (rw (fine, le-ltb (length out) 104 h, A .0), record { reader = λ t. A .1; again = λ t. A .2; bytes = λ t. A .3; kept = λ t. absurd (never t) })
+        (rw (fine, le-ltb (length out) maxEnding h, A .0), record { reader = λ t. A .1; again = λ t. A .2; bytes = λ t. A .3; kept = λ t. absurd (never t) })
       where
-        never : valid w && leb 104 (length out) ≡ false → ⊥
-        never t = let z : true ≡ false = rw (fine, le-leb 104 (length out) h) at t in let y : _≡_ {A = ℕ} 0 1 = cc in omega arith
+        never : valid w && leb maxEnding (length out) ≡ false → ⊥
+        never t = let z : true ≡ false = rw (fine, le-leb maxEnding (length out) h) at t in let y : _≡_ {A = ℕ} 0 1 = cc in omega arith

@@ -16,14 +16,14 @@ use lib.Dec.{eqb}
 use Rattle.places.proofs.Fronts.{Passing, passing-none, passing-failed, passing-more, passing-all}
 use Rattle.language.proofs.PutLaws.{Copied, copied-more, copied-all}
 use Rattle.output.specs.Reader.{Reader, maxKept, behind}
-use Rattle.script.specs.State.{size, Head, headIn, keptIn, simulationIn, stageOf, lineOf, view, validRun, byteWord, validParts, valid}
+use Rattle.script.specs.State.{stateSize, Head, headIn, keptIn, simulationIn, stageOf, lineOf, view, validRun, byteWord, validParts, valid}
 use Rattle.script.specs.Calls.{Sound}
 use Rattle.script.proofs.StateLaws.{Is, itself-is, kept-long, view-is, valid-is, store-kept, store-length, Facts, facts, from-facts}
 
 -- what a valid state is handed on as
-valid-sized : (w : List ℕ) → valid w ≡ true → (length w ≡ size) × (validParts (headIn w) (keptIn w) (simulationIn w) ≡ true)
+valid-sized : (w : List ℕ) → valid w ≡ true → (length w ≡ stateSize) × (validParts (headIn w) (keptIn w) (simulationIn w) ≡ true)
 unfolding valid
-valid-sized w e = let (a, b) = both (eqb (length w) size) (validParts (headIn w) (keptIn w) (simulationIn w)) e in (eqb-true (length w) size a, b)
+valid-sized w e = let (a, b) = both (eqb (length w) stateSize) (validParts (headIn w) (keptIn w) (simulationIn w)) e in (eqb-true (length w) stateSize a, b)
 
 pub known : (w : List ℕ) → valid w ≡ true → Facts (headIn w) (keptIn w) (simulationIn w)
 known w e = facts (headIn w) (keptIn w) (simulationIn w) (valid-sized w e .1)
@@ -34,7 +34,7 @@ sound w e = record { valid = e; long = valid-sized w e .0; short = known w e .fe
 
 -- a validity that only the line's part changes
 still-valid : (w w′ : List ℕ) (h′ : Head) (l′ : List ℕ) → valid w ≡ true → Is w′ h′ l′ (simulationIn w) → h′ .stage ≡ headIn w .stage → validRun h′ (simulationIn w) ≡ validRun (headIn w) (simulationIn w) →
-    h′ .length ≤ 41 → every byteWord l′ ≡ true → valid w′ ≡ true
+    h′ .length ≤ maxKept → every byteWord l′ ≡ true → valid w′ ≡ true
 still-valid w w′ h′ l′ v p e r few bytes =
     let f = known w v in
     valid-is p ∙ from-facts h′ l′ (simulationIn w) (omega (arith, e, f .stage)) few bytes (λ q. r ∙ f .runs (sym e ∙ q))
@@ -45,15 +45,15 @@ take-left zero a r h = refl
 take-left (suc n) [] r h = absurd (omega arith)
 take-left (suc n) (x ∷ a) r h = ap (λ (y : List ℕ). x ∷ y) (take-left n a r (omega arith))
 
-behind-full : (l : List ℕ) (b : ℕ) → length l ≡ 41 → behind (take 41 l) b ≡ take 41 l
+behind-full : (l : List ℕ) (b : ℕ) → length l ≡ maxKept → behind (take maxKept l) b ≡ take maxKept l
 behind-full l b e =
-    let z : take 41 l ≡ l = take-all 41 l (omega arith) in
-    ap (λ (x : List ℕ). take 41 (x ++ (b ∷ []))) z ∙ take-left 41 l (b ∷ []) (omega arith)
+    let z : take maxKept l ≡ l = take-all maxKept l (omega arith) in
+    ap (λ (x : List ℕ). take maxKept (x ++ (b ∷ []))) z ∙ take-left maxKept l (b ∷ []) (omega arith)
 
-behind-more : (l : List ℕ) (i b : ℕ) → i < 41 → length l ≡ 41 → take (i + 1) (set l i b) ≡ behind (take i l) b
+behind-more : (l : List ℕ) (i b : ℕ) → i < maxKept → length l ≡ maxKept → take (i + 1) (set l i b) ≡ behind (take i l) b
 behind-more l i b lt e =
     let a : take (suc i) (set l i b) ≡ take i l ++ (b ∷ []) = rw (take-suc (set l i b) i 0 (omega (arith, length-set l i b)), getD-set-same l i b 0 (omega arith), take-set-le i l i b (omega arith)) in
-    ap (λ (n : ℕ). take n (set l i b)) (add-one i) ∙ (a ∙ sym (take-all 41 (take i l ++ (b ∷ [])) (omega (arith, ap length (sym a), length-take (suc i) (set l i b)))))
+    ap (λ (n : ℕ). take n (set l i b)) (add-one i) ∙ (a ∙ sym (take-all maxKept (take i l ++ (b ∷ [])) (omega (arith, ap length (sym a), length-take (suc i) (set l i b)))))
 
 module _ (w : List ℕ) (b : ℕ) (S : Sound w) where
   abbrev Keeps : List ℕ → Type 0
@@ -62,7 +62,7 @@ module _ (w : List ℕ) (b : ℕ) (S : Sound w) where
   pub keep-full : 40 < getD w 4 0 → Keeps w
   unfolding view headIn
   keep-full h =
-      let e : getD w 4 0 ≡ 41 = omega (arith, S .short) in
+      let e : getD w 4 0 ≡ maxKept = omega (arith, S .short) in
       let l : List ℕ = keptIn w in
       let z : behind (take (getD w 4 0) l) b ≡ take (getD w 4 0) l = rw e (behind-full l b (kept-long w (S .long))) in
       ((λ i. record { stage = stageOf (headIn w) (simulationIn w); line = sym z i }), S .valid)
@@ -79,20 +79,20 @@ module _ (w : List ℕ) (b : ℕ) (S : Sound w) where
 
 -- the words of the line, tested one by one
 module _ (w : List ℕ) where
-  pub bytes-none : length w ≡ 6399 → Passing byteWord 0 (drop 5 w) 41 0
-  bytes-none e = passing-none byteWord 0 (drop 5 w) 41 (omega (arith, length-drop 5 w))
+  pub bytes-none : length w ≡ stateSize → Passing byteWord 0 (drop 5 w) maxKept 0
+  bytes-none e = passing-none byteWord 0 (drop 5 w) maxKept (omega (arith, length-drop 5 w))
 
-  module _ (i : ℕ) (S : Passing byteWord 0 (drop 5 w) 41 i) (lt : i < 41) where
+  module _ (i : ℕ) (S : Passing byteWord 0 (drop 5 w) maxKept i) (lt : i < maxKept) where
     pub bytes-failed : 255 < getD w (5 + i) 0 → false ≡ every byteWord (keptIn w)
     unfolding keptIn
-    bytes-failed h = passing-failed byteWord 0 (drop 5 w) 41 i S lt (ap byteWord (getD-drop 5 w i 0) ∙ lt-leb (getD w (5 + i) 0) 255 h)
+    bytes-failed h = passing-failed byteWord 0 (drop 5 w) maxKept i S lt (ap byteWord (getD-drop 5 w i 0) ∙ lt-leb (getD w (5 + i) 0) 255 h)
 
-    pub bytes-more : getD w (5 + i) 0 ≤ 255 → Passing byteWord 0 (drop 5 w) 41 (i + 1)
-    bytes-more h = passing-more byteWord 0 (drop 5 w) 41 i S lt (ap byteWord (getD-drop 5 w i 0) ∙ le-leb (getD w (5 + i) 0) 255 h)
+    pub bytes-more : getD w (5 + i) 0 ≤ 255 → Passing byteWord 0 (drop 5 w) maxKept (i + 1)
+    bytes-more h = passing-more byteWord 0 (drop 5 w) maxKept i S lt (ap byteWord (getD-drop 5 w i 0) ∙ le-leb (getD w (5 + i) 0) 255 h)
 
-  pub bytes-all : (i : ℕ) → Passing byteWord 0 (drop 5 w) 41 i → 41 ≤ i → true ≡ every byteWord (keptIn w)
+  pub bytes-all : (i : ℕ) → Passing byteWord 0 (drop 5 w) maxKept i → maxKept ≤ i → true ≡ every byteWord (keptIn w)
   unfolding keptIn
-  bytes-all i S h = passing-all byteWord 0 (drop 5 w) 41 i S h
+  bytes-all i S h = passing-all byteWord 0 (drop 5 w) maxKept i S h
 
 -- the line's words, copied out
 module _ (w : List ℕ) (S : Sound w) where
@@ -102,13 +102,13 @@ module _ (w : List ℕ) (S : Sound w) where
 
   line-word : (i : ℕ) → i < getD w 4 0 → getD (view w .line) i 0 ≡ getD w (5 + i) 0
   unfolding view headIn keptIn
-  line-word i lt = getD-take (getD w 4 0) (take 41 (drop 5 w)) i 0 lt ∙ (getD-take 41 (drop 5 w) i 0 (omega (arith, lt, S .short)) ∙ getD-drop 5 w i 0)
+  line-word i lt = getD-take (getD w 4 0) (take maxKept (drop 5 w)) i 0 lt ∙ (getD-take maxKept (drop 5 w) i 0 (omega (arith, lt, S .short)) ∙ getD-drop 5 w i 0)
 
   pub word-small : (i : ℕ) → i < getD w 4 0 → getD w (5 + i) 0 ≤ 255
   unfolding keptIn
   word-small i lt =
-      let e : getD (take 41 (drop 5 w)) i 0 ≡ getD w (5 + i) 0 = getD-take 41 (drop 5 w) i 0 (omega (arith, lt, S .short)) ∙ getD-drop 5 w i 0 in
-      let t : byteWord (getD (take 41 (drop 5 w)) i 0) ≡ true = every-at byteWord 0 (take 41 (drop 5 w)) i (known w (S .valid) .bytes) (omega (arith, lt, S .short, kept-long w (S .long))) in
+      let e : getD (take maxKept (drop 5 w)) i 0 ≡ getD w (5 + i) 0 = getD-take maxKept (drop 5 w) i 0 (omega (arith, lt, S .short)) ∙ getD-drop 5 w i 0 in
+      let t : byteWord (getD (take maxKept (drop 5 w)) i 0) ≡ true = every-at byteWord 0 (take maxKept (drop 5 w)) i (known w (S .valid) .bytes) (omega (arith, lt, S .short, kept-long w (S .long))) in
       leb-true (getD w (5 + i) 0) 255 (rw e at t)
 
   pub copy-more : (o l : List ℕ) (i : ℕ) → Copied o l 0 (view w .line) i → i < getD w 4 0 → Copied o (set l i (getD w (5 + i) 0)) 0 (view w .line) (i + 1)
@@ -121,7 +121,7 @@ module _ (w : List ℕ) (S : Sound w) where
   copy-all o l i C h = copied-all o l 0 (view w .line) i C (omega (arith, line-long)) .1
 
   -- the bytes that are parsed
-  pub line-parsed : (o l : List ℕ) → length o ≡ 41 → l ≡ sets o 0 (view w .line) → take (getD w 4 0 - 0) (drop 0 l) ≡ view w .line
+  pub line-parsed : (o l : List ℕ) → length o ≡ maxKept → l ≡ sets o 0 (view w .line) → take (getD w 4 0 - 0) (drop 0 l) ≡ view w .line
   line-parsed o l e q =
       let z : getD w 4 0 - 0 ≡ length (view w .line) = omega (arith, line-long) in
       let f = sets-eq (view w .line) o 0 (omega (arith, line-long, S .short)) in

@@ -15,28 +15,30 @@ use mathlib.Core.Logic.{inl, inr}
 use Rattle.regions.proofs.SetsLaws.{region-inside, region-behind, take-sets-after}
 use Rattle.places.proofs.BlockParts.{covered}
 use Rattle.layout.specs.Layout as layout
+use Rattle.system.specs.Limits.{systemClients}
 use Rattle.system.specs.Places.{holders}
 use Rattle.output.specs.Output.{maxLines}
 use Rattle.output.specs.Reader.{Reader, maxKept}
-use Rattle.script.specs.State.{size, Head, headIn, keptIn, simulationIn, stageOf, lineOf, view, validRun, byteWord, validParts, valid}
+use Rattle.script.specs.State.{stateSize, Head, headIn, keptIn, simulationIn, stageOf, lineOf, view, validRun, byteWord, validParts, valid, stateHead}
+use Rattle.layout.specs.Layout.{simulationSize}
 
 -- w is these parts
 pub record Is (w : List ℕ) (h : Head) (l s : List ℕ) : Type 0 where
-  pub long : length w ≡ size
+  pub long : length w ≡ stateSize
   pub head : headIn w ≡ h
   pub kept : keptIn w ≡ l
   pub simulation : simulationIn w ≡ s
 
-pub itself-is : (w : List ℕ) → length w ≡ size → Is w (headIn w) (keptIn w) (simulationIn w)
+pub itself-is : (w : List ℕ) → length w ≡ stateSize → Is w (headIn w) (keptIn w) (simulationIn w)
 itself-is w h = record { long = h; head = refl; kept = refl; simulation = refl }
 
-pub kept-long : (w : List ℕ) → length w ≡ size → length (keptIn w) ≡ 41
+pub kept-long : (w : List ℕ) → length w ≡ stateSize → length (keptIn w) ≡ maxKept
 unfolding keptIn
-kept-long w e = length-take-le 41 (drop 5 w) (omega (arith, length-drop 5 w))
+kept-long w e = length-take-le maxKept (drop 5 w) (omega (arith, length-drop 5 w))
 
-pub simulation-long : (w : List ℕ) → length w ≡ size → length (simulationIn w) ≡ 6353
+pub simulation-long : (w : List ℕ) → length w ≡ stateSize → length (simulationIn w) ≡ simulationSize
 unfolding simulationIn
-simulation-long w e = length-take-le 6353 (drop 46 w) (omega (arith, length-drop 46 w))
+simulation-long w e = length-take-le simulationSize (drop stateHead w) (omega (arith, length-drop stateHead w))
 
 module _ {w : List ℕ} {h : Head} {l s : List ℕ} (p : Is w h l s) where
   pub view-is : view w ≡ record { stage = stageOf h s; line = lineOf h l }
@@ -45,16 +47,16 @@ module _ {w : List ℕ} {h : Head} {l s : List ℕ} (p : Is w h l s) where
 
   pub valid-is : valid w ≡ validParts h l s
   unfolding valid
-  valid-is = rw (eq-eqb (length w) size (p .long), p .head, p .kept, p .simulation)
+  valid-is = rw (eq-eqb (length w) stateSize (p .long), p .head, p .kept, p .simulation)
 
   -- stores in the head leave the line and the simulation
   behind-kept : (i v : ℕ) → i < 5 → keptIn (set w i v) ≡ l
   unfolding keptIn
-  behind-kept i v lt = ap (take 41) (drop-set-lt 5 w i v lt) ∙ p .kept
+  behind-kept i v lt = ap (take maxKept) (drop-set-lt 5 w i v lt) ∙ p .kept
 
-  behind-simulation : (i v : ℕ) → i < 46 → simulationIn (set w i v) ≡ s
+  behind-simulation : (i v : ℕ) → i < stateHead → simulationIn (set w i v) ≡ s
   unfolding simulationIn
-  behind-simulation i v lt = ap (take 6353) (drop-set-lt 46 w i v lt) ∙ p .simulation
+  behind-simulation i v lt = ap (take simulationSize) (drop-set-lt stateHead w i v lt) ∙ p .simulation
 
   head-store : (i v : ℕ) (h′ : Head) → i < 5 → headIn (set w i v) ≡ h′ → Is (set w i v) h′ l s
   head-store i v h′ lt e = record { long = length-set w i v ∙ p .long; head = e; kept = behind-kept i v lt; simulation = behind-simulation i v (omega arith) }
@@ -136,20 +138,20 @@ module _ {w : List ℕ} {h : Head} {l s : List ℕ} (p : Is w h l s) where
       let f = other (5 + i) 4 v (λ x. omega arith) in
       (λ i. record { stage = a i; answered = b i; accepted = c i; holding = d i; length = f i }) ∙ p .head
 
-  kept-stored : (i v : ℕ) → i < 41 → keptIn (set w (5 + i) v) ≡ set l i v
+  kept-stored : (i v : ℕ) → i < maxKept → keptIn (set w (5 + i) v) ≡ set l i v
   unfolding keptIn
-  kept-stored i v lt = ap (take 41) (drop-set-add 5 w i v) ∙ (take-set-lt 41 (drop 5 w) i v lt ∙ ap (λ (x : List ℕ). set x i v) (p .kept))
+  kept-stored i v lt = ap (take maxKept) (drop-set-add 5 w i v) ∙ (take-set-lt maxKept (drop 5 w) i v lt ∙ ap (λ (x : List ℕ). set x i v) (p .kept))
 
-  pub store-kept : (i v : ℕ) → i < 41 → Is (set w (5 + i) v) h (set l i v) s
+  pub store-kept : (i v : ℕ) → i < maxKept → Is (set w (5 + i) v) h (set l i v) s
   store-kept i v lt =
       record { long = length-set w (5 + i) v ∙ p .long; head = kept-head i v; kept = kept-stored i v lt; simulation = behind-simulation (5 + i) v (omega arith) }
 
   -- the simulation, stored whole
-  store-head : (v : List ℕ) → headIn (sets w 46 v) ≡ h
+  store-head : (v : List ℕ) → headIn (sets w stateHead v) ≡ h
   unfolding headIn
   store-head v =
-      let word : (i : ℕ) → i < 46 → getD (sets w 46 v) i 0 ≡ getD w i 0 = λ i lt.
-      sym (getD-take 46 (sets w 46 v) i 0 lt) ∙ (ap (λ (x : List ℕ). getD x i 0) (take-sets-after 46 w 46 v (omega arith)) ∙ getD-take 46 w i 0 lt) in
+      let word : (i : ℕ) → i < stateHead → getD (sets w stateHead v) i 0 ≡ getD w i 0 = λ i lt.
+      sym (getD-take stateHead (sets w stateHead v) i 0 lt) ∙ (ap (λ (x : List ℕ). getD x i 0) (take-sets-after stateHead w stateHead v (omega arith)) ∙ getD-take stateHead w i 0 lt) in
       let a = word 0 (omega arith) in
       let b = word 1 (omega arith) in
       let c = word 2 (omega arith) in
@@ -157,18 +159,18 @@ module _ {w : List ℕ} {h : Head} {l s : List ℕ} (p : Is w h l s) where
       let f = word 4 (omega arith) in
       (λ i. record { stage = a i; answered = b i; accepted = c i; holding = d i; length = f i }) ∙ p .head
 
-  store-line : (v : List ℕ) → keptIn (sets w 46 v) ≡ l
+  store-line : (v : List ℕ) → keptIn (sets w stateHead v) ≡ l
   unfolding keptIn
-  store-line v = region-behind 5 41 w 0 v ∙ p .kept
+  store-line v = region-behind 5 maxKept w 0 v ∙ p .kept
 
-  store-all : (v : List ℕ) → length v ≡ 6353 → simulationIn (sets w 46 v) ≡ v
+  store-all : (v : List ℕ) → length v ≡ simulationSize → simulationIn (sets w stateHead v) ≡ v
   unfolding simulationIn
   store-all v e =
-      region-inside 46 6353 w 0 v (omega arith) ∙ covered (take 6353 (drop 46 w)) v (omega (arith, simulation-long w (p .long)))
+      region-inside stateHead simulationSize w 0 v (omega arith) ∙ covered (take simulationSize (drop stateHead w)) v (omega (arith, simulation-long w (p .long)))
 
-  pub store-simulation : (v : List ℕ) → length v ≡ 6353 → Is (sets w 46 v) h l v
+  pub store-simulation : (v : List ℕ) → length v ≡ simulationSize → Is (sets w stateHead v) h l v
   store-simulation v e =
-      record { long = length-sets w 46 v ∙ p .long; head = store-head v; kept = store-line v; simulation = store-all v e }
+      record { long = length-sets w stateHead v ∙ p .long; head = store-head v; kept = store-line v; simulation = store-all v e }
 
 -- what a valid state says of its parts
 pub record Facts (h : Head) (l s : List ℕ) : Type 0 where
@@ -190,21 +192,21 @@ pub record RunFacts (h : Head) (s : List ℕ) : Type 0 where
   pub answered : h .answered ≤ maxLines
   pub accepted : h .accepted ≤ h .answered
   pub holding : holders (layout.view s) ≤ h .holding
-  pub few : h .holding ≤ layout.maxClients
+  pub few : h .holding ≤ systemClients
 
 pub run-facts : (h : Head) (s : List ℕ) → validRun h s ≡ true → RunFacts h s
 unfolding validRun
 run-facts h s e =
-    let (a, x) = both (layout.valid s) (leb (h .answered) maxLines && (leb (h .accepted) (h .answered) && (leb (holders (layout.view s)) (h .holding) && leb (h .holding) layout.maxClients))) e in
-    let (b, y) = both (leb (h .answered) maxLines) (leb (h .accepted) (h .answered) && (leb (holders (layout.view s)) (h .holding) && leb (h .holding) layout.maxClients)) x in
-    let (c, z) = both (leb (h .accepted) (h .answered)) (leb (holders (layout.view s)) (h .holding) && leb (h .holding) layout.maxClients) y in
-    let (d, f) = both (leb (holders (layout.view s)) (h .holding)) (leb (h .holding) layout.maxClients) z in
+    let (a, x) = both (layout.valid s) (leb (h .answered) maxLines && (leb (h .accepted) (h .answered) && (leb (holders (layout.view s)) (h .holding) && leb (h .holding) systemClients))) e in
+    let (b, y) = both (leb (h .answered) maxLines) (leb (h .accepted) (h .answered) && (leb (holders (layout.view s)) (h .holding) && leb (h .holding) systemClients)) x in
+    let (c, z) = both (leb (h .accepted) (h .answered)) (leb (holders (layout.view s)) (h .holding) && leb (h .holding) systemClients) y in
+    let (d, f) = both (leb (holders (layout.view s)) (h .holding)) (leb (h .holding) systemClients) z in
     record { simulation = a; answered = leb-true _ _ b; accepted = leb-true _ _ c; holding = leb-true _ _ d; few = leb-true _ _ f }
 
 pub from-run : (h : Head) (s : List ℕ) → RunFacts h s → validRun h s ≡ true
 unfolding validRun
 from-run h s f =
-    rw (f .simulation, le-leb (h .answered) maxLines (f .answered), le-leb (h .accepted) (h .answered) (f .accepted), le-leb (holders (layout.view s)) (h .holding) (f .holding), le-leb (h .holding) layout.maxClients (f .few))
+    rw (f .simulation, le-leb (h .answered) maxLines (f .answered), le-leb (h .accepted) (h .answered) (f .accepted), le-leb (holders (layout.view s)) (h .holding) (f .holding), le-leb (h .holding) systemClients (f .few))
 
 pub from-facts : (h : Head) (l s : List ℕ) → h .stage ≤ 2 → h .length ≤ maxKept → every byteWord l ≡ true → (h .stage ≡ 1 → validRun h s ≡ true) → validParts h l s ≡ true
 unfolding validParts

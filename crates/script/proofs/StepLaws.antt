@@ -28,7 +28,7 @@ use Rattle.system.specs.Events.{Result, withPlaces}
 use Rattle.system.specs.Runs.{after, isStepped, start}
 use Rattle.regions.specs.Blocks.{blocks}
 use Rattle.regions.proofs.BlockLaws.{length-blocks}
-use Rattle.places.specs.Blocks.{clientPlace}
+use Rattle.places.specs.Blocks.{clientPlace, clientBlock}
 use Rattle.wire.specs.Step.{refused, stepped}
 use Rattle.language.specs.declared.Setting.{Setting}
 use Rattle.language.specs.declared.First.the-variants.{Setting as Opens, Bad as NotOpening}
@@ -47,17 +47,19 @@ use Rattle.simulation.specs.Opens as simulation
 use Rattle.bounded.specs.declared.Reply.the-variants as reply
 use Rattle.bounded.specs.declared.Moved.the-variants as made
 use Rattle.output.specs.Output.{maxLines, happens, answerLine, fresh, runs}
-use Rattle.output.specs.Reader.{Run, Stage, opening, running, closed, Reader, Printed, started, opened, moved, passed, lineTaken, worked, behind, taken, ended, lastLine, maxKept}
-use Rattle.script.specs.State.{size, Head, headIn, keptIn, simulationIn, settingIn, runIn, stageOf, view, validRun, byteWord, validParts, valid}
+use Rattle.output.specs.Reader.{Run, Stage, opening, running, closed, Reader, Printed, started, opened, moved, passed, lineTaken, worked, behind, taken, ended, lastLine, maxKept, maxPrinted}
+use Rattle.script.specs.State.{stateSize, Head, headIn, keptIn, simulationIn, settingIn, runIn, stageOf, view, validRun, byteWord, validParts, valid, stateHead}
 use Rattle.script.specs.declared.Progress.the-variants.{Took, Refused}
 use Rattle.script.specs.Calls.{newAnswer, newWords, Sound, Ready, Reads, Does, Takes, happened, passing}
 use Rattle.script.proofs.StateLaws.{Is, itself-is, view-is, valid-is, store-length, store-stage, store-answered, store-accepted, store-holding, store-simulation, Facts, RunFacts, run-facts, from-run, from-facts}
 use Rattle.script.proofs.TestLaws.{few-clients, part-long}
 use Rattle.script.proofs.LineLaws.{known, sound, line-long, line-parsed}
 use Rattle.changes.specs.Opening.{Starts}
+use Rattle.system.specs.Limits.{systemClients, systemServers}
+use Rattle.layout.specs.Layout.{simulationSize}
 
 -- the line, parsed
-pub line-read : {A : Type 0} (f : List ℕ → A) (w : List ℕ) → Sound w → (o l : List ℕ) → length o ≡ 41 → l ≡ sets o 0 (view w .line) →
+pub line-read : {A : Type 0} (f : List ℕ → A) (w : List ℕ) → Sound w → (o l : List ℕ) → length o ≡ maxKept → l ≡ sets o 0 (view w .line) →
     (r : A) → r ≡ f (take (getD w 4 0 - 0) (drop 0 l)) → r ≡ f (view w .line)
 line-read f w S o l e q r p = p ∙ ap f (line-parsed w S o l e q)
 
@@ -83,13 +85,13 @@ count-few : (l : List Bool) → count l ≤ length l
 count-few [] = omega arith
 count-few (b ∷ l) = omega (arith, count-few l, one-or-none b)
 
-few-holders : (s : List ℕ) → layout.valid s ≡ true → holders (layout.view s) ≤ 16
+few-holders : (s : List ℕ) → layout.valid s ≡ true → holders (layout.view s) ≤ systemClients
 unfolding layout.view layout.settingOf
 few-holders s v =
     let a = few-clients s v in
-    let b = length-blocks 99 clientPlace (getD s 3 0) (layout.clientWords s) in
-    let c = length-map (blocks 99 clientPlace (getD s 3 0) (layout.clientWords s)) isInside in
-    omega (arith, a, b, c, count-few (map isInside (blocks 99 clientPlace (getD s 3 0) (layout.clientWords s))))
+    let b = length-blocks clientBlock clientPlace (getD s 3 0) (layout.clientWords s) in
+    let c = length-map (blocks clientBlock clientPlace (getD s 3 0) (layout.clientWords s)) isInside in
+    omega (arith, a, b, c, count-few (map isInside (blocks clientBlock clientPlace (getD s 3 0) (layout.clientWords s))))
 
 -- what the simulation replied, turned round
 pub reply-refused : (u : System) (o : Result) (x : Refusal) → reply.Refused x ≡ bounded.replyOf u o → o ≡ refused x
@@ -211,11 +213,11 @@ module _ (w : List ℕ) (at : ℕ) (o : List ℕ) where
   unfolding ended
   end-opening e o′ r b = rw (stage-opening w e) b
 
-  most-word : length w ≡ 6399 → layout.view (simulationIn w) .most ≡ getD w 52 0
+  most-word : length w ≡ stateSize → layout.view (simulationIn w) .most ≡ getD w maxPrinted 0
   unfolding layout.view simulationIn
-  most-word long = getD-take 6353 (drop 46 w) 6 0 (omega arith) ∙ getD-drop 46 w 6 0
+  most-word long = getD-take simulationSize (drop stateHead w) 6 0 (omega arith) ∙ getD-drop stateHead w 6 0
 
-  pub end-running : length w ≡ 6399 → getD w 0 0 ≡ 1 → (o′ : List ℕ) (r : ℕ) → (r ≡ at + length (endLine (getD w 2 0) (getD w 3 0) (getD w 52 0))) × (o′ ≡ sets o at (endLine (getD w 2 0) (getD w 3 0) (getD w 52 0))) → Ends o′ r
+  pub end-running : length w ≡ stateSize → getD w 0 0 ≡ 1 → (o′ : List ℕ) (r : ℕ) → (r ≡ at + length (endLine (getD w 2 0) (getD w 3 0) (getD w maxPrinted 0))) × (o′ ≡ sets o at (endLine (getD w 2 0) (getD w 3 0) (getD w maxPrinted 0))) → Ends o′ r
   unfolding ended headIn
   end-running long e o′ r b = rw (stage-running w e, most-word long) b
 
@@ -227,17 +229,17 @@ module _ (w : List ℕ) (at : ℕ) (o : List ℕ) where
 pub cleared-more : (o l : List ℕ) (n i : ℕ) → Clearing o 0 n l i → i < n → Clearing o 0 n (set l i 0) (i + 1)
 cleared-more o l n i S h = let z : 0 + i ≡ i = omega arith in rw z at (clearing-more o 0 n l i S h)
 
-pub newly : (w w′ : List ℕ) → length w ≡ 6399 → w′ ≡ sets w 0 (replicate 46 0) → w′ ≡ newWords w
+pub newly : (w w′ : List ℕ) → length w ≡ stateSize → w′ ≡ sets w 0 (replicate stateHead 0) → w′ ≡ newWords w
 unfolding newWords
-newly w w′ e p = rw (eq-eqb (length w) 6399 e) p
+newly w w′ e p = rw (eq-eqb (length w) stateSize e) p
 
-pub newly-answered : (w : List ℕ) → length w ≡ 6399 → Took 0 0 ≡ newAnswer w
+pub newly-answered : (w : List ℕ) → length w ≡ stateSize → Took 0 0 ≡ newAnswer w
 unfolding newAnswer
-newly-answered w e = rw (eq-eqb (length w) 6399 e)
+newly-answered w e = rw (eq-eqb (length w) stateSize e)
 
-pub not-new : (w : List ℕ) → (length w ≡ 6399 → ⊥) → (Refused ParameterOutOfRange ≡ newAnswer w) × (w ≡ newWords w)
+pub not-new : (w : List ℕ) → (length w ≡ stateSize → ⊥) → (Refused ParameterOutOfRange ≡ newAnswer w) × (w ≡ newWords w)
 unfolding newAnswer newWords
-not-new w ne = (rw (ne-eqb (length w) 6399 ne), rw (ne-eqb (length w) 6399 ne))
+not-new w ne = (rw (ne-eqb (length w) stateSize ne), rw (ne-eqb (length w) stateSize ne))
 
 -- the first line ---------------------------------------------------------------------------------------------------------------
 
@@ -250,9 +252,9 @@ unfolding start
 no-holders s = holders-fresh (s .n) (s .clients)
 
 -- a new simulation is made or refused as the setting is in range
-pub opens-runs : (s : Setting) (l : ℕ) → l ≡ 6353 → simulation.opens l (s .n) (s .m) (s .f) (s .clients) ≡ runs s
+pub opens-runs : (s : Setting) (l : ℕ) → l ≡ simulationSize → simulation.opens l (s .n) (s .m) (s .f) (s .clients) ≡ runs s
 unfolding simulation.opens
-opens-runs s l e = rw (eq-eqb l 6353 e)
+opens-runs s l e = rw (eq-eqb l simulationSize e)
 
 pub made-refused : (b : Bool) (x : Refusal) → made.Refused x ≡ simulation.newReply b → (b ≡ false) × (x ≡ ParameterOutOfRange)
 unfolding simulation.newReply
@@ -265,33 +267,33 @@ made-new true i e = refl
 made-new false i e = let z : _≡_ {A = ℕ} 0 1 = cc in absurd (omega arith)
 
 module _ (w out : List ℕ) (at : ℕ) (R : Ready w out at) (zeroth : getD w 0 0 ≡ 0) where
-  module _ (s′ : List ℕ) (long : length s′ ≡ 6353) where
-    lent-is : Is (sets w 46 s′) (headIn w) (keptIn w) s′
+  module _ (s′ : List ℕ) (long : length s′ ≡ simulationSize) where
+    lent-is : Is (sets w stateHead s′) (headIn w) (keptIn w) s′
     lent-is = store-simulation (itself-is w (R .long)) s′ long
 
     -- before the first line the simulation's words do not matter
-    pub lent-ready : Ready (sets w 46 s′) out at
+    pub lent-ready : Ready (sets w stateHead s′) out at
     unfolding headIn
     lent-ready =
         let K = known w (R .valid) in
-        let v : valid (sets w 46 s′) ≡ true = valid-is lent-is ∙ from-facts (headIn w) (keptIn w) s′ (K .stage) (K .few) (K .bytes) (λ e. absurd (omega (arith, zeroth, e))) in
-        let S = sound (sets w 46 s′) v in
+        let v : valid (sets w stateHead s′) ≡ true = valid-is lent-is ∙ from-facts (headIn w) (keptIn w) s′ (K .stage) (K .few) (K .bytes) (λ e. absurd (omega (arith, zeroth, e))) in
+        let S = sound (sets w stateHead s′) v in
         record { valid = v; long = S .long; short = S .short; room = R .room }
 
-    pub lent-line : view (sets w 46 s′) .line ≡ view w .line
+    pub lent-line : view (sets w stateHead s′) .line ≡ view w .line
     unfolding view
     lent-line = ap (λ (x : Reader). x .line) (view-is lent-is)
 
   -- the setting is out of range
-  pub open-refused : (s : Setting) (s′ : List ℕ) → length s′ ≡ 6353 → runs s ≡ false → (x : Refusal) → x ≡ ParameterOutOfRange → (w′ out′ : List ℕ) (r : ℕ) →
-      Does (sets w 46 s′) out at (record { now = closed; out = refusedLine x }) w′ out′ r → Does w out at (opened (some s)) w′ out′ r
+  pub open-refused : (s : Setting) (s′ : List ℕ) → length s′ ≡ simulationSize → runs s ≡ false → (x : Refusal) → x ≡ ParameterOutOfRange → (w′ out′ : List ℕ) (r : ℕ) →
+      Does (sets w stateHead s′) out at (record { now = closed; out = refusedLine x }) w′ out′ r → Does w out at (opened (some s)) w′ out′ r
   unfolding opened
   open-refused s s′ long out-of x q w′ out′ r D =
       rw (out-of, ← q) (record { stage = D .stage; line = D .line ∙ lent-line s′ long; again = D .again; place = D .place; bytes = D .bytes })
 
   -- the setting is in range: the script runs
-  pub open-running : (s : Setting) (s′ : List ℕ) → runs s ≡ true → Starts (s .n) (s .m) (s .f) (s .clients) s′ → length s′ ≡ 6353 → (out′ : List ℕ) (r : ℕ) →
-      (r ≡ at + length (headerLine s)) × (out′ ≡ sets out at (headerLine s)) → Does w out at (opened (some s)) (set (set (set (set (sets w 46 s′) 0 1) 1 0) 2 0) 3 0) out′ r
+  pub open-running : (s : Setting) (s′ : List ℕ) → runs s ≡ true → Starts (s .n) (s .m) (s .f) (s .clients) s′ → length s′ ≡ simulationSize → (out′ : List ℕ) (r : ℕ) →
+      (r ≡ at + length (headerLine s)) × (out′ ≡ sets out at (headerLine s)) → Does w out at (opened (some s)) (set (set (set (set (sets w stateHead s′) 0 1) 1 0) 2 0) 3 0) out′ r
   unfolding opened stageOf
   open-running s s′ in-it B long out′ r b =
       let I = store-holding (store-accepted (store-answered (store-stage (lent-is s′ long) 1) 0) 0) 0 in
@@ -320,18 +322,18 @@ module _ (w : List ℕ) where
   closed-line a b = rw (stage-closed w a b)
 
   module _ (one : getD w 0 0 ≡ 1) where
-    pub unread-line : 1000000 ≤ getD w 1 0 → worked (view w .stage) (view w .line) ≡ record { now = view w .stage; out = [] }
+    pub unread-line : maxLines ≤ getD w 1 0 → worked (view w .stage) (view w .line) ≡ record { now = view w .stage; out = [] }
     unfolding worked lineTaken headIn
-    unread-line h = rw (stage-running w one, le-ltb (getD w 1 0) 1000000 h)
+    unread-line h = rw (stage-running w one, le-ltb (getD w 1 0) maxLines h)
 
-    module _ (more : getD w 1 0 < 1000000) where
+    module _ (more : getD w 1 0 < maxLines) where
       pub bad-line : eventIn (view w .line) ≡ none → worked (view w .stage) (view w .line) ≡ passing (runIn (headIn w) (simulationIn w)) BadLine
       unfolding worked lineTaken headIn
-      bad-line e = rw (stage-running w one, lt-ltb (getD w 1 0) 1000000 more, e)
+      bad-line e = rw (stage-running w one, lt-ltb (getD w 1 0) maxLines more, e)
 
       pub event-line : (e : Event) → eventIn (view w .line) ≡ some e → worked (view w .stage) (view w .line) ≡ happened (runIn (headIn w) (simulationIn w)) e
       unfolding worked lineTaken headIn
-      event-line e q = rw (stage-running w one, lt-ltb (getD w 1 0) 1000000 more, q)
+      event-line e q = rw (stage-running w one, lt-ltb (getD w 1 0) maxLines more, q)
 
       -- an event of a party whose number is too large for its type
       pub unknown-line : (e : Event) → eventIn (view w .line) ≡ some e → happens (settingIn (simulationIn w)) (layout.view (simulationIn w)) e ≡ refused NoSuchParty → holders (layout.view (simulationIn w)) ≤ getD w 3 0 →
@@ -381,11 +383,11 @@ module _ (s : List ℕ) (v : layout.valid s ≡ true) where
   beyond : (k c : ℕ) → leb k 65535 ≡ false → c ≤ 65535 → within k c ≡ false
   beyond k c e h = rw (le-leb 1 k (omega (arith, leb-false k 65535 e)), lt-leb k c (omega (arith, leb-false k 65535 e)))
 
-  few-servers : layout.settingOf s .n ≤ 31
+  few-servers : layout.settingOf s .n ≤ systemServers
   few-servers = range _ _ _ (layout-laws.facts s v .range) .servers
 
   no-client : (k : ℕ) → leb k 65535 ≡ false → has (layout.view s .clients) k ≡ false
-  no-client k e = client-there s k ∙ beyond k (layout.settingOf s .clients) e (omega (arith, within-range (layout.settingOf s .clients) 16 (layout-laws.facts s v .some) .1))
+  no-client k e = client-there s k ∙ beyond k (layout.settingOf s .clients) e (omega (arith, within-range (layout.settingOf s .clients) systemClients (layout-laws.facts s v .some) .1))
 
   no-server : (j : ℕ) → leb j 65535 ≡ false → has (layout.view s .servers) j ≡ false
   no-server j e = server-there s j ∙ beyond j (layout.settingOf s .n) e (omega (arith, few-servers))
@@ -404,59 +406,59 @@ module _ (s : List ℕ) (v : layout.valid s ≡ true) where
 
 -- the simulation, lent and come back -----------------------------------------------------------------------------------------------
 
-pub back : (w s′ : List ℕ) → length w ≡ 6399 → length s′ ≡ 6353 → putMid 46 6353 w s′ ≡ sets w 46 s′
-back w s′ e l = came-back w 46 6353 s′ l (omega arith)
+pub back : (w s′ : List ℕ) → length w ≡ stateSize → length s′ ≡ simulationSize → putMid stateHead simulationSize w s′ ≡ sets w stateHead s′
+back w s′ e l = came-back w stateHead simulationSize s′ l (omega arith)
 
-pub back-long : (w s′ : List ℕ) → length w ≡ 6399 → length s′ ≡ 6353 → length (putMid 46 6353 w s′) ≡ 6399
-back-long w s′ e l = ap length (back w s′ e l) ∙ (length-sets w 46 s′ ∙ e)
+pub back-long : (w s′ : List ℕ) → length w ≡ stateSize → length s′ ≡ simulationSize → length (putMid stateHead simulationSize w s′) ≡ stateSize
+back-long w s′ e l = ap length (back w s′ e l) ∙ (length-sets w stateHead s′ ∙ e)
 
-pub valid-long : (s : List ℕ) → layout.valid s ≡ true → length s ≡ 6353
+pub valid-long : (s : List ℕ) → layout.valid s ≡ true → length s ≡ simulationSize
 valid-long s v = layout-laws.facts s v .long
 
-pub simulation-valid : (w out : List ℕ) (at : ℕ) (R : Ready w out at) → Reads w → layout.valid (take 6353 (drop 46 w)) ≡ true
+pub simulation-valid : (w out : List ℕ) (at : ℕ) (R : Ready w out at) → Reads w → layout.valid (take simulationSize (drop stateHead w)) ≡ true
 unfolding simulationIn
 simulation-valid w out at R N = run-known w out at R N .simulation
 
 -- the event's two ends
-module _ (w out : List ℕ) (at : ℕ) (R : Ready w out at) (N : Reads w) (e : Event) (s′ : List ℕ) (L : bounded.Leaves (take 6353 (drop 46 w)) e s′) where
-  long′ : length s′ ≡ 6353
+module _ (w out : List ℕ) (at : ℕ) (R : Ready w out at) (N : Reads w) (e : Event) (s′ : List ℕ) (L : bounded.Leaves (take simulationSize (drop stateHead w)) e s′) where
+  long′ : length s′ ≡ simulationSize
   long′ = valid-long s′ (L .again)
 
   leaves : bounded.Leaves (simulationIn w) e s′
   unfolding simulationIn
   leaves = L
 
-  words : Is (set (putMid 46 6353 w s′) 1 (getD w 1 0 + 1)) (record { stage = getD w 0 0; answered = getD w 1 0 + 1; accepted = getD w 2 0; holding = getD w 3 0; length = getD w 4 0 }) (keptIn w) s′
+  words : Is (set (putMid stateHead simulationSize w s′) 1 (getD w 1 0 + 1)) (record { stage = getD w 0 0; answered = getD w 1 0 + 1; accepted = getD w 2 0; holding = getD w 3 0; length = getD w 4 0 }) (keptIn w) s′
   unfolding headIn
   words = rw (back w s′ (R .long) long′) (store-answered (store-simulation (itself-is w (R .long)) s′ long′) (getD w 1 0 + 1))
 
-  pub counted-long : length (set (putMid 46 6353 w s′) 1 (getD w 1 0 + 1)) ≡ 6399
-  counted-long = length-set (putMid 46 6353 w s′) 1 (getD w 1 0 + 1) ∙ back-long w s′ (R .long) long′
+  pub counted-long : length (set (putMid stateHead simulationSize w s′) 1 (getD w 1 0 + 1)) ≡ stateSize
+  counted-long = length-set (putMid stateHead simulationSize w s′) 1 (getD w 1 0 + 1) ∙ back-long w s′ (R .long) long′
 
-  word-two : getD (set (putMid 46 6353 w s′) 1 (getD w 1 0 + 1)) 2 0 ≡ getD w 2 0
+  word-two : getD (set (putMid stateHead simulationSize w s′) 1 (getD w 1 0 + 1)) 2 0 ≡ getD w 2 0
   unfolding headIn
   word-two = ap (λ (h : Head). h .accepted) (words .head)
 
-  word-three : getD (set (putMid 46 6353 w s′) 1 (getD w 1 0 + 1)) 3 0 ≡ getD w 3 0
+  word-three : getD (set (putMid stateHead simulationSize w s′) 1 (getD w 1 0 + 1)) 3 0 ≡ getD w 3 0
   unfolding headIn
   word-three = ap (λ (h : Head). h .holding) (words .head)
 
-  pub counted-few : getD (set (putMid 46 6353 w s′) 1 (getD w 1 0 + 1)) 2 0 ≤ 1000000
+  pub counted-few : getD (set (putMid stateHead simulationSize w s′) 1 (getD w 1 0 + 1)) 2 0 ≤ maxLines
   counted-few = omega (arith, word-two, N .fewer, N .more)
 
   pub accepted-same : (k : ℕ) (w′ : List ℕ) →
-      w′ ≡ set (set (set (putMid 46 6353 w s′) 1 (getD w 1 0 + 1)) 2 (getD (set (putMid 46 6353 w s′) 1 (getD w 1 0 + 1)) 2 0 + 1)) 3 (max (getD (set (putMid 46 6353 w s′) 1 (getD w 1 0 + 1)) 3 0) k) → length w′ ≡ length w
+      w′ ≡ set (set (set (putMid stateHead simulationSize w s′) 1 (getD w 1 0 + 1)) 2 (getD (set (putMid stateHead simulationSize w s′) 1 (getD w 1 0 + 1)) 2 0 + 1)) 3 (max (getD (set (putMid stateHead simulationSize w s′) 1 (getD w 1 0 + 1)) 3 0) k) → length w′ ≡ length w
   accepted-same k w′ p =
-      let x : List ℕ = set (putMid 46 6353 w s′) 1 (getD w 1 0 + 1) in
+      let x : List ℕ = set (putMid stateHead simulationSize w s′) 1 (getD w 1 0 + 1) in
       ap length p ∙ (length-set (set x 2 (getD x 2 0 + 1)) 3 (max (getD x 3 0) k) ∙ (length-set x 2 (getD x 2 0 + 1) ∙ (counted-long ∙ sym (R .long))))
 
   holding-word : RunFacts (headIn w) (simulationIn w) → holders (layout.view (simulationIn w)) ≤ getD w 3 0
   unfolding headIn
   holding-word F = F .holding
 
-  pub event-refused : (x : Refusal) → reply.Refused x ≡ bounded.replyOf (layout.view (take 6353 (drop 46 w))) (bounded.happens (take 6353 (drop 46 w)) e) → (out′ : List ℕ) (r : ℕ) →
+  pub event-refused : (x : Refusal) → reply.Refused x ≡ bounded.replyOf (layout.view (take simulationSize (drop stateHead w))) (bounded.happens (take simulationSize (drop stateHead w)) e) → (out′ : List ℕ) (r : ℕ) →
       (r ≡ at + length (noLine (getD w 1 0 + 1) x)) × (out′ ≡ sets out at (noLine (getD w 1 0 + 1) x)) →
-      Does w out at (happened (runIn (headIn w) (simulationIn w)) e) (set (putMid 46 6353 w s′) 1 (getD w 1 0 + 1)) out′ r
+      Does w out at (happened (runIn (headIn w) (simulationIn w)) e) (set (putMid stateHead simulationSize w s′) 1 (getD w 1 0 + 1)) out′ r
   unfolding simulationIn answerLine after
   event-refused x q out′ r b =
       let o : bounded.happens (simulationIn w) e ≡ refused x = reply-refused _ _ x q in
@@ -464,8 +466,8 @@ module _ (w out : List ℕ) (at : ℕ) (R : Ready w out at) (N : Reads w) (e : E
       let z : getD w 1 0 + 1 ≡ suc (getD w 1 0) = add-one (getD w 1 0) in
       happened-does w out at R N e s′ leaves (getD w 2 0) (getD w 3 0) (rw o (omega arith)) (rw o (omega (arith, holding-word F))) _ words out′ r (rw (o, ← z) b)
 
-  pub event-accepted : (sent k : ℕ) → reply.Accepted sent k ≡ bounded.replyOf (layout.view (take 6353 (drop 46 w))) (bounded.happens (take 6353 (drop 46 w)) e) → (w′ : List ℕ) →
-      w′ ≡ set (set (set (putMid 46 6353 w s′) 1 (getD w 1 0 + 1)) 2 (getD (set (putMid 46 6353 w s′) 1 (getD w 1 0 + 1)) 2 0 + 1)) 3 (max (getD (set (putMid 46 6353 w s′) 1 (getD w 1 0 + 1)) 3 0) k) → (out′ : List ℕ) (r : ℕ) →
+  pub event-accepted : (sent k : ℕ) → reply.Accepted sent k ≡ bounded.replyOf (layout.view (take simulationSize (drop stateHead w))) (bounded.happens (take simulationSize (drop stateHead w)) e) → (w′ : List ℕ) →
+      w′ ≡ set (set (set (putMid stateHead simulationSize w s′) 1 (getD w 1 0 + 1)) 2 (getD (set (putMid stateHead simulationSize w s′) 1 (getD w 1 0 + 1)) 2 0 + 1)) 3 (max (getD (set (putMid stateHead simulationSize w s′) 1 (getD w 1 0 + 1)) 3 0) k) → (out′ : List ℕ) (r : ℕ) →
       (r ≡ at + length (okLine (getD w 1 0 + 1) sent k)) × (out′ ≡ sets out at (okLine (getD w 1 0 + 1) sent k)) →
       Does w out at (happened (runIn (headIn w) (simulationIn w)) e) w′ out′ r
   unfolding simulationIn
@@ -477,24 +479,24 @@ module _ (w out : List ℕ) (at : ℕ) (R : Ready w out at) (N : Reads w) (e : E
       happened-does w out at R N e s′ leaves (getD w 2 0 + 1) (max (getD w 3 0) k) (rw (A .stepped)) (rw (A .holders)) w′ J out′ r (rw (A .line (suc (getD w 1 0)), ← z) b)
 
 -- a new simulation's two ends
-module _ (w out : List ℕ) (at : ℕ) (R : Ready w out at) (zeroth : getD w 0 0 ≡ 0) (s : Setting) (s′ : List ℕ) (N : simulation.NewLeaves (s .n) (s .m) (s .f) (s .clients) (take 6353 (drop 46 w)) s′) where
+module _ (w out : List ℕ) (at : ℕ) (R : Ready w out at) (zeroth : getD w 0 0 ≡ 0) (s : Setting) (s′ : List ℕ) (N : simulation.NewLeaves (s .n) (s .m) (s .f) (s .clients) (take simulationSize (drop stateHead w)) s′) where
   abbrev opens-it : Bool
-  opens-it = simulation.opens (length (take 6353 (drop 46 w))) (s .n) (s .m) (s .f) (s .clients)
+  opens-it = simulation.opens (length (take simulationSize (drop stateHead w))) (s .n) (s .m) (s .f) (s .clients)
 
-  lent-long : length (take 6353 (drop 46 w)) ≡ 6353
+  lent-long : length (take simulationSize (drop stateHead w)) ≡ simulationSize
   lent-long = part-long w (R .long)
 
   as-runs : opens-it ≡ runs s
-  as-runs = opens-runs s (length (take 6353 (drop 46 w))) lent-long
+  as-runs = opens-runs s (length (take simulationSize (drop stateHead w))) lent-long
 
   module _ (x : Refusal) (e : made.Refused x ≡ simulation.newReply opens-it) where
-    kept-long′ : length s′ ≡ 6353
+    kept-long′ : length s′ ≡ simulationSize
     kept-long′ = ap length (N .kept (made-refused opens-it x e .0)) ∙ lent-long
 
-    pub begin-ready : Ready (putMid 46 6353 w s′) out at
+    pub begin-ready : Ready (putMid stateHead simulationSize w s′) out at
     begin-ready = rw (back w s′ (R .long) kept-long′) (lent-ready w out at R zeroth s′ kept-long′)
 
-    pub begin-refused : (w′ out′ : List ℕ) (r : ℕ) → Does (putMid 46 6353 w s′) out at (record { now = closed; out = refusedLine x }) w′ out′ r → Does w out at (opened (some s)) w′ out′ r
+    pub begin-refused : (w′ out′ : List ℕ) (r : ℕ) → Does (putMid stateHead simulationSize w s′) out at (record { now = closed; out = refusedLine x }) w′ out′ r → Does w out at (opened (some s)) w′ out′ r
     begin-refused w′ out′ r D =
         let q = made-refused opens-it x e in
         open-refused w out at R zeroth s s′ kept-long′ (sym as-runs ∙ q .0) x (q .1) w′ out′ r (rw (back w s′ (R .long) kept-long′) at D)
@@ -503,13 +505,13 @@ module _ (w out : List ℕ) (at : ℕ) (R : Ready w out at) (zeroth : getD w 0 0
     fresh-start : Starts (s .n) (s .m) (s .f) (s .clients) s′
     fresh-start = N .starts (made-new opens-it i e)
 
-    fresh-long : length s′ ≡ 6353
+    fresh-long : length s′ ≡ simulationSize
     fresh-long = valid-long s′ (fresh-start .again)
 
-    pub begin-long : length (putMid 46 6353 w s′) ≡ 6399
+    pub begin-long : length (putMid stateHead simulationSize w s′) ≡ stateSize
     begin-long = back-long w s′ (R .long) fresh-long
 
-    pub begin-running : (w′ : List ℕ) → w′ ≡ set (set (set (set (putMid 46 6353 w s′) 0 1) 1 0) 2 0) 3 0 → (out′ : List ℕ) (r : ℕ) → (r ≡ at + length (headerLine s)) × (out′ ≡ sets out at (headerLine s)) →
+    pub begin-running : (w′ : List ℕ) → w′ ≡ set (set (set (set (putMid stateHead simulationSize w s′) 0 1) 1 0) 2 0) 3 0 → (out′ : List ℕ) (r : ℕ) → (r ≡ at + length (headerLine s)) × (out′ ≡ sets out at (headerLine s)) →
         Does w out at (opened (some s)) w′ out′ r
     begin-running w′ p out′ r b = rw (p, back w s′ (R .long) fresh-long) (open-running w out at R zeroth s s′ (sym as-runs ∙ made-new opens-it i e) fresh-start fresh-long out′ r b)
 
@@ -549,7 +551,7 @@ module _ (w out : List ℕ) (at : ℕ) (R : Ready w out at) where
     pub opening-does : getD w 0 0 ≡ 0 → Does w out at (opened (line-setting (view w .line))) w′ out′ r → Does w out at (worked (view w .stage) (view w .line)) w′ out′ r
     opening-does e D = rw (opening-line w e) D
 
-    module _ (one : getD w 0 0 ≡ 1) (more : getD w 1 0 < 1000000) where
+    module _ (one : getD w 0 0 ≡ 1) (more : getD w 1 0 < maxLines) where
       pub bad-does : Bad ≡ lineOf (eventIn (view w .line)) → Does w out at (passing (runIn (headIn w) (simulationIn w)) BadLine) w′ out′ r → Does w out at (worked (view w .stage) (view w .line)) w′ out′ r
       bad-does e D = rw (bad-line w one more (parsed-bad (eventIn (view w .line)) e)) D
 
@@ -563,11 +565,11 @@ module _ (w out : List ℕ) (at : ℕ) (R : Ready w out at) where
           let F = run-facts (headIn w) (simulationIn w) (known w (R .valid) .runs one) in
           rw (unknown-line w one more (K .event) (K .read) (nobody-such (simulationIn w) (F .simulation) (K .event) (K .wide)) (F .holding)) D
 
-  pub reading : getD w 0 0 ≡ 1 → getD w 1 0 < 1000000 → Reads w
+  pub reading : getD w 0 0 ≡ 1 → getD w 1 0 < maxLines → Reads w
   unfolding headIn
   reading one more = record { runs = one; more = more; fewer = run-facts (headIn w) (simulationIn w) (known w (R .valid) .runs one) .accepted }
 
-  pub unread-does : getD w 0 0 ≡ 1 → 1000000 ≤ getD w 1 0 → Does w out at (worked (view w .stage) (view w .line)) w out at
+  pub unread-does : getD w 0 0 ≡ 1 → maxLines ≤ getD w 1 0 → Does w out at (worked (view w .stage) (view w .line)) w out at
   unread-does one h = let e = unread-line w one h in stays w out at R _ (ap (λ (p : Printed Stage). p .now) e) (ap (λ (p : Printed Stage). p .out) e)
 
   pub closed-does : (getD w 0 0 ≡ 0 → ⊥) → (getD w 0 0 ≡ 1 → ⊥) → Does w out at (worked (view w .stage) (view w .line)) w out at

@@ -12,81 +12,85 @@ use Rattle.ids.proofs.LimitsLaws.{within-range}
 use Rattle.client.specs.Figure1.{count}
 use Rattle.system.specs.Places.{isInside, holders}
 use Rattle.regions.specs.Blocks.{blocks}
-use Rattle.places.specs.Blocks.{clientPlace}
+use Rattle.places.specs.Blocks.{clientPlace, clientBlock}
 use Rattle.layout.specs.Layout as layout
 use Rattle.layout.proofs.ValidLaws as layout-laws
-use Rattle.script.specs.State.{size, headIn, keptIn, simulationIn, validRun, byteWord, validParts, valid}
+use Rattle.script.specs.State.{stateSize, headIn, keptIn, simulationIn, validRun, byteWord, validParts, valid, stateHead}
 use Rattle.script.proofs.StateLaws.{simulation-long}
+use Rattle.system.specs.Limits.{systemClients}
+use Rattle.layout.specs.Layout.{simulationSize}
+use Rattle.output.specs.Output.{maxLines}
+use Rattle.output.specs.Reader.{maxKept}
 
 -- a valid simulation has at most 16 clients
-pub few-clients : (s : List ℕ) → layout.valid s ≡ true → getD s 3 0 ≤ 16
+pub few-clients : (s : List ℕ) → layout.valid s ≡ true → getD s 3 0 ≤ systemClients
 unfolding layout.settingOf
 few-clients s v = within-range _ _ (layout-laws.facts s v .some) .1
 
-module _ (w : List ℕ) (long : length w ≡ 6399) where
-  pub part-long : length (take 6353 (drop 46 w)) ≡ 6353
+module _ (w : List ℕ) (long : length w ≡ stateSize) where
+  pub part-long : length (take simulationSize (drop stateHead w)) ≡ simulationSize
   unfolding simulationIn
   part-long = simulation-long w long
 
-  module _ (x : Bool) (e : x ≡ layout.valid (take 6353 (drop 46 w))) where
+  module _ (x : Bool) (e : x ≡ layout.valid (take simulationSize (drop stateHead w))) where
     pub simulation-bad : not x ≡ true → false ≡ validRun (headIn w) (simulationIn w)
     unfolding validRun simulationIn
     simulation-bad n = rw (sym e ∙ not-true x n)
 
     module _ (n : not x ≡ false) where
-      pub simulation-good : layout.valid (take 6353 (drop 46 w)) ≡ true
+      pub simulation-good : layout.valid (take simulationSize (drop stateHead w)) ≡ true
       simulation-good = sym e ∙ not-false x n
 
-      pub lines-many : 1000000 < getD w 1 0 → false ≡ validRun (headIn w) (simulationIn w)
+      pub lines-many : maxLines < getD w 1 0 → false ≡ validRun (headIn w) (simulationIn w)
       unfolding validRun simulationIn headIn
-      lines-many g = rw (simulation-good, lt-leb (getD w 1 0) 1000000 g)
+      lines-many g = rw (simulation-good, lt-leb (getD w 1 0) maxLines g)
 
-      module _ (l : getD w 1 0 ≤ 1000000) where
+      module _ (l : getD w 1 0 ≤ maxLines) where
         pub accepted-many : getD w 1 0 < getD w 2 0 → false ≡ validRun (headIn w) (simulationIn w)
         unfolding validRun simulationIn headIn
-        accepted-many g = rw (simulation-good, le-leb (getD w 1 0) 1000000 l, lt-leb (getD w 2 0) (getD w 1 0) g)
+        accepted-many g = rw (simulation-good, le-leb (getD w 1 0) maxLines l, lt-leb (getD w 2 0) (getD w 1 0) g)
 
-        module _ (a : getD w 2 0 ≤ getD w 1 0) (c : ℕ) (q : c ≡ count (map isInside (blocks 99 clientPlace (getD (take 6353 (drop 46 w)) 3 0) (layout.clientWords (take 6353 (drop 46 w)))))) where
-          counted : c ≡ holders (layout.view (take 6353 (drop 46 w)))
+        module _ (a : getD w 2 0 ≤ getD w 1 0) (c : ℕ) (q : c ≡ count (map isInside (blocks clientBlock clientPlace (getD (take simulationSize (drop stateHead w)) 3 0) (layout.clientWords (take simulationSize (drop stateHead w)))))) where
+          counted : c ≡ holders (layout.view (take simulationSize (drop stateHead w)))
           unfolding layout.view layout.settingOf
           counted = q
 
           pub holders-many : getD w 3 0 < c → false ≡ validRun (headIn w) (simulationIn w)
           unfolding validRun simulationIn headIn
           holders-many g =
-              rw (simulation-good, le-leb (getD w 1 0) 1000000 l, le-leb (getD w 2 0) (getD w 1 0) a, lt-leb (holders (layout.view (take 6353 (drop 46 w)))) (getD w 3 0) (omega (arith, g, counted)))
+              rw (simulation-good, le-leb (getD w 1 0) maxLines l, le-leb (getD w 2 0) (getD w 1 0) a, lt-leb (holders (layout.view (take simulationSize (drop stateHead w)))) (getD w 3 0) (omega (arith, g, counted)))
 
-          pub holders-few : c ≤ getD w 3 0 → (r : Bool) → r ≡ leb (getD w 3 0) 16 → r ≡ validRun (headIn w) (simulationIn w)
+          pub holders-few : c ≤ getD w 3 0 → (r : Bool) → r ≡ leb (getD w 3 0) systemClients → r ≡ validRun (headIn w) (simulationIn w)
           unfolding validRun simulationIn headIn
           holders-few g r p =
-              rw (simulation-good, le-leb (getD w 1 0) 1000000 l, le-leb (getD w 2 0) (getD w 1 0) a, le-leb (holders (layout.view (take 6353 (drop 46 w)))) (getD w 3 0) (omega (arith, g, counted))) p
+              rw (simulation-good, le-leb (getD w 1 0) maxLines l, le-leb (getD w 2 0) (getD w 1 0) a, le-leb (holders (layout.view (take simulationSize (drop stateHead w)))) (getD w 3 0) (omega (arith, g, counted))) p
 
 -- the whole
 module _ (w : List ℕ) where
-  pub size-wrong : (length w ≡ 6399 → ⊥) → false ≡ valid w
+  pub size-wrong : (length w ≡ stateSize → ⊥) → false ≡ valid w
   unfolding valid
-  size-wrong ne = rw (ne-eqb (length w) 6399 ne)
+  size-wrong ne = rw (ne-eqb (length w) stateSize ne)
 
-  module _ (long : length w ≡ 6399) where
+  module _ (long : length w ≡ stateSize) where
     pub stage-wrong : 2 < getD w 0 0 → false ≡ valid w
     unfolding valid validParts headIn
-    stage-wrong g = rw (eq-eqb (length w) 6399 long, lt-leb (getD w 0 0) 2 g)
+    stage-wrong g = rw (eq-eqb (length w) stateSize long, lt-leb (getD w 0 0) 2 g)
 
     module _ (a : getD w 0 0 ≤ 2) where
-      pub line-wrong : 41 < getD w 4 0 → false ≡ valid w
+      pub line-wrong : maxKept < getD w 4 0 → false ≡ valid w
       unfolding valid validParts headIn
-      line-wrong g = rw (eq-eqb (length w) 6399 long, le-leb (getD w 0 0) 2 a, lt-leb (getD w 4 0) 41 g)
+      line-wrong g = rw (eq-eqb (length w) stateSize long, le-leb (getD w 0 0) 2 a, lt-leb (getD w 4 0) maxKept g)
 
-      module _ (b : getD w 4 0 ≤ 41) (x : Bool) (e : x ≡ every byteWord (keptIn w)) where
+      module _ (b : getD w 4 0 ≤ maxKept) (x : Bool) (e : x ≡ every byteWord (keptIn w)) where
         pub bytes-wrong : not x ≡ true → false ≡ valid w
         unfolding valid validParts headIn
-        bytes-wrong n = rw (eq-eqb (length w) 6399 long, le-leb (getD w 0 0) 2 a, le-leb (getD w 4 0) 41 b, sym e ∙ not-true x n)
+        bytes-wrong n = rw (eq-eqb (length w) stateSize long, le-leb (getD w 0 0) 2 a, le-leb (getD w 4 0) maxKept b, sym e ∙ not-true x n)
 
         module _ (n : not x ≡ false) where
           pub no-run : (getD w 0 0 ≡ 1 → ⊥) → true ≡ valid w
           unfolding valid validParts headIn
-          no-run ne = rw (eq-eqb (length w) 6399 long, le-leb (getD w 0 0) 2 a, le-leb (getD w 4 0) 41 b, sym e ∙ not-false x n, ne-eqb (getD w 0 0) 1 ne)
+          no-run ne = rw (eq-eqb (length w) stateSize long, le-leb (getD w 0 0) 2 a, le-leb (getD w 4 0) maxKept b, sym e ∙ not-false x n, ne-eqb (getD w 0 0) 1 ne)
 
           pub run-decides : getD w 0 0 ≡ 1 → (r : Bool) → r ≡ validRun (headIn w) (simulationIn w) → r ≡ valid w
           unfolding valid validParts headIn
-          run-decides q r p = rw (eq-eqb (length w) 6399 long, le-leb (getD w 0 0) 2 a, le-leb (getD w 4 0) 41 b, sym e ∙ not-false x n, eq-eqb (getD w 0 0) 1 q) p
+          run-decides q r p = rw (eq-eqb (length w) stateSize long, le-leb (getD w 0 0) 2 a, le-leb (getD w 4 0) maxKept b, sym e ∙ not-false x n, eq-eqb (getD w 0 0) 1 q) p

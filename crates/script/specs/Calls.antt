@@ -13,16 +13,16 @@ use Rattle.script.specs.declared.Progress.{Progress}
 use Rattle.script.specs.declared.Progress.the-variants.{Took, Refused}
 use Rattle.system.specs.declared.Event.{Event}
 use Rattle.language.specs.Printed.{noLine}
-use Rattle.output.specs.Output.{happens, answerLine}
-use Rattle.output.specs.Reader.{Run, Stage, running, closed, Reader, Printed, moved, passed, maxPrinted, fedWithin, finished}
-use Rattle.script.specs.State.{size, view, valid}
+use Rattle.output.specs.Output.{happens, answerLine, maxLines}
+use Rattle.output.specs.Reader.{Run, Stage, running, closed, Reader, Printed, moved, passed, maxPrinted, fedWithin, finished, maxKept}
+use Rattle.script.specs.State.{stateSize, view, valid, stateHead}
 
 -- a new script: 7 if the words are too few or too many
 unfoldable pub newAnswer : List ℕ → Progress
-newAnswer w = if eqb (length w) size then Took 0 0 else Refused ParameterOutOfRange
+newAnswer w = if eqb (length w) stateSize then Took 0 0 else Refused ParameterOutOfRange
 
 unfoldable pub newWords : List ℕ → List ℕ
-newWords w = if eqb (length w) size then sets w 0 (replicate 46 0) else w
+newWords w = if eqb (length w) stateSize then sets w 0 (replicate stateHead 0) else w
 
 -- 21 an invalid state, 6 no room for a line
 unfoldable pub feedAnswer : List ℕ → List ℕ → ℕ → Progress
@@ -62,20 +62,20 @@ pub record FinishLeaves (w out w′ out′ : List ℕ) : Type 0 where
 -- Inside, what a valid state gives is handed on: its length, and the length of the line.
 pub record Sound (w : List ℕ) : Type 0 where
   pub valid : valid w ≡ true
-  pub long : length w ≡ 6399
-  pub short : getD w 4 0 ≤ 41
+  pub long : length w ≡ stateSize
+  pub short : getD w 4 0 ≤ maxKept
 
 -- and there is room for one line from place `at` on
 pub record Ready (w out : List ℕ) (at : ℕ) : Type 0 where
   pub valid : valid w ≡ true
-  pub long : length w ≡ 6399
-  pub short : getD w 4 0 ≤ 41
-  pub room : at + 52 ≤ length out
+  pub long : length w ≡ stateSize
+  pub short : getD w 4 0 ≤ maxKept
+  pub room : at + maxPrinted ≤ length out
 
 -- a script that runs, with an event line still to be read
 pub record Reads (w : List ℕ) : Type 0 where
   pub runs : getD w 0 0 ≡ 1
-  pub more : getD w 1 0 < 1000000
+  pub more : getD w 1 0 < maxLines
   pub fewer : getD w 2 0 ≤ getD w 1 0
 
 -- the stage became and printed this, from place `at` on, and r is the place behind it; the line is as it was

@@ -2,7 +2,7 @@
 -- Word 0 is the stage: 0 before the first line, 1 while the script runs, 2 when its first line was refused or it has ended. Words 1 to 3
 -- are the event lines answered, those accepted and the most holders at once, word 4 the bytes of the line so far and words 5 to 45 those
 -- bytes, one each. The simulation's words follow.
-use Prim.Native.Nat.{ℕ}
+use Prim.Native.Nat.{ℕ, _+_}
 use mathlib.Core.Bool.{Bool, true, _&&_}
 use mathlib.Core.List.{List}
 use lib.Dec.{eqb, leb}
@@ -12,12 +12,20 @@ use Rattle.ids.specs.Lists.{every}
 use Rattle.regions.specs.Blocks.{region}
 use Rattle.system.specs.Places.{holders}
 use Rattle.language.specs.declared.Setting.{Setting}
+use Rattle.system.specs.Limits.{systemClients}
 use Rattle.layout.specs.Layout as layout
 use Rattle.output.specs.Output.{maxLines}
 use Rattle.output.specs.Reader.{Run, Stage, opening, running, closed, Reader, maxKept}
 
-abbrev pub size : ℕ
-size = 6399
+-- the words before the line, before the simulation, and all
+abbrev pub lineFrom : ℕ
+lineFrom = 5
+
+abbrev pub stateHead : ℕ
+stateHead = lineFrom + maxKept
+
+abbrev pub stateSize : ℕ
+stateSize = stateHead + layout.simulationSize
 
 -- the parts: the five words before the line, the line's words, the simulation's
 pub record Head : Type 0 where
@@ -31,10 +39,10 @@ unfoldable pub headIn : List ℕ → Head
 headIn w = record { stage = getD w 0 0; answered = getD w 1 0; accepted = getD w 2 0; holding = getD w 3 0; length = getD w 4 0 }
 
 unfoldable pub keptIn : List ℕ → List ℕ
-keptIn w = region 5 maxKept w
+keptIn w = region lineFrom maxKept w
 
 unfoldable pub simulationIn : List ℕ → List ℕ
-simulationIn w = region 46 layout.size w
+simulationIn w = region stateHead layout.simulationSize w
 
 -- the reader that the parts are
 abbrev pub settingIn : List ℕ → Setting
@@ -58,7 +66,7 @@ unfoldable pub validRun : Head → List ℕ → Bool
 validRun h s =
     layout.valid s
     && (leb (h .answered) maxLines
-    && (leb (h .accepted) (h .answered) && (leb (holders (layout.view s)) (h .holding) && leb (h .holding) layout.maxClients)))
+    && (leb (h .accepted) (h .answered) && (leb (holders (layout.view s)) (h .holding) && leb (h .holding) systemClients)))
 
 abbrev pub byteWord : ℕ → Bool
 byteWord x = leb x 255
@@ -68,4 +76,4 @@ validParts h l s =
     leb (h .stage) 2 && (leb (h .length) maxKept && (every byteWord l && (if eqb (h .stage) 1 then validRun h s else true)))
 
 unfoldable pub valid : List ℕ → Bool
-valid w = eqb (length w) size && validParts (headIn w) (keptIn w) (simulationIn w)
+valid w = eqb (length w) stateSize && validParts (headIn w) (keptIn w) (simulationIn w)

@@ -11,9 +11,10 @@ ghost use lib.Seq.{sets};
 ghost use Rattle.ids.specs.Lists.{every};
 ghost use Rattle.language.specs.Lines.{eventIn, lineOf, settingIn, firstOf};
 ghost use Rattle.language.specs.Printed.{refusedLine};
-ghost use Rattle.output.specs.Reader.{closed, opened, worked, behind, taken, ended, lastLine, finished};
-ghost use Rattle.script.specs.State.{headIn, keptIn, simulationIn, runIn, byteWord, validRun, view, valid as isValid};
-ghost use Rattle.script.specs.Calls.{newAnswer, newWords, feedAnswer, FeedLeaves, finishAnswer, FinishLeaves, Sound, Ready, Reads, Does, Takes, FedAs, happened, passing};
+ghost use Rattle.output.specs.Reader.{closed, opened, worked, behind, taken, ended, lastLine, finished, maxKept};
+ghost use Rattle.script.specs.State.{headIn, keptIn, simulationIn, runIn, byteWord, validRun, view, valid as isValid, stateSize, stateHead};
+ghost use Rattle.script.specs.Calls.{newAnswer, newWords, feedAnswer, FeedLeaves, finishAnswer, FinishLeaves, Sound, Ready, Reads, Does, Takes, FedAs, happened, passing, maxEnding};
+ghost use Rattle.output.specs.Output.{maxLines};
 use ids::Refusal;
 use language::First;
 use language::Line;
@@ -30,7 +31,7 @@ pub enum Progress {
 
 // Whether the words of the line are bytes.
 fn bytes_valid(w: &[u32]) -> bool
-    requires { ⌜ length (now w) ≡ 6399 ⌝ }
+    requires { ⌜ length (now w) ≡ stateSize ⌝ }
     ensures { λ r. ⌜ r ≡ every byteWord (keptIn (now (w .entry))) ⌝ }
 {
     let mut i: usize = 0;
@@ -45,7 +46,7 @@ fn bytes_valid(w: &[u32]) -> bool
 
 // Whether the simulation and the counts are those of a script that runs.
 fn run_valid(w: &[u32]) -> bool
-    requires { ⌜ length (now w) ≡ 6399 ⌝ }
+    requires { ⌜ length (now w) ≡ stateSize ⌝ }
     ensures { λ r. ⌜ r ≡ validRun (headIn (now (w .entry))) (simulationIn (now (w .entry))) ⌝ }
 {
     let s = &w[46..6399];
@@ -103,7 +104,7 @@ fn keep(w: &mut [u32], b: u8)
 
 // The line so far, as bytes at the start of the buffer.
 fn copy_line(w: &[u32], line: &mut [u8])
-    requires { ⌜ Sound (now w) × (length (now line) ≡ 41) ⌝ }
+    requires { ⌜ Sound (now w) × (length (now line) ≡ maxKept) ⌝ }
     ensures { λ _. ⌜ now (line .exit) ≡ sets (now (line .entry)) 0 (view (now (w .entry)) .line) ⌝ }
 {
     let len = w[4] as usize;
@@ -145,7 +146,7 @@ fn refuse(w: &mut [u32], out: &mut [u8], at: usize, x: Refusal) -> usize
 
 // The script runs, and nothing is counted yet.
 fn start_counts(w: &mut [u32])
-    requires { ⌜ length (now w) ≡ 6399 ⌝ }
+    requires { ⌜ length (now w) ≡ stateSize ⌝ }
     ensures { λ _. ⌜ now (w .exit) ≡ set (set (set (set (now (w .entry)) 0 1) 1 0) 2 0) 3 0 ⌝ }
 {
     w[0] = 1;
@@ -183,7 +184,7 @@ fn open(w: &mut [u32], out: &mut [u8], at: usize) -> usize
 
 // An accepted event is counted, and the living holders after it.
 fn count_accepted(w: &mut [u32], holders: u32)
-    requires { ⌜ (length (now w) ≡ 6399) × (getD (now w) 2 0 ≤ 1000000) ⌝ }
+    requires { ⌜ (length (now w) ≡ stateSize) × (getD (now w) 2 0 ≤ maxLines) ⌝ }
     ensures { λ _. ⌜ now (w .exit) ≡ set (set (now (w .entry)) 2 (getD (now (w .entry)) 2 0 + 1)) 3 (max (getD (now (w .entry)) 3 0) holders) ⌝ }
 {
     let accepted = w[2] + 1;
@@ -275,8 +276,8 @@ pub fn new(w: &mut [u32]) -> Progress
 }
 
 fn clear(w: &mut [u32])
-    requires { ⌜ length (now w) ≡ 6399 ⌝ }
-    ensures { λ _. ⌜ now (w .exit) ≡ sets (now (w .entry)) 0 (replicate 46 0) ⌝ }
+    requires { ⌜ length (now w) ≡ stateSize ⌝ }
+    ensures { λ _. ⌜ now (w .exit) ≡ sets (now (w .entry)) 0 (replicate stateHead 0) ⌝ }
 {
     let mut i: usize = 0;
     while i < 46 {
@@ -342,7 +343,7 @@ fn end(w: &[u32], out: &mut [u8], at: usize) -> usize
 
 // Nothing is read or printed any more.
 fn seal(w: &mut [u32])
-    requires { ⌜ length (now w) ≡ 6399 ⌝ }
+    requires { ⌜ length (now w) ≡ stateSize ⌝ }
     ensures { λ _. ⌜ now (w .exit) ≡ set (set (now (w .entry)) 0 2) 4 0 ⌝ }
 {
     w[0] = 2;
@@ -350,7 +351,7 @@ fn seal(w: &mut [u32])
 }
 
 fn close(w: &mut [u32], out: &mut [u8]) -> usize
-    requires { ⌜ Sound (now w) × (104 ≤ length (now out)) ⌝ }
+    requires { ⌜ Sound (now w) × (maxEnding ≤ length (now out)) ⌝ }
     ensures { λ r. ⌜ (r ≡ length (finished (view (now (w .entry))))) × (view (now (w .exit)) ≡ record { stage = closed; line = [] }) × (isValid (now (w .exit)) ≡ true) × (now (out .exit) ≡ sets (now (out .entry)) 0 (finished (view (now (w .entry))))) ⌝ }
 {
     let at = last(w, out);

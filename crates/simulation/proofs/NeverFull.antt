@@ -21,6 +21,7 @@ use Rattle.wire.specs.declared.Message.the-variants.{Request, Yield, Release, I
 use Rattle.client.specs.Figure1.{Quorum, enough}
 use Rattle.client.specs.Calls.{isRemainder, isCritical, lastTry}
 use Rattle.votes.specs.declared.Tag.the-variants as tag
+use Rattle.system.specs.Limits.{lastNumber, systemMessages}
 use Rattle.system.specs.declared.Event.{Event}
 use Rattle.system.specs.declared.Event.the-variants.{Try, Exit, Fall, Down, Up, Take, Drop, Miss, Check}
 use Rattle.system.specs.Numbered.{has}
@@ -28,7 +29,6 @@ use Rattle.system.specs.Transit.{pending, present}
 use Rattle.system.specs.Places.{System, clientAt, serverAt}
 use Rattle.system.specs.Events.{Result, need, tried, exited, fallen, wentDown, cameUp, serverTook, responseTook, checkTook, dropped, suspected, asked, deliver, event, nothing, withPlaces}
 use Rattle.layout.specs.Layout.{settingOf, view}
-use Rattle.changes.specs.Changes.{maxTransit, maxNumber}
 use Rattle.bounded.specs.Happens.{happens}
 
 abbrev Never : Result → Type 0
@@ -118,4 +118,4 @@ room-never places last (stepped s) f =
 
 -- In a simulation 14 never occurs.
 pub never-full : (w : List ℕ) (e : Event) → happens w e ≡ refused QueueFull → ⊥
-never-full w e = room-never maxTransit maxNumber _ (event-never (settingOf w .n) (enough (settingOf w .m)) (view w) e)
+never-full w e = room-never systemMessages lastNumber _ (event-never (settingOf w .n) (enough (settingOf w .m)) (view w) e)

@@ -15,7 +15,7 @@ use Rattle.system.specs.declared.Event.{Event}
 use Rattle.system.specs.Places.{System, isInside, holders}
 use Rattle.system.specs.Events.{Result}
 use Rattle.system.specs.Runs.{after}
-use Rattle.places.specs.Blocks.{clientPlace}
+use Rattle.places.specs.Blocks.{clientPlace, clientBlock}
 use Rattle.layout.specs.Layout.{settingOf, clientWords, view, valid}
 use Rattle.bounded.specs.declared.Moved.{Moved}
 use Rattle.bounded.specs.declared.Moved.the-variants as moved
@@ -44,11 +44,11 @@ module _ (w : List ℕ) (e : Event) (w′ : List ℕ) (r : Moved) (h : Leaves w 
   pub happened-refused : (x : Refusal) → r ≡ moved.Refused x → Leaves w e w′ × (reply.Refused x ≡ replyOf (view w) (happens w e))
   happened-refused x g = (h .0, refused-reply (view w) (happens w e) x (sym g ∙ h .1))
 
-  inside-is : holders (view w′) ≡ count (map isInside (blocks 99 clientPlace (getD w′ 3 0) (clientWords w′)))
+  inside-is : holders (view w′) ≡ count (map isInside (blocks clientBlock clientPlace (getD w′ 3 0) (clientWords w′)))
   unfolding view settingOf
   inside-is = refl
 
-  pub happened : (c i : ℕ) → r ≡ moved.Sent c → i ≡ count (map isInside (blocks 99 clientPlace (getD w′ 3 0) (clientWords w′)))
+  pub happened : (c i : ℕ) → r ≡ moved.Sent c → i ≡ count (map isInside (blocks clientBlock clientPlace (getD w′ 3 0) (clientWords w′)))
       → Leaves w e w′ × (reply.Accepted c i ≡ replyOf (view w) (happens w e))
   happened c i g f =
       (h .0, ap (λ (a : ℕ). reply.Accepted c a) (f ∙ sym inside-is) ∙ accepted-reply (view w) (happens w e) (view w′) c (h .0 .system) (sym g ∙ h .1))

@@ -11,6 +11,8 @@ ghost use Rattle.layout.specs.Layout.{valid as validSimulation};
 ghost use Rattle.script.specs.State.{valid};
 ghost use Rattle.stream.specs.Answered.{Answered};
 ghost use Rattle.stream.specs.Taken.{Taken};
+ghost use Rattle.output.specs.Reader.{maxPrinted};
+ghost use Rattle.script.specs.Calls.{maxEnding};
 use console::Input;
 use libc::STDERR_FILENO;
 use libc::STDOUT_FILENO;
@@ -71,7 +73,7 @@ fn show_last(w: &[u32], out: &mut [u8], wanted: Wanted) -> bool
 
 // A line with its newline, or a piece of one, answered; then what is wanted behind an event line if one was answered with it.
 fn answer_line(w: &mut [u32], line: &[u8], out: &mut [u8], wanted: Wanted) -> bool
-    requires { ⌜ (valid (now w) ≡ true) × (52 ≤ length (now out)) ⌝ }
+    requires { ⌜ (valid (now w) ≡ true) × (maxPrinted ≤ length (now out)) ⌝ }
     ensures { λ r. ⌜ (valid (now (w .exit)) ≡ true) × (r ≡ true → Taken (now (w .entry)) (now (line .entry)) (now (w .exit))) ⌝ }
 {
     let before = w[1];
@@ -98,7 +100,7 @@ fn line_behind(part: &[u8], from: usize) -> usize
 
 // A part of the script, line by line.
 fn answer_lines(w: &mut [u32], part: &[u8], out: &mut [u8], wanted: Wanted) -> bool
-    requires { ⌜ (valid (now w) ≡ true) × (52 ≤ length (now out)) ⌝ }
+    requires { ⌜ (valid (now w) ≡ true) × (maxPrinted ≤ length (now out)) ⌝ }
     ensures { λ r. ⌜ (valid (now (w .exit)) ≡ true) × (r ≡ true → Taken (now (w .entry)) (now (part .entry)) (now (w .exit))) ⌝ }
 {
     let mut from: usize = 0;
@@ -114,7 +116,7 @@ fn answer_lines(w: &mut [u32], part: &[u8], out: &mut [u8], wanted: Wanted) -> b
 
 // A last line without its newline is answered. Whether all was written.
 fn close_line(w: &mut [u32], out: &mut [u8], wanted: Wanted) -> bool
-    requires { ⌜ (valid (now w) ≡ true) × (52 ≤ length (now out)) ⌝ }
+    requires { ⌜ (valid (now w) ≡ true) × (maxPrinted ≤ length (now out)) ⌝ }
     ensures { λ _. ⌜ valid (now (w .exit)) ≡ true ⌝ }
 {
     if w[4] == 0 {
@@ -125,7 +127,7 @@ fn close_line(w: &mut [u32], out: &mut [u8], wanted: Wanted) -> bool
 
 // The end of the script, behind what is wanted behind the last event's line.
 fn finish(w: &mut [u32], out: &mut [u8], wanted: Wanted)
-    requires { ⌜ (valid (now w) ≡ true) × (104 ≤ length (now out)) ⌝ }
+    requires { ⌜ (valid (now w) ≡ true) × (maxEnding ≤ length (now out)) ⌝ }
 {
     if !close_line(w, out, wanted) {
         return;
@@ -138,7 +140,7 @@ fn finish(w: &mut [u32], out: &mut [u8], wanted: Wanted)
 
 // What reading gave is answered. Whether to go on.
 fn answer(w: &mut [u32], part: &[u8], input: Input, out: &mut [u8], wanted: Wanted) -> bool
-    requires { ⌜ (valid (now w) ≡ true) × (104 ≤ length (now out)) × Fits (length (now part)) input ⌝ }
+    requires { ⌜ (valid (now w) ≡ true) × (maxEnding ≤ length (now out)) × Fits (length (now part)) input ⌝ }
     ensures { λ r. ⌜ (r ≡ true → (valid (now (w .exit)) ≡ true) × Answered (now (w .entry)) (now (part .entry)) input (now (w .exit))) ⌝ }
 {
     match input {
@@ -153,7 +155,7 @@ fn answer(w: &mut [u32], part: &[u8], input: Input, out: &mut [u8], wanted: Want
 
 // Part by part, as in `gallery`.
 fn run(w: &mut [u32], part: &mut [u8], out: &mut [u8], wanted: Wanted)
-    requires { ⌜ (valid (now w) ≡ true) × (104 ≤ length (now out)) ⌝ }
+    requires { ⌜ (valid (now w) ≡ true) × (maxEnding ≤ length (now out)) ⌝ }
 {
     let mut turns = u64::MAX;
     while turns > 0 {

@@ -8,9 +8,9 @@ use borrow.Author.Tests.{le-leb}
 use lib.Dec.{leb}
 use lib.ListN.{length, take, drop, length-drop}
 use lib.Seq.{take-add, take-all}
-use Rattle.output.specs.Reader.{Reader, Printed, empty, fed, fedWithin}
-use Rattle.script.specs.State.{view, valid}
-use Rattle.script.specs.Calls.{newAnswer, newWords, feedAnswer, FeedLeaves, FinishLeaves}
+use Rattle.output.specs.Reader.{Reader, Printed, empty, fed, fedWithin, maxPrinted}
+use Rattle.script.specs.State.{view, valid, stateSize}
+use Rattle.script.specs.Calls.{newAnswer, newWords, feedAnswer, FeedLeaves, FinishLeaves, maxEnding}
 use Rattle.script.specs.declared.Progress.{Progress}
 use Rattle.script.specs.declared.Progress.the-variants.{Took}
 use Rattle.script.proofs.NewLaws.{new-valid, new-reader}
@@ -23,10 +23,10 @@ use Rattle.stream.specs.Ended.{Ended}
 use Rattle.stream.specs.Taken.{Taken}
 use Rattle.script.proofs.CallLaws.{fed-took, feeds}
 
-pub started : (w w′ : List ℕ) (p : Progress) → 6399 ≡ length w → (p ≡ newAnswer w) × (w′ ≡ newWords w) → (valid w′ ≡ true) × (view w′ ≡ empty)
+pub started : (w w′ : List ℕ) (p : Progress) → stateSize ≡ length w → (p ≡ newAnswer w) × (w′ ≡ newWords w) → (valid w′ ≡ true) × (view w′ ≡ empty)
 started w w′ p e f = rw (f .1) (new-valid w (sym e), new-reader w (sym e))
 
-module _ (w input out w′ out′ : List ℕ) (p : Progress) (v : valid w ≡ true) (room : 52 ≤ length out) (f : (p ≡ feedAnswer w input (length out)) × FeedLeaves w input out w′ out′) (u k : ℕ) (t : p ≡ Took u k) where
+module _ (w input out w′ out′ : List ℕ) (p : Progress) (v : valid w ≡ true) (room : maxPrinted ≤ length out) (f : (p ≡ feedAnswer w input (length out)) × FeedLeaves w input out w′ out′) (u k : ℕ) (t : p ≡ Took u k) where
   pub fed-taken : Taken w (take u input) w′
   fed-taken =
       let e : u ≡ fedWithin (length out) (view w) input .used = cc (sym t ∙ fed-took w input out w′ out′ p v room f) in
@@ -61,9 +61,9 @@ pub taken-all : (w w′ part : List ℕ) (i : ℕ) → Taken w (take i part) w�
 taken-all w w′ part i a h = record { reader = a .reader ∙ ap (λ (l : List ℕ). fed (view w) l .now) (take-all i part h) }
 
 -- the end, with room for its two lines
-pub script-ended : (w out w′ out′ : List ℕ) → valid w ≡ true → 104 ≤ length out → FinishLeaves w out w′ out′ → Ended w′
+pub script-ended : (w out w′ out′ : List ℕ) → valid w ≡ true → maxEnding ≤ length out → FinishLeaves w out w′ out′ → Ended w′
 script-ended w out w′ out′ v room f =
-    let e : valid w && leb 104 (length out) ≡ true = rw (v, le-leb 104 (length out) room) in
+    let e : valid w && leb maxEnding (length out) ≡ true = rw (v, le-leb maxEnding (length out) room) in
     record { again = f .again e; reader = f .reader e }
 
 -- the front of a part, as long as reading says

@@ -7,17 +7,18 @@ ghost use mathlib.Core.Bool.{true};
 ghost use Prim.Native.Nat.{_≤_, _<_};
 ghost use lib.ListN.{length, take};
 ghost use Rattle.console.specs.Fits.{Fits, Some};
-ghost use Rattle.output.specs.Reader.{empty};
-ghost use Rattle.script.specs.State.{valid, view};
+ghost use Rattle.output.specs.Reader.{empty, maxPrinted};
+ghost use Rattle.script.specs.State.{valid, view, stateSize};
 ghost use Rattle.stream.specs.Ended.{Ended};
 ghost use Rattle.stream.specs.Over.{Over};
 ghost use Rattle.stream.specs.Taken.{Taken};
+ghost use Rattle.script.specs.Calls.{maxEnding};
 use console::Input;
 use libc::STDOUT_FILENO;
 use script::Progress;
 
 fn zeros() -> [u32; 6399]
-    ensures { λ r. ⌜ 6399 ≡ length r ⌝ }
+    ensures { λ r. ⌜ stateSize ≡ length r ⌝ }
 {
     [0; 6399]
 }
@@ -33,7 +34,7 @@ pub fn start() -> [u32; 6399]
 
 // Works what fits of a part, and writes out what that printed. The bytes worked, or 0 where writing failed.
 fn answer_some(w: &mut [u32], part: &[u8], out: &mut [u8]) -> usize
-    requires { ⌜ (valid (now w) ≡ true) × (52 ≤ length (now out)) ⌝ }
+    requires { ⌜ (valid (now w) ≡ true) × (maxPrinted ≤ length (now out)) ⌝ }
     ensures { λ r. ⌜ (r ≤ length (now (part .entry))) × (valid (now (w .exit)) ≡ true) × (0 < r → Taken (now (w .entry)) (take r (now (part .entry))) (now (w .exit))) ⌝ }
 {
     let p = script::feed(w, part, out);
@@ -50,7 +51,7 @@ fn answer_some(w: &mut [u32], part: &[u8], out: &mut [u8]) -> usize
 
 // The whole part, of a valid state and with room for a line. Whether all of it was answered.
 pub fn answer_part(w: &mut [u32], part: &[u8], out: &mut [u8]) -> bool
-    requires { ⌜ (valid (now w) ≡ true) × (52 ≤ length (now out)) ⌝ }
+    requires { ⌜ (valid (now w) ≡ true) × (maxPrinted ≤ length (now out)) ⌝ }
     ensures { λ r. ⌜ (valid (now (w .exit)) ≡ true) × (r ≡ true → Taken (now (w .entry)) (now (part .entry)) (now (w .exit))) ⌝ }
 {
     let mut done: usize = 0;
@@ -66,7 +67,7 @@ pub fn answer_part(w: &mut [u32], part: &[u8], out: &mut [u8]) -> bool
 
 // The end of the script, of a valid state and with room for two lines.
 pub fn finish(w: &mut [u32], out: &mut [u8])
-    requires { ⌜ (valid (now w) ≡ true) × (104 ≤ length (now out)) ⌝ }
+    requires { ⌜ (valid (now w) ≡ true) × (maxEnding ≤ length (now out)) ⌝ }
     ensures { λ _. ⌜ Ended (now (w .exit)) ⌝ }
 {
     let p = script::finish(w, out);

@@ -14,7 +14,7 @@ use Rattle.ids.proofs.Choice.{both}
 use Rattle.wire.specs.declared.Fields.{Fields}
 use Rattle.wire.proofs.NumbersLaws.{fields-again}
 use Rattle.ids.specs.Lists.{every}
-use Rattle.transit.specs.Slots.{slotOf, slotWords, rows, slots, validSlot}
+use Rattle.transit.specs.Slots.{slotOf, slotWords, rows, slots, validSlot, slotSize}
 use Rattle.transit.specs.Calls.{Valid}
 use Rattle.transit.proofs.SlotLaws.{Seven, seven, sevens, slot-fitting}
 use Rattle.transit.proofs.ValidLaws.{known}
@@ -31,25 +31,25 @@ row-again n clients (seven a b c d e f g) v =
     let its : Fields = record { kind = c; client = d; server = e; timestamp = f; owner = g } in
     rw (flag-again b (F .flag), fields-again its (F .range))
 
-rows-again : (n clients k : ℕ) (t : List ℕ) → 7 * k ≤ length t → every (validSlot n clients) (rows k t) ≡ true → map slotWords (slots k t) ≡ rows k t
+rows-again : (n clients k : ℕ) (t : List ℕ) → slotSize * k ≤ length t → every (validSlot n clients) (rows k t) ≡ true → map slotWords (slots k t) ≡ rows k t
 unfolding rows slots
 rows-again n clients zero t h v = refl
 rows-again n clients (suc k) t h v =
-    let (a, b) = both (validSlot n clients (take 7 t)) (every (validSlot n clients) (rows k (drop 7 t))) v in
-    let s = sevens (take 7 t) (length-take-le 7 t (omega arith)) in
-    rw (row-again n clients s a, rows-again n clients k (drop 7 t) (simp length-drop (omega arith)) b)
+    let (a, b) = both (validSlot n clients (take slotSize t)) (every (validSlot n clients) (rows k (drop slotSize t))) v in
+    let s = sevens (take slotSize t) (length-take-le slotSize t (omega arith)) in
+    rw (row-again n clients s a, rows-again n clients k (drop slotSize t) (simp length-drop (omega arith)) b)
 
 joined : List (List ℕ) → List ℕ
 joined [] = []
 joined (r ∷ l) = r ++ joined l
 
-rows-joined : (k : ℕ) (t : List ℕ) → joined (rows k t) ++ drop (7 * k) t ≡ t
+rows-joined : (k : ℕ) (t : List ℕ) → joined (rows k t) ++ drop (slotSize * k) t ≡ t
 unfolding rows joined
 rows-joined zero t = refl
 rows-joined (suc k) t =
-    let z : 7 * suc k ≡ 7 + 7 * k = omega arith in
-    let e : joined (rows k (drop 7 t)) ++ drop (7 + 7 * k) t ≡ drop 7 t = rw (← drop-drop (7 * k) 7 t) (rows-joined k (drop 7 t)) in
-    rw (z, append-assoc (take 7 t) (joined (rows k (drop 7 t))) (drop (7 + 7 * k) t), e) (take-append-drop 7 t)
+    let z : slotSize * suc k ≡ slotSize + slotSize * k = omega arith in
+    let e : joined (rows k (drop slotSize t)) ++ drop (slotSize + slotSize * k) t ≡ drop slotSize t = rw (← drop-drop (slotSize * k) slotSize t) (rows-joined k (drop slotSize t)) in
+    rw (z, append-assoc (take slotSize t) (joined (rows k (drop slotSize t))) (drop (slotSize + slotSize * k) t), e) (take-append-drop slotSize t)
 
 zeros-same : (a b : List ℕ) → length a ≡ length b → every (eqb 0) a ≡ true → every (eqb 0) b ≡ true → a ≡ b
 zeros-same [] [] l p q = refl
@@ -67,5 +67,5 @@ same-words n clients sent n′ clients′ sent′ len s t ok ok′ e =
     let a = rows-again n clients len s (omega (arith, K .size, K .few)) (K .fit) in
     let b = rows-again n′ clients′ len t (omega (arith, L .size, L .few)) (L .fit) in
     let r : rows len s ≡ rows len t = sym a ∙ (ap (map slotWords) e ∙ b) in
-    let d : drop (7 * len) s ≡ drop (7 * len) t = zeros-same (drop (7 * len) s) (drop (7 * len) t) (omega (arith, length-drop (7 * len) s, length-drop (7 * len) t, K .size, L .size)) (K .rest) (L .rest) in
+    let d : drop (slotSize * len) s ≡ drop (slotSize * len) t = zeros-same (drop (slotSize * len) s) (drop (slotSize * len) t) (omega (arith, length-drop (slotSize * len) s, length-drop (slotSize * len) t, K .size, L .size)) (K .rest) (L .rest) in
     sym (rows-joined len s) ∙ (rw (r, d) (rows-joined len t))

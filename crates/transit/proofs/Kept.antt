@@ -18,7 +18,7 @@ use Rattle.words.specs.Messages.{fieldsFrom}
 use Rattle.ids.specs.Lists.{every}
 use Rattle.system.specs.Transit.{InTransit}
 use Rattle.system.proofs.Tokens.{All, empty, more}
-use Rattle.transit.specs.Slots.{slotOf, slotAt, rows, slots, names, validSlot, ascending}
+use Rattle.transit.specs.Slots.{slotOf, slotAt, rows, slots, names, validSlot, ascending, slotSize, transitSize}
 use Rattle.transit.specs.Calls.{Sized, Valid}
 use Rattle.transit.proofs.RowsLaws.{length-rows}
 use Rattle.transit.proofs.NumbersLaws.{rising, ascends-later}
@@ -68,9 +68,9 @@ kept-from : (n clients sent last k : ℕ) (t : List ℕ) → every (validSlot n 
 unfolding rows slots
 kept-from n clients sent last zero t v e = empty
 kept-from n clients sent last (suc k) t v e =
-    let (a, b) = both (validSlot n clients (take 7 t)) (every (validSlot n clients) (rows k (drop 7 t))) v in
-    let r = rising sent last (slotOf (take 7 t)) (slots k (drop 7 t)) e in
-    more {x = slotOf (take 7 t)} (row-kept n clients sent (take 7 t) a (omega (arith, r .above)) (r .sent-by)) (kept-from n clients sent (slotOf (take 7 t) .number) k (drop 7 t) b (r .others))
+    let (a, b) = both (validSlot n clients (take slotSize t)) (every (validSlot n clients) (rows k (drop slotSize t))) v in
+    let r = rising sent last (slotOf (take slotSize t)) (slots k (drop slotSize t)) e in
+    more {x = slotOf (take slotSize t)} (row-kept n clients sent (take slotSize t) a (omega (arith, r .above)) (r .sent-by)) (kept-from n clients sent (slotOf (take slotSize t) .number) k (drop slotSize t) b (r .others))
 
 all-middle : {P : InTransit → Type 0} (a : List InTransit) (x : InTransit) (b : List InTransit) → All P (a ++ x ∷ b) → P x
 all-middle [] x b (more h g) = h
@@ -86,7 +86,7 @@ unfolding slots rows
 slots-none t = refl
 
 -- words that are all 0
-pub valid-none : (n clients sent : ℕ) (t : List ℕ) → length t ≡ 3584 → every (eqb 0) t ≡ true → Valid n clients sent 0 t
+pub valid-none : (n clients sent : ℕ) (t : List ℕ) → length t ≡ transitSize → every (eqb 0) t ≡ true → Valid n clients sent 0 t
 unfolding rows slots ascending
 valid-none n clients sent t l z = known-valid n clients sent 0 t (record { size = l; few = omega arith; fit = refl; ordered = refl; rest = z })
 
@@ -102,7 +102,7 @@ module _ (n clients sent len : ℕ) (t : List ℕ) (ok : Valid n clients sent le
   slot-kept i h =
       let z : i + suc (len - suc i) ≡ len = omega arith in
       let a : All (Kept n clients sent) (slots (i + suc (len - suc i)) t) = rw z valid-kept in
-      all-middle (slots i t) (slotAt t i) (slots (len - suc i) (drop (7 * suc i) t)) (rw (slots-around i (len - suc i) t) at a)
+      all-middle (slots i t) (slotAt t i) (slots (len - suc i) (drop (slotSize * suc i) t)) (rw (slots-around i (len - suc i) t) at a)
 
   -- more messages were sent meanwhile
   pub valid-later : (sent′ : ℕ) → sent ≤ sent′ → Valid n clients sent′ len t

@@ -24,7 +24,7 @@ use Rattle.wire.proofs.RoundTrip.{written-is-read, took}
 use Rattle.wire.proofs.Sequence.{length-bytesOfAll}
 use Rattle.words.specs.Messages.{noMessage}
 use Rattle.system.specs.Transit.{InTransit, numbered}
-use Rattle.transit.specs.Slots.{slotOf, slotWords, slotAt, rows, slots, names, validSlot, ascending, andThen, messagesIn}
+use Rattle.transit.specs.Slots.{slotOf, slotWords, slotAt, rows, slots, names, validSlot, ascending, andThen, messagesIn, transitSize, slotSize}
 use Rattle.transit.specs.Calls.{Sized, Valid, Posts}
 use Rattle.transit.specs.Parts.{PostsOne}
 use Rattle.transit.proofs.RowsLaws.{rows-next, rows-same}
@@ -32,6 +32,7 @@ use Rattle.transit.proofs.NumbersLaws.{ascends, ascends-append}
 use Rattle.transit.proofs.SlotLaws.{slot-again, words-valid}
 use Rattle.ids.proofs.ListLaws.{every-append, every-parts, every-drop}
 use Rattle.transit.proofs.ValidLaws.{Known, known, known-valid, slots-next, slots-same}
+use Rattle.system.specs.Limits.{systemMessages}
 
 -- messages written one after another are decoded as they were
 pub messages-read : (l : List Message) (rest : List ℕ) → every valid l ≡ true → messagesIn (length l) (bytesOfAll l ++ rest) ≡ l
@@ -107,35 +108,35 @@ module _ (at number from : ℕ) (bytes t : List ℕ) (p : Numbers) (e : p ≡ nu
       }
 
 -- the slot behind the last one written
-module _ (t t′ : List ℕ) (i : ℕ) (x : InTransit) (size : length t ≡ 3584) (room : i < 512) (e : t′ ≡ sets t (7 * i) (slotWords x)) where
-  seven-long : length (slotWords x) ≡ 7
+module _ (t t′ : List ℕ) (i : ℕ) (x : InTransit) (size : length t ≡ transitSize) (room : i < systemMessages) (e : t′ ≡ sets t (slotSize * i) (slotWords x)) where
+  seven-long : length (slotWords x) ≡ slotSize
   unfolding slotWords
   seven-long = refl
 
-  parts : t′ ≡ (take (7 * i) t ++ slotWords x) ++ drop (7 * suc i) t
+  parts : t′ ≡ (take (slotSize * i) t ++ slotWords x) ++ drop (slotSize * suc i) t
   parts =
-      let z : 7 * i + length (slotWords x) ≡ 7 * suc i = omega (arith, seven-long) in
-      let s = sets-eq (slotWords x) t (7 * i) (omega (arith, seven-long)) in
+      let z : slotSize * i + length (slotWords x) ≡ slotSize * suc i = omega (arith, seven-long) in
+      let s = sets-eq (slotWords x) t (slotSize * i) (omega (arith, seven-long)) in
       e ∙ (rw z at s)
 
-  pub new-size : length t′ ≡ 3584
-  new-size = ap length e ∙ (length-sets t (7 * i) (slotWords x) ∙ size)
+  pub new-size : length t′ ≡ transitSize
+  new-size = ap length e ∙ (length-sets t (slotSize * i) (slotWords x) ∙ size)
 
-  before-length : length (take (7 * i) t) ≡ 7 * i
-  before-length = length-take-le (7 * i) t (omega arith)
+  before-length : length (take (slotSize * i) t) ≡ slotSize * i
+  before-length = length-take-le (slotSize * i) t (omega arith)
 
-  new-before : take (7 * i) t′ ≡ take (7 * i) t
-  new-before = rw (parts, append-assoc (take (7 * i) t) (slotWords x) (drop (7 * suc i) t)) (take-at (take (7 * i) t) (slotWords x ++ drop (7 * suc i) t) (7 * i) before-length)
+  new-before : take (slotSize * i) t′ ≡ take (slotSize * i) t
+  new-before = rw (parts, append-assoc (take (slotSize * i) t) (slotWords x) (drop (slotSize * suc i) t)) (take-at (take (slotSize * i) t) (slotWords x ++ drop (slotSize * suc i) t) (slotSize * i) before-length)
 
-  new-here : take 7 (drop (7 * i) t′) ≡ slotWords x
+  new-here : take slotSize (drop (slotSize * i) t′) ≡ slotWords x
   new-here =
-      let d : drop (7 * i) t′ ≡ slotWords x ++ drop (7 * suc i) t = rw (parts, append-assoc (take (7 * i) t) (slotWords x) (drop (7 * suc i) t)) (drop-at (take (7 * i) t) (slotWords x ++ drop (7 * suc i) t) (7 * i) before-length) in
-      rw d (take-at (slotWords x) (drop (7 * suc i) t) 7 seven-long)
+      let d : drop (slotSize * i) t′ ≡ slotWords x ++ drop (slotSize * suc i) t = rw (parts, append-assoc (take (slotSize * i) t) (slotWords x) (drop (slotSize * suc i) t)) (drop-at (take (slotSize * i) t) (slotWords x ++ drop (slotSize * suc i) t) (slotSize * i) before-length) in
+      rw d (take-at (slotWords x) (drop (slotSize * suc i) t) slotSize seven-long)
 
-  new-behind : drop (7 * suc i) t′ ≡ drop (7 * suc i) t
+  new-behind : drop (slotSize * suc i) t′ ≡ drop (slotSize * suc i) t
   new-behind =
-      let l : length (take (7 * i) t ++ slotWords x) ≡ 7 * suc i = omega (arith, length-append (take (7 * i) t) (slotWords x), before-length, seven-long) in
-      rw parts (drop-at (take (7 * i) t ++ slotWords x) (drop (7 * suc i) t) (7 * suc i) l)
+      let l : length (take (slotSize * i) t ++ slotWords x) ≡ slotSize * suc i = omega (arith, length-append (take (slotSize * i) t) (slotWords x), before-length, seven-long) in
+      rw parts (drop-at (take (slotSize * i) t ++ slotWords x) (drop (slotSize * suc i) t) (slotSize * suc i) l)
 
   new-rows : rows (suc i) t′ ≡ rows i t ++ (slotWords x ∷ [])
   new-rows = rw (rows-next i t′, new-here, rows-same i t′ t (omega (arith, new-size)) (omega arith) new-before)
@@ -151,13 +152,13 @@ module _ (t t′ : List ℕ) (i : ℕ) (x : InTransit) (size : length t ≡ 3584
     new-known n clients sent K m q =
         let w : every (validSlot n clients) (slotWords x ∷ []) ≡ true = rw (words-valid n clients x v m) in
         let o : ascending sent (suc sent) (x ∷ []) ≡ true = ascends (suc sent) sent x [] (omega arith) (omega arith) refl in
-        let z : 7 * suc i ≡ 7 * i + 7 = omega arith in
+        let z : slotSize * suc i ≡ slotSize * i + slotSize = omega arith in
         record {
           size = new-size;
           few = room;
           fit = rw new-rows (every-append (validSlot n clients) (rows i t) (slotWords x ∷ []) (K .fit) w);
           ordered = rw new-slots (ascends-append sent (suc sent) 0 (slots i t) (x ∷ []) (omega arith) (omega arith) (K .ordered) o);
-          rest = rw (new-behind, z, ← drop-drop 7 (7 * i) t) (every-drop (eqb 0) 7 (drop (7 * i) t) (K .rest));
+          rest = rw (new-behind, z, ← drop-drop slotSize (slotSize * i) t) (every-drop (eqb 0) slotSize (drop (slotSize * i) t) (K .rest));
         }
 
 numbered-more : (i : ℕ) (l : List Message) (m : Message) → numbered i (l ++ m ∷ []) ≡ numbered i l ++ (record { number = suc (i + length l); delivered = false; message = m } ∷ [])
@@ -199,7 +200,7 @@ module _ (len sent count : ℕ) (bytes o : List ℕ) where
       }
 
   module _ (t : List ℕ) (number from i : ℕ) (P : Posting len sent count bytes o t number from i) where
-    module _ (h : i < count) (t′ : List ℕ) (from′ : ℕ) (Q : PostsOne (7 * (len + i)) (number + 1) from bytes t t′ from′) where
+    module _ (h : i < count) (t′ : List ℕ) (from′ : ℕ) (Q : PostsOne (slotSize * (len + i)) (number + 1) from bytes t t′ from′) where
       left : drop i (messagesIn count bytes) ≡ messagesIn (suc (count - suc i)) (drop from bytes)
       left = let y : count - i ≡ suc (count - suc i) = omega arith in rw y at (P .rest)
 
@@ -214,16 +215,16 @@ module _ (len sent count : ℕ) (bytes o : List ℕ) where
         in-range : valid m ≡ true
         in-range = took (drop from bytes) m used read .range
 
-        long : length t ≡ 3584
+        long : length t ≡ transitSize
         long = P .size ∙ P .room .size
 
-        free : len + i < 512
+        free : len + i < systemMessages
         free = omega (arith, P .room .few)
 
         its-number : number + 1 ≡ suc (sent + i)
         its-number = omega (arith, P .last)
 
-        stored : t′ ≡ sets t (7 * (len + i)) (slotWords posted)
+        stored : t′ ≡ sets t (slotSize * (len + i)) (slotWords posted)
         stored = Q .put m used read
 
         others : drop (i + 1) (messagesIn count bytes) ≡ messagesIn (count - (i + 1)) (drop from′ bytes)

@@ -23,14 +23,15 @@ use Rattle.words.specs.Messages.{maxShort, fits, fieldsFrom, crossing, asMessag
 use Rattle.words.specs.declared.Crossed.{Crossed}
 use Rattle.words.specs.declared.Crossed.the-variants.{Numbers, TooLarge}
 use Rattle.system.specs.Transit.{InTransit, isFor, again}
-use Rattle.transit.specs.Slots.{slotOf, slotWords, slotAt, names, validSlot}
+use Rattle.transit.specs.Slots.{slotOf, slotWords, slotAt, names, validSlot, slotSize, transitSize}
 use Rattle.transit.specs.Parts.{againWord, namedFields}
+use Rattle.system.specs.Limits.{systemMessages}
 
 -- seven words
 pub data Seven : List ℕ → Type 0 where
   seven : (a b c d e f g : ℕ) → Seven (a ∷ (b ∷ (c ∷ (d ∷ (e ∷ (f ∷ (g ∷ [])))))))
 
-pub sevens : (ws : List ℕ) → length ws ≡ 7 → Seven ws
+pub sevens : (ws : List ℕ) → length ws ≡ slotSize → Seven ws
 sevens [] h = absurd (omega arith)
 sevens (a ∷ []) h = absurd (omega arith)
 sevens (a ∷ (b ∷ [])) h = absurd (omega arith)
@@ -125,36 +126,36 @@ module _ (n clients : ℕ) where
       fitting-slot n clients (a ∷ (1 ∷ (c ∷ (d ∷ (e ∷ (f ∷ (g ∷ []))))))) (record { flag = omega arith; crosses = F .crosses; range = F .range; named = F .named })
 
 -- where a slot's words stand
-pub number-at : (t : List ℕ) (i : ℕ) → slotAt t i .number ≡ getD t (7 * i) 0
+pub number-at : (t : List ℕ) (i : ℕ) → slotAt t i .number ≡ getD t (slotSize * i) 0
 unfolding slotOf
 number-at t i =
-    let z : 7 * i + 0 ≡ 7 * i = omega arith in
-    let s : 0 < 7 = omega arith in
-    rw (getD-take 7 (drop (7 * i) t) 0 0 s, getD-drop (7 * i) t 0 0, z)
+    let z : slotSize * i + 0 ≡ slotSize * i = omega arith in
+    let s : 0 < slotSize = omega arith in
+    rw (getD-take slotSize (drop (slotSize * i) t) 0 0 s, getD-drop (slotSize * i) t 0 0, z)
 
-pub word-at : (t : List ℕ) (i k : ℕ) → k < 7 → getD (take 7 (drop (7 * i) t)) k 0 ≡ getD t (7 * i + k) 0
-word-at t i k h = rw (getD-take 7 (drop (7 * i) t) k 0 h, getD-drop (7 * i) t k 0)
+pub word-at : (t : List ℕ) (i k : ℕ) → k < slotSize → getD (take slotSize (drop (slotSize * i) t)) k 0 ≡ getD t (slotSize * i + k) 0
+word-at t i k h = rw (getD-take slotSize (drop (slotSize * i) t) k 0 h, getD-drop (slotSize * i) t k 0)
 
-pub delivered-at : (t : List ℕ) (i : ℕ) → slotAt t i .delivered ≡ eqb (getD t (7 * i + 1) 0) 1
+pub delivered-at : (t : List ℕ) (i : ℕ) → slotAt t i .delivered ≡ eqb (getD t (slotSize * i + 1) 0) 1
 unfolding slotOf
 delivered-at t i = ap (λ (x : ℕ). eqb x 1) (word-at t i 1 (omega arith))
 
 drop-take : (m k : ℕ) (l : List ℕ) → m ≤ length l → drop m (take (m + k) l) ≡ take k (drop m l)
 drop-take m k l h = rw (take-add m k l, drop-at (take m l) (take k (drop m l)) m (length-take-le m l h))
 
-module _ (t : List ℕ) (i : ℕ) (size : length t ≡ 3584) (used : i < 512) where
-  pub row-size : 7 ≤ length (drop (7 * i) t)
+module _ (t : List ℕ) (i : ℕ) (size : length t ≡ transitSize) (used : i < systemMessages) where
+  pub row-size : slotSize ≤ length (drop (slotSize * i) t)
   row-size = simp length-drop (omega arith)
 
-  pub row-seven : Seven (take 7 (drop (7 * i) t))
-  row-seven = sevens (take 7 (drop (7 * i) t)) (length-take-le 7 (drop (7 * i) t) row-size)
+  pub row-seven : Seven (take slotSize (drop (slotSize * i) t))
+  row-seven = sevens (take slotSize (drop (slotSize * i) t)) (length-take-le slotSize (drop (slotSize * i) t) row-size)
 
   -- the five words of its message, as the code lends them
-  pub message-words : drop 2 (take 7 (drop (7 * i) t)) ≡ take (7 * i + 7 - (7 * i + 2)) (drop (7 * i + 2) t)
+  pub message-words : drop 2 (take slotSize (drop (slotSize * i) t)) ≡ take (slotSize * i + slotSize - (slotSize * i + 2)) (drop (slotSize * i + 2) t)
   message-words =
-      let h : 2 ≤ length (drop (7 * i) t) = omega (arith, row-size) in
-      let z : 7 * i + 7 - (7 * i + 2) ≡ 5 = omega arith in
-      rw z (drop-take 2 5 (drop (7 * i) t) h ∙ ap (take 5) (drop-drop 2 (7 * i) t))
+      let h : 2 ≤ length (drop (slotSize * i) t) = omega (arith, row-size) in
+      let z : slotSize * i + slotSize - (slotSize * i + 2) ≡ 5 = omega arith in
+      rw z (drop-take 2 5 (drop (slotSize * i) t) h ∙ ap (take 5) (drop-drop 2 (slotSize * i) t))
 
 -- the tests of a slot, one after another
 module _ (n clients : ℕ) (f : Fields) where
@@ -202,22 +203,22 @@ module _ (n clients : ℕ) (ws : List ℕ) where
         go (inr v) = rw v
 
 -- the same of the words as the code finds them
-module _ (n clients : ℕ) (t : List ℕ) (i : ℕ) (size : length t ≡ 3584) (used : i < 512) where
-  flag-at : getD (take 7 (drop (7 * i) t)) 1 0 ≡ getD t (7 * i + 1) 0
+module _ (n clients : ℕ) (t : List ℕ) (i : ℕ) (size : length t ≡ transitSize) (used : i < systemMessages) where
+  flag-at : getD (take slotSize (drop (slotSize * i) t)) 1 0 ≡ getD t (slotSize * i + 1) 0
   flag-at = word-at t i 1 (omega arith)
 
-  pub flag-found : 1 < getD t (7 * i + 1) 0 → false ≡ validSlot n clients (take 7 (drop (7 * i) t))
-  flag-found h = slot-flag n clients (take 7 (drop (7 * i) t)) (rw flag-at h)
+  pub flag-found : 1 < getD t (slotSize * i + 1) 0 → false ≡ validSlot n clients (take slotSize (drop (slotSize * i) t))
+  flag-found h = slot-flag n clients (take slotSize (drop (slotSize * i) t)) (rw flag-at h)
 
-  module _ (h : getD t (7 * i + 1) 0 ≤ 1) (g : Crossed) (e : g ≡ crossing (take (7 * i + 7 - (7 * i + 2)) (drop (7 * i + 2) t))) where
-    from-row : g ≡ crossing (drop 2 (take 7 (drop (7 * i) t)))
+  module _ (h : getD t (slotSize * i + 1) 0 ≤ 1) (g : Crossed) (e : g ≡ crossing (take (slotSize * i + slotSize - (slotSize * i + 2)) (drop (slotSize * i + 2) t))) where
+    from-row : g ≡ crossing (drop 2 (take slotSize (drop (slotSize * i) t)))
     from-row = e ∙ ap crossing (sym (message-words t i size used))
 
-    pub large-found : g ≡ TooLarge → false ≡ validSlot n clients (take 7 (drop (7 * i) t))
-    large-found q = slot-large n clients (take 7 (drop (7 * i) t)) (rw flag-at h) g from-row q
+    pub large-found : g ≡ TooLarge → false ≡ validSlot n clients (take slotSize (drop (slotSize * i) t))
+    large-found q = slot-large n clients (take slotSize (drop (slotSize * i) t)) (rw flag-at h) g from-row q
 
-    pub numbers-found : (f : Fields) (r : Bool) → g ≡ Numbers f → r ≡ namedFields n clients f → r ≡ validSlot n clients (take 7 (drop (7 * i) t))
-    numbers-found f r q x = slot-numbers n clients (take 7 (drop (7 * i) t)) (rw flag-at h) g from-row f r q x
+    pub numbers-found : (f : Fields) (r : Bool) → g ≡ Numbers f → r ≡ namedFields n clients f → r ≡ validSlot n clients (take slotSize (drop (slotSize * i) t))
+    numbers-found f r q x = slot-numbers n clients (take slotSize (drop (slotSize * i) t)) (rw flag-at h) g from-row f r q x
 
 known-kind : (f : Fields) → validFields f ≡ true → known (f .kind) ≡ true
 unfolding validFields

@@ -9,12 +9,13 @@ use Rattle.ids.specs.declared.ServerId.{ServerId}
 use Rattle.wire.specs.declared.Message.{Message}
 use Rattle.ids.specs.Lists.{every}
 use Rattle.system.specs.Transit.{numbered, pending, present, replaced, gone, keeping, again}
-use Rattle.transit.specs.Slots.{slots, slotAt, names, validSlots}
+use Rattle.transit.specs.Slots.{slots, slotAt, names, validSlots, transitSize}
+use Rattle.system.specs.Limits.{systemMessages}
 
 -- all slots are there, and so many are used
 pub record Sized (len : ℕ) (t : List ℕ) : Type 0 where
-  pub size : length t ≡ 3584
-  pub few : len ≤ 512
+  pub size : length t ≡ transitSize
+  pub few : len ≤ systemMessages
 
 -- t is a system's
 abbrev pub Valid : ℕ → ℕ → ℕ → ℕ → List ℕ → Type 0

@@ -13,7 +13,7 @@ use Rattle.wire.specs.Format.{validFields}
 use Rattle.wire.specs.declared.Fields.{Fields}
 use Rattle.wire.specs.declared.Message.{Message}
 use Rattle.wire.specs.declared.Parsed.the-variants.{Accepted}
-use Rattle.transit.specs.Slots.{slotWords}
+use Rattle.transit.specs.Slots.{slotWords, slotSize}
 
 -- a message's numbers, in range and of parties that are there
 unfoldable pub namedFields : ℕ → ℕ → Fields → Bool
@@ -25,13 +25,13 @@ againWord j delivered kind server = if leb kind 4 && eqb server j then 0 else de
 
 -- the numbers of the slots ascend
 abbrev pub Ordered : ℕ → List ℕ → Type 0
-Ordered len t = (i k : ℕ) → i < k → k < len → getD t (7 * i) 0 < getD t (7 * k) 0
+Ordered len t = (i k : ℕ) → i < k → k < len → getD t (slotSize * i) 0 < getD t (slotSize * k) 0
 
 -- r is the first slot with this number or one above it
 pub record Bound (number len : ℕ) (t : List ℕ) (r : ℕ) : Type 0 where
   pub within : r ≤ len
-  pub below : Ordered len t → (i : ℕ) → i < r → getD t (7 * i) 0 < number
-  pub above : Ordered len t → (i : ℕ) → r ≤ i → i < len → number ≤ getD t (7 * i) 0
+  pub below : Ordered len t → (i : ℕ) → i < r → getD t (slotSize * i) 0 < number
+  pub above : Ordered len t → (i : ℕ) → r ≤ i → i < len → number ≤ getD t (slotSize * i) 0
 
 -- the message at place `from` of the bytes stands as number `number` from word `at` on, and r is the place behind it
 pub record PostsOne (at number from : ℕ) (bytes t t′ : List ℕ) (r : ℕ) : Type 0 where

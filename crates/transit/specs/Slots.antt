@@ -1,4 +1,4 @@
--- Messages in transit as words: 512 slots of seven words each, 3,584 in all. A slot is the message's number, 1 if it is delivered and 0 if it is
+-- Messages in transit as words: a slot of seven words for each. A slot is the message's number, 1 if it is delivered and 0 if it is
 -- pending, and the message's five words. The used slots stand first, and every word behind them is 0.
 use Prim.Native.Nat.{ℕ, zero, suc, _*_}
 use mathlib.Core.Bool.{Bool, true, false, _&&_}
@@ -14,7 +14,15 @@ use Rattle.wire.specs.declared.Parsed.{Parsed}
 use Rattle.wire.specs.declared.Parsed.the-variants.{Accepted, Refused}
 use Rattle.ids.specs.Lists.{every}
 use Rattle.words.specs.Messages.{fieldsFrom, messageIn}
+use Rattle.system.specs.Limits.{systemMessages}
 use Rattle.system.specs.Transit.{InTransit}
+
+-- the words of a slot, and of all slots
+abbrev pub slotSize : ℕ
+slotSize = 7
+
+abbrev pub transitSize : ℕ
+transitSize = slotSize * systemMessages
 
 -- what a slot's words hold
 unfoldable pub slotOf : List ℕ → InTransit
@@ -26,7 +34,7 @@ slotWords x = x .number ∷ ((if x .delivered then 1 else 0) ∷ words (fieldsOf
 -- the words of the first len slots, slot by slot
 unfoldable pub rows : ℕ → List ℕ → List (List ℕ)
 rows zero t = []
-rows (suc len) t = take 7 t ∷ rows len (drop 7 t)
+rows (suc len) t = take slotSize t ∷ rows len (drop slotSize t)
 
 -- the messages in the first len slots
 unfoldable pub slots : ℕ → List ℕ → List InTransit
@@ -34,7 +42,7 @@ slots len t = map slotOf (rows len t)
 
 -- the message in slot i, counted from 0
 abbrev pub slotAt : List ℕ → ℕ → InTransit
-slotAt t i = slotOf (take 7 (drop (7 * i) t))
+slotAt t i = slotOf (take slotSize (drop (slotSize * i) t))
 
 -- the message names a client, a server and, if it has one, an owner that are there; no owner is 0
 unfoldable pub names : ℕ → ℕ → Message → Bool
@@ -52,11 +60,11 @@ ascending last sent (x ∷ l) = ltb last (x .number) && (leb (x .number) sent &&
 -- the words hold the messages in transit of a system with n servers and so many clients, whose last message sent has number `sent`
 unfoldable pub validSlots : ℕ → ℕ → ℕ → ℕ → List ℕ → Bool
 validSlots n clients sent len t =
-    eqb (length t) 3584
-    && (leb len 512
+    eqb (length t) transitSize
+    && (leb len systemMessages
     && (every (validSlot n clients) (rows len t)
     && (ascending 0 sent (slots len t)
-    && every (eqb 0) (drop (7 * len) t))))
+    && every (eqb 0) (drop (slotSize * len) t))))
 
 -- the messages that bytes begin with, so many if there are as many
 abbrev pub andThen : List ℕ → Parsed → (List ℕ → List Message) → List Message

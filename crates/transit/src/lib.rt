@@ -1,4 +1,4 @@
-// The messages in transit, kept in lent words: 512 slots of seven. For the simulation and what shows one, whose words are valid.
+// The messages in transit, kept in lent words: a slot of seven for each. For the simulation and what shows one, whose words are valid.
 ghost use mathlib.Core.Path.{_≡_};
 ghost use mathlib.Core.List.{[], _∷_};
 ghost use Prim.Native.Nat.{_≤_, _<_, _+_, _*_};
@@ -7,14 +7,22 @@ ghost use lib.Seq.{sets, paste};
 ghost use lib.Dec.{eqb};
 ghost use Rattle.ids.specs.Lists.{every};
 ghost use Rattle.wire.specs.Format.{words as wordsOf};
-ghost use Rattle.transit.specs.Slots.{rows, slots, slotAt, validSlot, ascending, validSlots, messagesIn};
+ghost use Rattle.transit.specs.Slots.{rows, slots, slotAt, validSlot, ascending, validSlots, messagesIn, transitSize, slotSize};
 ghost use Rattle.transit.specs.Calls.{Sized, FindsPending, FindsPresent, IsAt, Marks, Removes, Restarts, Posts};
 ghost use Rattle.transit.specs.Parts.{namedFields, againWord, Bound, PostsOne};
+ghost use Rattle.system.specs.Limits.{systemMessages};
 use ids::ServerId;
 use wire::Fields;
 use wire::Message;
 use wire::Numbers;
 use words::Crossed;
+
+// The words of a slot, how many slots there are, and the words of all.
+const SLOT: usize = 7;
+
+const MESSAGES: usize = system::MAX_MESSAGES as usize;
+
+pub const TRANSIT_WORDS: usize = SLOT * MESSAGES;
 
 fn named(f: Fields, n: u32, clients: u32) -> bool
     ensures { λ r. ⌜ r ≡ namedFields n clients f ⌝ }
@@ -32,15 +40,15 @@ fn named(f: Fields, n: u32, clients: u32) -> bool
 }
 
 fn slot_valid(t: &[u32], i: usize, n: u32, clients: u32) -> bool
-    requires { ⌜ (length (now t) ≡ 3584) × (i < 512) ⌝ }
-    ensures { λ r. ⌜ r ≡ validSlot n clients (take 7 (drop (7 * i) (now (t .entry)))) ⌝ }
+    requires { ⌜ (length (now t) ≡ transitSize) × (i < systemMessages) ⌝ }
+    ensures { λ r. ⌜ r ≡ validSlot n clients (take slotSize (drop (slotSize * i) (now (t .entry)))) ⌝ }
 {
-    let at = 7 * i;
+    let at = SLOT * i;
     if 1 < t[at + 1] {
         return false;
     }
     let from = at + 2;
-    let end = at + 7;
+    let end = at + SLOT;
     let g = words::cross(&t[from..end]);
     match g {
         Crossed::Numbers(f) => named(f, n, clients),
@@ -69,7 +77,7 @@ fn numbers_ascend(t: &[u32], len: usize, sent: u32) -> bool
     let mut last: u32 = 0;
     let mut i: usize = 0;
     while i < len {
-        let number = t[7 * i];
+        let number = t[SLOT * i];
         if number <= last {
             return false;
         }
@@ -84,10 +92,10 @@ fn numbers_ascend(t: &[u32], len: usize, sent: u32) -> bool
 
 fn rest_zero(t: &[u32], len: usize) -> bool
     requires { ⌜ Sized len (now t) ⌝ }
-    ensures { λ r. ⌜ r ≡ every (eqb 0) (drop (7 * len) (now (t .entry))) ⌝ }
+    ensures { λ r. ⌜ r ≡ every (eqb 0) (drop (slotSize * len) (now (t .entry))) ⌝ }
 {
-    let mut i = 7 * len;
-    while i < 3584 {
+    let mut i = SLOT * len;
+    while i < TRANSIT_WORDS {
         if t[i] != 0 {
             return false;
         }
@@ -100,10 +108,10 @@ fn rest_zero(t: &[u32], len: usize) -> bool
 pub fn valid(t: &[u32], len: usize, sent: u32, n: u32, clients: u32) -> bool
     ensures { λ r. ⌜ r ≡ validSlots n clients sent len (now (t .entry)) ⌝ }
 {
-    if t.len() != 3584 {
+    if t.len() != TRANSIT_WORDS {
         return false;
     }
-    if 512 < len {
+    if MESSAGES < len {
         return false;
     }
     if !slots_valid(t, len, n, clients) {
@@ -124,7 +132,7 @@ fn search(t: &[u32], len: usize, number: u32) -> usize
     let mut high = len;
     while low < high {
         let middle = low + (high - low) / 2;
-        if t[7 * middle] < number {
+        if t[SLOT * middle] < number {
             low = middle + 1;
         } else {
             high = middle;
@@ -142,10 +150,10 @@ pub fn find_pending(t: &[u32], len: usize, number: u32) -> usize
     if len <= i {
         return len;
     }
-    if t[7 * i] != number {
+    if t[SLOT * i] != number {
         return len;
     }
-    if t[7 * i + 1] == 1 {
+    if t[SLOT * i + 1] == 1 {
         return len;
     }
     i
@@ -160,7 +168,7 @@ pub fn find_present(t: &[u32], len: usize, number: u32) -> usize
     if len <= i {
         return len;
     }
-    if t[7 * i] != number {
+    if t[SLOT * i] != number {
         return len;
     }
     i
@@ -168,54 +176,54 @@ pub fn find_present(t: &[u32], len: usize, number: u32) -> usize
 
 // The number of the message in slot `i`. For what shows a simulation, whose words are valid.
 pub fn number_at(t: &[u32], i: usize) -> u32
-    requires { ⌜ (length (now t) ≡ 3584) × (i < 512) ⌝ }
+    requires { ⌜ (length (now t) ≡ transitSize) × (i < systemMessages) ⌝ }
     ensures { λ r. ⌜ r ≡ slotAt (now (t .entry)) i .number ⌝ }
 {
-    t[7 * i]
+    t[SLOT * i]
 }
 
 // Whether the message in slot `i` is delivered. For what shows a simulation, whose words are valid.
 pub fn is_delivered(t: &[u32], i: usize) -> bool
-    requires { ⌜ (length (now t) ≡ 3584) × (i < 512) ⌝ }
+    requires { ⌜ (length (now t) ≡ transitSize) × (i < systemMessages) ⌝ }
     ensures { λ r. ⌜ r ≡ slotAt (now (t .entry)) i .delivered ⌝ }
 {
-    t[7 * i + 1] == 1
+    t[SLOT * i + 1] == 1
 }
 
 // The message in slot `i`, a used one. For the simulation, whose words are valid.
 pub fn message_at(t: &[u32], i: usize) -> Message
-    requires { ⌜ (length (now t) ≡ 3584) × (i < 512) ⌝ }
+    requires { ⌜ (length (now t) ≡ transitSize) × (i < systemMessages) ⌝ }
     ensures { λ m. ⌜ IsAt i (now (t .entry)) m ⌝ }
 {
-    let from = 7 * i + 2;
-    let end = 7 * i + 7;
+    let from = SLOT * i + 2;
+    let end = SLOT * i + SLOT;
     words::message_in(&t[from..end])
 }
 
 // The message in slot `i`, a used one, is delivered and stays. For the simulation, whose words are valid.
 pub fn mark(t: &mut [u32], i: usize)
-    requires { ⌜ (length (now t) ≡ 3584) × (i < 512) ⌝ }
+    requires { ⌜ (length (now t) ≡ transitSize) × (i < systemMessages) ⌝ }
     ensures { λ _. ⌜ Marks i (now (t .entry)) (now (t .exit)) ⌝ }
 {
-    t[7 * i + 1] = 1;
+    t[SLOT * i + 1] = 1;
 }
 
 // So many words from `from` on are those that stood seven words behind.
 fn move_up(t: &mut [u32], from: usize, count: usize)
-    requires { ⌜ from + count + 7 ≤ length (now t) ⌝ }
-    ensures { λ _. ⌜ now (t .exit) ≡ paste (now (t .entry)) from (drop (from + 7) (now (t .entry))) count ⌝ }
+    requires { ⌜ from + count + slotSize ≤ length (now t) ⌝ }
+    ensures { λ _. ⌜ now (t .exit) ≡ paste (now (t .entry)) from (drop (from + slotSize) (now (t .entry))) count ⌝ }
 {
     let mut i: usize = 0;
     while i < count {
-        let w = t[from + i + 7];
+        let w = t[from + i + SLOT];
         t[from + i] = w;
         i += 1;
     }
 }
 
 fn clear(t: &mut [u32], at: usize)
-    requires { ⌜ at + 7 ≤ length (now t) ⌝ }
-    ensures { λ _. ⌜ now (t .exit) ≡ sets (now (t .entry)) at (replicate 7 0) ⌝ }
+    requires { ⌜ at + slotSize ≤ length (now t) ⌝ }
+    ensures { λ _. ⌜ now (t .exit) ≡ sets (now (t .entry)) at (replicate slotSize 0) ⌝ }
 {
     t[at] = 0;
     t[at + 1] = 0;
@@ -232,8 +240,8 @@ pub fn remove(t: &mut [u32], len: usize, i: usize)
     ensures { λ _. ⌜ Removes len i (now (t .entry)) (now (t .exit)) ⌝ }
 {
     let behind = len - 1 - i;
-    move_up(t, 7 * i, 7 * behind);
-    clear(t, 7 * i + 7 * behind);
+    move_up(t, SLOT * i, SLOT * behind);
+    clear(t, SLOT * i + SLOT * behind);
 }
 
 fn delivered_after(j: u32, delivered: u32, kind: u32, server: u32) -> u32
@@ -256,7 +264,7 @@ pub fn restart(t: &mut [u32], len: usize, j: ServerId)
     let down = j.0 as u32;
     let mut i: usize = 0;
     while i < len {
-        let at = 7 * i;
+        let at = SLOT * i;
         let w = delivered_after(down, t[at + 1], t[at + 2], t[at + 4]);
         t[at + 1] = w;
         i += 1;
@@ -264,7 +272,7 @@ pub fn restart(t: &mut [u32], len: usize, j: ServerId)
 }
 
 fn put_slot(t: &mut [u32], at: usize, number: u32, f: Fields)
-    requires { ⌜ at + 7 ≤ length (now t) ⌝ }
+    requires { ⌜ at + slotSize ≤ length (now t) ⌝ }
     ensures { λ _. ⌜ now (t .exit) ≡ sets (now (t .entry)) at (number ∷ (0 ∷ wordsOf f)) ⌝ }
 {
     t[at] = number;
@@ -278,7 +286,7 @@ fn put_slot(t: &mut [u32], at: usize, number: u32, f: Fields)
 
 // The message at place `from` of the bytes, stored from word `at` on; then the place behind it.
 fn post_one(t: &mut [u32], at: usize, number: u32, bytes: &[u8], from: usize) -> usize
-    requires { ⌜ (at + 7 ≤ length (now t)) × (from ≤ length (now bytes)) ⌝ }
+    requires { ⌜ (at + slotSize ≤ length (now t)) × (from ≤ length (now bytes)) ⌝ }
     ensures { λ r. ⌜ PostsOne at number from (now (bytes .entry)) (now (t .entry)) (now (t .exit)) r ⌝ }
 {
     let p = wire::read_fields(&bytes[from..]);
@@ -301,7 +309,7 @@ pub fn post(t: &mut [u32], len: usize, sent: u32, bytes: &[u8], count: usize)
     let mut i: usize = 0;
     while i < count {
         number += 1;
-        from = post_one(t, 7 * (len + i), number, bytes, from);
+        from = post_one(t, SLOT * (len + i), number, bytes, from);
         i += 1;
     }
 }

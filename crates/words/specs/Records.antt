@@ -1,14 +1,16 @@
 -- How a record crosses to C: 32-bit words in a fixed order, 0 for none.
-use Prim.Native.Nat.{ℕ}
+use Prim.Native.Nat.{ℕ, _+_, _*_}
 use mathlib.Core.Bool.{Bool, _&&_}
 use mathlib.Core.List.{List, [], _∷_}
 use mathlib.Core.Option.{Option, none, some}
 use lib.Dec.{eqb, leb}
 use lib.ListN.{length, getD, drop}
 use Rattle.ids.specs.Choice.{if_then_else_}
+use Rattle.ids.specs.Limits.{maxServers}
 use Rattle.ids.specs.declared.Request.{Request}
 use Rattle.wire.specs.Format.{ownerOf, ownerClient, ownerTimestamp}
 use Rattle.ids.specs.Lists.{every}
+use Rattle.votes.specs.Queues.{maxQueue}
 use Rattle.server.specs.declared.Server.{Server}
 use Rattle.client.specs.declared.Client.{Client}
 use Rattle.client.specs.declared.Section.{Section}
@@ -25,18 +27,22 @@ requestsIn [] = []
 requestsIn (k ∷ []) = []
 requestsIn (k ∷ (t ∷ ws)) = record { client = record { 0 = k }; timestamp = record { 0 = t } } ∷ requestsIn ws
 
--- a server: n, its number, the owner's client and timestamp, the queue's length, 16 places
+-- the numbers before the places of either record
+abbrev pub recordHead : ℕ
+recordHead = 5
+
+-- a server: n, its number, the owner's client and timestamp, the queue's length, its places
 abbrev pub serverSize : ℕ
-serverSize = 37
+serverSize = recordHead + 2 * maxQueue
 
 unfoldable pub serverWords : Server → List ℕ
 serverWords s =
     s .n ∷ s .id .0 ∷ ownerClient (s .votes .owner) ∷ ownerTimestamp (s .votes .owner) ∷ s .votes .queue .len
     ∷ requestWords (s .votes .queue .places)
 
--- a client: n, m, its number, section, timestamp, 31 places
+-- a client: n, m, its number, section, timestamp, a place for each server
 abbrev pub clientSize : ℕ
-clientSize = 67
+clientSize = recordHead + 2 * maxServers
 
 abbrev pub sectionWord : Section → ℕ
 sectionWord Remainder = 0
@@ -58,7 +64,7 @@ unfoldable pub fitsHead : ℕ → ℕ → ℕ → Bool
 fitsHead a b c = leb a maxShort && (leb b maxShort && leb c maxShort)
 
 unfoldable pub fitsRecord : List ℕ → Bool
-fitsRecord ws = fitsHead (getD ws 0 0) (getD ws 1 0) (getD ws 2 0) && every fitsPlace (requestsIn (drop 5 ws))
+fitsRecord ws = fitsHead (getD ws 0 0) (getD ws 1 0) (getD ws 2 0) && every fitsPlace (requestsIn (drop recordHead ws))
 
 unfoldable pub holdsServer : List ℕ → Bool
 holdsServer ws = eqb (length ws) serverSize && fitsRecord ws
@@ -75,7 +81,7 @@ serverFrom ws =
       votes =
           record {
             owner = ownerOf (getD ws 2 0) (getD ws 3 0);
-            queue = record { len = getD ws 4 0; places = requestsIn (drop 5 ws) };
+            queue = record { len = getD ws 4 0; places = requestsIn (drop recordHead ws) };
           };
     }
 
@@ -87,7 +93,7 @@ clientFrom ws =
       id = record { 0 = getD ws 2 0 };
       section = sectionOf (getD ws 3 0);
       timestamp = record { 0 = getD ws 4 0 };
-      places = requestsIn (drop 5 ws);
+      places = requestsIn (drop recordHead ws);
     }
 
 -- the record that these words are, if they are one

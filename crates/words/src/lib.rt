@@ -23,6 +23,20 @@ use votes::Votes;
 use wire::Fields;
 use wire::Message;
 
+// The largest number of a field of two bytes.
+const MAX_SHORT: u32 = 65_535;
+
+// The numbers before the places of a record, its places, and its words.
+pub const HEAD_WORDS: usize = 5;
+
+const QUEUE_PLACES: usize = 16;
+
+const RESPONSE_PLACES: usize = 31;
+
+pub const SERVER_WORDS: usize = HEAD_WORDS + 2 * QUEUE_PLACES;
+
+pub const CLIENT_WORDS: usize = HEAD_WORDS + 2 * RESPONSE_PLACES;
+
 // What five words hold.
 pub enum Crossed {
     Numbers(Fields),
@@ -32,16 +46,16 @@ pub enum Crossed {
 fn fit(kind: u32, client: u32, server: u32, owner: u32) -> bool
     ensures { λ r. ⌜ r ≡ fits kind client server owner ⌝ }
 {
-    if 65535 < kind {
+    if MAX_SHORT < kind {
         return false;
     }
-    if 65535 < client {
+    if MAX_SHORT < client {
         return false;
     }
-    if 65535 < server {
+    if MAX_SHORT < server {
         return false;
     }
-    owner <= 65535
+    owner <= MAX_SHORT
 }
 
 fn fields_of_words(kind: u32, client: u32, server: u32, timestamp: u32, owner: u32) -> Fields
@@ -104,13 +118,13 @@ pub fn message_in(words: &[u32]) -> Message
 pub fn fits_head(a: u32, b: u32, c: u32) -> bool
     ensures { λ r. ⌜ r ≡ fitsHead a b c ⌝ }
 {
-    if 65535 < a {
+    if MAX_SHORT < a {
         return false;
     }
-    if 65535 < b {
+    if MAX_SHORT < b {
         return false;
     }
-    c <= 65535
+    c <= MAX_SHORT
 }
 
 // Whether the clients of so many places, which stand from word 5 on, fit their fields.
@@ -120,7 +134,7 @@ fn clients_fit(words: &[u32], places: usize) -> bool
 {
     let mut i: usize = 0;
     while i < places {
-        if 65535 < words[5 + 2 * i] {
+        if MAX_SHORT < words[5 + 2 * i] {
             return false;
         }
         i += 1;
@@ -142,23 +156,23 @@ fn fits_record(words: &[u32], places: usize) -> bool
 pub fn holds_server(words: &[u32]) -> bool
     ensures { λ r. ⌜ r ≡ holdsServer (now (words .entry)) ⌝ }
 {
-    if words.len() != 37 {
+    if words.len() != SERVER_WORDS {
         return false;
     }
-    fits_record(words, 16)
+    fits_record(words, QUEUE_PLACES)
 }
 
 // Whether the words are a client's record: 67, none too large for its field.
 pub fn holds_client(words: &[u32]) -> bool
     ensures { λ r. ⌜ r ≡ holdsClient (now (words .entry)) ⌝ }
 {
-    if words.len() != 67 {
+    if words.len() != CLIENT_WORDS {
         return false;
     }
     if 2 < words[3] {
         return false;
     }
-    fits_record(words, 31)
+    fits_record(words, RESPONSE_PLACES)
 }
 
 fn request_of(client: u32, timestamp: u32) -> Request
@@ -172,14 +186,14 @@ fn request_of(client: u32, timestamp: u32) -> Request
 }
 
 // The 16 places that stand from word 5 on.
-fn queue_places(words: &[u32]) -> [Request; 16]
+fn queue_places(words: &[u32]) -> [Request; QUEUE_PLACES]
     requires { ⌜ Fitting (now words) 16 ⌝ }
     ensures { λ r. ⌜ r ≡ requestsIn (drop 5 (now (words .entry))) ⌝ }
 {
     let none = votes::nobody();
-    let mut places = [none; 16];
+    let mut places = [none; QUEUE_PLACES];
     let mut i: usize = 0;
-    while i < 16 {
+    while i < QUEUE_PLACES {
         let q = request_of(words[5 + 2 * i], words[6 + 2 * i]);
         places[i] = q;
         i += 1;
@@ -188,14 +202,14 @@ fn queue_places(words: &[u32]) -> [Request; 16]
 }
 
 // The 31 places that stand from word 5 on.
-fn response_places(words: &[u32]) -> [Request; 31]
+fn response_places(words: &[u32]) -> [Request; RESPONSE_PLACES]
     requires { ⌜ Fitting (now words) 31 ⌝ }
     ensures { λ r. ⌜ r ≡ requestsIn (drop 5 (now (words .entry))) ⌝ }
 {
     let none = votes::nobody();
-    let mut places = [none; 31];
+    let mut places = [none; RESPONSE_PLACES];
     let mut i: usize = 0;
-    while i < 31 {
+    while i < RESPONSE_PLACES {
         let q = request_of(words[5 + 2 * i], words[6 + 2 * i]);
         places[i] = q;
         i += 1;
@@ -280,23 +294,23 @@ fn put_request(words: &mut [u32], at: usize, q: Request)
     words[at + 1] = q.timestamp.0;
 }
 
-fn put_queue(words: &mut [u32], places: [Request; 16])
+fn put_queue(words: &mut [u32], places: [Request; QUEUE_PLACES])
     requires { ⌜ (37 ≤ length (now words)) × (length places ≡ 16) ⌝ }
     ensures { λ _. ⌜ now (words .exit) ≡ sets (now (words .entry)) 5 (requestWords places) ⌝ }
 {
     let mut i: usize = 0;
-    while i < 16 {
+    while i < QUEUE_PLACES {
         put_request(words, 5 + 2 * i, places[i]);
         i += 1;
     }
 }
 
-fn put_responses(words: &mut [u32], places: [Request; 31])
+fn put_responses(words: &mut [u32], places: [Request; RESPONSE_PLACES])
     requires { ⌜ (67 ≤ length (now words)) × (length places ≡ 31) ⌝ }
     ensures { λ _. ⌜ now (words .exit) ≡ sets (now (words .entry)) 5 (requestWords places) ⌝ }
 {
     let mut i: usize = 0;
-    while i < 31 {
+    while i < RESPONSE_PLACES {
         put_request(words, 5 + 2 * i, places[i]);
         i += 1;
     }

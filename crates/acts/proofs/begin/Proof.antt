@@ -10,6 +10,7 @@ use Rattle.bounded.proofs.ClientEvents.{client-held, begin-refused, begin-accep
 use borrow.Author.Needs.{needs}
 use Rattle.acts.proofs.begin.Statement.{statement}
 use Rattle.acts.proofs.begin.Tie as tie
+use Rattle.changes.specs.Changes.{outBytes}
 
 client-record-requires : tie.Need-client-record-requires
 client-record-requires c κs =
@@ -19,13 +20,13 @@ client-record-requires c κs =
 has-room-requires : tie.Need-has-room-requires
 has-room-requires c κs =
     let d = c .before .before .before .before .before .before .before .before .before .before in
-    let C = begin-accepted (now (d .args .w)) (d .args .k) (d .pre .0) (d .pre .1) _ (c .before .before .before .before .before .before .before .client-record .ensures) _ (replicate 512 0) _ refl (c .before .before .before .before .before .begin .ensures .0) (c .before .before .before .before .before .begin .ensures .1) _ _ (c .before .before .answer2 .given .1) in
+    let C = begin-accepted (now (d .args .w)) (d .args .k) (d .pre .0) (d .pre .1) _ (c .before .before .before .before .before .before .before .client-record .ensures) _ (replicate outBytes 0) _ refl (c .before .before .before .before .before .begin .ensures .0) (c .before .before .before .before .before .begin .ensures .1) _ _ (c .before .before .answer2 .given .1) in
     (d .pre .0 .valid, zero-le, omega (arith, call-few (C .call) _ _ (c .before .before .answer2 .given .1)))
 
 returns : tie.Need-returns
 returns c =
     let d = c .before .before .before .before .before .before .before .before .before .before .before .before in
-    let C = begin-accepted (now (d .args .w)) (d .args .k) (d .pre .0) (d .pre .1) _ (c .before .before .before .before .before .before .before .before .before .client-record .ensures) _ (replicate 512 0) _ refl (c .before .before .before .before .before .before .before .begin .ensures .0) (c .before .before .before .before .before .before .before .begin .ensures .1) _ _ (c .before .before .before .before .answer2 .given .1) in
+    let C = begin-accepted (now (d .args .w)) (d .args .k) (d .pre .0) (d .pre .1) _ (c .before .before .before .before .before .before .before .before .before .client-record .ensures) _ (replicate outBytes 0) _ refl (c .before .before .before .before .before .before .before .begin .ensures .0) (c .before .before .before .before .before .before .before .begin .ensures .1) _ _ (c .before .before .before .before .answer2 .given .1) in
     call-full (C .call) _ _ (c .before .before .before .before .answer2 .given .1) _ (c .before .has-room .ensures) (c .if1 .taken)
 
 put-client-requires : tie.Need-put-client-requires
@@ -36,28 +37,28 @@ put-client-requires c κs =
 begin-epoch-requires : tie.Need-begin-epoch-requires
 begin-epoch-requires c κs =
     let d = c .before .before .before .before .before .before .before .before .before .before .before .before .before .before .before .before .before in
-    epoch-begins (now (d .args .w)) (d .args .k) (d .pre .0) (d .pre .1) _ (c .before .before .before .before .before .before .before .before .before .before .before .before .before .before .client-record .ensures) _ (replicate 512 0) _ refl (c .before .before .before .before .before .before .before .before .before .before .before .before .begin .ensures .0) (c .before .before .before .before .before .before .before .before .before .before .before .before .begin .ensures .1) _ _ (c .before .before .before .before .before .before .before .before .before .answer2 .given .1) _ (c .before .before .before .put-client .ensures)
+    epoch-begins (now (d .args .w)) (d .args .k) (d .pre .0) (d .pre .1) _ (c .before .before .before .before .before .before .before .before .before .before .before .before .before .before .client-record .ensures) _ (replicate outBytes 0) _ refl (c .before .before .before .before .before .before .before .before .before .before .before .before .begin .ensures .0) (c .before .before .before .before .before .before .before .before .before .before .before .before .begin .ensures .1) _ _ (c .before .before .before .before .before .before .before .before .before .answer2 .given .1) _ (c .before .before .before .put-client .ensures)
 
 send-requires : tie.Need-send-requires
 send-requires c κs =
     let d = c .before .before .before .before .before .before .before .before .before .before .before .before .before .before .before .before .before .before .before .before .before .before in
-    begin-sendable (now (d .args .w)) (d .args .k) (d .pre .0) (d .pre .1) _ (c .before .before .before .before .before .before .before .before .before .before .before .before .before .before .before .before .before .before .before .client-record .ensures) _ (replicate 512 0) _ refl (c .before .before .before .before .before .before .before .before .before .before .before .before .before .before .before .before .before .begin .ensures .0) (c .before .before .before .before .before .before .before .before .before .before .before .before .before .before .before .before .before .begin .ensures .1) _ _ (c .before .before .before .before .before .before .before .before .before .before .before .before .before .before .answer2 .given .1) _ (c .before .before .before .before .before .before .before .before .put-client .ensures) _ (c .before .before .before .before .begin-epoch .ensures) _ (c .before .before .before .before .before .before .before .before .before .before .before .has-room .ensures) (c .before .before .before .before .before .before .before .before .before .before .if1 .left)
+    begin-sendable (now (d .args .w)) (d .args .k) (d .pre .0) (d .pre .1) _ (c .before .before .before .before .before .before .before .before .before .before .before .before .before .before .before .before .before .before .before .client-record .ensures) _ (replicate outBytes 0) _ refl (c .before .before .before .before .before .before .before .before .before .before .before .before .before .before .before .before .before .begin .ensures .0) (c .before .before .before .before .before .before .before .before .before .before .before .before .before .before .before .before .before .begin .ensures .1) _ _ (c .before .before .before .before .before .before .before .before .before .before .before .before .before .before .answer2 .given .1) _ (c .before .before .before .before .before .before .before .before .put-client .ensures) _ (c .before .before .before .before .begin-epoch .ensures) _ (c .before .before .before .before .before .before .before .before .before .before .before .has-room .ensures) (c .before .before .before .before .before .before .before .before .before .before .if1 .left)
 
 cast-t28 : tie.Need-cast-t28
 cast-t28 c =
     let d = c .before .before .before .before .before .before .before .before .before .before .before .before .before .before .before .before .before .before .before .before .before .before .before .before .before in
-    let C = begin-accepted (now (d .args .w)) (d .args .k) (d .pre .0) (d .pre .1) _ (c .before .before .before .before .before .before .before .before .before .before .before .before .before .before .before .before .before .before .before .before .before .before .client-record .ensures) _ (replicate 512 0) _ refl (c .before .before .before .before .before .before .before .before .before .before .before .before .before .before .before .before .before .before .before .before .begin .ensures .0) (c .before .before .before .before .before .before .before .before .before .before .before .before .before .before .before .before .before .before .before .before .begin .ensures .1) _ _ (c .before .before .before .before .before .before .before .before .before .before .before .before .before .before .before .before .before .answer2 .given .1) in
+    let C = begin-accepted (now (d .args .w)) (d .args .k) (d .pre .0) (d .pre .1) _ (c .before .before .before .before .before .before .before .before .before .before .before .before .before .before .before .before .before .before .before .before .before .before .client-record .ensures) _ (replicate outBytes 0) _ refl (c .before .before .before .before .before .before .before .before .before .before .before .before .before .before .before .before .before .before .before .before .begin .ensures .0) (c .before .before .before .before .before .before .before .before .before .before .before .before .before .before .before .before .before .before .before .before .begin .ensures .1) _ _ (c .before .before .before .before .before .before .before .before .before .before .before .before .before .before .before .before .before .answer2 .given .1) in
     record { fits = omega (arith, call-few (C .call) _ _ (c .before .before .before .before .before .before .before .before .before .before .before .before .before .before .before .before .before .answer2 .given .1)) }
 
 returns-2 : tie.Need-returns-2
 returns-2 c =
     let d = c .before .before .before .before .before .before .before .before .before in
-    begin-refused (now (d .args .w)) (d .args .k) (d .pre .0) (d .pre .1) _ (c .before .before .before .before .before .before .client-record .ensures) _ (replicate 512 0) _ refl (c .before .before .before .before .begin .ensures .0) (c .before .before .before .before .begin .ensures .1) _ (c .before .answer .given .1)
+    begin-refused (now (d .args .w)) (d .args .k) (d .pre .0) (d .pre .1) _ (c .before .before .before .before .before .before .client-record .ensures) _ (replicate outBytes 0) _ refl (c .before .before .before .before .begin .ensures .0) (c .before .before .before .before .begin .ensures .1) _ (c .before .answer .given .1)
 
 returns-3 : tie.Need-returns-3
 returns-3 c =
     let d = c .before .before .before .before .before .before .before .before .before .before .before .before .before .before .before .before .before .before .before .before .before .before .before .before .before in
-    begin-sent (now (d .args .w)) (d .args .k) (d .pre .0) (d .pre .1) _ (c .before .before .before .before .before .before .before .before .before .before .before .before .before .before .before .before .before .before .before .before .before .before .client-record .ensures) _ (replicate 512 0) _ refl (c .before .before .before .before .before .before .before .before .before .before .before .before .before .before .before .before .before .before .before .before .begin .ensures .0) (c .before .before .before .before .before .before .before .before .before .before .before .before .before .before .before .before .before .before .before .before .begin .ensures .1) _ _ (c .before .before .before .before .before .before .before .before .before .before .before .before .before .before .before .before .before .answer2 .given .1) _ (c .before .before .before .before .before .before .before .before .before .before .before .put-client .ensures) _ (c .before .before .before .before .before .before .before .begin-epoch .ensures) _ (c .before .before .before .before .before .before .before .before .before .before .before .before .before .before .has-room .ensures) (c .before .before .before .before .before .before .before .before .before .before .before .before .before .if1 .left) _ (c .before .before .send .ensures)
+    begin-sent (now (d .args .w)) (d .args .k) (d .pre .0) (d .pre .1) _ (c .before .before .before .before .before .before .before .before .before .before .before .before .before .before .before .before .before .before .before .before .before .before .client-record .ensures) _ (replicate outBytes 0) _ refl (c .before .before .before .before .before .before .before .before .before .before .before .before .before .before .before .before .before .before .before .before .begin .ensures .0) (c .before .before .before .before .before .before .before .before .before .before .before .before .before .before .before .before .before .before .before .before .begin .ensures .1) _ _ (c .before .before .before .before .before .before .before .before .before .before .before .before .before .before .before .before .before .answer2 .given .1) _ (c .before .before .before .before .before .before .before .before .before .before .before .put-client .ensures) _ (c .before .before .before .before .before .before .before .begin-epoch .ensures) _ (c .before .before .before .before .before .before .before .before .before .before .before .before .before .before .has-room .ensures) (c .before .before .before .before .before .before .before .before .before .before .before .before .before .if1 .left) _ (c .before .before .send .ensures)
 
 pub begin-spec : {M : Type 1} → statement M
 begin-spec =

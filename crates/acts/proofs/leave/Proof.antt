@@ -10,6 +10,7 @@ use Rattle.bounded.proofs.ClientEvents.{still-client, client-held, client-senda
 use borrow.Author.Needs.{needs}
 use Rattle.acts.proofs.leave.Statement.{statement}
 use Rattle.acts.proofs.leave.Tie as tie
+use Rattle.changes.specs.Changes.{outBytes}
 
 client-record-requires : tie.Need-client-record-requires
 client-record-requires c κs =
@@ -19,13 +20,13 @@ client-record-requires c κs =
 has-room-requires : tie.Need-has-room-requires
 has-room-requires c κs =
     let d = c .before .before .before .before .before .before .before .before .before .before in
-    let C = exit-accepted (now (d .args .w)) (d .args .k) (d .pre .0) (d .pre .1) _ (c .before .before .before .before .before .before .before .client-record .ensures) _ (replicate 512 0) _ refl (c .before .before .before .before .before .exit .ensures .0) (c .before .before .before .before .before .exit .ensures .1) _ _ (c .before .before .answer2 .given .1) in
+    let C = exit-accepted (now (d .args .w)) (d .args .k) (d .pre .0) (d .pre .1) _ (c .before .before .before .before .before .before .before .client-record .ensures) _ (replicate outBytes 0) _ refl (c .before .before .before .before .before .exit .ensures .0) (c .before .before .before .before .before .exit .ensures .1) _ _ (c .before .before .answer2 .given .1) in
     (d .pre .0 .valid, zero-le, omega (arith, call-few (C .call) _ _ (c .before .before .answer2 .given .1)))
 
 returns : tie.Need-returns
 returns c =
     let d = c .before .before .before .before .before .before .before .before .before .before .before .before in
-    let C = exit-accepted (now (d .args .w)) (d .args .k) (d .pre .0) (d .pre .1) _ (c .before .before .before .before .before .before .before .before .before .client-record .ensures) _ (replicate 512 0) _ refl (c .before .before .before .before .before .before .before .exit .ensures .0) (c .before .before .before .before .before .before .before .exit .ensures .1) _ _ (c .before .before .before .before .answer2 .given .1) in
+    let C = exit-accepted (now (d .args .w)) (d .args .k) (d .pre .0) (d .pre .1) _ (c .before .before .before .before .before .before .before .before .before .client-record .ensures) _ (replicate outBytes 0) _ refl (c .before .before .before .before .before .before .before .exit .ensures .0) (c .before .before .before .before .before .before .before .exit .ensures .1) _ _ (c .before .before .before .before .answer2 .given .1) in
     call-full (C .call) _ _ (c .before .before .before .before .answer2 .given .1) _ (c .before .has-room .ensures) (c .if1 .taken)
 
 end-epoch-requires : tie.Need-end-epoch-requires
@@ -41,26 +42,26 @@ put-client-requires c κs =
 send-requires : tie.Need-send-requires
 send-requires c κs =
     let d = c .before .before .before .before .before .before .before .before .before .before .before .before .before .before .before .before .before .before .before .before .before .before in
-    let C = exit-accepted (now (d .args .w)) (d .args .k) (d .pre .0) (d .pre .1) _ (c .before .before .before .before .before .before .before .before .before .before .before .before .before .before .before .before .before .before .before .client-record .ensures) _ (replicate 512 0) _ refl (c .before .before .before .before .before .before .before .before .before .before .before .before .before .before .before .before .before .exit .ensures .0) (c .before .before .before .before .before .before .before .before .before .before .before .before .before .before .before .before .before .exit .ensures .1) _ _ (c .before .before .before .before .before .before .before .before .before .before .before .before .before .before .answer2 .given .1) in
-    let B = exit-stored (now (d .args .w)) (d .args .k) (d .pre .0) (d .pre .1) _ (c .before .before .before .before .before .before .before .before .before .before .before .before .before .before .before .before .before .before .before .client-record .ensures) _ (replicate 512 0) _ refl (c .before .before .before .before .before .before .before .before .before .before .before .before .before .before .before .before .before .exit .ensures .0) (c .before .before .before .before .before .before .before .before .before .before .before .before .before .before .before .before .before .exit .ensures .1) _ _ (c .before .before .before .before .before .before .before .before .before .before .before .before .before .before .answer2 .given .1) _ (c .before .before .before .before .before .before .before .before .end-epoch .ensures) _ (c .before .before .before .before .put-client .ensures) in
+    let C = exit-accepted (now (d .args .w)) (d .args .k) (d .pre .0) (d .pre .1) _ (c .before .before .before .before .before .before .before .before .before .before .before .before .before .before .before .before .before .before .before .client-record .ensures) _ (replicate outBytes 0) _ refl (c .before .before .before .before .before .before .before .before .before .before .before .before .before .before .before .before .before .exit .ensures .0) (c .before .before .before .before .before .before .before .before .before .before .before .before .before .before .before .before .before .exit .ensures .1) _ _ (c .before .before .before .before .before .before .before .before .before .before .before .before .before .before .answer2 .given .1) in
+    let B = exit-stored (now (d .args .w)) (d .args .k) (d .pre .0) (d .pre .1) _ (c .before .before .before .before .before .before .before .before .before .before .before .before .before .before .before .before .before .before .before .client-record .ensures) _ (replicate outBytes 0) _ refl (c .before .before .before .before .before .before .before .before .before .before .before .before .before .before .before .before .before .exit .ensures .0) (c .before .before .before .before .before .before .before .before .before .before .before .before .before .before .before .before .before .exit .ensures .1) _ _ (c .before .before .before .before .before .before .before .before .before .before .before .before .before .before .answer2 .given .1) _ (c .before .before .before .before .before .before .before .before .end-epoch .ensures) _ (c .before .before .before .before .put-client .ensures) in
     client-sendable C _ _ (c .before .before .before .before .before .before .before .before .before .before .before .before .before .before .answer2 .given .1) _ (c .before .before .before .before .before .before .before .before .before .before .before .has-room .ensures) (c .before .before .before .before .before .before .before .before .before .before .if1 .left) _ B
 
 cast-t28 : tie.Need-cast-t28
 cast-t28 c =
     let d = c .before .before .before .before .before .before .before .before .before .before .before .before .before .before .before .before .before .before .before .before .before .before .before .before .before in
-    let C = exit-accepted (now (d .args .w)) (d .args .k) (d .pre .0) (d .pre .1) _ (c .before .before .before .before .before .before .before .before .before .before .before .before .before .before .before .before .before .before .before .before .before .before .client-record .ensures) _ (replicate 512 0) _ refl (c .before .before .before .before .before .before .before .before .before .before .before .before .before .before .before .before .before .before .before .before .exit .ensures .0) (c .before .before .before .before .before .before .before .before .before .before .before .before .before .before .before .before .before .before .before .before .exit .ensures .1) _ _ (c .before .before .before .before .before .before .before .before .before .before .before .before .before .before .before .before .before .answer2 .given .1) in
+    let C = exit-accepted (now (d .args .w)) (d .args .k) (d .pre .0) (d .pre .1) _ (c .before .before .before .before .before .before .before .before .before .before .before .before .before .before .before .before .before .before .before .before .before .before .client-record .ensures) _ (replicate outBytes 0) _ refl (c .before .before .before .before .before .before .before .before .before .before .before .before .before .before .before .before .before .before .before .before .exit .ensures .0) (c .before .before .before .before .before .before .before .before .before .before .before .before .before .before .before .before .before .before .before .before .exit .ensures .1) _ _ (c .before .before .before .before .before .before .before .before .before .before .before .before .before .before .before .before .before .answer2 .given .1) in
     record { fits = omega (arith, call-few (C .call) _ _ (c .before .before .before .before .before .before .before .before .before .before .before .before .before .before .before .before .before .answer2 .given .1)) }
 
 returns-2 : tie.Need-returns-2
 returns-2 c =
     let d = c .before .before .before .before .before .before .before .before .before in
-    exit-refused (now (d .args .w)) (d .args .k) (d .pre .0) (d .pre .1) _ (c .before .before .before .before .before .before .client-record .ensures) _ (replicate 512 0) _ refl (c .before .before .before .before .exit .ensures .0) (c .before .before .before .before .exit .ensures .1) _ (c .before .answer .given .1)
+    exit-refused (now (d .args .w)) (d .args .k) (d .pre .0) (d .pre .1) _ (c .before .before .before .before .before .before .client-record .ensures) _ (replicate outBytes 0) _ refl (c .before .before .before .before .exit .ensures .0) (c .before .before .before .before .exit .ensures .1) _ (c .before .answer .given .1)
 
 returns-3 : tie.Need-returns-3
 returns-3 c =
     let d = c .before .before .before .before .before .before .before .before .before .before .before .before .before .before .before .before .before .before .before .before .before .before .before .before .before in
-    let C = exit-accepted (now (d .args .w)) (d .args .k) (d .pre .0) (d .pre .1) _ (c .before .before .before .before .before .before .before .before .before .before .before .before .before .before .before .before .before .before .before .before .before .before .client-record .ensures) _ (replicate 512 0) _ refl (c .before .before .before .before .before .before .before .before .before .before .before .before .before .before .before .before .before .before .before .before .exit .ensures .0) (c .before .before .before .before .before .before .before .before .before .before .before .before .before .before .before .before .before .before .before .before .exit .ensures .1) _ _ (c .before .before .before .before .before .before .before .before .before .before .before .before .before .before .before .before .before .answer2 .given .1) in
-    let B = exit-stored (now (d .args .w)) (d .args .k) (d .pre .0) (d .pre .1) _ (c .before .before .before .before .before .before .before .before .before .before .before .before .before .before .before .before .before .before .before .before .before .before .client-record .ensures) _ (replicate 512 0) _ refl (c .before .before .before .before .before .before .before .before .before .before .before .before .before .before .before .before .before .before .before .before .exit .ensures .0) (c .before .before .before .before .before .before .before .before .before .before .before .before .before .before .before .before .before .before .before .before .exit .ensures .1) _ _ (c .before .before .before .before .before .before .before .before .before .before .before .before .before .before .before .before .before .answer2 .given .1) _ (c .before .before .before .before .before .before .before .before .before .before .before .end-epoch .ensures) _ (c .before .before .before .before .before .before .before .put-client .ensures) in
+    let C = exit-accepted (now (d .args .w)) (d .args .k) (d .pre .0) (d .pre .1) _ (c .before .before .before .before .before .before .before .before .before .before .before .before .before .before .before .before .before .before .before .before .before .before .client-record .ensures) _ (replicate outBytes 0) _ refl (c .before .before .before .before .before .before .before .before .before .before .before .before .before .before .before .before .before .before .before .before .exit .ensures .0) (c .before .before .before .before .before .before .before .before .before .before .before .before .before .before .before .before .before .before .before .before .exit .ensures .1) _ _ (c .before .before .before .before .before .before .before .before .before .before .before .before .before .before .before .before .before .answer2 .given .1) in
+    let B = exit-stored (now (d .args .w)) (d .args .k) (d .pre .0) (d .pre .1) _ (c .before .before .before .before .before .before .before .before .before .before .before .before .before .before .before .before .before .before .before .before .before .before .client-record .ensures) _ (replicate outBytes 0) _ refl (c .before .before .before .before .before .before .before .before .before .before .before .before .before .before .before .before .before .before .before .before .exit .ensures .0) (c .before .before .before .before .before .before .before .before .before .before .before .before .before .before .before .before .before .before .before .before .exit .ensures .1) _ _ (c .before .before .before .before .before .before .before .before .before .before .before .before .before .before .before .before .before .answer2 .given .1) _ (c .before .before .before .before .before .before .before .before .before .before .before .end-epoch .ensures) _ (c .before .before .before .before .before .before .before .put-client .ensures) in
     client-sent C _ _ (c .before .before .before .before .before .before .before .before .before .before .before .before .before .before .before .before .before .answer2 .given .1) _ (c .before .before .before .before .before .before .before .before .before .before .before .before .before .before .has-room .ensures) (c .before .before .before .before .before .before .before .before .before .before .before .before .before .if1 .left) _ B _ (c .before .before .send .ensures)
 
 pub leave-spec : {M : Type 1} → statement M

@@ -12,6 +12,7 @@ use Rattle.deliveries.proofs.TakeEvents.{still-server, taking-server, t
 use borrow.Author.Needs.{needs}
 use Rattle.deliveries.proofs.to_server.Statement.{statement}
 use Rattle.deliveries.proofs.to_server.Tie as tie
+use Rattle.changes.specs.Changes.{outBytes}
 
 is-up-requires : tie.Need-is-up-requires
 is-up-requires c κs =
@@ -36,13 +37,13 @@ take-requires c κs =
 has-room-requires : tie.Need-has-room-requires
 has-room-requires c κs =
     let d = c .before .before .before .before .before .before .before .before .before .before .before .before .before in
-    let C = take-called (now (d .args .w)) (d .args .i) (d .args .tag) (d .args .k) (d .args .j) (d .args .t) (d .pre) (taking-up (now (d .args .w)) (d .args .i) (d .args .tag) (d .args .k) (d .args .j) (d .args .t) (d .pre) _ (c .before .before .before .before .before .before .before .before .before .before .is-up .ensures) (c .before .before .before .before .before .before .before .before .before .if1 .left)) _ (c .before .before .before .before .before .before .before .server-record .ensures) _ (replicate 512 0) _ refl (c .before .before .before .before .before .take .ensures .0) (c .before .before .before .before .before .take .ensures .1) in
+    let C = take-called (now (d .args .w)) (d .args .i) (d .args .tag) (d .args .k) (d .args .j) (d .args .t) (d .pre) (taking-up (now (d .args .w)) (d .args .i) (d .args .tag) (d .args .k) (d .args .j) (d .args .t) (d .pre) _ (c .before .before .before .before .before .before .before .before .before .before .is-up .ensures) (c .before .before .before .before .before .before .before .before .before .if1 .left)) _ (c .before .before .before .before .before .before .before .server-record .ensures) _ (replicate outBytes 0) _ refl (c .before .before .before .before .before .take .ensures .0) (c .before .before .before .before .before .take .ensures .1) in
     (d .pre .slot .valid, zero-le, omega (arith, call-few (C .call) _ _ (c .before .before .answer2 .given .1)))
 
 returns-2 : tie.Need-returns-2
 returns-2 c =
     let d = c .before .before .before .before .before .before .before .before .before .before .before .before .before .before .before in
-    let C = take-called (now (d .args .w)) (d .args .i) (d .args .tag) (d .args .k) (d .args .j) (d .args .t) (d .pre) (taking-up (now (d .args .w)) (d .args .i) (d .args .tag) (d .args .k) (d .args .j) (d .args .t) (d .pre) _ (c .before .before .before .before .before .before .before .before .before .before .before .before .is-up .ensures) (c .before .before .before .before .before .before .before .before .before .before .before .if1 .left)) _ (c .before .before .before .before .before .before .before .before .before .server-record .ensures) _ (replicate 512 0) _ refl (c .before .before .before .before .before .before .before .take .ensures .0) (c .before .before .before .before .before .before .before .take .ensures .1) in
+    let C = take-called (now (d .args .w)) (d .args .i) (d .args .tag) (d .args .k) (d .args .j) (d .args .t) (d .pre) (taking-up (now (d .args .w)) (d .args .i) (d .args .tag) (d .args .k) (d .args .j) (d .args .t) (d .pre) _ (c .before .before .before .before .before .before .before .before .before .before .before .before .is-up .ensures) (c .before .before .before .before .before .before .before .before .before .before .before .if1 .left)) _ (c .before .before .before .before .before .before .before .before .before .server-record .ensures) _ (replicate outBytes 0) _ refl (c .before .before .before .before .before .before .before .take .ensures .0) (c .before .before .before .before .before .before .before .take .ensures .1) in
     call-full (C .call) _ _ (c .before .before .before .before .answer2 .given .1) _ (c .before .has-room .ensures) (c .if2 .taken)
 
 mark-message-requires : tie.Need-mark-message-requires
@@ -53,33 +54,33 @@ mark-message-requires c κs =
 put-server-requires : tie.Need-put-server-requires
 put-server-requires c κs =
     let d = c .before .before .before .before .before .before .before .before .before .before .before .before .before .before .before .before .before .before .before .before in
-    let C = take-called (now (d .args .w)) (d .args .i) (d .args .tag) (d .args .k) (d .args .j) (d .args .t) (d .pre) (taking-up (now (d .args .w)) (d .args .i) (d .args .tag) (d .args .k) (d .args .j) (d .args .t) (d .pre) _ (c .before .before .before .before .before .before .before .before .before .before .before .before .before .before .before .before .before .is-up .ensures) (c .before .before .before .before .before .before .before .before .before .before .before .before .before .before .before .before .if1 .left)) _ (c .before .before .before .before .before .before .before .before .before .before .before .before .before .before .server-record .ensures) _ (replicate 512 0) _ refl (c .before .before .before .before .before .before .before .before .before .before .before .before .take .ensures .0) (c .before .before .before .before .before .before .before .before .before .before .before .before .take .ensures .1) in
+    let C = take-called (now (d .args .w)) (d .args .i) (d .args .tag) (d .args .k) (d .args .j) (d .args .t) (d .pre) (taking-up (now (d .args .w)) (d .args .i) (d .args .tag) (d .args .k) (d .args .j) (d .args .t) (d .pre) _ (c .before .before .before .before .before .before .before .before .before .before .before .before .before .before .before .before .before .is-up .ensures) (c .before .before .before .before .before .before .before .before .before .before .before .before .before .before .before .before .if1 .left)) _ (c .before .before .before .before .before .before .before .before .before .before .before .before .before .before .server-record .ensures) _ (replicate outBytes 0) _ refl (c .before .before .before .before .before .before .before .before .before .before .before .before .take .ensures .0) (c .before .before .before .before .before .before .before .before .before .before .before .before .take .ensures .1) in
     (server-in _ (d .args .j .0) (still-server (c .before .before .before .mark-message .ensures) (taking-server (now (d .args .w)) (d .args .i) (d .args .tag) (d .args .k) (d .args .j) (d .args .t) (d .pre))), C .short)
 
 send-requires : tie.Need-send-requires
 send-requires c κs =
     let d = c .before .before .before .before .before .before .before .before .before .before .before .before .before .before .before .before .before .before .before .before .before .before .before .before .before in
-    let C = take-called (now (d .args .w)) (d .args .i) (d .args .tag) (d .args .k) (d .args .j) (d .args .t) (d .pre) (taking-up (now (d .args .w)) (d .args .i) (d .args .tag) (d .args .k) (d .args .j) (d .args .t) (d .pre) _ (c .before .before .before .before .before .before .before .before .before .before .before .before .before .before .before .before .before .before .before .before .before .before .is-up .ensures) (c .before .before .before .before .before .before .before .before .before .before .before .before .before .before .before .before .before .before .before .before .before .if1 .left)) _ (c .before .before .before .before .before .before .before .before .before .before .before .before .before .before .before .before .before .before .before .server-record .ensures) _ (replicate 512 0) _ refl (c .before .before .before .before .before .before .before .before .before .before .before .before .before .before .before .before .before .take .ensures .0) (c .before .before .before .before .before .before .before .before .before .before .before .before .before .before .before .before .before .take .ensures .1) in
-    let B = take-stored (now (d .args .w)) (d .args .i) (d .args .tag) (d .args .k) (d .args .j) (d .args .t) (d .pre) (taking-up (now (d .args .w)) (d .args .i) (d .args .tag) (d .args .k) (d .args .j) (d .args .t) (d .pre) _ (c .before .before .before .before .before .before .before .before .before .before .before .before .before .before .before .before .before .before .before .before .before .before .is-up .ensures) (c .before .before .before .before .before .before .before .before .before .before .before .before .before .before .before .before .before .before .before .before .before .if1 .left)) _ (c .before .before .before .before .before .before .before .before .before .before .before .before .before .before .before .before .before .before .before .server-record .ensures) _ (replicate 512 0) _ refl (c .before .before .before .before .before .before .before .before .before .before .before .before .before .before .before .before .before .take .ensures .0) (c .before .before .before .before .before .before .before .before .before .before .before .before .before .before .before .before .before .take .ensures .1) _ (c .before .before .before .before .before .before .before .before .mark-message .ensures) _ (c .before .before .before .before .put-server .ensures) in
+    let C = take-called (now (d .args .w)) (d .args .i) (d .args .tag) (d .args .k) (d .args .j) (d .args .t) (d .pre) (taking-up (now (d .args .w)) (d .args .i) (d .args .tag) (d .args .k) (d .args .j) (d .args .t) (d .pre) _ (c .before .before .before .before .before .before .before .before .before .before .before .before .before .before .before .before .before .before .before .before .before .before .is-up .ensures) (c .before .before .before .before .before .before .before .before .before .before .before .before .before .before .before .before .before .before .before .before .before .if1 .left)) _ (c .before .before .before .before .before .before .before .before .before .before .before .before .before .before .before .before .before .before .before .server-record .ensures) _ (replicate outBytes 0) _ refl (c .before .before .before .before .before .before .before .before .before .before .before .before .before .before .before .before .before .take .ensures .0) (c .before .before .before .before .before .before .before .before .before .before .before .before .before .before .before .before .before .take .ensures .1) in
+    let B = take-stored (now (d .args .w)) (d .args .i) (d .args .tag) (d .args .k) (d .args .j) (d .args .t) (d .pre) (taking-up (now (d .args .w)) (d .args .i) (d .args .tag) (d .args .k) (d .args .j) (d .args .t) (d .pre) _ (c .before .before .before .before .before .before .before .before .before .before .before .before .before .before .before .before .before .before .before .before .before .before .is-up .ensures) (c .before .before .before .before .before .before .before .before .before .before .before .before .before .before .before .before .before .before .before .before .before .if1 .left)) _ (c .before .before .before .before .before .before .before .before .before .before .before .before .before .before .before .before .before .before .before .server-record .ensures) _ (replicate outBytes 0) _ refl (c .before .before .before .before .before .before .before .before .before .before .before .before .before .before .before .before .before .take .ensures .0) (c .before .before .before .before .before .before .before .before .before .before .before .before .before .before .before .before .before .take .ensures .1) _ (c .before .before .before .before .before .before .before .before .mark-message .ensures) _ (c .before .before .before .before .put-server .ensures) in
     server-sendable C _ _ (c .before .before .before .before .before .before .before .before .before .before .before .before .before .before .answer2 .given .1) _ (c .before .before .before .before .before .before .before .before .before .before .before .has-room .ensures) (c .before .before .before .before .before .before .before .before .before .before .if2 .left) _ B
 
 cast-t37 : tie.Need-cast-t37
 cast-t37 c =
     let d = c .before .before .before .before .before .before .before .before .before .before .before .before .before .before .before .before .before .before .before .before .before .before .before .before .before .before .before .before in
-    let C = take-called (now (d .args .w)) (d .args .i) (d .args .tag) (d .args .k) (d .args .j) (d .args .t) (d .pre) (taking-up (now (d .args .w)) (d .args .i) (d .args .tag) (d .args .k) (d .args .j) (d .args .t) (d .pre) _ (c .before .before .before .before .before .before .before .before .before .before .before .before .before .before .before .before .before .before .before .before .before .before .before .before .before .is-up .ensures) (c .before .before .before .before .before .before .before .before .before .before .before .before .before .before .before .before .before .before .before .before .before .before .before .before .if1 .left)) _ (c .before .before .before .before .before .before .before .before .before .before .before .before .before .before .before .before .before .before .before .before .before .before .server-record .ensures) _ (replicate 512 0) _ refl (c .before .before .before .before .before .before .before .before .before .before .before .before .before .before .before .before .before .before .before .before .take .ensures .0) (c .before .before .before .before .before .before .before .before .before .before .before .before .before .before .before .before .before .before .before .before .take .ensures .1) in
+    let C = take-called (now (d .args .w)) (d .args .i) (d .args .tag) (d .args .k) (d .args .j) (d .args .t) (d .pre) (taking-up (now (d .args .w)) (d .args .i) (d .args .tag) (d .args .k) (d .args .j) (d .args .t) (d .pre) _ (c .before .before .before .before .before .before .before .before .before .before .before .before .before .before .before .before .before .before .before .before .before .before .before .before .before .is-up .ensures) (c .before .before .before .before .before .before .before .before .before .before .before .before .before .before .before .before .before .before .before .before .before .before .before .before .if1 .left)) _ (c .before .before .before .before .before .before .before .before .before .before .before .before .before .before .before .before .before .before .before .before .before .before .server-record .ensures) _ (replicate outBytes 0) _ refl (c .before .before .before .before .before .before .before .before .before .before .before .before .before .before .before .before .before .before .before .before .take .ensures .0) (c .before .before .before .before .before .before .before .before .before .before .before .before .before .before .before .before .before .before .before .before .take .ensures .1) in
     record { fits = omega (arith, call-few (C .call) _ _ (c .before .before .before .before .before .before .before .before .before .before .before .before .before .before .before .before .before .answer2 .given .1)) }
 
 returns-3 : tie.Need-returns-3
 returns-3 c =
     let d = c .before .before .before .before .before .before .before .before .before .before .before .before in
-    let C = take-called (now (d .args .w)) (d .args .i) (d .args .tag) (d .args .k) (d .args .j) (d .args .t) (d .pre) (taking-up (now (d .args .w)) (d .args .i) (d .args .tag) (d .args .k) (d .args .j) (d .args .t) (d .pre) _ (c .before .before .before .before .before .before .before .before .before .is-up .ensures) (c .before .before .before .before .before .before .before .before .if1 .left)) _ (c .before .before .before .before .before .before .server-record .ensures) _ (replicate 512 0) _ refl (c .before .before .before .before .take .ensures .0) (c .before .before .before .before .take .ensures .1) in
+    let C = take-called (now (d .args .w)) (d .args .i) (d .args .tag) (d .args .k) (d .args .j) (d .args .t) (d .pre) (taking-up (now (d .args .w)) (d .args .i) (d .args .tag) (d .args .k) (d .args .j) (d .args .t) (d .pre) _ (c .before .before .before .before .before .before .before .before .before .is-up .ensures) (c .before .before .before .before .before .before .before .before .if1 .left)) _ (c .before .before .before .before .before .before .server-record .ensures) _ (replicate outBytes 0) _ refl (c .before .before .before .before .take .ensures .0) (c .before .before .before .before .take .ensures .1) in
     call-refused (C .call) _ (c .before .answer .given .1)
 
 returns-4 : tie.Need-returns-4
 returns-4 c =
     let d = c .before .before .before .before .before .before .before .before .before .before .before .before .before .before .before .before .before .before .before .before .before .before .before .before .before .before .before .before in
-    let C = take-called (now (d .args .w)) (d .args .i) (d .args .tag) (d .args .k) (d .args .j) (d .args .t) (d .pre) (taking-up (now (d .args .w)) (d .args .i) (d .args .tag) (d .args .k) (d .args .j) (d .args .t) (d .pre) _ (c .before .before .before .before .before .before .before .before .before .before .before .before .before .before .before .before .before .before .before .before .before .before .before .before .before .is-up .ensures) (c .before .before .before .before .before .before .before .before .before .before .before .before .before .before .before .before .before .before .before .before .before .before .before .before .if1 .left)) _ (c .before .before .before .before .before .before .before .before .before .before .before .before .before .before .before .before .before .before .before .before .before .before .server-record .ensures) _ (replicate 512 0) _ refl (c .before .before .before .before .before .before .before .before .before .before .before .before .before .before .before .before .before .before .before .before .take .ensures .0) (c .before .before .before .before .before .before .before .before .before .before .before .before .before .before .before .before .before .before .before .before .take .ensures .1) in
-    let B = take-stored (now (d .args .w)) (d .args .i) (d .args .tag) (d .args .k) (d .args .j) (d .args .t) (d .pre) (taking-up (now (d .args .w)) (d .args .i) (d .args .tag) (d .args .k) (d .args .j) (d .args .t) (d .pre) _ (c .before .before .before .before .before .before .before .before .before .before .before .before .before .before .before .before .before .before .before .before .before .before .before .before .before .is-up .ensures) (c .before .before .before .before .before .before .before .before .before .before .before .before .before .before .before .before .before .before .before .before .before .before .before .before .if1 .left)) _ (c .before .before .before .before .before .before .before .before .before .before .before .before .before .before .before .before .before .before .before .before .before .before .server-record .ensures) _ (replicate 512 0) _ refl (c .before .before .before .before .before .before .before .before .before .before .before .before .before .before .before .before .before .before .before .before .take .ensures .0) (c .before .before .before .before .before .before .before .before .before .before .before .before .before .before .before .before .before .before .before .before .take .ensures .1) _ (c .before .before .before .before .before .before .before .before .before .before .before .mark-message .ensures) _ (c .before .before .before .before .before .before .before .put-server .ensures) in
+    let C = take-called (now (d .args .w)) (d .args .i) (d .args .tag) (d .args .k) (d .args .j) (d .args .t) (d .pre) (taking-up (now (d .args .w)) (d .args .i) (d .args .tag) (d .args .k) (d .args .j) (d .args .t) (d .pre) _ (c .before .before .before .before .before .before .before .before .before .before .before .before .before .before .before .before .before .before .before .before .before .before .before .before .before .is-up .ensures) (c .before .before .before .before .before .before .before .before .before .before .before .before .before .before .before .before .before .before .before .before .before .before .before .before .if1 .left)) _ (c .before .before .before .before .before .before .before .before .before .before .before .before .before .before .before .before .before .before .before .before .before .before .server-record .ensures) _ (replicate outBytes 0) _ refl (c .before .before .before .before .before .before .before .before .before .before .before .before .before .before .before .before .before .before .before .before .take .ensures .0) (c .before .before .before .before .before .before .before .before .before .before .before .before .before .before .before .before .before .before .before .before .take .ensures .1) in
+    let B = take-stored (now (d .args .w)) (d .args .i) (d .args .tag) (d .args .k) (d .args .j) (d .args .t) (d .pre) (taking-up (now (d .args .w)) (d .args .i) (d .args .tag) (d .args .k) (d .args .j) (d .args .t) (d .pre) _ (c .before .before .before .before .before .before .before .before .before .before .before .before .before .before .before .before .before .before .before .before .before .before .before .before .before .is-up .ensures) (c .before .before .before .before .before .before .before .before .before .before .before .before .before .before .before .before .before .before .before .before .before .before .before .before .if1 .left)) _ (c .before .before .before .before .before .before .before .before .before .before .before .before .before .before .before .before .before .before .before .before .before .before .server-record .ensures) _ (replicate outBytes 0) _ refl (c .before .before .before .before .before .before .before .before .before .before .before .before .before .before .before .before .before .before .before .before .take .ensures .0) (c .before .before .before .before .before .before .before .before .before .before .before .before .before .before .before .before .before .before .before .before .take .ensures .1) _ (c .before .before .before .before .before .before .before .before .before .before .before .mark-message .ensures) _ (c .before .before .before .before .before .before .before .put-server .ensures) in
     server-sent C _ _ (c .before .before .before .before .before .before .before .before .before .before .before .before .before .before .before .before .before .answer2 .given .1) _ (c .before .before .before .before .before .before .before .before .before .before .before .before .before .before .has-room .ensures) (c .before .before .before .before .before .before .before .before .before .before .before .before .before .if2 .left) _ B _ (c .before .before .send .ensures)
 
 pub to-server-spec : {M : Type 1} → statement M

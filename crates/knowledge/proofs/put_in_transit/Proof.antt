@@ -7,24 +7,25 @@ use native.Mathlib.Omega.{arith}
 use mathlib.Core.List.{List}
 use lib.ListN.{length, take, drop}
 use Rattle.changes.proofs.Parties.{words-long}
-use Rattle.layout.specs.Layout.{transitWords}
+use Rattle.layout.specs.Layout.{transitWords, simulationSize, transitFrom}
 use Rattle.sheet.proofs.SheetLaws.{then}
-use Rattle.transit.specs.Slots.{slotAt}
+use Rattle.transit.specs.Slots.{slotAt, transitSize}
 use Rattle.knowledge.specs.Mail.{inTransitText}
 use Rattle.knowledge.proofs.MailLaws.{slot-lent, slot-read}
 use borrow.Author.Needs.{needs}
 use Rattle.knowledge.proofs.put_in_transit.Statement.{statement}
 use Rattle.knowledge.proofs.put_in_transit.Tie as tie
+use Rattle.system.specs.Limits.{systemMessages}
 
 -- at entry the simulation is valid, and the slot is used
 module _ (c : tie.Start) where
   abbrev words : List ℕ
   words = now (c .args .w)
 
-  long : length words ≡ 6353
+  long : length words ≡ simulationSize
   long = words-long words (c .pre .0)
 
-  lent : (length (take 3584 (drop 2769 words)) ≡ 3584) × (c .args .i < 512)
+  lent : (length (take transitSize (drop transitFrom words)) ≡ transitSize) × (c .args .i < systemMessages)
   lent = slot-lent words (c .args .i) (c .pre .0) (c .pre .1)
 
 -- the slot is read

@@ -8,7 +8,7 @@ use lib.ListN.{length}
 use Prim.Native.Nat.{ℕ, _-_, _≤_}
 use Rattle.changes.proofs.Messages.{lent-sized, its-transit}
 use Rattle.changes.proofs.Parties.{words-long}
-use Rattle.layout.specs.Layout.{lengthOf, transitWords}
+use Rattle.layout.specs.Layout.{lengthOf, transitWords, simulationSize}
 use Rattle.sheet.specs.Sheet.{sheet, puts}
 use Rattle.transit.specs.Slots.{slots}
 use Rattle.knowledge.specs.Mail.{mailText}
@@ -16,6 +16,7 @@ use Rattle.knowledge.proofs.MailLaws.{mail-none, mail-more}
 use borrow.Author.Needs.{needs}
 use Rattle.knowledge.proofs.put_mail.Statement.{statement}
 use Rattle.knowledge.proofs.put_mail.Tie as tie
+use Rattle.system.specs.Limits.{systemMessages}
 
 abbrev Inv-loop : tie.InvT-loop
 Inv-loop out₀ at w len end₀ i₀ out end i =
@@ -29,10 +30,10 @@ module _ (c : tie.Start Inv-loop μ-loop) where
   abbrev words : List ℕ
   words = now (c .args .w)
 
-  long : length words ≡ 6353
+  long : length words ≡ simulationSize
   long = words-long words (c .pre)
 
-  few : lengthOf words ≤ 512
+  few : lengthOf words ≤ systemMessages
   few = lent-sized words (c .pre) .few
 
 -- at the head of the loop

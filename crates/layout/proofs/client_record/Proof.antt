@@ -2,7 +2,7 @@
 use Rattle.layout.proofs.LendLaws.{client-read, client-lent, client-block-long}
 use denote.Ref.{now}
 use lib.ListN.{length}
-use Rattle.places.specs.Blocks.{clientRecord}
+use Rattle.places.specs.Blocks.{clientRecord, clientBlock}
 use Rattle.words.specs.Records.{clientFrom, holdsClient}
 use borrow.Author.Needs.{needs}
 use Rattle.layout.proofs.client_record.Statement.{statement}
@@ -13,7 +13,7 @@ client-record-requires c κs =
     let d = c .before .before in
     let a = d .args in
     let i = d .pre .0 in (
-      client-lent (now (a .w)) (a .k) i length 99 (client-block-long (now (a .w)) (a .k) (i .long) (i .first) (i .last)),
+      client-lent (now (a .w)) (a .k) i length clientBlock (client-block-long (now (a .w)) (a .k) (i .long) (i .first) (i .last)),
       client-lent (now (a .w)) (a .k) i (λ b. holdsClient (clientRecord b)) _ (d .pre .1),
     )
 

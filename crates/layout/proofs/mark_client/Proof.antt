@@ -12,6 +12,7 @@ use Rattle.places.specs.Blocks.{clientPlace}
 use borrow.Author.Needs.{needs}
 use Rattle.layout.proofs.mark_client.Statement.{statement}
 use Rattle.layout.proofs.mark_client.Tie as tie
+use Rattle.words.specs.Records.{clientSize}
 
 length-either : (x : Bool) (b : List ℕ) (i : ℕ) → length (if x then set b i 1 else b) ≡ length b
 length-either true b i = length-set b i 1
@@ -21,7 +22,7 @@ returns : tie.Need-returns
 returns c =
     let d = c .before .before .before .before .before in
     let a = d .args in
-    client-written (now (a .w)) (a .k) (d .pre .0) (λ b. if inEpoch (clientPlace b) then set b (67 + a .j .0) 1 else b) _ (λ l. length-either (inEpoch (clientPlace l)) l (67 + a .j .0)) (c .before .before .mark-down .ensures)
+    client-written (now (a .w)) (a .k) (d .pre .0) (λ b. if inEpoch (clientPlace b) then set b (clientSize + a .j .0) 1 else b) _ (λ l. length-either (inEpoch (clientPlace l)) l (clientSize + a .j .0)) (c .before .before .mark-down .ensures)
 
 pub mark-client-spec : {M : Type 1} → statement M
 mark-client-spec =

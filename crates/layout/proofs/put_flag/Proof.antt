@@ -6,12 +6,13 @@ use Prim.Native.Nat.{_+_}
 use borrow.Author.Needs.{needs}
 use Rattle.layout.proofs.put_flag.Statement.{statement}
 use Rattle.layout.proofs.put_flag.Tie as tie
+use Rattle.words.specs.Records.{clientSize}
 
 returns : tie.Need-returns
 returns c =
     let d = c .before .before .before .before .before in
     let a = d .args in
-    client-written (now (a .w)) (a .k) (d .pre .0) (λ b. set b (67 + a .j .0) (a .x)) _ (λ l. length-set l _ _) (c .before .before .put-flag .ensures)
+    client-written (now (a .w)) (a .k) (d .pre .0) (λ b. set b (clientSize + a .j .0) (a .x)) _ (λ l. length-set l _ _) (c .before .before .put-flag .ensures)
 
 pub put-flag-spec : {M : Type 1} → statement M
 put-flag-spec =

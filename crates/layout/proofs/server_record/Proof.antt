@@ -2,7 +2,7 @@
 use Rattle.layout.proofs.LendLaws.{server-read, server-lent, server-block-long}
 use denote.Ref.{now}
 use lib.ListN.{length}
-use Rattle.places.specs.Blocks.{serverRecord}
+use Rattle.places.specs.Blocks.{serverRecord, serverBlock}
 use Rattle.words.specs.Records.{serverFrom, holdsServer}
 use borrow.Author.Needs.{needs}
 use Rattle.layout.proofs.server_record.Statement.{statement}
@@ -13,7 +13,7 @@ server-record-requires c κs =
     let d = c .before .before in
     let a = d .args in
     let i = d .pre .0 in (
-      server-lent (now (a .w)) (a .j) i length 38 (server-block-long (now (a .w)) (a .j) (i .long) (i .first) (i .last)),
+      server-lent (now (a .w)) (a .j) i length serverBlock (server-block-long (now (a .w)) (a .j) (i .long) (i .first) (i .last)),
       server-lent (now (a .w)) (a .j) i (λ b. holdsServer (serverRecord b)) _ (d .pre .1),
     )
 

@@ -6,7 +6,7 @@ use lib.Seq.{sets, length-sets}
 use mathlib.Core.Path.{_≡_, _∙_}
 use mathlib.Core.List.{List}
 use Prim.Native.Nat.{ℕ}
-use Rattle.places.specs.Blocks.{serverRecord, emptied}
+use Rattle.places.specs.Blocks.{serverRecord, emptied, serverBlock}
 use Rattle.words.specs.Records.{serverFrom, serverWords, holdsServer}
 use borrow.Author.Needs.{needs}
 use Rattle.layout.proofs.sink_server.Statement.{statement}
@@ -17,7 +17,7 @@ sink-requires c κs =
     let d = c .before .before in
     let a = d .args in
     let i = d .pre .0 in (
-      server-lent (now (a .w)) (a .j) i length 38 (server-block-long (now (a .w)) (a .j) (i .long) (i .first) (i .last)),
+      server-lent (now (a .w)) (a .j) i length serverBlock (server-block-long (now (a .w)) (a .j) (i .long) (i .first) (i .last)),
       server-lent (now (a .w)) (a .j) i (λ b. holdsServer (serverRecord b)) _ (d .pre .1),
     )
 

@@ -6,14 +6,14 @@ use native.Mathlib.Omega.{arith}
 use mathlib.Core.Path.{_≡_}
 use Rattle.regions.specs.Blocks.{blocks}
 use Rattle.system.specs.Places.{worst}
-use Rattle.places.specs.Blocks.{clientPlace}
+use Rattle.places.specs.Blocks.{clientPlace, clientBlock}
 use Rattle.layout.specs.Layout.{clientWords}
 use borrow.Author.Needs.{needs}
 use Rattle.layout.proofs.worst_down.Statement.{statement}
 use Rattle.layout.proofs.worst_down.Tie as tie
 
 abbrev Inv-loop : tie.InvT-loop
-Inv-loop w clients most₀ i₀ most i = (i ≤ clients) × (most ≡ worst (blocks 99 clientPlace i (clientWords w)))
+Inv-loop w clients most₀ i₀ most i = (i ≤ clients) × (most ≡ worst (blocks clientBlock clientPlace i (clientWords w)))
 
 abbrev μ-loop : tie.MeasureT-loop
 μ-loop w clients most₀ i₀ most i = clients - i

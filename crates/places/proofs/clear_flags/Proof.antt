@@ -8,12 +8,14 @@ use Rattle.places.proofs.BlockParts.{all-cleared}
 use borrow.Author.Needs.{needs}
 use Rattle.places.proofs.clear_flags.Statement.{statement}
 use Rattle.places.proofs.clear_flags.Tie as tie
+use Rattle.places.specs.Blocks.{clientBlock, flagsFrom}
+use Rattle.system.specs.Limits.{systemServers}
 
 abbrev Inv-loop : tie.InvT-loop
-Inv-loop b₀ i₀ b i = (length b₀ ≡ 99) × Clearing b₀ 68 31 b i
+Inv-loop b₀ i₀ b i = (length b₀ ≡ clientBlock) × Clearing b₀ flagsFrom systemServers b i
 
 abbrev μ-loop : tie.MeasureT-loop
-μ-loop b₀ i₀ b i = 31 - i
+μ-loop b₀ i₀ b i = systemServers - i
 
 loop-holds : tie.Need-loop-holds Inv-loop μ-loop
 loop-holds c = (c .pre, clearing-none _ _ _)

@@ -8,12 +8,13 @@ use Rattle.places.proofs.FlagLaws.{Counting, counting-none, counting-mo
 use borrow.Author.Needs.{needs}
 use Rattle.places.proofs.flags_set.Statement.{statement}
 use Rattle.places.proofs.flags_set.Tie as tie
+use Rattle.system.specs.Limits.{systemServers}
 
 abbrev Inv-loop : tie.InvT-loop
 Inv-loop words count₀ i₀ count i = Counting words count i
 
 abbrev μ-loop : tie.MeasureT-loop
-μ-loop words count₀ i₀ count i = 31 - i
+μ-loop words count₀ i₀ count i = systemServers - i
 
 loop-holds : tie.Need-loop-holds Inv-loop μ-loop
 loop-holds c = counting-none _ (c .before .pre)

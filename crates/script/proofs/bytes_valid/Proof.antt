@@ -9,12 +9,13 @@ use Rattle.script.proofs.LineLaws.{bytes-none, bytes-failed, bytes-more
 use borrow.Author.Needs.{needs}
 use Rattle.script.proofs.bytes_valid.Statement.{statement}
 use Rattle.script.proofs.bytes_valid.Tie as tie
+use Rattle.output.specs.Reader.{maxKept}
 
 abbrev Inv-loop : tie.InvT-loop
-Inv-loop w i₀ i = Passing byteWord 0 (drop 5 w) 41 i
+Inv-loop w i₀ i = Passing byteWord 0 (drop 5 w) maxKept i
 
 abbrev μ-loop : tie.MeasureT-loop
-μ-loop w i₀ i = 41 - i
+μ-loop w i₀ i = maxKept - i
 
 loop-holds : tie.Need-loop-holds Inv-loop μ-loop
 loop-holds c = bytes-none (now (c .args .w)) (c .pre)

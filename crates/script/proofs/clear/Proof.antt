@@ -8,12 +8,13 @@ use Rattle.script.proofs.StepLaws.{cleared-more}
 use borrow.Author.Needs.{needs}
 use Rattle.script.proofs.clear.Statement.{statement}
 use Rattle.script.proofs.clear.Tie as tie
+use Rattle.script.specs.State.{stateSize, stateHead}
 
 abbrev Inv-loop : tie.InvT-loop
-Inv-loop w₀ i₀ w i = (length w₀ ≡ 6399) × Clearing w₀ 0 46 w i
+Inv-loop w₀ i₀ w i = (length w₀ ≡ stateSize) × Clearing w₀ 0 stateHead w i
 
 abbrev μ-loop : tie.MeasureT-loop
-μ-loop w₀ i₀ w i = 46 - i
+μ-loop w₀ i₀ w i = stateHead - i
 
 loop-holds : tie.Need-loop-holds Inv-loop μ-loop
 loop-holds c = (c .pre, clearing-none _ _ _)

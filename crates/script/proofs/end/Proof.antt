@@ -8,6 +8,7 @@ use Rattle.script.proofs.StepLaws.{end-opening, end-running, end-closed
 use borrow.Author.Needs.{needs}
 use Rattle.script.proofs.end.Statement.{statement}
 use Rattle.script.proofs.end.Tie as tie
+use Rattle.output.specs.Reader.{maxPrinted}
 
 put-refused-requires : tie.Need-put-refused-requires
 put-refused-requires c κs = omega (arith, refused-short BadLine, c .before .before .before .before .before .pre .room)
@@ -16,7 +17,7 @@ returns : tie.Need-returns
 returns c = end-opening (now (c .before .before .before .before .before .before .before .before .args .w)) (c .before .before .before .before .before .before .before .before .args .at) (now (c .before .before .before .before .before .before .before .before .args .out)) (c .before .before .before .before .if1 .taken) _ _ (c .before .before .put-refused .ensures)
 
 put-end-requires : tie.Need-put-end-requires
-put-end-requires c κs = omega (arith, end-short (getD (now (c .before .before .before .before .before .before .before .before .before .before .args .w)) 2 0) (getD (now (c .before .before .before .before .before .before .before .before .before .before .args .w)) 3 0) (getD (now (c .before .before .before .before .before .before .before .before .before .before .args .w)) 52 0), c .before .before .before .before .before .before .before .before .before .before .pre .room)
+put-end-requires c κs = omega (arith, end-short (getD (now (c .before .before .before .before .before .before .before .before .before .before .args .w)) 2 0) (getD (now (c .before .before .before .before .before .before .before .before .before .before .args .w)) 3 0) (getD (now (c .before .before .before .before .before .before .before .before .before .before .args .w)) maxPrinted 0), c .before .before .before .before .before .before .before .before .before .before .pre .room)
 
 returns-2 : tie.Need-returns-2
 returns-2 c = end-running (now (c .before .before .before .before .before .before .before .before .before .before .before .before .before .args .w)) (c .before .before .before .before .before .before .before .before .before .before .before .before .before .args .at) (now (c .before .before .before .before .before .before .before .before .before .before .before .before .before .args .out)) (c .before .before .before .before .before .before .before .before .before .before .before .before .before .pre .long) (c .before .before .before .before .before .before .before .if2 .taken) _ _ (c .before .before .put-end .ensures)

@@ -12,9 +12,10 @@ use borrow.Author.Tests.{not-false}
 use borrow.Author.Needs.{needs}
 use Rattle.slips.proofs.answer_lines.Statement.{statement}
 use Rattle.slips.proofs.answer_lines.Tie as tie
+use Rattle.output.specs.Reader.{maxPrinted}
 
 abbrev Inv-loop : tie.InvT-loop
-Inv-loop w₀ part out₀ wanted from₀ w out from = (length w ≡ length w₀) × (length out ≡ length out₀) × (from ≤ length part) × (valid w ≡ true) × (52 ≤ length out) × Taken w₀ (take from part) w
+Inv-loop w₀ part out₀ wanted from₀ w out from = (length w ≡ length w₀) × (length out ≡ length out₀) × (from ≤ length part) × (valid w ≡ true) × (maxPrinted ≤ length out) × Taken w₀ (take from part) w
 
 abbrev μ-loop : tie.MeasureT-loop
 μ-loop w₀ part out₀ wanted from₀ w out from = length part - from

@@ -8,9 +8,10 @@ use borrow.Author.Tests.{not-false}
 use borrow.Author.Needs.{needs}
 use Rattle.slips.proofs.run.Statement.{statement}
 use Rattle.slips.proofs.run.Tie as tie
+use Rattle.script.specs.Calls.{maxEnding}
 
 abbrev Inv-loop : tie.InvT-loop
-Inv-loop w₀ part₀ out₀ wanted turns₀ w part out turns = (length w ≡ length w₀) × (length part ≡ length part₀) × (length out ≡ length out₀) × (valid w ≡ true) × (104 ≤ length out)
+Inv-loop w₀ part₀ out₀ wanted turns₀ w part out turns = (length w ≡ length w₀) × (length part ≡ length part₀) × (length out ≡ length out₀) × (valid w ≡ true) × (maxEnding ≤ length out)
 
 abbrev μ-loop : tie.MeasureT-loop
 μ-loop w₀ part₀ out₀ wanted turns₀ w part out turns = turns

@@ -5,16 +5,17 @@ use mathlib.Core.Path.{_≡_}
 use mathlib.Core.Bool.{true}
 use native.Mathlib.Omega.{arith}
 use lib.ListN.{length, take, drop}
-use Rattle.layout.specs.Layout.{valid}
+use Rattle.layout.specs.Layout.{valid, simulationSize}
 use Rattle.script.proofs.LineLaws.{sound}
 use Rattle.slips.proofs.RunLaws.{runs}
 use borrow.Author.Needs.{needs}
 use Rattle.slips.proofs.show.Statement.{statement}
 use Rattle.slips.proofs.show.Tie as tie
+use Rattle.script.specs.State.{stateSize, stateHead}
 
 -- at entry the script's state is valid
 module _ (c : tie.Start) where
-  long : length (now (c .args .w)) ≡ 6399
+  long : length (now (c .args .w)) ≡ stateSize
   long = sound _ (c .pre) .long
 
 -- it runs
@@ -22,7 +23,7 @@ module _ (c : tie.Else1) where
   abbrev entry : tie.Start
   entry = c .before .before .before .before
 
-  simulation : valid (take 6353 (drop 46 (now (entry .args .w)))) ≡ true
+  simulation : valid (take simulationSize (drop stateHead (now (entry .args .w)))) ≡ true
   simulation = runs _ (entry .pre) (c .if1 .left)
 
 shared-slice-read-if1 : tie.Need-shared-slice-read-if1

@@ -11,9 +11,10 @@ use Rattle.stream.proofs.ReadLaws.{taken-none, taken-more, taken-all}
 use borrow.Author.Needs.{needs}
 use Rattle.stream.proofs.answer_part.Statement.{statement}
 use Rattle.stream.proofs.answer_part.Tie as tie
+use Rattle.output.specs.Reader.{maxPrinted}
 
 abbrev Inv-loop : tie.InvT-loop
-Inv-loop w₀ part out₀ done₀ w out done = (length w ≡ length w₀) × (length out ≡ length out₀) × (done ≤ length part) × (valid w ≡ true) × (52 ≤ length out) × Taken w₀ (take done part) w
+Inv-loop w₀ part out₀ done₀ w out done = (length w ≡ length w₀) × (length out ≡ length out₀) × (done ≤ length part) × (valid w ≡ true) × (maxPrinted ≤ length out) × Taken w₀ (take done part) w
 
 abbrev μ-loop : tie.MeasureT-loop
 μ-loop w₀ part out₀ done₀ w out done = length part - done

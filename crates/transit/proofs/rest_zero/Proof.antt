@@ -5,12 +5,13 @@ use Rattle.transit.proofs.ValidLaws.{Blank, blank-none, blank-failed, b
 use borrow.Author.Needs.{needs}
 use Rattle.transit.proofs.rest_zero.Statement.{statement}
 use Rattle.transit.proofs.rest_zero.Tie as tie
+use Rattle.transit.specs.Slots.{transitSize}
 
 abbrev Inv-loop : tie.InvT-loop
 Inv-loop t len i₀ i = Blank t len i
 
 abbrev μ-loop : tie.MeasureT-loop
-μ-loop t len i₀ i = 3584 - i
+μ-loop t len i₀ i = transitSize - i
 
 loop-holds : tie.Need-loop-holds Inv-loop μ-loop
 loop-holds c = blank-none _ _ (c .pre .size) (c .pre .few)
