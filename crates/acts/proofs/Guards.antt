@@ -29,8 +29,8 @@ module _ (w : List ℕ) (k : ClientId) (ok : valid w ≡ true) (a : Bool) (e : a
   pub exit-missing : not a ≡ true → Leaves w (Exit k) w × (Refused NoSuchParty ≡ movedOf (happens w (Exit k)))
   exit-missing t = leaves-refused w (Exit k) NoSuchParty ok (no-client-exits (settingOf w .n) (enough (settingOf w .m)) (view w) k (client-missing w ok (k .0) a e t))
 
-  module _ (t : not a ≡ false) (b : Bool) (f : b ≡ clientPlace (clientBlockOf w (k .0)) .living) where
-    lives-is : b ≡ clientAt (view w) (k .0) .living
+  module _ (t : not a ≡ false) (b : Bool) (f : b ≡ clientPlace (clientBlockOf w k) .living) where
+    lives-is : b ≡ clientAt (view w) k .living
     lives-is = sym (living-is w (k .0) (client-found w ok (k .0) a e t) b f)
 
     pub try-fallen : not b ≡ true → Leaves w (Try k) w × (Refused PartyDown ≡ movedOf (happens w (Try k)))
@@ -41,7 +41,7 @@ module _ (w : List ℕ) (k : ClientId) (ok : valid w ≡ true) (a : Bool) (e : a
     exit-fallen u =
         leaves-refused w (Exit k) PartyDown ok (fallen-exits (settingOf w .n) (enough (settingOf w .m)) (view w) k (client-there-is w ok (k .0) a e t) (fails b _ lives-is u))
 
-    pub client-lives : not b ≡ false → HasClient w (k .0) × (clientAt (view w) (k .0) .living ≡ true)
+    pub client-lives : not b ≡ false → HasClient w k × (clientAt (view w) k .living ≡ true)
     client-lives u = (client-found w ok (k .0) a e t, holds b _ lives-is u)
 
 module _ (w : List ℕ) (j : ServerId) (ok : valid w ≡ true) (a : Bool) (e : a ≡ within (j .0) (getD w 0 0)) where
@@ -51,8 +51,8 @@ module _ (w : List ℕ) (j : ServerId) (ok : valid w ≡ true) (a : Bool) (e : a
   pub check-missing : not a ≡ true → Leaves w (Check j) w × (Refused NoSuchParty ≡ movedOf (happens w (Check j)))
   check-missing t = leaves-refused w (Check j) NoSuchParty ok (no-server-checks (settingOf w .n) (enough (settingOf w .m)) (view w) j (server-missing w ok (j .0) a e t))
 
-  module _ (t : not a ≡ false) (b : Bool) (f : b ≡ serverPlace (serverBlockOf w (j .0)) .up) where
-    runs-is : b ≡ serverAt (view w) (j .0) .up
+  module _ (t : not a ≡ false) (b : Bool) (f : b ≡ serverPlace (serverBlockOf w j) .up) where
+    runs-is : b ≡ serverAt (view w) j .up
     runs-is = sym (up-is w (j .0) (server-found w ok (j .0) a e t) b f)
 
     pub miss-down : not b ≡ true → Leaves w (Miss j) w × (Refused PartyDown ≡ movedOf (happens w (Miss j)))
@@ -63,5 +63,5 @@ module _ (w : List ℕ) (j : ServerId) (ok : valid w ≡ true) (a : Bool) (e : a
     check-down u =
         leaves-refused w (Check j) PartyDown ok (checks-down (settingOf w .n) (enough (settingOf w .m)) (view w) j (server-there-is w ok (j .0) a e t) (fails b _ runs-is u))
 
-    pub server-runs : not b ≡ false → HasServer w (j .0) × (serverAt (view w) (j .0) .up ≡ true)
+    pub server-runs : not b ≡ false → HasServer w j × (serverAt (view w) j .up ≡ true)
     server-runs u = (server-found w ok (j .0) a e t, holds b _ runs-is u)

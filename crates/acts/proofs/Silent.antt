@@ -20,7 +20,7 @@ use Rattle.client.specs.Figure1.{enough}
 use Rattle.votes.specs.Figure1.{idle}
 use Rattle.system.specs.declared.Event.the-variants.{Fall, Down, Up, Drop}
 use Rattle.system.specs.declared.MessageNumber.{MessageNumber}
-use Rattle.system.specs.Numbered.{has}
+use Rattle.system.specs.Numbered.{has, clientNo, serverNo}
 use Rattle.system.specs.Transit.{present, replaced, gone, again}
 use Rattle.system.specs.Places.{System, clientAt, serverAt, downed}
 use Rattle.system.specs.Events.{fallen, cameUp, dropped, wentDown}
@@ -48,14 +48,14 @@ use Rattle.changes.proofs.Parties.{client-missing, client-there-is, client-foun
 below : (r n : ℕ) → r ≤ n → (r ≡ n → ⊥) → r < n
 below r n h ne = ⊎-elim (λ (t : ltb r n ≡ true). ltb-true r n t) (λ (t : ltb r n ≡ false). absurd (ne (omega (arith, ltb-false r n t)))) (decided (ltb r n))
 
-module _ (w : List ℕ) (k : ℕ) (H : HasClient w k) where
+module _ (w : List ℕ) (k : ℕ) (H : HasClient w (clientNo k)) where
   abbrev block : List ℕ
-  block = clientBlockOf w k
+  block = clientBlockOf w (clientNo k)
 
   -- the block of a client that falls
-  falling : Becomes w (sets w (7 + clientBlock * (k - 1)) (cleared (set block 0 0))) (withClient (view w) k (record { living = false; state = clientAt (view w) k .state; downs = [] }))
+  falling : Becomes w (sets w (7 + clientBlock * (k - 1)) (cleared (set block 0 0))) (withClient (view w) (clientNo k) (record { living = false; state = clientAt (view w) (clientNo k) .state; downs = [] }))
   falling =
-      let B : ClientIs (settingOf w .n) (settingOf w .m) (settingOf w .clients) k (cleared (set block 0 0)) (record { living = false; state = clientAt (view w) k .state; downs = [] }) =
+      let B : ClientIs (settingOf w .n) (settingOf w .m) (settingOf w .clients) k (cleared (set block 0 0)) (record { living = false; state = clientAt (view w) (clientNo k) .state; downs = [] }) =
       rw (client-place w k (H .first) (H .last)) (fall-block (settingOf w .n) (settingOf w .m) (settingOf w .clients) k block (client-valid w (sound w (H .valid)) k (H .first) (H .last))) in
       client-becomes w (H .valid) k (cleared (set block 0 0)) _ (H .first) (H .last) B zero-le
 
@@ -64,32 +64,32 @@ module _ (w : List ℕ) (k : ClientId) (ok : valid w ≡ true) (a : Bool) (e : a
   pub fall-missing : not a ≡ true → Leaves w (Fall k) w × (Refused NoSuchParty ≡ movedOf (happens w (Fall k)))
   fall-missing t = leaves-refused w (Fall k) NoSuchParty ok (no-client-falls (settingOf w .n) (enough (settingOf w .m)) (view w) k (client-missing w ok (k .0) a e t))
 
-  module _ (t : not a ≡ false) (b : Bool) (f : b ≡ clientPlace (clientBlockOf w (k .0)) .living) where
+  module _ (t : not a ≡ false) (b : Bool) (f : b ≡ clientPlace (clientBlockOf w k) .living) where
     abbrev present-client : has (view w .clients) (k .0) ≡ true
     present-client = client-there-is w ok (k .0) a e t
 
-    abbrev its-client : HasClient w (k .0)
+    abbrev its-client : HasClient w k
     its-client = client-found w ok (k .0) a e t
 
     pub fall-twice : not b ≡ true → Leaves w (Fall k) w × (Refused PartyDown ≡ movedOf (happens w (Fall k)))
     fall-twice u = leaves-refused w (Fall k) PartyDown ok (fallen-falls (settingOf w .n) (enough (settingOf w .m)) (view w) k present-client (fails b _ (sym (living-is w (k .0) its-client b f)) u))
 
-    pub fall-leaves : not b ≡ false → (w′ : List ℕ) → w′ ≡ sets w (7 + clientBlock * (k .0 - 1)) (cleared (set (clientBlockOf w (k .0)) 0 0)) → Leaves w (Fall k) w′ × (Sent 0 ≡ movedOf (happens w (Fall k)))
+    pub fall-leaves : not b ≡ false → (w′ : List ℕ) → w′ ≡ sets w (7 + clientBlock * (k .0 - 1)) (cleared (set (clientBlockOf w k) 0 0)) → Leaves w (Fall k) w′ × (Sent 0 ≡ movedOf (happens w (Fall k)))
     fall-leaves u w′ g =
         rw g (leaves-quiet w (Fall k) (fallen (view w) k) refl
         (falls (settingOf w .n) (enough (settingOf w .m)) (view w) k present-client (holds b _ (sym (living-is w (k .0) its-client b f)) u)) refl _ (falling w (k .0) its-client))
 
-module _ (w : List ℕ) (j : ℕ) (H : HasServer w j) where
+module _ (w : List ℕ) (j : ℕ) (H : HasServer w (serverNo j)) where
   abbrev place : List ℕ
-  place = serverBlockOf w j
+  place = serverBlockOf w (serverNo j)
 
-  rising : Becomes w (sets w (serversFrom + serverBlock * (j - 1)) (set place 0 1)) (withServer (view w) j (record { up = true; state = serverAt (view w) j .state }))
+  rising : Becomes w (sets w (serversFrom + serverBlock * (j - 1)) (set place 0 1)) (withServer (view w) (serverNo j) (record { up = true; state = serverAt (view w) (serverNo j) .state }))
   rising =
-      let B : ServerIs (settingOf w .n) (settingOf w .clients) j (set place 0 1) (record { up = true; state = serverAt (view w) j .state }) =
+      let B : ServerIs (settingOf w .n) (settingOf w .clients) j (set place 0 1) (record { up = true; state = serverAt (view w) (serverNo j) .state }) =
       rw (server-place w j (H .first) (H .last)) (rise-block (settingOf w .n) (settingOf w .clients) j place (server-valid w (sound w (H .valid)) j (H .first) (H .last))) in
       server-becomes w (H .valid) j (set place 0 1) _ (H .first) (H .last) B
 
-  sinking : Becomes w (sets w (serversFrom + serverBlock * (j - 1)) (set (sets place 1 (serverWords (emptied (serverFrom (serverRecord place))))) 0 0)) (withServer (view w) j (record { up = false; state = idle }))
+  sinking : Becomes w (sets w (serversFrom + serverBlock * (j - 1)) (set (sets place 1 (serverWords (emptied (serverFrom (serverRecord place))))) 0 0)) (withServer (view w) (serverNo j) (record { up = false; state = idle }))
   sinking =
       server-becomes w (H .valid) j _ _ (H .first) (H .last) (sink-block (settingOf w .n) (settingOf w .clients) j place (server-valid w (sound w (H .valid)) j (H .first) (H .last)))
 
@@ -98,17 +98,17 @@ module _ (w : List ℕ) (j : ServerId) (ok : valid w ≡ true) (a : Bool) (e : a
   pub up-missing : not a ≡ true → Leaves w (Up j) w × (Refused NoSuchParty ≡ movedOf (happens w (Up j)))
   up-missing t = leaves-refused w (Up j) NoSuchParty ok (no-server-ups (settingOf w .n) (enough (settingOf w .m)) (view w) j (server-missing w ok (j .0) a e t))
 
-  module _ (t : not a ≡ false) (b : Bool) (f : b ≡ serverPlace (serverBlockOf w (j .0)) .up) where
+  module _ (t : not a ≡ false) (b : Bool) (f : b ≡ serverPlace (serverBlockOf w j) .up) where
     abbrev present-server : has (view w .servers) (j .0) ≡ true
     present-server = server-there-is w ok (j .0) a e t
 
-    abbrev its-server : HasServer w (j .0)
+    abbrev its-server : HasServer w j
     its-server = server-found w ok (j .0) a e t
 
     pub up-twice : b ≡ true → Leaves w (Up j) w × (Refused PartyDown ≡ movedOf (happens w (Up j)))
     up-twice u = leaves-refused w (Up j) PartyDown ok (ups-twice (settingOf w .n) (enough (settingOf w .m)) (view w) j present-server (up-is w (j .0) its-server b f ∙ u))
 
-    pub up-leaves : b ≡ false → (w′ : List ℕ) → w′ ≡ sets w (serversFrom + serverBlock * (j .0 - 1)) (set (serverBlockOf w (j .0)) 0 1) → Leaves w (Up j) w′ × (Sent 0 ≡ movedOf (happens w (Up j)))
+    pub up-leaves : b ≡ false → (w′ : List ℕ) → w′ ≡ sets w (serversFrom + serverBlock * (j .0 - 1)) (set (serverBlockOf w j) 0 1) → Leaves w (Up j) w′ × (Sent 0 ≡ movedOf (happens w (Up j)))
     up-leaves u w′ g =
         rw g (leaves-quiet w (Up j) (cameUp (view w) j) refl
         (ups (settingOf w .n) (enough (settingOf w .m)) (view w) j present-server (up-is w (j .0) its-server b f ∙ u)) refl _ (rising w (j .0) its-server))
@@ -119,26 +119,26 @@ module _ (w : List ℕ) (j : ServerId) (ok : valid w ≡ true) (a : Bool) (e : a
   down-missing t = leaves-refused w (Down j) NoSuchParty ok (no-server-downs (settingOf w .n) (enough (settingOf w .m)) (view w) j (server-missing w ok (j .0) a e t))
 
   module _ (t : not a ≡ false) where
-    abbrev down-server : HasServer w (j .0)
+    abbrev down-server : HasServer w j
     down-server = server-found w ok (j .0) a e t
 
-    pub down-twice : (b : Bool) → b ≡ serverPlace (serverBlockOf w (j .0)) .up → not b ≡ true → Leaves w (Down j) w × (Refused PartyDown ≡ movedOf (happens w (Down j)))
+    pub down-twice : (b : Bool) → b ≡ serverPlace (serverBlockOf w j) .up → not b ≡ true → Leaves w (Down j) w × (Refused PartyDown ≡ movedOf (happens w (Down j)))
     down-twice b f u =
         leaves-refused w (Down j) PartyDown ok
         (downs-twice (settingOf w .n) (enough (settingOf w .m)) (view w) j (server-there-is w ok (j .0) a e t) (fails b _ (sym (up-is w (j .0) down-server b f)) u))
 
-    pub sinkable : ServerIn w (j .0) × (holdsServer (serverRecord (serverBlockOf w (j .0))) ≡ true)
+    pub sinkable : ServerIn w j × (holdsServer (serverRecord (serverBlockOf w j)) ≡ true)
     sinkable = (
       server-in w (j .0) down-server,
-      server-facts (settingOf w .n) (settingOf w .clients) (j .0) (serverBlockOf w (j .0)) (server-valid w (sound w ok) (j .0) (down-server .first) (down-server .last)) .held,
+      server-facts (settingOf w .n) (settingOf w .clients) (j .0) (serverBlockOf w j) (server-valid w (sound w ok) (j .0) (down-server .first) (down-server .last)) .held,
     )
 
-    module _ (w₁ : List ℕ) (s : w₁ ≡ sets w (serversFrom + serverBlock * (j .0 - 1)) (set (sets (serverBlockOf w (j .0)) 1 (serverWords (emptied (serverFrom (serverRecord (serverBlockOf w (j .0))))))) 0 0)) where
-      pub sunk : Becomes w w₁ (withServer (view w) (j .0) (record { up = false; state = idle }))
+    module _ (w₁ : List ℕ) (s : w₁ ≡ sets w (serversFrom + serverBlock * (j .0 - 1)) (set (sets (serverBlockOf w j) 1 (serverWords (emptied (serverFrom (serverRecord (serverBlockOf w j)))))) 0 0)) where
+      pub sunk : Becomes w w₁ (withServer (view w) j (record { up = false; state = idle }))
       sunk = rw s (sinking w (j .0) down-server)
 
       module _ (w₂ : List ℕ) (R : Becomes w₁ w₂ (withTransit (view w₁) (map (again j) (view w₁ .transit)))) where
-        pub still-server : HasServer w₂ (j .0)
+        pub still-server : HasServer w₂ j
         still-server = record { valid = R .again; first = down-server .first; last = rw (R .setting, sunk .setting) (down-server .last) }
 
         module _ (w₃ : List ℕ) (N : Becomes w₂ w₃ (withClients (view w₂) (map (downed j) (view w₂ .clients)))) where
@@ -147,7 +147,7 @@ module _ (w : List ℕ) (j : ServerId) (ok : valid w ≡ true) (a : Bool) (e : a
           down-system =
               N .system ∙ ap (λ (u : System). withClients u (map (downed j) (u .clients))) (R .system ∙ ap (λ (u : System). withTransit u (map (again j) (u .transit))) (sunk .system))
 
-          pub down-leaves : (b : Bool) → b ≡ serverPlace (serverBlockOf w (j .0)) .up → not b ≡ false → Leaves w (Down j) w₃ × (Sent 0 ≡ movedOf (happens w (Down j)))
+          pub down-leaves : (b : Bool) → b ≡ serverPlace (serverBlockOf w j) .up → not b ≡ false → Leaves w (Down j) w₃ × (Sent 0 ≡ movedOf (happens w (Down j)))
           down-leaves b f u =
               leaves-silent w (Down j) (wentDown (view w) j) refl
               (downs (settingOf w .n) (enough (settingOf w .m)) (view w) j (server-there-is w ok (j .0) a e t) (holds b _ (sym (up-is w (j .0) down-server b f)) u))

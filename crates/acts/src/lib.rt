@@ -81,7 +81,7 @@ pub fn down(w: &mut [u32], j: ServerId) -> Moved
 
 // A client that lives begins its step: document 01's try.
 fn begin(w: &mut [u32], k: ClientId) -> Moved
-    requires { ⌜ HasClient (now w) (k .0) × (clientAt (view (now w)) (k .0) .living ≡ true) ⌝ }
+    requires { ⌜ HasClient (now w) k × (clientAt (view (now w)) k .living ≡ true) ⌝ }
     ensures { λ r. ⌜ Leaves (now (w .entry)) (Try k) (now (w .exit)) × (r ≡ movedOf (happens (now (w .entry)) (Try k))) ⌝ }
 {
     let mut bytes = [0u8; 512];
@@ -116,7 +116,7 @@ pub fn try_enter(w: &mut [u32], k: ClientId) -> Moved
 
 // A client that lives leaves the critical section.
 fn leave(w: &mut [u32], k: ClientId) -> Moved
-    requires { ⌜ HasClient (now w) (k .0) × (clientAt (view (now w)) (k .0) .living ≡ true) ⌝ }
+    requires { ⌜ HasClient (now w) k × (clientAt (view (now w)) k .living ≡ true) ⌝ }
     ensures { λ r. ⌜ Leaves (now (w .entry)) (Exit k) (now (w .exit)) × (r ≡ movedOf (happens (now (w .entry)) (Exit k))) ⌝ }
 {
     let mut bytes = [0u8; 512];
@@ -151,7 +151,7 @@ pub fn exit(w: &mut [u32], k: ClientId) -> Moved
 
 // The owner of server `j`, which is up, has fallen: document 01's missing owner.
 fn suspect(w: &mut [u32], j: ServerId) -> Moved
-    requires { ⌜ Missing (now w) (j .0) ⌝ }
+    requires { ⌜ Missing (now w) j ⌝ }
     ensures { λ r. ⌜ Leaves (now (w .entry)) (Miss j) (now (w .exit)) × (r ≡ movedOf (happens (now (w .entry)) (Miss j))) ⌝ }
 {
     let mut bytes = [0u8; 512];
@@ -195,7 +195,7 @@ pub fn miss(w: &mut [u32], j: ServerId) -> Moved
 
 // Server `j`, which is up, asks its owner.
 fn ask(w: &mut [u32], j: ServerId) -> Moved
-    requires { ⌜ HasServer (now w) (j .0) × (serverAt (view (now w)) (j .0) .up ≡ true) ⌝ }
+    requires { ⌜ HasServer (now w) j × (serverAt (view (now w)) j .up ≡ true) ⌝ }
     ensures { λ r. ⌜ Leaves (now (w .entry)) (Check j) (now (w .exit)) × (r ≡ movedOf (happens (now (w .entry)) (Check j))) ⌝ }
 {
     let mut bytes = [0u8; 512];

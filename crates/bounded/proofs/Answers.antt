@@ -35,40 +35,40 @@ module _ (n : ℕ) (wins : Quorum) (u : System) where
     no-client-falls h = rw h
 
     module _ (there : has (u .clients) (k .0) ≡ true) where
-      pub fallen-tries : clientAt u (k .0) .living ≡ false → event n wins u (Try k) ≡ refused PartyDown
+      pub fallen-tries : clientAt u k .living ≡ false → event n wins u (Try k) ≡ refused PartyDown
       unfolding event
       fallen-tries h = rw (there, h)
 
-      pub fallen-exits : clientAt u (k .0) .living ≡ false → event n wins u (Exit k) ≡ refused PartyDown
+      pub fallen-exits : clientAt u k .living ≡ false → event n wins u (Exit k) ≡ refused PartyDown
       unfolding event
       fallen-exits h = rw (there, h)
 
-      pub fallen-falls : clientAt u (k .0) .living ≡ false → event n wins u (Fall k) ≡ refused PartyDown
+      pub fallen-falls : clientAt u k .living ≡ false → event n wins u (Fall k) ≡ refused PartyDown
       unfolding event
       fallen-falls h = rw (there, h)
 
-      module _ (lives : clientAt u (k .0) .living ≡ true) where
+      module _ (lives : clientAt u k .living ≡ true) where
         pub falls : event n wins u (Fall k) ≡ stepped (fallen u k)
         unfolding event
         falls = rw (there, lives)
 
-        pub exits-outside : isCritical (clientAt u (k .0) .state .section) ≡ false → event n wins u (Exit k) ≡ refused WrongSection
+        pub exits-outside : isCritical (clientAt u k .state .section) ≡ false → event n wins u (Exit k) ≡ refused WrongSection
         unfolding event
         exits-outside h = rw (there, lives, h)
 
-        pub exits : isCritical (clientAt u (k .0) .state .section) ≡ true → event n wins u (Exit k) ≡ stepped (exited n u k)
+        pub exits : isCritical (clientAt u k .state .section) ≡ true → event n wins u (Exit k) ≡ stepped (exited n u k)
         unfolding event
         exits h = rw (there, lives, h)
 
-        pub tries-twice : isRemainder (clientAt u (k .0) .state .section) ≡ false → event n wins u (Try k) ≡ refused WrongSection
+        pub tries-twice : isRemainder (clientAt u k .state .section) ≡ false → event n wins u (Try k) ≡ refused WrongSection
         unfolding event
         tries-twice h = rw (there, lives, h)
 
-        pub tries-spent : isRemainder (clientAt u (k .0) .state .section) ≡ true → leb (clientAt u (k .0) .state .timestamp .0) lastTry ≡ false → event n wins u (Try k) ≡ refused TimestampsSpent
+        pub tries-spent : isRemainder (clientAt u k .state .section) ≡ true → leb (clientAt u k .state .timestamp .0) lastTry ≡ false → event n wins u (Try k) ≡ refused TimestampsSpent
         unfolding event
         tries-spent h t = rw (there, lives, h, t)
 
-        pub tries : isRemainder (clientAt u (k .0) .state .section) ≡ true → leb (clientAt u (k .0) .state .timestamp .0) lastTry ≡ true → event n wins u (Try k) ≡ stepped (tried n u k)
+        pub tries : isRemainder (clientAt u k .state .section) ≡ true → leb (clientAt u k .state .timestamp .0) lastTry ≡ true → event n wins u (Try k) ≡ stepped (tried n u k)
         unfolding event
         tries h t = rw (there, lives, h, t)
 
@@ -90,27 +90,27 @@ module _ (n : ℕ) (wins : Quorum) (u : System) where
     no-server-checks h = rw h
 
     module _ (there : has (u .servers) (j .0) ≡ true) where
-      pub ups-twice : serverAt u (j .0) .up ≡ true → event n wins u (Up j) ≡ refused PartyDown
+      pub ups-twice : serverAt u j .up ≡ true → event n wins u (Up j) ≡ refused PartyDown
       unfolding event
       ups-twice h = rw (there, h)
 
-      pub ups : serverAt u (j .0) .up ≡ false → event n wins u (Up j) ≡ stepped (cameUp u j)
+      pub ups : serverAt u j .up ≡ false → event n wins u (Up j) ≡ stepped (cameUp u j)
       unfolding event
       ups h = rw (there, h)
 
-      pub downs-twice : serverAt u (j .0) .up ≡ false → event n wins u (Down j) ≡ refused PartyDown
+      pub downs-twice : serverAt u j .up ≡ false → event n wins u (Down j) ≡ refused PartyDown
       unfolding event
       downs-twice h = rw (there, h)
 
-      pub misses-down : serverAt u (j .0) .up ≡ false → event n wins u (Miss j) ≡ refused PartyDown
+      pub misses-down : serverAt u j .up ≡ false → event n wins u (Miss j) ≡ refused PartyDown
       unfolding event
       misses-down h = rw (there, h)
 
-      pub checks-down : serverAt u (j .0) .up ≡ false → event n wins u (Check j) ≡ refused PartyDown
+      pub checks-down : serverAt u j .up ≡ false → event n wins u (Check j) ≡ refused PartyDown
       unfolding event
       checks-down h = rw (there, h)
 
-      module _ (up : serverAt u (j .0) .up ≡ true) where
+      module _ (up : serverAt u j .up ≡ true) where
         pub downs : event n wins u (Down j) ≡ stepped (wentDown u j)
         unfolding event
         downs = rw (there, up)
@@ -119,15 +119,15 @@ module _ (n : ℕ) (wins : Quorum) (u : System) where
         unfolding event
         checks = rw (there, up)
 
-        pub misses-nobody : serverAt u (j .0) .state .owner ≡ Nobody → event n wins u (Miss j) ≡ refused NoOwner
+        pub misses-nobody : serverAt u j .state .owner ≡ Nobody → event n wins u (Miss j) ≡ refused NoOwner
         unfolding event
         misses-nobody h = rw (there, up, h)
 
-        pub misses-living : (o : Request) → serverAt u (j .0) .state .owner ≡ Of o → clientAt u (o .client .0) .living ≡ true → event n wins u (Miss j) ≡ refused OwnerLives
+        pub misses-living : (o : Request) → serverAt u j .state .owner ≡ Of o → clientAt u (o .client) .living ≡ true → event n wins u (Miss j) ≡ refused OwnerLives
         unfolding event
         misses-living o h l = rw (there, up, h, l)
 
-        pub misses : (o : Request) → serverAt u (j .0) .state .owner ≡ Of o → clientAt u (o .client .0) .living ≡ false → event n wins u (Miss j) ≡ stepped (suspected u j)
+        pub misses : (o : Request) → serverAt u j .state .owner ≡ Of o → clientAt u (o .client) .living ≡ false → event n wins u (Miss j) ≡ stepped (suspected u j)
         unfolding event
         misses o h l = rw (there, up, h, l)
 

@@ -25,7 +25,7 @@ use Rattle.client.specs.declared.Stepped.{Stepped}
 use Rattle.words.specs.Records.{holdsClient, clientFrom, clientWords}
 use Rattle.system.specs.declared.Event.{Event}
 use Rattle.system.specs.declared.Event.the-variants.{Try, Exit}
-use Rattle.system.specs.Numbered.{has, put, at}
+use Rattle.system.specs.Numbered.{has, put, at, clientNo}
 use Rattle.system.specs.Transit.{InTransit}
 use Rattle.system.specs.Places.{System, ClientPlace, noClient, clientAt, inEpoch, downFrom}
 use Rattle.system.specs.Events.{event, clientMoves}
@@ -52,12 +52,12 @@ pub record ClientCalled (w : List ℕ) (e : Event) (k : ClientId) (gone : ℕ) (
   pub call : Call w e gone (p .sent) (clientMoves (view w) k T d p) (r .answer) bytes
   pub client : r .client ≡ store (settingOf w .n) (settingOf w .m) k (p .state)
   pub all : length T ≡ lengthOf w - gone
-  pub lives : clientAt (view w) (k .0) .living ≡ true
+  pub lives : clientAt (view w) k .living ≡ true
 
 -- the laws of each way out, in words w₁ with the client's record and words w₂ with its messages
 module _ {w : List ℕ} {e : Event} {k : ClientId} {gone : ℕ} {T : List InTransit} {d : List ℕ} {p : Step client.State} {r : Stepped} {bytes : List ℕ} (C : ClientCalled w e k gone T d p r bytes)
     (count size : ℕ) (f : r .answer ≡ answer.Sent count size) (b : Bool) (h : b ≡ hasRoom w gone count) (t : not b ≡ false)
-    (w₁ : List ℕ) (B : Becomes w w₁ (withClient (withTransit (view w) T) (k .0) (record { living = clientAt (view w) (k .0) .living; state = p .state; downs = d }))) where
+    (w₁ : List ℕ) (B : Becomes w w₁ (withClient (withTransit (view w) T) k (record { living = clientAt (view w) k .living; state = p .state; downs = d }))) where
   pub client-sendable : Sendable w₁ count bytes
   client-sendable = call-sendable (C .call) count size f b h t w₁ _ B (C .all) refl
 
@@ -69,7 +69,7 @@ put-put : (l : List ClientPlace) (k : ℕ) (p q : ClientPlace) → put (put l k 
 put-put l zero p q = refl
 put-put l (suc i) p q = set-set l i p q
 
-pub still-client : {w w₁ : List ℕ} {k : ℕ} {u : System} → Becomes w w₁ u → HasClient w k → HasClient w₁ k
+pub still-client : {w w₁ : List ℕ} {k : ℕ} {u : System} → Becomes w w₁ u → HasClient w (clientNo k) → HasClient w₁ (clientNo k)
 still-client B H = record { valid = B .again; first = H .first; last = rw (B .setting) (H .last) }
 
 -- what a refused call answers
@@ -86,27 +86,27 @@ answer-never room o y e a f count size g =
     let q : _≡_ {A = ℕ} 0 1 = cc in
     absurd (omega arith)
 
-module _ (w : List ℕ) (k : ClientId) (H : HasClient w (k .0)) where
+module _ (w : List ℕ) (k : ClientId) (H : HasClient w k) where
   abbrev its : Client
-  its = clientFrom (clientRecord (clientBlockOf w (k .0)))
+  its = clientFrom (clientRecord (clientBlockOf w k))
 
   abbrev state : client.State
-  state = clientAt (view w) (k .0) .state
+  state = clientAt (view w) k .state
 
   pub client-there-in : has (view w .clients) (k .0) ≡ true
   client-there-in = client-there w (k .0) ∙ rw (le-leb 1 (k .0) (H .first), le-leb (k .0) (settingOf w .clients) (H .last))
 
-  pub its-facts : ClientBlock (settingOf w .n) (settingOf w .m) (settingOf w .clients) (k .0) (clientBlockOf w (k .0))
-  its-facts = client-facts (settingOf w .n) (settingOf w .m) (settingOf w .clients) (k .0) (clientBlockOf w (k .0)) (client-block w (k .0) H)
+  pub its-facts : ClientBlock (settingOf w .n) (settingOf w .m) (settingOf w .clients) (k .0) (clientBlockOf w k)
+  its-facts = client-facts (settingOf w .n) (settingOf w .m) (settingOf w .clients) (k .0) (clientBlockOf w k) (client-block w (k .0) H)
 
-  pub client-held : holdsClient (clientRecord (clientBlockOf w (k .0))) ≡ true
+  pub client-held : holdsClient (clientRecord (clientBlockOf w k)) ≡ true
   client-held = its-facts .held
 
-  pub its-state : shown (clientFrom (clientRecord (clientBlockOf w (k .0)))) ≡ clientAt (view w) (k .0) .state
+  pub its-state : shown (clientFrom (clientRecord (clientBlockOf w k))) ≡ clientAt (view w) k .state
   unfolding clientPlace
   its-state = rw (client-is w (k .0) H)
 
-  pub place-state : clientPlace (clientBlockOf w (k .0)) .state ≡ clientAt (view w) (k .0) .state
+  pub place-state : clientPlace (clientBlockOf w k) .state ≡ clientAt (view w) k .state
   place-state = ap (λ (c : ClientPlace). c .state) (sym (client-is w (k .0) H))
 
   its-section : its .section ≡ state .section
@@ -118,20 +118,20 @@ module _ (w : List ℕ) (k : ClientId) (H : HasClient w (k .0)) where
   its-timestamp = ap (λ (s : client.State). s .timestamp) its-state
 
   -- after a store of client k's place
-  at-put : (u : System) (p : ClientPlace) → has (u .clients) (k .0) ≡ true → clientAt (withClient u (k .0) p) (k .0) ≡ p
+  at-put : (u : System) (p : ClientPlace) → has (u .clients) (k .0) ≡ true → clientAt (withClient u k p) k ≡ p
   at-put u p h = put-numbered noClient (u .clients) (k .0) p h .here
 
-  pub now-at : (w₁ : List ℕ) (p : ClientPlace) → Becomes w w₁ (withClient (view w) (k .0) p) → clientAt (view w₁) (k .0) ≡ p
-  now-at w₁ p B = ap (λ (u : System). clientAt u (k .0)) (B .system) ∙ at-put (view w) p client-there-in
+  pub now-at : (w₁ : List ℕ) (p : ClientPlace) → Becomes w w₁ (withClient (view w) k p) → clientAt (view w₁) k ≡ p
+  now-at w₁ p B = ap (λ (u : System). clientAt u k) (B .system) ∙ at-put (view w) p client-there-in
 
-  pub stored-twice : (p : ClientPlace) (g : ClientPlace → ClientPlace) (w₁ w₂ : List ℕ) → Becomes w w₁ (withClient (view w) (k .0) p) → Becomes w₁ w₂ (withClient (view w₁) (k .0) (g (clientAt (view w₁) (k .0))))
-      → Becomes w w₂ (withClient (view w) (k .0) (g p))
+  pub stored-twice : (p : ClientPlace) (g : ClientPlace → ClientPlace) (w₁ w₂ : List ℕ) → Becomes w w₁ (withClient (view w) k p) → Becomes w₁ w₂ (withClient (view w₁) k (g (clientAt (view w₁) k)))
+      → Becomes w w₂ (withClient (view w) k (g p))
   stored-twice p g w₁ w₂ B D =
-      let E = and-then (λ u. withClient u (k .0) (g (clientAt u (k .0)))) B D in
+      let E = and-then (λ u. withClient u k (g (clientAt u k))) B D in
       rw (at-put (view w) p client-there-in, put-put (view w .clients) (k .0) p (g p)) at E
 
   -- client k lives, and its step p is event e
-  module _ (lives : clientAt (view w) (k .0) .living ≡ true) (e : Event) (gone : ℕ) (T : List InTransit) (d : List ℕ) (o : Outcome client.State) (p : Step client.State)
+  module _ (lives : clientAt (view w) k .living ≡ true) (e : Event) (gone : ℕ) (T : List InTransit) (d : List ℕ) (o : Outcome client.State) (p : Step client.State)
       (is : event (settingOf w .n) (enough (settingOf w .m)) (view w) e ≡ stepped (clientMoves (view w) k T d p)) (all : length T ≡ lengthOf w - gone)
       (out : o ≡ stepped p) (S : Sends (settingOf w .n) (settingOf w .clients) (p .sent))
       (r : Stepped) (bytes bytes′ : List ℕ) (long : length bytes ≡ outBytes) (f : r ≡ result its (withRoom (length bytes) o)) (g : bytes′ ≡ sentInto bytes (withRoom (length bytes) o)) where
@@ -142,7 +142,7 @@ module _ (w : List ℕ) (k : ClientId) (H : HasClient w (k .0)) where
           client =
               ap (λ (x : Stepped). x .client) f ∙
               (ap (clientAfter its) (roomy (settingOf w .n) (settingOf w .clients) o p out S bytes long) ∙
-              client-after (settingOf w .n) (settingOf w .m) (settingOf w .clients) (k .0) (clientBlockOf w (k .0)) (client-block w (k .0) H) p);
+              client-after (settingOf w .n) (settingOf w .m) (settingOf w .clients) (k .0) (clientBlockOf w k) (client-block w (k .0) H) p);
           all = all;
           lives = lives;
         }
@@ -156,7 +156,7 @@ module _ (w : List ℕ) (k : ClientId) (H : HasClient w (k .0)) where
   unfolding beginOutcome
   begin-spent h t = rw (its-facts .valid, its-section, h, its-timestamp, lt-ltb lastTry (state .timestamp .0) (leb-false (state .timestamp .0) lastTry t))
 
-  module _ (lives : clientAt (view w) (k .0) .living ≡ true) (s : Client) (q : s ≡ clientFrom (clientRecord (clientBlockOf w (k .0)))) (r : Stepped) (bytes bytes′ : List ℕ) (long : length bytes ≡ outBytes)
+  module _ (lives : clientAt (view w) k .living ≡ true) (s : Client) (q : s ≡ clientFrom (clientRecord (clientBlockOf w k))) (r : Stepped) (bytes bytes′ : List ℕ) (long : length bytes ≡ outBytes)
       (f : r ≡ result s (withRoom (length bytes) (beginOutcome s))) (g : bytes′ ≡ sentInto bytes (withRoom (length bytes) (beginOutcome s))) where
     begin-answer : r .answer ≡ answerOf (withRoom (length bytes) (beginOutcome its))
     begin-answer = ap (λ (x : Stepped). x .answer) (rw q at f)
@@ -167,7 +167,7 @@ module _ (w : List ℕ) (k : ClientId) (H : HasClient w (k .0)) where
         let n = settingOf w .n in
         let m = settingOf w .m in
         let clients = settingOf w .clients in
-        let b = clientBlockOf w (k .0) in
+        let b = clientBlockOf w k in
         let ok = client-block w (k .0) H in
         let e = place-state in
         let u = subst (λ (c : client.State). leb (c .timestamp .0) lastTry ≡ true) (sym e) t in
@@ -204,28 +204,28 @@ module _ (w : List ℕ) (k : ClientId) (H : HasClient w (k .0)) where
           (λ (t : leb (state .timestamp .0) lastTry ≡ false). answer-never (length bytes) (beginOutcome its) TimestampsSpent (begin-spent remainder t) (r .answer) begin-answer count size a)
           (decided (leb (state .timestamp .0) lastTry))
 
-      pub begin-accepted : ClientCalled w (Try k) k 0 (view w .transit) (downFrom 1 (view w .servers)) (client.tries (settingOf w .n) k (clientAt (view w) (k .0) .state)) r bytes′
+      pub begin-accepted : ClientCalled w (Try k) k 0 (view w .transit) (downFrom 1 (view w .servers)) (client.tries (settingOf w .n) k (clientAt (view w) k .state)) r bytes′
       begin-accepted = begin-called remainder unspent
 
       abbrev trying : ClientPlace
-      trying = record { living = clientAt (view w) (k .0) .living; state = client.tries (settingOf w .n) k state .state; downs = clientAt (view w) (k .0) .downs }
+      trying = record { living = clientAt (view w) k .living; state = client.tries (settingOf w .n) k state .state; downs = clientAt (view w) k .downs }
 
-      module _ (w₁ : List ℕ) (z : w₁ ≡ sets w (7 + clientBlock * (k .0 - 1)) (sets (clientBlockOf w (k .0)) 1 (clientWords (r .client)))) where
-        begin-stored : Becomes w w₁ (withClient (view w) (k .0) trying)
+      module _ (w₁ : List ℕ) (z : w₁ ≡ sets w (7 + clientBlock * (k .0 - 1)) (sets (clientBlockOf w k) 1 (clientWords (r .client)))) where
+        begin-stored : Becomes w w₁ (withClient (view w) k trying)
         begin-stored = tries-stored w (k .0) H (r .client) w₁ z remainder unspent (begin-accepted .client)
 
-        pub epoch-begins : HasClient w₁ (k .0) × (inEpoch (clientAt (view w₁) (k .0)) ≡ true)
+        pub epoch-begins : HasClient w₁ k × (inEpoch (clientAt (view w₁) k) ≡ true)
         unfolding client.tries
         epoch-begins = (still-client begin-stored H, rw (now-at w₁ trying begin-stored, lives))
 
         module _ (w₂ : List ℕ)
-            (D : Becomes w₁ w₂ (withClients (view w₁) (put (view w₁ .clients) (k .0) (record { living = clientAt (view w₁) (k .0) .living; state = clientAt (view w₁) (k .0) .state; downs = downFrom 1 (view w₁ .servers) })))) where
+            (D : Becomes w₁ w₂ (withClients (view w₁) (put (view w₁ .clients) (k .0) (record { living = clientAt (view w₁) k .living; state = clientAt (view w₁) k .state; downs = downFrom 1 (view w₁ .servers) })))) where
           abbrev begun : System
           begun = withClients (view w) (put (view w .clients) (k .0) (record { living = true; state = client.tries (settingOf w .n) k state .state; downs = downFrom 1 (view w .servers) }))
 
           epoch-begun : Becomes w w₂ begun
           epoch-begun =
-              let E = and-then (λ u. withClients u (put (u .clients) (k .0) (record { living = clientAt u (k .0) .living; state = clientAt u (k .0) .state; downs = downFrom 1 (u .servers) }))) begin-stored D in
+              let E = and-then (λ u. withClients u (put (u .clients) (k .0) (record { living = clientAt u k .living; state = clientAt u k .state; downs = downFrom 1 (u .servers) }))) begin-stored D in
               rw (at-put (view w) trying client-there-in, put-put, lives) at E
 
           module _ (b : Bool) (h : b ≡ hasRoom w 0 count) (t : not b ≡ false) where
@@ -241,7 +241,7 @@ module _ (w : List ℕ) (k : ClientId) (H : HasClient w (k .0)) where
   unfolding exitOutcome
   exit-outside h = rw (its-facts .valid, its-section, h)
 
-  module _ (lives : clientAt (view w) (k .0) .living ≡ true) (s : Client) (q : s ≡ clientFrom (clientRecord (clientBlockOf w (k .0)))) (r : Stepped) (bytes bytes′ : List ℕ) (long : length bytes ≡ outBytes)
+  module _ (lives : clientAt (view w) k .living ≡ true) (s : Client) (q : s ≡ clientFrom (clientRecord (clientBlockOf w k))) (r : Stepped) (bytes bytes′ : List ℕ) (long : length bytes ≡ outBytes)
       (f : r ≡ result s (withRoom (length bytes) (exitOutcome s))) (g : bytes′ ≡ sentInto bytes (withRoom (length bytes) (exitOutcome s))) where
     exit-answer : r .answer ≡ answerOf (withRoom (length bytes) (exitOutcome its))
     exit-answer = ap (λ (x : Stepped). x .answer) (rw q at f)
@@ -251,7 +251,7 @@ module _ (w : List ℕ) (k : ClientId) (H : HasClient w (k .0)) where
         let n = settingOf w .n in
         let m = settingOf w .m in
         let clients = settingOf w .clients in
-        let b = clientBlockOf w (k .0) in
+        let b = clientBlockOf w k in
         let ok = client-block w (k .0) H in
         let e = place-state in
         let u = subst (λ (c : client.State). isCritical (c .section) ≡ true) (sym e) h in
@@ -269,7 +269,7 @@ module _ (w : List ℕ) (k : ClientId) (H : HasClient w (k .0)) where
         (decided (isCritical (state .section)))
 
     module _ (count size : ℕ) (a : r .answer ≡ answer.Sent count size) where
-      pub exit-accepted : ClientCalled w (Exit k) k 0 (view w .transit) [] (client.exits (settingOf w .n) k (clientAt (view w) (k .0) .state)) r bytes′
+      pub exit-accepted : ClientCalled w (Exit k) k 0 (view w .transit) [] (client.exits (settingOf w .n) k (clientAt (view w) k .state)) r bytes′
       exit-accepted =
           ⊎-elim (λ (h : isCritical (state .section) ≡ true). exit-called h)
           (λ (h : isCritical (state .section) ≡ false). answer-never (length bytes) (exitOutcome its) WrongSection (exit-outside h) (r .answer) exit-answer count size a)
@@ -277,11 +277,11 @@ module _ (w : List ℕ) (k : ClientId) (H : HasClient w (k .0)) where
 
       -- the epoch has ended in w₁, and the record is stored in w₂
       abbrev leaving : ClientPlace
-      leaving = record { living = clientAt (view w) (k .0) .living; state = clientAt (view w) (k .0) .state; downs = [] }
+      leaving = record { living = clientAt (view w) k .living; state = clientAt (view w) k .state; downs = [] }
 
-      pub exit-stored : (w₁ : List ℕ) → Becomes w w₁ (withClient (view w) (k .0) (record { living = clientAt (view w) (k .0) .living; state = clientAt (view w) (k .0) .state; downs = [] }))
-          → (w₂ : List ℕ) → w₂ ≡ sets w₁ (7 + clientBlock * (k .0 - 1)) (sets (clientBlockOf w₁ (k .0)) 1 (clientWords (r .client)))
-          → Becomes w w₂ (withClient (withTransit (view w) (view w .transit)) (k .0) (record { living = clientAt (view w) (k .0) .living; state = client.exits (settingOf w .n) k (clientAt (view w) (k .0) .state) .state; downs = [] }))
+      pub exit-stored : (w₁ : List ℕ) → Becomes w w₁ (withClient (view w) k (record { living = clientAt (view w) k .living; state = clientAt (view w) k .state; downs = [] }))
+          → (w₂ : List ℕ) → w₂ ≡ sets w₁ (7 + clientBlock * (k .0 - 1)) (sets (clientBlockOf w₁ k) 1 (clientWords (r .client)))
+          → Becomes w w₂ (withClient (withTransit (view w) (view w .transit)) k (record { living = clientAt (view w) k .living; state = client.exits (settingOf w .n) k (clientAt (view w) k .state) .state; downs = [] }))
       exit-stored w₁ B w₂ z =
           let here = now-at w₁ leaving B in
           let D = exits-stored w₁ (k .0) (still-client B H) (r .client) w₂ z (rw here) (rw (B .setting, here) (exit-accepted .client)) in

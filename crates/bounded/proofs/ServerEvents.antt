@@ -58,12 +58,12 @@ pub record ServerCalled (w : List ℕ) (e : Event) (j : ServerId) (T : List InTr
   pub server : r .server ≡ server-of (settingOf w .n) (j .0) (p .state)
   pub short : r .server .votes .queue .len ≤ maxQueue
   pub all : length T ≡ lengthOf w - 0
-  pub up : serverAt (view w) (j .0) .up ≡ true
+  pub up : serverAt (view w) j .up ≡ true
 
 -- the laws of each way out, in words w₁ with the server's record and words w₂ with its messages
 module _ {w : List ℕ} {e : Event} {j : ServerId} {T : List InTransit} {p : Step votes.State} {r : Stepped} {bytes : List ℕ} (C : ServerCalled w e j T p r bytes)
     (count size : ℕ) (f : r .answer ≡ answer.Sent count size) (b : Bool) (h : b ≡ hasRoom w 0 count) (t : not b ≡ false)
-    (w₁ : List ℕ) (B : Becomes w w₁ (withServer (withTransit (view w) T) (j .0) (record { up = serverAt (view w) (j .0) .up; state = p .state }))) where
+    (w₁ : List ℕ) (B : Becomes w w₁ (withServer (withTransit (view w) T) j (record { up = serverAt (view w) j .up; state = p .state }))) where
   pub server-sendable : Sendable w₁ count bytes
   server-sendable = call-sendable (C .call) count size f b h t w₁ _ B (C .all) refl
 
@@ -71,15 +71,15 @@ module _ {w : List ℕ} {e : Event} {j : ServerId} {T : List InTransit} {p : Ste
   server-sent w₂ D = call-sent (C .call) count size f b h t w₁ w₂ _ B D (rw (C .up)) refl
 
 -- what a server's record and its call ask
-module _ (w : List ℕ) (j : ServerId) (H : HasServer w (j .0)) where
+module _ (w : List ℕ) (j : ServerId) (H : HasServer w j) where
   abbrev its : Server
-  its = serverFrom (serverRecord (serverBlockOf w (j .0)))
+  its = serverFrom (serverRecord (serverBlockOf w j))
 
   pub server-there-in : has (view w .servers) (j .0) ≡ true
   server-there-in = server-there w (j .0) ∙ rw (le-leb 1 (j .0) (H .first), le-leb (j .0) (settingOf w .n) (H .last))
 
   -- server j is up, and its step p is event e: its messages join T
-  module _ (up : serverAt (view w) (j .0) .up ≡ true) (e : Event) (T : List InTransit) (o : Outcome votes.State) (p : Step votes.State)
+  module _ (up : serverAt (view w) j .up ≡ true) (e : Event) (T : List InTransit) (o : Outcome votes.State) (p : Step votes.State)
       (is : event (settingOf w .n) (enough (settingOf w .m)) (view w) e ≡ stepped (serverMoves (view w) j T p)) (all : length T ≡ lengthOf w - 0)
       (out : o ≡ stepped p) (S : Sends (settingOf w .n) (settingOf w .clients) (p .sent)) (short : length (p .state .queue) ≤ settingOf w .clients)
       (r : Stepped) (bytes bytes′ : List ℕ) (long : length bytes ≡ outBytes) (f : r ≡ result its (withRoom (length bytes) o)) (g : bytes′ ≡ sentInto bytes (withRoom (length bytes) o)) where
@@ -93,7 +93,7 @@ module _ (w : List ℕ) (j : ServerId) (H : HasServer w (j .0)) where
     server-record =
         ap (λ (x : Stepped). x .server) f ∙
         (ap (serverAfter its) (roomy (settingOf w .n) (settingOf w .clients) o p out S bytes long) ∙
-        server-after (settingOf w .n) (settingOf w .clients) (j .0) (serverBlockOf w (j .0)) (server-block w (j .0) H) p)
+        server-after (settingOf w .n) (settingOf w .clients) (j .0) (serverBlockOf w j) (server-block w (j .0) H) p)
 
     server-short : r .server .votes .queue .len ≤ maxQueue
     server-short = rw server-record (stored-short (p .state) (omega (arith, short, few-clients w (sound w (H .valid)))))
@@ -102,66 +102,66 @@ module _ (w : List ℕ) (j : ServerId) (H : HasServer w (j .0)) where
     server-called = record { call = server-calls; server = server-record; short = server-short; all = all; up = up }
 
   -- an owner is asked
-  module _ (up : serverAt (view w) (j .0) .up ≡ true) (s : Server) (k : s ≡ serverFrom (serverRecord (serverBlockOf w (j .0)))) (r : Stepped) (bytes bytes′ : List ℕ) (long : length bytes ≡ outBytes)
+  module _ (up : serverAt (view w) j .up ≡ true) (s : Server) (k : s ≡ serverFrom (serverRecord (serverBlockOf w j))) (r : Stepped) (bytes bytes′ : List ℕ) (long : length bytes ≡ outBytes)
       (f : r ≡ result s (withRoom (length bytes) (checkOutcome s))) (g : bytes′ ≡ sentInto bytes (withRoom (length bytes) (checkOutcome s))) where
     abbrev asking : Step votes.State
-    asking = votes.check j (serverAt (view w) (j .0) .state)
+    asking = votes.check j (serverAt (view w) j .state)
 
-    pub ask-called : ServerCalled w (Check j) j (view w .transit) (votes.check j (serverAt (view w) (j .0) .state)) r bytes′
+    pub ask-called : ServerCalled w (Check j) j (view w .transit) (votes.check j (serverAt (view w) j .state)) r bytes′
     ask-called =
         let n = settingOf w .n in
         let clients = settingOf w .clients in
-        let b = serverBlockOf w (j .0) in
+        let b = serverBlockOf w j in
         let ok = server-block w (j .0) H in
         server-called up (Check j) (view w .transit) (checkOutcome its) asking (checks n (enough (settingOf w .m)) (view w) j server-there-in up) (view-all w)
         (rw (server-is w (j .0) H) (check-outcome n clients (j .0) b ok)) (rw (server-is w (j .0) H) (check-sends n clients (j .0) b ok)) (rw (server-is w (j .0) H) (check-short n clients (j .0) b ok)) r bytes bytes′ long (rw k at f) (rw k at g)
 
-    pub ask-stored : (w₁ : List ℕ) → w₁ ≡ sets w (serversFrom + serverBlock * (j .0 - 1)) (sets (serverBlockOf w (j .0)) 1 (serverWords (r .server)))
-        → Becomes w w₁ (withServer (view w) (j .0) (record { up = serverAt (view w) (j .0) .up; state = votes.check j (serverAt (view w) (j .0) .state) .state }))
+    pub ask-stored : (w₁ : List ℕ) → w₁ ≡ sets w (serversFrom + serverBlock * (j .0 - 1)) (sets (serverBlockOf w j) 1 (serverWords (r .server)))
+        → Becomes w w₁ (withServer (view w) j (record { up = serverAt (view w) j .up; state = votes.check j (serverAt (view w) j .state) .state }))
     ask-stored w₁ e = check-stored w (j .0) H (r .server) w₁ e (ask-called .server)
 
   -- an owner has fallen
-  module _ (M : Missing w (j .0)) (s : Server) (k : s ≡ serverFrom (serverRecord (serverBlockOf w (j .0)))) (r : Stepped) (bytes bytes′ : List ℕ) (long : length bytes ≡ outBytes)
+  module _ (M : Missing w j) (s : Server) (k : s ≡ serverFrom (serverRecord (serverBlockOf w j))) (r : Stepped) (bytes bytes′ : List ℕ) (long : length bytes ≡ outBytes)
       (f : r ≡ result s (withRoom (length bytes) (suspectOutcome s))) (g : bytes′ ≡ sentInto bytes (withRoom (length bytes) (suspectOutcome s))) where
-    pub suspect-called : ServerCalled w (Miss j) j (view w .transit) (votes.suspect j (serverAt (view w) (j .0) .state)) r bytes′
+    pub suspect-called : ServerCalled w (Miss j) j (view w .transit) (votes.suspect j (serverAt (view w) j .state)) r bytes′
     suspect-called =
         let n = settingOf w .n in
         let clients = settingOf w .clients in
-        let b = serverBlockOf w (j .0) in
+        let b = serverBlockOf w j in
         let ok = server-block w (j .0) H in
-        server-called (M .up) (Miss j) (view w .transit) (suspectOutcome its) (votes.suspect j (serverAt (view w) (j .0) .state))
+        server-called (M .up) (Miss j) (view w .transit) (suspectOutcome its) (votes.suspect j (serverAt (view w) j .state))
         (misses n (enough (settingOf w .m)) (view w) j server-there-in (M .up) (M .owner) (M .owns) (M .fallen)) (view-all w)
         (rw (server-is w (j .0) H) (suspect-outcome n clients (j .0) b ok (M .owner) (rw (server-is w (j .0) H) at (M .owns)))) (rw (server-is w (j .0) H) (suspect-sends n clients (j .0) b ok)) (rw (server-is w (j .0) H) (suspect-short n clients (j .0) b ok)) r bytes bytes′ long (rw k at f) (rw k at g)
 
-    pub suspect-stored-in : (w₁ : List ℕ) → w₁ ≡ sets w (serversFrom + serverBlock * (j .0 - 1)) (sets (serverBlockOf w (j .0)) 1 (serverWords (r .server)))
-        → Becomes w w₁ (withServer (view w) (j .0) (record { up = serverAt (view w) (j .0) .up; state = votes.suspect j (serverAt (view w) (j .0) .state) .state }))
+    pub suspect-stored-in : (w₁ : List ℕ) → w₁ ≡ sets w (serversFrom + serverBlock * (j .0 - 1)) (sets (serverBlockOf w j) 1 (serverWords (r .server)))
+        → Becomes w w₁ (withServer (view w) j (record { up = serverAt (view w) j .up; state = votes.suspect j (serverAt (view w) j .state) .state }))
     suspect-stored-in w₁ e = suspect-stored w (j .0) H (r .server) w₁ e (suspect-called .server)
 
-  module _ (up : serverAt (view w) (j .0) .up ≡ true) (x : Owner) (e : x ≡ serverAt (view w) (j .0) .state .owner) where
+  module _ (up : serverAt (view w) j .up ≡ true) (x : Owner) (e : x ≡ serverAt (view w) j .state .owner) where
     pub miss-nobody : x ≡ Nobody → Leaves w (Miss j) w × (Refused NoOwner ≡ movedOf (happens w (Miss j)))
     miss-nobody f = leaves-refused w (Miss j) NoOwner (H .valid) (misses-nobody (settingOf w .n) (enough (settingOf w .m)) (view w) j server-there-in up (sym e ∙ f))
 
     module _ (o : Request) (f : x ≡ Of o) where
-      its-owner : serverPlace (serverBlockOf w (j .0)) .state .owner ≡ Of o
+      its-owner : serverPlace (serverBlockOf w j) .state .owner ≡ Of o
       its-owner = ap (λ (p : ServerPlace). p .state .owner) (sym (server-is w (j .0) H)) ∙ (sym e ∙ f)
 
       owner-in-range : (1 ≤ o .client .0) × (o .client .0 ≤ settingOf w .clients)
       unfolding validOwner
       owner-in-range =
-          let b = serverBlockOf w (j .0) in
+          let b = serverBlockOf w j in
           let B = server-facts (settingOf w .n) (settingOf w .clients) (j .0) b (server-block w (j .0) H) in
           let v : validRequest o ≡ true = rw its-owner at (server-good (settingOf w .n) (settingOf w .clients) (j .0) b B .owner) in
           let d : leb (o .client .0) (settingOf w .clients) && every (namedPair (settingOf w .clients)) (serverPlace b .state .queue) ≡ true = rw its-owner at (B .names) in
           (client-range (o .client) (request-range o v .0) .0, leb-true _ _ (both (leb (o .client .0) (settingOf w .clients)) (every (namedPair (settingOf w .clients)) (serverPlace b .state .queue)) d .0))
 
-      pub owner-client : HasClient w (o .client .0)
+      pub owner-client : HasClient w (o .client)
       owner-client = record { valid = H .valid; first = owner-in-range .0; last = owner-in-range .1 }
 
-      module _ (r : Bool) (g : r ≡ clientPlace (clientBlockOf w (o .client .0)) .living) where
+      module _ (r : Bool) (g : r ≡ clientPlace (clientBlockOf w (o .client)) .living) where
         pub miss-living : r ≡ true → Leaves w (Miss j) w × (Refused OwnerLives ≡ movedOf (happens w (Miss j)))
         miss-living t =
             leaves-refused w (Miss j) OwnerLives (H .valid)
             (misses-living (settingOf w .n) (enough (settingOf w .m)) (view w) j server-there-in up o (sym e ∙ f) (living-is w (o .client .0) owner-client r g ∙ t))
 
-        pub owner-missing : r ≡ false → Missing w (j .0)
+        pub owner-missing : r ≡ false → Missing w j
         owner-missing t = record { there = H; up = up; owner = o; owns = sym e ∙ f; fallen = living-is w (o .client .0) owner-client r g ∙ t }

@@ -4,9 +4,9 @@ use Rattle.ids.specs.Order.{before}
 use Rattle.ids.specs.Requests.{same}
 use Rattle.votes.specs.Figure1.{timestampIn, insert, enqueue, without, promote, delete, inform, act, receive}
 use Rattle.client.specs.Figure1.{enough, heard, reply, round, judge, responds}
-use Rattle.quorum.specs.Check.{inRange, margin, isUnsafe, judged, verdict}
+use Rattle.quorum.specs.Check.{inRangeUpTo, inRange, margin, isUnsafe, judged, verdict}
 use Rattle.cases.specs.Starred.{starred, All}
 
 pub starred-hold : All starred
-unfolding starred before same timestampIn insert enqueue without promote delete inform act receive enough heard reply round judge responds inRange margin isUnsafe judged verdict
+unfolding starred before same timestampIn insert enqueue without promote delete inform act receive enough heard reply round judge responds inRangeUpTo margin isUnsafe judged verdict
 starred-hold = (refl, (refl, (refl, (refl, (refl, (refl, (refl, (refl, (refl, (refl, (refl, (refl, (refl, tt)))))))))))))

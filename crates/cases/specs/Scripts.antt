@@ -12,7 +12,8 @@ use Rattle.system.specs.declared.Event.the-variants.{Try, Exit, Fall, Down, Up,
 use Rattle.system.specs.Places.{System, holders}
 use Rattle.system.specs.Events.{Result, event}
 use Rattle.system.specs.Runs.{after, start, next, run, acceptedEvents, mostHolders}
-use Rattle.system.specs.Setting.{client, server, takes}
+use Rattle.system.specs.Setting.{takes}
+use Rattle.system.specs.Numbered.{clientNo, serverNo}
 
 abbrev pub drops : ℕ → Event
 drops i = Drop (record { 0 = i })
@@ -60,127 +61,127 @@ AllPlay (s ∷ l) = Plays s × AllPlay l
 
 unfoldable pub example : List Line
 example =
-    (Try (client 1) ⇒ sends 2 0) ∷ (takes 1 ⇒ sends 1 0) ∷ (takes 3 ⇒ sends 0 1) ∷ (Try (client 2) ⇒ sends 2 1) ∷
+    (Try (clientNo 1) ⇒ sends 2 0) ∷ (takes 1 ⇒ sends 1 0) ∷ (takes 3 ⇒ sends 0 1) ∷ (Try (clientNo 2) ⇒ sends 2 1) ∷
     (takes 5 ⇒ sends 1 1) ∷ (takes 6 ⇒ sends 0 2) ∷ []
 
 unfoldable pub twoHolders : List Line
 twoHolders =
-    (Try (client 1) ⇒ sends 3 0) ∷ (takes 1 ⇒ sends 1 0) ∷ (takes 2 ⇒ sends 1 0) ∷ (takes 4 ⇒ sends 0 0) ∷
-    (takes 5 ⇒ sends 0 1) ∷ (Down (server 1) ⇒ sends 0 1) ∷ (Up (server 1) ⇒ sends 0 1) ∷ (Try (client 2) ⇒ sends 3 1) ∷
+    (Try (clientNo 1) ⇒ sends 3 0) ∷ (takes 1 ⇒ sends 1 0) ∷ (takes 2 ⇒ sends 1 0) ∷ (takes 4 ⇒ sends 0 0) ∷
+    (takes 5 ⇒ sends 0 1) ∷ (Down (serverNo 1) ⇒ sends 0 1) ∷ (Up (serverNo 1) ⇒ sends 0 1) ∷ (Try (clientNo 2) ⇒ sends 3 1) ∷
     (takes 6 ⇒ sends 1 1) ∷ (takes 8 ⇒ sends 1 1) ∷ (takes 9 ⇒ sends 0 1) ∷ (takes 10 ⇒ sends 0 2) ∷ []
 
 unfoldable pub yieldRound : List Line
 yieldRound =
-    (Try (client 1) ⇒ sends 3 0) ∷ (Try (client 2) ⇒ sends 3 0) ∷ (Try (client 3) ⇒ sends 3 0) ∷ (takes 1 ⇒ sends 1 0) ∷
+    (Try (clientNo 1) ⇒ sends 3 0) ∷ (Try (clientNo 2) ⇒ sends 3 0) ∷ (Try (clientNo 3) ⇒ sends 3 0) ∷ (takes 1 ⇒ sends 1 0) ∷
     (takes 5 ⇒ sends 1 0) ∷ (takes 9 ⇒ sends 1 0) ∷ (takes 2 ⇒ sends 1 0) ∷ (takes 3 ⇒ sends 1 0) ∷ (takes 4 ⇒ sends 1 0) ∷
     (takes 6 ⇒ sends 1 0) ∷ (takes 7 ⇒ sends 1 0) ∷ (takes 8 ⇒ sends 1 0) ∷ (takes 10 ⇒ sends 0 0) ∷ (takes 13 ⇒ sends 0 0) ∷
     (takes 14 ⇒ sends 3 0) ∷ (takes 11 ⇒ sends 0 0) ∷ (takes 15 ⇒ sends 0 0) ∷ (takes 16 ⇒ sends 3 0) ∷ (takes 12 ⇒ sends 0 0) ∷
     (takes 17 ⇒ sends 0 0) ∷ (takes 18 ⇒ sends 3 0) ∷ (takes 19 ⇒ sends 1 0) ∷ (takes 22 ⇒ sends 1 0) ∷ (takes 25 ⇒ sends 1 0) ∷
     (takes 23 ⇒ sends 2 0) ∷ (takes 20 ⇒ sends 0 0) ∷ (takes 26 ⇒ sends 1 0) ∷ (takes 27 ⇒ sends 2 0) ∷ (takes 21 ⇒ sends 0 0) ∷
     (takes 24 ⇒ sends 1 0) ∷ (takes 28 ⇒ sends 0 0) ∷ (takes 31 ⇒ sends 0 0) ∷ (takes 34 ⇒ sends 0 1) ∷
-    (Exit (client 1) ⇒ sends 3 0) ∷ (takes 37 ⇒ sends 1 0) ∷ (takes 38 ⇒ sends 1 0) ∷ (takes 39 ⇒ sends 1 0) ∷
+    (Exit (clientNo 1) ⇒ sends 3 0) ∷ (takes 37 ⇒ sends 1 0) ∷ (takes 38 ⇒ sends 1 0) ∷ (takes 39 ⇒ sends 1 0) ∷
     (takes 40 ⇒ sends 0 0) ∷ (takes 41 ⇒ sends 0 0) ∷ (takes 42 ⇒ sends 0 1) ∷ (takes 29 ⇒ sends 0 1) ∷ []
 
 unfoldable pub redelivery : List Line
 redelivery =
-    (Try (client 1) ⇒ sends 4 0) ∷ (takes 1 ⇒ sends 1 0) ∷ (takes 1 ⇒ refuses 17) ∷ (Down (server 1) ⇒ sends 0 0) ∷
-    (takes 1 ⇒ refuses 18) ∷ (Up (server 1) ⇒ sends 0 0) ∷ (takes 1 ⇒ sends 1 0) ∷ (takes 5 ⇒ sends 0 0) ∷
+    (Try (clientNo 1) ⇒ sends 4 0) ∷ (takes 1 ⇒ sends 1 0) ∷ (takes 1 ⇒ refuses 17) ∷ (Down (serverNo 1) ⇒ sends 0 0) ∷
+    (takes 1 ⇒ refuses 18) ∷ (Up (serverNo 1) ⇒ sends 0 0) ∷ (takes 1 ⇒ sends 1 0) ∷ (takes 5 ⇒ sends 0 0) ∷
     (takes 6 ⇒ sends 0 0) ∷ (takes 2 ⇒ sends 1 0) ∷ (takes 3 ⇒ sends 1 0) ∷ (takes 7 ⇒ sends 0 0) ∷ (takes 8 ⇒ sends 0 1) ∷
-    (Exit (client 1) ⇒ sends 4 0) ∷ (takes 9 ⇒ sends 0 0) ∷ (takes 10 ⇒ sends 0 0) ∷ (Down (server 2) ⇒ sends 0 0) ∷
-    (Up (server 2) ⇒ sends 0 0) ∷ (takes 2 ⇒ sends 1 0) ∷ (Check (server 2) ⇒ sends 1 0) ∷ (takes 14 ⇒ sends 1 0) ∷
-    (takes 15 ⇒ sends 0 0) ∷ (Check (server 2) ⇒ sends 0 0) ∷ (takes 13 ⇒ sends 0 0) ∷ (Miss (server 2) ⇒ refuses 15) ∷
-    (drops 1 ⇒ sends 0 0) ∷ (drops 1 ⇒ refuses 17) ∷ (Down (server 1) ⇒ sends 0 0) ∷ (Up (server 1) ⇒ sends 0 0) ∷
+    (Exit (clientNo 1) ⇒ sends 4 0) ∷ (takes 9 ⇒ sends 0 0) ∷ (takes 10 ⇒ sends 0 0) ∷ (Down (serverNo 2) ⇒ sends 0 0) ∷
+    (Up (serverNo 2) ⇒ sends 0 0) ∷ (takes 2 ⇒ sends 1 0) ∷ (Check (serverNo 2) ⇒ sends 1 0) ∷ (takes 14 ⇒ sends 1 0) ∷
+    (takes 15 ⇒ sends 0 0) ∷ (Check (serverNo 2) ⇒ sends 0 0) ∷ (takes 13 ⇒ sends 0 0) ∷ (Miss (serverNo 2) ⇒ refuses 15) ∷
+    (drops 1 ⇒ sends 0 0) ∷ (drops 1 ⇒ refuses 17) ∷ (Down (serverNo 1) ⇒ sends 0 0) ∷ (Up (serverNo 1) ⇒ sends 0 0) ∷
     (takes 1 ⇒ refuses 17) ∷ (takes 3 ⇒ refuses 17) ∷ (takes 9 ⇒ sends 0 0) ∷ []
 
 unfoldable pub ownerlessAnswer : List Line
 ownerlessAnswer =
-    (Try (client 1) ⇒ sends 2 0) ∷ (Try (client 2) ⇒ sends 2 0) ∷ (takes 1 ⇒ sends 1 0) ∷ (takes 4 ⇒ sends 1 0) ∷
+    (Try (clientNo 1) ⇒ sends 2 0) ∷ (Try (clientNo 2) ⇒ sends 2 0) ∷ (takes 1 ⇒ sends 1 0) ∷ (takes 4 ⇒ sends 1 0) ∷
     (takes 2 ⇒ sends 1 0) ∷ (takes 3 ⇒ sends 1 0) ∷ (takes 6 ⇒ sends 0 0) ∷ (takes 8 ⇒ sends 2 0) ∷ (takes 5 ⇒ sends 0 0) ∷
-    (takes 7 ⇒ sends 2 0) ∷ (Down (server 1) ⇒ sends 0 0) ∷ (Up (server 1) ⇒ sends 0 0) ∷ (takes 11 ⇒ sends 1 0) ∷
+    (takes 7 ⇒ sends 2 0) ∷ (Down (serverNo 1) ⇒ sends 0 0) ∷ (Up (serverNo 1) ⇒ sends 0 0) ∷ (takes 11 ⇒ sends 1 0) ∷
     (takes 1 ⇒ sends 1 0) ∷ (takes 14 ⇒ sends 0 0) ∷ (takes 13 ⇒ sends 0 0) ∷ (takes 10 ⇒ sends 2 0) ∷ (takes 12 ⇒ sends 0 0) ∷
-    (takes 15 ⇒ sends 0 1) ∷ (takes 16 ⇒ sends 0 1) ∷ (Down (server 2) ⇒ sends 0 1) ∷ (Up (server 2) ⇒ sends 0 1) ∷
+    (takes 15 ⇒ sends 0 1) ∷ (takes 16 ⇒ sends 0 1) ∷ (Down (serverNo 2) ⇒ sends 0 1) ∷ (Up (serverNo 2) ⇒ sends 0 1) ∷
     (takes 10 ⇒ sends 1 1) ∷ (takes 17 ⇒ sends 0 1) ∷ (takes 9 ⇒ sends 1 1) ∷ (takes 18 ⇒ sends 0 1) ∷ []
 
 unfoldable pub lostRelease : List Line
 lostRelease =
-    (Try (client 1) ⇒ sends 1 0) ∷ (takes 1 ⇒ sends 1 0) ∷ (takes 2 ⇒ sends 0 1) ∷ (Exit (client 1) ⇒ sends 1 0) ∷
-    (Try (client 2) ⇒ sends 1 0) ∷ (takes 4 ⇒ sends 1 0) ∷ (drops 3 ⇒ sends 0 0) ∷ (Try (client 1) ⇒ sends 1 0) ∷
-    (takes 6 ⇒ sends 2 0) ∷ (takes 7 ⇒ sends 0 1) ∷ (takes 5 ⇒ sends 0 1) ∷ (Exit (client 2) ⇒ sends 1 0) ∷
+    (Try (clientNo 1) ⇒ sends 1 0) ∷ (takes 1 ⇒ sends 1 0) ∷ (takes 2 ⇒ sends 0 1) ∷ (Exit (clientNo 1) ⇒ sends 1 0) ∷
+    (Try (clientNo 2) ⇒ sends 1 0) ∷ (takes 4 ⇒ sends 1 0) ∷ (drops 3 ⇒ sends 0 0) ∷ (Try (clientNo 1) ⇒ sends 1 0) ∷
+    (takes 6 ⇒ sends 2 0) ∷ (takes 7 ⇒ sends 0 1) ∷ (takes 5 ⇒ sends 0 1) ∷ (Exit (clientNo 2) ⇒ sends 1 0) ∷
     (takes 9 ⇒ sends 1 0) ∷ (takes 10 ⇒ sends 0 1) ∷ []
 
 unfoldable pub oldTimestampAnswer : List Line
 oldTimestampAnswer =
-    (Try (client 1) ⇒ sends 3 0) ∷ (takes 1 ⇒ sends 1 0) ∷ (takes 2 ⇒ sends 1 0) ∷ (takes 3 ⇒ sends 1 0) ∷
-    (takes 4 ⇒ sends 0 0) ∷ (takes 5 ⇒ sends 0 1) ∷ (Exit (client 1) ⇒ sends 3 0) ∷ (Try (client 1) ⇒ sends 3 0) ∷
+    (Try (clientNo 1) ⇒ sends 3 0) ∷ (takes 1 ⇒ sends 1 0) ∷ (takes 2 ⇒ sends 1 0) ∷ (takes 3 ⇒ sends 1 0) ∷
+    (takes 4 ⇒ sends 0 0) ∷ (takes 5 ⇒ sends 0 1) ∷ (Exit (clientNo 1) ⇒ sends 3 0) ∷ (Try (clientNo 1) ⇒ sends 3 0) ∷
     (takes 6 ⇒ sends 0 0) ∷ (takes 7 ⇒ sends 0 0) ∷ (takes 10 ⇒ sends 1 0) ∷ (takes 13 ⇒ sends 0 0) ∷ (takes 11 ⇒ sends 1 0) ∷
     (takes 14 ⇒ sends 0 1) ∷ (takes 8 ⇒ sends 0 1) ∷ []
 
 unfoldable pub lateRequest : List Line
 lateRequest =
-    (Try (client 1) ⇒ sends 3 0) ∷ (takes 1 ⇒ sends 1 0) ∷ (takes 2 ⇒ sends 1 0) ∷ (takes 4 ⇒ sends 0 0) ∷
-    (takes 5 ⇒ sends 0 1) ∷ (Exit (client 1) ⇒ sends 3 0) ∷ (Try (client 2) ⇒ sends 3 0) ∷ (takes 11 ⇒ sends 1 0) ∷
-    (Try (client 1) ⇒ sends 3 0) ∷ (takes 15 ⇒ sends 1 0) ∷ (takes 3 ⇒ sends 0 0) ∷ (takes 8 ⇒ sends 0 0) ∷
+    (Try (clientNo 1) ⇒ sends 3 0) ∷ (takes 1 ⇒ sends 1 0) ∷ (takes 2 ⇒ sends 1 0) ∷ (takes 4 ⇒ sends 0 0) ∷
+    (takes 5 ⇒ sends 0 1) ∷ (Exit (clientNo 1) ⇒ sends 3 0) ∷ (Try (clientNo 2) ⇒ sends 3 0) ∷ (takes 11 ⇒ sends 1 0) ∷
+    (Try (clientNo 1) ⇒ sends 3 0) ∷ (takes 15 ⇒ sends 1 0) ∷ (takes 3 ⇒ sends 0 0) ∷ (takes 8 ⇒ sends 0 0) ∷
     (takes 12 ⇒ sends 0 0) ∷ []
 
 unfoldable pub inquiryOrRequest : List Line
 inquiryOrRequest =
-    (Try (client 1) ⇒ sends 2 0) ∷ (Try (client 2) ⇒ sends 2 0) ∷ (takes 1 ⇒ sends 1 0) ∷ (takes 4 ⇒ sends 1 0) ∷
+    (Try (clientNo 1) ⇒ sends 2 0) ∷ (Try (clientNo 2) ⇒ sends 2 0) ∷ (takes 1 ⇒ sends 1 0) ∷ (takes 4 ⇒ sends 1 0) ∷
     (takes 2 ⇒ sends 1 0) ∷ (takes 3 ⇒ sends 1 0) ∷ (takes 6 ⇒ sends 0 0) ∷ (takes 8 ⇒ sends 2 0) ∷ (takes 5 ⇒ sends 0 0) ∷
-    (takes 7 ⇒ sends 2 0) ∷ (Down (server 1) ⇒ sends 0 0) ∷ (Up (server 1) ⇒ sends 0 0) ∷ (takes 9 ⇒ sends 0 0) ∷
-    (Down (server 2) ⇒ sends 0 0) ∷ (Up (server 2) ⇒ sends 0 0) ∷ (takes 12 ⇒ sends 1 0) ∷ []
+    (takes 7 ⇒ sends 2 0) ∷ (Down (serverNo 1) ⇒ sends 0 0) ∷ (Up (serverNo 1) ⇒ sends 0 0) ∷ (takes 9 ⇒ sends 0 0) ∷
+    (Down (serverNo 2) ⇒ sends 0 0) ∷ (Up (serverNo 2) ⇒ sends 0 0) ∷ (takes 12 ⇒ sends 1 0) ∷ []
 
 unfoldable pub earlierTimestampFirst : List Line
 earlierTimestampFirst =
-    (Try (client 1) ⇒ sends 1 0) ∷ (takes 1 ⇒ sends 1 0) ∷ (takes 2 ⇒ sends 0 1) ∷ (Exit (client 1) ⇒ sends 1 0) ∷
-    (takes 3 ⇒ sends 0 0) ∷ (Try (client 3) ⇒ sends 1 0) ∷ (takes 4 ⇒ sends 1 0) ∷ (Try (client 1) ⇒ sends 1 0) ∷
-    (takes 6 ⇒ sends 1 0) ∷ (Try (client 2) ⇒ sends 1 0) ∷ (takes 8 ⇒ sends 1 0) ∷ (takes 5 ⇒ sends 0 1) ∷
-    (Exit (client 3) ⇒ sends 1 0) ∷ (takes 10 ⇒ sends 1 0) ∷ (takes 11 ⇒ sends 0 1) ∷ (Exit (client 1) ⇒ refuses 10) ∷
-    (Exit (client 2) ⇒ sends 1 0) ∷ []
+    (Try (clientNo 1) ⇒ sends 1 0) ∷ (takes 1 ⇒ sends 1 0) ∷ (takes 2 ⇒ sends 0 1) ∷ (Exit (clientNo 1) ⇒ sends 1 0) ∷
+    (takes 3 ⇒ sends 0 0) ∷ (Try (clientNo 3) ⇒ sends 1 0) ∷ (takes 4 ⇒ sends 1 0) ∷ (Try (clientNo 1) ⇒ sends 1 0) ∷
+    (takes 6 ⇒ sends 1 0) ∷ (Try (clientNo 2) ⇒ sends 1 0) ∷ (takes 8 ⇒ sends 1 0) ∷ (takes 5 ⇒ sends 0 1) ∷
+    (Exit (clientNo 3) ⇒ sends 1 0) ∷ (takes 10 ⇒ sends 1 0) ∷ (takes 11 ⇒ sends 0 1) ∷ (Exit (clientNo 1) ⇒ refuses 10) ∷
+    (Exit (clientNo 2) ⇒ sends 1 0) ∷ []
 
 unfoldable pub fallenOwner : List Line
 fallenOwner =
-    (Try (client 1) ⇒ sends 1 0) ∷ (takes 1 ⇒ sends 1 0) ∷ (Try (client 2) ⇒ sends 1 0) ∷ (Try (client 3) ⇒ sends 1 0) ∷
-    (takes 3 ⇒ sends 1 0) ∷ (takes 4 ⇒ sends 1 0) ∷ (Miss (server 1) ⇒ refuses 20) ∷ (Fall (client 1) ⇒ sends 0 0) ∷
-    (Fall (client 2) ⇒ sends 0 0) ∷ (takes 2 ⇒ refuses 18) ∷ (Miss (server 1) ⇒ sends 1 0) ∷ (takes 7 ⇒ refuses 18) ∷
-    (Miss (server 1) ⇒ sends 1 0) ∷ (takes 8 ⇒ sends 0 1) ∷ (Miss (server 1) ⇒ refuses 20) ∷ (Check (server 1) ⇒ sends 1 1) ∷
-    (takes 9 ⇒ sends 0 1) ∷ (Fall (client 3) ⇒ sends 0 0) ∷ (Miss (server 1) ⇒ sends 0 0) ∷ (Miss (server 1) ⇒ refuses 15) ∷ []
+    (Try (clientNo 1) ⇒ sends 1 0) ∷ (takes 1 ⇒ sends 1 0) ∷ (Try (clientNo 2) ⇒ sends 1 0) ∷ (Try (clientNo 3) ⇒ sends 1 0) ∷
+    (takes 3 ⇒ sends 1 0) ∷ (takes 4 ⇒ sends 1 0) ∷ (Miss (serverNo 1) ⇒ refuses 20) ∷ (Fall (clientNo 1) ⇒ sends 0 0) ∷
+    (Fall (clientNo 2) ⇒ sends 0 0) ∷ (takes 2 ⇒ refuses 18) ∷ (Miss (serverNo 1) ⇒ sends 1 0) ∷ (takes 7 ⇒ refuses 18) ∷
+    (Miss (serverNo 1) ⇒ sends 1 0) ∷ (takes 8 ⇒ sends 0 1) ∷ (Miss (serverNo 1) ⇒ refuses 20) ∷ (Check (serverNo 1) ⇒ sends 1 1) ∷
+    (takes 9 ⇒ sends 0 1) ∷ (Fall (clientNo 3) ⇒ sends 0 0) ∷ (Miss (serverNo 1) ⇒ sends 0 0) ∷ (Miss (serverNo 1) ⇒ refuses 15) ∷ []
 
 unfoldable pub requestOfTheFallen : List Line
 requestOfTheFallen =
-    (Try (client 1) ⇒ sends 1 0) ∷ (Fall (client 1) ⇒ sends 0 0) ∷ (takes 1 ⇒ sends 1 0) ∷ (Try (client 2) ⇒ sends 1 0) ∷
-    (takes 3 ⇒ sends 1 0) ∷ (takes 4 ⇒ sends 1 0) ∷ (takes 5 ⇒ sends 1 0) ∷ (Miss (server 1) ⇒ sends 1 0) ∷
+    (Try (clientNo 1) ⇒ sends 1 0) ∷ (Fall (clientNo 1) ⇒ sends 0 0) ∷ (takes 1 ⇒ sends 1 0) ∷ (Try (clientNo 2) ⇒ sends 1 0) ∷
+    (takes 3 ⇒ sends 1 0) ∷ (takes 4 ⇒ sends 1 0) ∷ (takes 5 ⇒ sends 1 0) ∷ (Miss (serverNo 1) ⇒ sends 1 0) ∷
     (takes 7 ⇒ sends 0 1) ∷ []
 
 unfoldable pub epochs : List Line
 epochs =
-    (Down (server 1) ⇒ sends 0 0) ∷ (Down (server 2) ⇒ sends 0 0) ∷ (Up (server 2) ⇒ sends 0 0) ∷ (Try (client 1) ⇒ sends 4 0) ∷
-    (Down (server 3) ⇒ sends 0 0) ∷ (Up (server 3) ⇒ sends 0 0) ∷ (Down (server 3) ⇒ sends 0 0) ∷ (takes 2 ⇒ sends 1 0) ∷
-    (takes 5 ⇒ sends 0 1) ∷ (Exit (client 1) ⇒ sends 4 0) ∷ (Down (server 4) ⇒ sends 0 0) ∷ (Up (server 1) ⇒ sends 0 0) ∷
-    (Up (server 3) ⇒ sends 0 0) ∷ (Try (client 2) ⇒ sends 4 0) ∷ (Fall (client 2) ⇒ sends 0 0) ∷ (Down (server 1) ⇒ sends 0 0) ∷
-    (Down (server 2) ⇒ sends 0 0) ∷ (Down (server 3) ⇒ sends 0 0) ∷ []
+    (Down (serverNo 1) ⇒ sends 0 0) ∷ (Down (serverNo 2) ⇒ sends 0 0) ∷ (Up (serverNo 2) ⇒ sends 0 0) ∷ (Try (clientNo 1) ⇒ sends 4 0) ∷
+    (Down (serverNo 3) ⇒ sends 0 0) ∷ (Up (serverNo 3) ⇒ sends 0 0) ∷ (Down (serverNo 3) ⇒ sends 0 0) ∷ (takes 2 ⇒ sends 1 0) ∷
+    (takes 5 ⇒ sends 0 1) ∷ (Exit (clientNo 1) ⇒ sends 4 0) ∷ (Down (serverNo 4) ⇒ sends 0 0) ∷ (Up (serverNo 1) ⇒ sends 0 0) ∷
+    (Up (serverNo 3) ⇒ sends 0 0) ∷ (Try (clientNo 2) ⇒ sends 4 0) ∷ (Fall (clientNo 2) ⇒ sends 0 0) ∷ (Down (serverNo 1) ⇒ sends 0 0) ∷
+    (Down (serverNo 2) ⇒ sends 0 0) ∷ (Down (serverNo 3) ⇒ sends 0 0) ∷ []
 
 unfoldable pub downAtTheStart : List Line
 downAtTheStart =
-    (Down (server 1) ⇒ sends 0 0) ∷ (Down (server 2) ⇒ sends 0 0) ∷ (Down (server 3) ⇒ sends 0 0) ∷ (Up (server 1) ⇒ sends 0 0) ∷
-    (Try (client 1) ⇒ sends 3 0) ∷ (takes 1 ⇒ sends 1 0) ∷ (takes 4 ⇒ sends 0 1) ∷ []
+    (Down (serverNo 1) ⇒ sends 0 0) ∷ (Down (serverNo 2) ⇒ sends 0 0) ∷ (Down (serverNo 3) ⇒ sends 0 0) ∷ (Up (serverNo 1) ⇒ sends 0 0) ∷
+    (Try (clientNo 1) ⇒ sends 3 0) ∷ (takes 1 ⇒ sends 1 0) ∷ (takes 4 ⇒ sends 0 1) ∷ []
 
 unfoldable pub stallingSetting : List Line
 stallingSetting =
-    (Try (client 1) ⇒ sends 4 0) ∷ (Down (server 4) ⇒ sends 0 0) ∷ (takes 1 ⇒ sends 1 0) ∷ (takes 2 ⇒ sends 1 0) ∷
+    (Try (clientNo 1) ⇒ sends 4 0) ∷ (Down (serverNo 4) ⇒ sends 0 0) ∷ (takes 1 ⇒ sends 1 0) ∷ (takes 2 ⇒ sends 1 0) ∷
     (takes 3 ⇒ sends 1 0) ∷ (takes 4 ⇒ refuses 18) ∷ (takes 5 ⇒ sends 0 0) ∷ (takes 6 ⇒ sends 0 0) ∷ (takes 7 ⇒ sends 0 0) ∷
-    (Up (server 4) ⇒ sends 0 0) ∷ (takes 4 ⇒ sends 1 0) ∷ (takes 8 ⇒ sends 0 1) ∷ []
+    (Up (serverNo 4) ⇒ sends 0 0) ∷ (takes 4 ⇒ sends 1 0) ∷ (takes 8 ⇒ sends 0 1) ∷ []
 
 unfoldable pub refusals : List Line
 refusals =
-    (Exit (client 1) ⇒ refuses 10) ∷ (Try (client 1) ⇒ sends 2 0) ∷ (Try (client 1) ⇒ refuses 10) ∷
-    (Exit (client 1) ⇒ refuses 10) ∷ (takes 1 ⇒ sends 1 0) ∷ (Miss (server 1) ⇒ refuses 20) ∷ (Miss (server 2) ⇒ refuses 15) ∷
-    (Try (client 0) ⇒ refuses 17) ∷ (Exit (client 3) ⇒ refuses 17) ∷ (Fall (client 257) ⇒ refuses 17) ∷
-    (Down (server 0) ⇒ refuses 17) ∷ (Up (server 3) ⇒ refuses 17) ∷ (Miss (server 65537) ⇒ refuses 17) ∷
-    (Check (server 3) ⇒ refuses 17) ∷ (takes 0 ⇒ refuses 17) ∷ (takes 4 ⇒ refuses 17) ∷ (takes 4294967295 ⇒ refuses 17) ∷
-    (drops 4 ⇒ refuses 17) ∷ (Up (server 1) ⇒ refuses 18) ∷ (Down (server 2) ⇒ sends 0 0) ∷ (Down (server 2) ⇒ refuses 18) ∷
-    (takes 2 ⇒ refuses 18) ∷ (Miss (server 2) ⇒ refuses 18) ∷ (Check (server 2) ⇒ refuses 18) ∷ (Fall (client 1) ⇒ sends 0 0) ∷
-    (Fall (client 1) ⇒ refuses 18) ∷ (Try (client 1) ⇒ refuses 18) ∷ (Exit (client 1) ⇒ refuses 18) ∷ (takes 3 ⇒ refuses 18) ∷
-    (takes 1 ⇒ refuses 17) ∷ (Miss (server 1) ⇒ sends 0 0) ∷ (Miss (server 1) ⇒ refuses 15) ∷ (drops 3 ⇒ sends 0 0) ∷
+    (Exit (clientNo 1) ⇒ refuses 10) ∷ (Try (clientNo 1) ⇒ sends 2 0) ∷ (Try (clientNo 1) ⇒ refuses 10) ∷
+    (Exit (clientNo 1) ⇒ refuses 10) ∷ (takes 1 ⇒ sends 1 0) ∷ (Miss (serverNo 1) ⇒ refuses 20) ∷ (Miss (serverNo 2) ⇒ refuses 15) ∷
+    (Try (clientNo 0) ⇒ refuses 17) ∷ (Exit (clientNo 3) ⇒ refuses 17) ∷ (Fall (clientNo 257) ⇒ refuses 17) ∷
+    (Down (serverNo 0) ⇒ refuses 17) ∷ (Up (serverNo 3) ⇒ refuses 17) ∷ (Miss (serverNo 65537) ⇒ refuses 17) ∷
+    (Check (serverNo 3) ⇒ refuses 17) ∷ (takes 0 ⇒ refuses 17) ∷ (takes 4 ⇒ refuses 17) ∷ (takes 4294967295 ⇒ refuses 17) ∷
+    (drops 4 ⇒ refuses 17) ∷ (Up (serverNo 1) ⇒ refuses 18) ∷ (Down (serverNo 2) ⇒ sends 0 0) ∷ (Down (serverNo 2) ⇒ refuses 18) ∷
+    (takes 2 ⇒ refuses 18) ∷ (Miss (serverNo 2) ⇒ refuses 18) ∷ (Check (serverNo 2) ⇒ refuses 18) ∷ (Fall (clientNo 1) ⇒ sends 0 0) ∷
+    (Fall (clientNo 1) ⇒ refuses 18) ∷ (Try (clientNo 1) ⇒ refuses 18) ∷ (Exit (clientNo 1) ⇒ refuses 18) ∷ (takes 3 ⇒ refuses 18) ∷
+    (takes 1 ⇒ refuses 17) ∷ (Miss (serverNo 1) ⇒ sends 0 0) ∷ (Miss (serverNo 1) ⇒ refuses 15) ∷ (drops 3 ⇒ sends 0 0) ∷
     (drops 3 ⇒ refuses 17) ∷ []
 
 unfoldable pub scripts : List Script

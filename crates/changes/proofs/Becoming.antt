@@ -13,12 +13,12 @@ use Rattle.ids.specs.Limits.{within}
 use Rattle.ids.specs.Lists.{every}
 use Rattle.ids.proofs.Choice.{decided}
 use Rattle.ids.proofs.LimitsLaws.{within-range}
-use Rattle.quorum.specs.Check.{inRange}
+use Rattle.quorum.specs.Check.{inRangeUpTo}
 use Rattle.quorum.proofs.CheckLaws.{range}
 use Rattle.regions.specs.Blocks.{blocks}
 use Rattle.regions.proofs.SetsLaws.{drop-sets-before}
 use Rattle.system.specs.Limits.{systemClients, systemServers}
-use Rattle.system.specs.Numbered.{put}
+use Rattle.system.specs.Numbered.{put, clientNo, serverNo}
 use Rattle.system.specs.Places.{System, ClientPlace, ServerPlace, worst}
 use Rattle.places.specs.Blocks.{clientBlock, serverBlock, clientPlace, serverPlace, flags, flagged, zeroWord, validClientBlock, validServerBlock}
 use Rattle.places.proofs.BlockParts.{covered}
@@ -28,7 +28,7 @@ use Rattle.places.proofs.ClientLaws.{ClientIs}
 use Rattle.places.proofs.ServerLaws.{ServerIs}
 use Rattle.transit.specs.Slots.{slots, validSlots, transitSize}
 use Rattle.transit.proofs.Kept.{valid-sized}
-use Rattle.layout.specs.Layout.{simulationSize, settingOf, clientWords, serverWords, transitWords, lengthOf, sentOf, mostOf, view, validFrom, itself, blank, valid, clientsSize, serversFrom, serversSize, transitFrom}
+use Rattle.layout.specs.Layout.{simulationSize, settingOf, clientWords, serverWords, transitWords, lengthOf, sentOf, mostOf, view, validFrom, itself, blank, valid, clientsSize, serversFrom, serversSize, transitFrom, clientsFrom}
 use Rattle.layout.specs.Parts.{clientBlockOf, serverBlockOf}
 use Rattle.layout.proofs.ViewLaws.{head-kept, setting-kept, in-clients, clients-servers, clients-transit, servers-clients, in-servers, servers-transit, client-stored, server-stored}
 use Rattle.layout.proofs.ValidLaws.{facts, from-facts, each-valid, still-valid}
@@ -41,11 +41,11 @@ use Rattle.changes.specs.Changes.{Becomes, withClient, withServer, withT
 -- all that `valid` says but that the most is noted
 pub record Sound (w : List ℕ) : Type 0 where
   pub long : length w ≡ simulationSize
-  pub range : inRange (settingOf w .n) (settingOf w .m) (settingOf w .f) ≡ true
+  pub range : inRangeUpTo systemServers (settingOf w .n) (settingOf w .m) (settingOf w .f) ≡ true
   pub some : within (settingOf w .clients) systemClients ≡ true
-  pub clients : validFrom (validClientBlock (settingOf w .n) (settingOf w .m) (settingOf w .clients)) 1 (blocks clientBlock itself (settingOf w .clients) (clientWords w)) ≡ true
+  pub clients : validFrom (λ (i : ℕ). validClientBlock (settingOf w .n) (settingOf w .m) (settingOf w .clients) (clientNo i)) 1 (blocks clientBlock itself (settingOf w .clients) (clientWords w)) ≡ true
   pub noClients : blank (drop (settingOf w .clients * clientBlock) (clientWords w)) ≡ true
-  pub servers : validFrom (validServerBlock (settingOf w .n) (settingOf w .clients)) 1 (blocks serverBlock itself (settingOf w .n) (serverWords w)) ≡ true
+  pub servers : validFrom (λ (i : ℕ). validServerBlock (settingOf w .n) (settingOf w .clients) (serverNo i)) 1 (blocks serverBlock itself (settingOf w .n) (serverWords w)) ≡ true
   pub noServers : blank (drop (settingOf w .n * serverBlock) (serverWords w)) ≡ true
   pub transit : validSlots (settingOf w .n) (settingOf w .clients) (sentOf w) (lengthOf w) (transitWords w) ≡ true
   pub few : mostOf w ≤ settingOf w .n
@@ -73,17 +73,17 @@ module _ (w : List ℕ) (F : Sound w) where
   pub few-clients : settingOf w .clients ≤ systemClients
   few-clients = within-range (settingOf w .clients) systemClients (F .some) .1
 
-  pub client-valid : (k : ℕ) → 1 ≤ k → k ≤ settingOf w .clients → validClientBlock (settingOf w .n) (settingOf w .m) (settingOf w .clients) k (clientBlockOf w k) ≡ true
+  pub client-valid : (k : ℕ) → 1 ≤ k → k ≤ settingOf w .clients → validClientBlock (settingOf w .n) (settingOf w .m) (settingOf w .clients) (clientNo k) (clientBlockOf w (clientNo k)) ≡ true
   client-valid k p q =
       let z : 1 + (k - 1) ≡ k = omega arith in
-      subst (λ (x : ℕ). validClientBlock (settingOf w .n) (settingOf w .m) (settingOf w .clients) x (clientBlockOf w k) ≡ true) z
-      (each-valid (validClientBlock (settingOf w .n) (settingOf w .m) (settingOf w .clients)) clientBlock (settingOf w .clients) 1 (clientWords w) (F .clients) (k - 1) (omega arith))
+      subst (λ (x : ℕ). validClientBlock (settingOf w .n) (settingOf w .m) (settingOf w .clients) (clientNo x) (clientBlockOf w (clientNo k)) ≡ true) z
+      (each-valid (λ (i : ℕ). validClientBlock (settingOf w .n) (settingOf w .m) (settingOf w .clients) (clientNo i)) clientBlock (settingOf w .clients) 1 (clientWords w) (F .clients) (k - 1) (omega arith))
 
-  pub server-valid : (j : ℕ) → 1 ≤ j → j ≤ settingOf w .n → validServerBlock (settingOf w .n) (settingOf w .clients) j (serverBlockOf w j) ≡ true
+  pub server-valid : (j : ℕ) → 1 ≤ j → j ≤ settingOf w .n → validServerBlock (settingOf w .n) (settingOf w .clients) (serverNo j) (serverBlockOf w (serverNo j)) ≡ true
   server-valid j p q =
       let z : 1 + (j - 1) ≡ j = omega arith in
-      subst (λ (x : ℕ). validServerBlock (settingOf w .n) (settingOf w .clients) x (serverBlockOf w j) ≡ true) z
-      (each-valid (validServerBlock (settingOf w .n) (settingOf w .clients)) serverBlock (settingOf w .n) 1 (serverWords w) (F .servers) (j - 1) (omega arith))
+      subst (λ (x : ℕ). validServerBlock (settingOf w .n) (settingOf w .clients) (serverNo x) (serverBlockOf w (serverNo j)) ≡ true) z
+      (each-valid (λ (i : ℕ). validServerBlock (settingOf w .n) (settingOf w .clients) (serverNo i)) serverBlock (settingOf w .n) 1 (serverWords w) (F .servers) (j - 1) (omega arith))
 
 -- the most servers down, where one client changes
 pub worst-set : (l : List ClientPlace) (i : ℕ) (p : ClientPlace) (most : ℕ) → worst l ≤ most → length (p .downs) ≤ most → worst (set l i p) ≤ most
@@ -106,26 +106,26 @@ module _ (w : List ℕ) (F : Sound w) (k : ℕ) (b : List ℕ) (p : ClientPlace)
   client-long = client-facts (settingOf w .n) (settingOf w .m) (settingOf w .clients) k b (B .valid) .size
 
   client-whole : sets (take clientBlock (drop ((k - 1) * clientBlock) (clientWords w))) 0 b ≡ b
-  client-whole = covered (clientBlockOf w k) b (client-long ∙ sym (client-block-long w k (F .long) first (omega (arith, few-clients w F))))
+  client-whole = covered (clientBlockOf w (clientNo k)) b (client-long ∙ sym (client-block-long w k (F .long) first (omega (arith, few-clients w F))))
 
-  client-system : view (sets w (7 + client-at) b) ≡ withClient (view w) k p
+  client-system : view (sets w (clientsFrom + client-at) b) ≡ withClient (view w) (clientNo k) p
   client-system =
       client-stored w (k - 1) 0 b (omega arith) (few-clients w F) (omega (arith, client-long)) ∙
       ap (λ (l : List ClientPlace). record { clients = l; servers = view w .servers; transit = view w .transit; sent = view w .sent; most = view w .most })
       (ap (λ (x : List ℕ). set (view w .clients) (k - 1) (clientPlace x)) client-whole ∙
       (ap (λ (x : ClientPlace). set (view w .clients) (k - 1) x) (B .place) ∙ put-set (view w .clients) k p (omega arith)))
 
-  client-sound : Sound (sets w (7 + client-at) b)
+  client-sound : Sound (sets w (clientsFrom + client-at) b)
   client-sound =
-      let s = setting-kept w (7 + client-at) b (omega arith) in
+      let s = setting-kept w (clientsFrom + client-at) b (omega arith) in
       let fits : client-at + length b ≤ clientsSize = omega (arith, client-long, few-clients w F) in
-      let head : (i : ℕ) → i < 7 → getD (sets w (7 + client-at) b) i 0 ≡ getD w i 0 = λ i q. head-kept w (7 + client-at) b i (omega arith) in
+      let head : (i : ℕ) → i < clientsFrom → getD (sets w (clientsFrom + client-at) b) i 0 ≡ getD w i 0 = λ i q. head-kept w (clientsFrom + client-at) b i (omega arith) in
       let z : k ≡ 1 + (k - 1) = omega arith in
-      let f = validClientBlock (settingOf w .n) (settingOf w .m) (settingOf w .clients) in
+      let f : ℕ → List ℕ → Bool = λ i. validClientBlock (settingOf w .n) (settingOf w .m) (settingOf w .clients) (clientNo i) in
       let new : f (1 + (k - 1)) (sets (take clientBlock (drop ((k - 1) * clientBlock) (clientWords w))) 0 b) ≡ true =
       subst (λ (x : ℕ). f x (sets (take clientBlock (drop ((k - 1) * clientBlock) (clientWords w))) 0 b) ≡ true) z (ap (f k) client-whole ∙ B .valid) in
       record {
-        long = length-sets w (7 + client-at) b ∙ F .long;
+        long = length-sets w (clientsFrom + client-at) b ∙ F .long;
         range = rw s (F .range);
         some = rw s (F .some);
         clients = rw (s, in-clients w client-at b fits) (still-valid f clientBlock (settingOf w .clients) 1 (k - 1) (clientWords w) 0 b (omega arith) (omega (arith, client-long)) (F .clients) new);
@@ -136,14 +136,14 @@ module _ (w : List ℕ) (F : Sound w) (k : ℕ) (b : List ℕ) (p : ClientPlace)
         few = rw (s, head 6 (omega arith)) (F .few);
       }
 
-  pub client-near : Near w (sets w (7 + clientBlock * (k - 1)) b) (withClient (view w) k p)
+  pub client-near : Near w (sets w (clientsFrom + clientBlock * (k - 1)) b) (withClient (view w) (clientNo k) p)
   client-near =
-      let z : 7 + client-at ≡ 7 + clientBlock * (k - 1) = omega arith in
-      subst (λ (x : ℕ). Near w (sets w x b) (withClient (view w) k p)) z
-      (record { system = client-system; setting = setting-kept w (7 + client-at) b (omega arith); again = client-sound })
+      let z : clientsFrom + client-at ≡ clientsFrom + clientBlock * (k - 1) = omega arith in
+      subst (λ (x : ℕ). Near w (sets w x b) (withClient (view w) (clientNo k) p)) z
+      (record { system = client-system; setting = setting-kept w (clientsFrom + client-at) b (omega arith); again = client-sound })
 
-  pub client-most : getD (sets w (7 + clientBlock * (k - 1)) b) 6 0 ≡ getD w 6 0
-  client-most = head-kept w (7 + clientBlock * (k - 1)) b 6 (omega arith)
+  pub client-most : getD (sets w (clientsFrom + clientBlock * (k - 1)) b) 6 0 ≡ getD w 6 0
+  client-most = head-kept w (clientsFrom + clientBlock * (k - 1)) b 6 (omega arith)
 
 -- server j's block is stored
 module _ (w : List ℕ) (F : Sound w) (j : ℕ) (b : List ℕ) (q : ServerPlace) (first : 1 ≤ j) (last : j ≤ settingOf w .n)
@@ -155,9 +155,9 @@ module _ (w : List ℕ) (F : Sound w) (j : ℕ) (b : List ℕ) (q : ServerPlace)
   server-long = server-facts (settingOf w .n) (settingOf w .clients) j b (B .valid) .size
 
   server-whole : sets (take serverBlock (drop ((j - 1) * serverBlock) (serverWords w))) 0 b ≡ b
-  server-whole = covered (serverBlockOf w j) b (server-long ∙ sym (server-block-long w j (F .long) first (omega (arith, few-servers w F))))
+  server-whole = covered (serverBlockOf w (serverNo j)) b (server-long ∙ sym (server-block-long w j (F .long) first (omega (arith, few-servers w F))))
 
-  server-system : view (sets w (serversFrom + server-at) b) ≡ withServer (view w) j q
+  server-system : view (sets w (serversFrom + server-at) b) ≡ withServer (view w) (serverNo j) q
   server-system =
       server-stored w (j - 1) 0 b (omega arith) (few-servers w F) (omega (arith, server-long)) ∙
       ap (λ (l : List ServerPlace). record { clients = view w .clients; servers = l; transit = view w .transit; sent = view w .sent; most = view w .most })
@@ -168,9 +168,9 @@ module _ (w : List ℕ) (F : Sound w) (j : ℕ) (b : List ℕ) (q : ServerPlace)
   server-sound =
       let s = setting-kept w (serversFrom + server-at) b (omega arith) in
       let fits : server-at + length b ≤ serversSize = omega (arith, server-long, few-servers w F) in
-      let head : (i : ℕ) → i < 7 → getD (sets w (serversFrom + server-at) b) i 0 ≡ getD w i 0 = λ i q. head-kept w (serversFrom + server-at) b i (omega arith) in
+      let head : (i : ℕ) → i < clientsFrom → getD (sets w (serversFrom + server-at) b) i 0 ≡ getD w i 0 = λ i q. head-kept w (serversFrom + server-at) b i (omega arith) in
       let z : j ≡ 1 + (j - 1) = omega arith in
-      let f = validServerBlock (settingOf w .n) (settingOf w .clients) in
+      let f : ℕ → List ℕ → Bool = λ i. validServerBlock (settingOf w .n) (settingOf w .clients) (serverNo i) in
       let new : f (1 + (j - 1)) (sets (take serverBlock (drop ((j - 1) * serverBlock) (serverWords w))) 0 b) ≡ true =
       subst (λ (x : ℕ). f x (sets (take serverBlock (drop ((j - 1) * serverBlock) (serverWords w))) 0 b) ≡ true) z (ap (f j) server-whole ∙ B .valid) in
       record {
@@ -185,10 +185,10 @@ module _ (w : List ℕ) (F : Sound w) (j : ℕ) (b : List ℕ) (q : ServerPlace)
         few = rw (s, head 6 (omega arith)) (F .few);
       }
 
-  pub server-near : Near w (sets w (serversFrom + serverBlock * (j - 1)) b) (withServer (view w) j q)
+  pub server-near : Near w (sets w (serversFrom + serverBlock * (j - 1)) b) (withServer (view w) (serverNo j) q)
   server-near =
       let z : serversFrom + server-at ≡ serversFrom + serverBlock * (j - 1) = omega arith in
-      subst (λ (x : ℕ). Near w (sets w x b) (withServer (view w) j q)) z
+      subst (λ (x : ℕ). Near w (sets w x b) (withServer (view w) (serverNo j) q)) z
       (record { system = server-system; setting = setting-kept w (serversFrom + server-at) b (omega arith); again = server-sound })
 
 -- the messages in transit, their number and the number of messages sent are stored
@@ -202,13 +202,13 @@ module _ (w : List ℕ) (F : Sound w) (t : List ℕ) (len sent : ℕ) (ok′ : v
   old-long : length (transitWords w) ≡ transitSize
   old-long = valid-sized (settingOf w .n) (settingOf w .clients) (sentOf w) (lengthOf w) (transitWords w) (F .transit) .size
 
-  posted-parts : Is posted (set (set (take 7 w) 4 len) 5 sent) (clientWords w) (serverWords w) t
+  posted-parts : Is posted (set (set (take clientsFrom w) 4 len) 5 sent) (clientWords w) (serverWords w) t
   posted-parts =
       let a = is-transit-store (itself-is w (F .long)) 0 t (omega (arith, slots-long)) in
       let b = is-head-store (is-head-store a 4 len (omega arith)) 5 sent (omega arith) in
       record { long = b .long; head = b .head; clients = b .clients; servers = b .servers; transit = b .transit ∙ covered (transitWords w) t (slots-long ∙ sym old-long) }
 
-  posted-word : (i : ℕ) → i < 7 → (i ≡ 4 → ⊥) → (i ≡ 5 → ⊥) → getD posted i 0 ≡ getD w i 0
+  posted-word : (i : ℕ) → i < clientsFrom → (i ≡ 4 → ⊥) → (i ≡ 5 → ⊥) → getD posted i 0 ≡ getD w i 0
   posted-word i h a b = getD-set-other (set (sets w transitFrom t) 4 len) 5 i sent 0 b ∙ (getD-set-other (sets w transitFrom t) 4 i len 0 a ∙ head-kept w transitFrom t i (omega arith))
 
   posted-length : getD posted 4 0 ≡ len
@@ -264,7 +264,7 @@ flagged-few (suc n) j (x ∷ l) h =
     (λ (t : eqb x 0 ≡ false). rw t (omega (arith, flagged-few n (suc j) l h)))
     (decided (eqb x 0))
 
-downs-few : (n m clients k : ℕ) (b : List ℕ) → validClientBlock n m clients k b ≡ true → length (clientPlace b .downs) ≤ n
+downs-few : (n m clients k : ℕ) (b : List ℕ) → validClientBlock n m clients (clientNo k) b ≡ true → length (clientPlace b .downs) ≤ n
 unfolding clientPlace
 downs-few n m clients k b ok = flagged-few n 1 (flags b) (client-facts n m clients k b ok .behind)
 
@@ -274,7 +274,7 @@ module _ (w : List ℕ) (F : Sound w) where
   unfolding worst blocks
   worst-few-of zero h = omega arith
   worst-few-of (suc i) h =
-      let f = validClientBlock (settingOf w .n) (settingOf w .m) (settingOf w .clients) in
+      let f : ℕ → List ℕ → Bool = λ i. validClientBlock (settingOf w .n) (settingOf w .m) (settingOf w .clients) (clientNo i) in
       let v = each-valid f clientBlock (settingOf w .clients) 1 (clientWords w) (F .clients) i h in
       omega (
         arith,
@@ -305,7 +305,7 @@ module _ (w : List ℕ) (F : Sound w) where
   noted-most : getD (set w 6 most) 6 0 ≡ most
   noted-most = getD-set-same w 6 most 0 (omega (arith, F .long))
 
-  noted-parts : Is (set w 6 most) (set (take 7 w) 6 most) (clientWords w) (serverWords w) (transitWords w)
+  noted-parts : Is (set w 6 most) (set (take clientsFrom w) 6 most) (clientWords w) (serverWords w) (transitWords w)
   noted-parts = is-head-store (itself-is w (F .long)) 6 most (omega arith)
 
   noted-system : view (set w 6 most) ≡ withClients (view w) (view w .clients)
@@ -342,19 +342,19 @@ module _ (w : List ℕ) (F : Sound w) where
 module _ (w : List ℕ) (ok : valid w ≡ true) where
   pub client-becomes : (k : ℕ) (b : List ℕ) (p : ClientPlace) → 1 ≤ k → k ≤ settingOf w .clients
       → ClientIs (settingOf w .n) (settingOf w .m) (settingOf w .clients) k b p → length (p .downs) ≤ mostOf w
-      → Becomes w (sets w (7 + clientBlock * (k - 1)) b) (withClient (view w) k p)
+      → Becomes w (sets w (clientsFrom + clientBlock * (k - 1)) b) (withClient (view w) (clientNo k) p)
   client-becomes k b p first last B few =
       let N = client-near w (sound w ok) k b p first last B in
       let most = client-most w (sound w ok) k b p first last B in
       record {
         system = N .system;
         setting = N .setting;
-        again = noted-valid (sets w (7 + clientBlock * (k - 1)) b) (N .again) (rw (N .system, most) (worst-put (view w .clients) k p (mostOf w) (facts w ok .noted) few));
+        again = noted-valid (sets w (clientsFrom + clientBlock * (k - 1)) b) (N .again) (rw (N .system, most) (worst-put (view w .clients) k p (mostOf w) (facts w ok .noted) few));
       }
 
   pub server-becomes : (j : ℕ) (b : List ℕ) (q : ServerPlace) → 1 ≤ j → j ≤ settingOf w .n
       → ServerIs (settingOf w .n) (settingOf w .clients) j b q
-      → Becomes w (sets w (serversFrom + serverBlock * (j - 1)) b) (withServer (view w) j q)
+      → Becomes w (sets w (serversFrom + serverBlock * (j - 1)) b) (withServer (view w) (serverNo j) q)
   server-becomes j b q first last B =
       let N = server-near w (sound w ok) j b q first last B in
       let most = head-kept w (serversFrom + serverBlock * (j - 1)) b 6 (omega arith) in

@@ -12,13 +12,13 @@ use Rattle.ids.specs.Choice.{if_then_else_}
 use Rattle.ids.specs.declared.ServerId.{ServerId}
 use Rattle.regions.proofs.BlockLaws.{length-blocks}
 use Rattle.regions.specs.Blocks.{blocks}
-use Rattle.system.specs.Numbered.{put, at}
+use Rattle.system.specs.Numbered.{put, at, clientNo, serverNo}
 use Rattle.system.specs.Places.{System, ClientPlace, ServerPlace, noClient, noServer, clientAt, serverAt, inEpoch, downed, downFrom, worst}
 use Rattle.places.specs.Blocks.{clientPlace, serverPlace, cleared, clientBlock, serverBlock, flagsFrom}
 use Rattle.places.proofs.FlagLaws.{downBit}
 use Rattle.places.proofs.ClientLaws.{ClientIs}
 use Rattle.places.proofs.EpochLaws.{mark-block, flag-next, put-block, cleared-block}
-use Rattle.layout.specs.Layout.{settingOf, mostOf, clientWords, serverWords, view, valid, simulationSize}
+use Rattle.layout.specs.Layout.{settingOf, mostOf, clientWords, serverWords, view, valid, simulationSize, clientsFrom}
 use Rattle.layout.specs.Parts.{clientBlockOf, serverBlockOf, ClientIn, ServerIn}
 use Rattle.layout.proofs.ViewLaws.{setting-kept, clients-servers}
 use Rattle.layout.proofs.PlaceLaws.{client-place, server-place}
@@ -76,13 +76,13 @@ markedSystem w j i =
 
 -- what `note_down` knows before client i + 1
 pub record Marking (w : List ℕ) (j : ServerId) (clients : ℕ) (w′ : List ℕ) (i : ℕ) : Type 0 where
-  pub has : HasServer w (j .0)
+  pub has : HasServer w j
   pub count : clients ≡ settingOf w .clients
   pub within : i ≤ clients
   pub near : Near w w′ (markedSystem w j i)
 
 module _ (w : List ℕ) (j : ServerId) where
-  pub marking-none : HasServer w (j .0) → Marking w j (getD w 3 0) w 0
+  pub marking-none : HasServer w j → Marking w j (getD w 3 0) w 0
   unfolding marked settingOf
   marking-none H =
       record { has = H; count = refl; within = omega arith; near = record { system = refl; setting = refl; again = sound w (H .valid) } }
@@ -91,38 +91,38 @@ module _ (w : List ℕ) (j : ServerId) where
     pub marking-fits : clients ≤ systemClients
     marking-fits = omega (arith, M .count, few-clients w (sound w (M .has .valid)))
 
-    pub marking-in : i < clients → ClientIn w′ (i + 1) × (1 ≤ j .0) × (j .0 ≤ systemServers)
+    pub marking-in : i < clients → ClientIn w′ (clientNo (i + 1)) × (1 ≤ j .0) × (j .0 ≤ systemServers)
     marking-in lt =
         let h : j .0 ≤ systemServers = omega (arith, M .has .last, few-servers w (sound w (M .has .valid))) in
         (record { long = M .near .again .long; first = omega arith; last = omega (arith, marking-fits, lt) }, M .has .first, h)
 
     module _ (lt : i < clients) where
       abbrev block : List ℕ
-      block = clientBlockOf w′ (suc i)
+      block = clientBlockOf w′ (clientNo (suc i))
 
       abbrev stored : List ℕ
-      stored = if inEpoch (clientPlace (clientBlockOf w′ (suc i))) then set (clientBlockOf w′ (suc i)) (clientSize + j .0) 1 else clientBlockOf w′ (suc i)
+      stored = if inEpoch (clientPlace (clientBlockOf w′ (clientNo (suc i)))) then set (clientBlockOf w′ (clientNo (suc i))) (clientSize + j .0) 1 else clientBlockOf w′ (clientNo (suc i))
 
       inside : suc i ≤ settingOf w′ .clients
       inside = rw (M .near .setting) (omega (arith, M .count, lt))
 
-      is-marked : ClientIs (settingOf w′ .n) (settingOf w′ .m) (settingOf w′ .clients) (suc i) stored (downed j (clientAt (view w′) (suc i)))
+      is-marked : ClientIs (settingOf w′ .n) (settingOf w′ .m) (settingOf w′ .clients) (suc i) stored (downed j (clientAt (view w′) (clientNo (suc i))))
       is-marked =
           let v = client-valid w′ (M .near .again) (suc i) (omega arith) inside in
           let n : j .0 ≤ settingOf w′ .n = rw (M .near .setting) (M .has .last) in
           rw (client-place w′ (suc i) (omega arith) inside) (mark-block (settingOf w′ .n) (settingOf w′ .m) (settingOf w′ .clients) (suc i) block v j (M .has .first) n)
 
-      marked-near : Near w (sets w′ (7 + clientBlock * (suc i - 1)) stored) (markedSystem w j (suc i))
+      marked-near : Near w (sets w′ (clientsFrom + clientBlock * (suc i - 1)) stored) (markedSystem w j (suc i))
       marked-near =
-          let N = client-near w′ (M .near .again) (suc i) stored (downed j (clientAt (view w′) (suc i))) (omega arith) inside is-marked in
-          let e : markedSystem w j (suc i) ≡ withClient (view w′) (suc i) (downed j (clientAt (view w′) (suc i))) =
-          sym (ap (λ (u : System). withClient u (suc i) (downed j (clientAt u (suc i)))) (M .near .system) ∙
+          let N = client-near w′ (M .near .again) (suc i) stored (downed j (clientAt (view w′) (clientNo (suc i)))) (omega arith) inside is-marked in
+          let e : markedSystem w j (suc i) ≡ withClient (view w′) (clientNo (suc i)) (downed j (clientAt (view w′) (clientNo (suc i)))) =
+          sym (ap (λ (u : System). withClient u (clientNo (suc i)) (downed j (clientAt u (clientNo (suc i))))) (M .near .system) ∙
           ap (λ (l : List ClientPlace). record { clients = l; servers = view w .servers; transit = view w .transit; sent = view w .sent; most = view w .most })
           (marked-next j i (view w .clients) (omega (arith, clients-long w, M .count, lt)))) in
-          subst (λ (u : System). Near w (sets w′ (7 + clientBlock * (suc i - 1)) stored) u) (sym e) (near-trans (M .near) N)
+          subst (λ (u : System). Near w (sets w′ (clientsFrom + clientBlock * (suc i - 1)) stored) u) (sym e) (near-trans (M .near) N)
 
     pub marking-more : i < clients → (w″ : List ℕ)
-        → w″ ≡ sets w′ (7 + clientBlock * (i + 1 - 1)) (if inEpoch (clientPlace (clientBlockOf w′ (i + 1))) then set (clientBlockOf w′ (i + 1)) (clientSize + j .0) 1 else clientBlockOf w′ (i + 1))
+        → w″ ≡ sets w′ (clientsFrom + clientBlock * (i + 1 - 1)) (if inEpoch (clientPlace (clientBlockOf w′ (clientNo (i + 1)))) then set (clientBlockOf w′ (clientNo (i + 1))) (clientSize + j .0) 1 else clientBlockOf w′ (clientNo (i + 1)))
         → Marking w j clients w″ (i + 1)
     marking-more lt w″ e =
         let z : i + 1 ≡ suc i = omega arith in
@@ -141,12 +141,12 @@ module _ (w : List ℕ) (j : ServerId) where
         subst (λ (l : List ClientPlace). Becomes w w″ (withClients (view w) l)) a (noted (marked j i (view w .clients)) (M .near) w″ e)
 
 -- the block stored as it is
-same-stored : (w : List ℕ) (k : ℕ) → length w ≡ simulationSize → 1 ≤ k → k ≤ systemClients → sets w (7 + clientBlock * (k - 1)) (clientBlockOf w k) ≡ w
+same-stored : (w : List ℕ) (k : ℕ) → length w ≡ simulationSize → 1 ≤ k → k ≤ systemClients → sets w (clientsFrom + clientBlock * (k - 1)) (clientBlockOf w (clientNo k)) ≡ w
 same-stored w k l p q =
-    let z : 7 + clientBlock * (k - 1) + clientBlock - (7 + clientBlock * (k - 1)) ≡ clientBlock = omega arith in
-    sym (came-back w (7 + clientBlock * (k - 1)) clientBlock (clientBlockOf w k) (client-block-long w k l p q) (omega arith)) ∙
-    (ap (λ (x : ℕ). putMid (7 + clientBlock * (k - 1)) x w (clientBlockOf w k)) z ∙
-    (ap (λ (b : List ℕ). putMid (7 + clientBlock * (k - 1)) clientBlock w b) (sym (client-part w k p q)) ∙ put-same (7 + clientBlock * (k - 1)) clientBlock w))
+    let z : clientsFrom + clientBlock * (k - 1) + clientBlock - (clientsFrom + clientBlock * (k - 1)) ≡ clientBlock = omega arith in
+    sym (came-back w (clientsFrom + clientBlock * (k - 1)) clientBlock (clientBlockOf w (clientNo k)) (client-block-long w k l p q) (omega arith)) ∙
+    (ap (λ (x : ℕ). putMid (clientsFrom + clientBlock * (k - 1)) x w (clientBlockOf w (clientNo k))) z ∙
+    (ap (λ (b : List ℕ). putMid (clientsFrom + clientBlock * (k - 1)) clientBlock w b) (sym (client-part w k p q)) ∙ put-same (clientsFrom + clientBlock * (k - 1)) clientBlock w))
 
 bit-at : (l : List ServerPlace) (i : ℕ) → i < length l → getD (map downBit l) i 0 ≡ downBit (getD l i noServer)
 bit-at [] i h = absurd (omega arith)
@@ -158,17 +158,17 @@ abbrev bitsOf : List ℕ → List ℕ
 bitsOf w = map downBit (view w .servers)
 
 abbrev flaggedTo : List ℕ → ℕ → ℕ → List ℕ
-flaggedTo w k i = sets (clientBlockOf w k) flagsFrom (take i (map downBit (view w .servers)))
+flaggedTo w k i = sets (clientBlockOf w (clientNo k)) flagsFrom (take i (map downBit (view w .servers)))
 
 -- what `begin_epoch` knows before server i + 1
 pub record Flagging (w : List ℕ) (k n : ℕ) (w′ : List ℕ) (i : ℕ) : Type 0 where
-  pub has : HasClient w k
+  pub has : HasClient w (clientNo k)
   pub count : n ≡ settingOf w .n
   pub within : i ≤ n
-  pub words : w′ ≡ sets w (7 + clientBlock * (k - 1)) (flaggedTo w k i)
+  pub words : w′ ≡ sets w (clientsFrom + clientBlock * (k - 1)) (flaggedTo w k i)
 
 -- the first i flags are put
-module _ (w : List ℕ) (k : ℕ) (H : HasClient w k) where
+module _ (w : List ℕ) (k : ℕ) (H : HasClient w (clientNo k)) where
   last-client : k ≤ systemClients
   last-client = omega (arith, H .last, few-clients w (sound w (H .valid)))
 
@@ -180,43 +180,43 @@ module _ (w : List ℕ) (k : ℕ) (H : HasClient w k) where
   flagging-none = record { has = H; count = refl; within = omega arith; words = sym (same-stored w k long (H .first) last-client) }
 
   flagged-long : (i : ℕ) → length (flaggedTo w k i) ≡ clientBlock
-  flagged-long i = length-sets (clientBlockOf w k) flagsFrom (take i (bitsOf w)) ∙ client-block-long w k long (H .first) last-client
+  flagged-long i = length-sets (clientBlockOf w (clientNo k)) flagsFrom (take i (bitsOf w)) ∙ client-block-long w k long (H .first) last-client
 
   abbrev flagged-words : ℕ → List ℕ
-  flagged-words i = sets w (7 + clientBlock * (k - 1)) (flaggedTo w k i)
+  flagged-words i = sets w (clientsFrom + clientBlock * (k - 1)) (flaggedTo w k i)
 
   flagged-servers : (i : ℕ) → serverWords (flagged-words i) ≡ serverWords w
   flagged-servers i = clients-servers w (clientBlock * (k - 1)) (flaggedTo w k i) (omega (arith, flagged-long i, last-client, H .first))
 
-  flagged-block : (i : ℕ) → clientBlockOf (flagged-words i) k ≡ flaggedTo w k i
+  flagged-block : (i : ℕ) → clientBlockOf (flagged-words i) (clientNo k) ≡ flaggedTo w k i
   flagged-block i =
       client-block-stored w k (record { long = long; first = H .first; last = last-client }) (flaggedTo w k i) (omega (arith, flagged-long i)) (flagged-long i)
 
   -- the flag of server i + 1
-  flag-is : (i x : ℕ) → i < settingOf w .n → x ≡ (if serverPlace (serverBlockOf (flagged-words i) (suc i)) .up then 0 else 1) → x ≡ getD (bitsOf w) i 0
+  flag-is : (i x : ℕ) → i < settingOf w .n → x ≡ (if serverPlace (serverBlockOf (flagged-words i) (serverNo (suc i))) .up then 0 else 1) → x ≡ getD (bitsOf w) i 0
   flag-is i x h e =
-      let a : serverBlockOf (flagged-words i) (suc i) ≡ serverBlockOf w (suc i) = ap (λ (l : List ℕ). take serverBlock (drop ((suc i - 1) * serverBlock) l)) (flagged-servers i) in
-      let p : serverAt (view w) (suc i) ≡ serverPlace (serverBlockOf w (suc i)) = server-place w (suc i) (omega arith) h in
+      let a : serverBlockOf (flagged-words i) (serverNo (suc i)) ≡ serverBlockOf w (serverNo (suc i)) = ap (λ (l : List ℕ). take serverBlock (drop ((suc i - 1) * serverBlock) l)) (flagged-servers i) in
+      let p : serverAt (view w) (serverNo (suc i)) ≡ serverPlace (serverBlockOf w (serverNo (suc i))) = server-place w (suc i) (omega arith) h in
       e ∙ (ap (λ (b : List ℕ). downBit (serverPlace b)) a ∙ (ap downBit (sym p) ∙ sym (bit-at (view w .servers) i (omega (arith, servers-long w, h)))))
 
   flag-stored : (i x : ℕ) → i < settingOf w .n → x ≡ getD (bitsOf w) i 0
-      → sets (flagged-words i) (7 + clientBlock * (k - 1)) (set (clientBlockOf (flagged-words i) k) (clientSize + (i + 1)) x) ≡ flagged-words (i + 1)
+      → sets (flagged-words i) (clientsFrom + clientBlock * (k - 1)) (set (clientBlockOf (flagged-words i) (clientNo k)) (clientSize + (i + 1)) x) ≡ flagged-words (i + 1)
   flag-stored i x h e =
       let l : i < length (bitsOf w) = omega (arith, length-map (view w .servers) downBit, servers-long w, h) in
-      let b : set (clientBlockOf (flagged-words i) k) (clientSize + (i + 1)) x ≡ flaggedTo w k (i + 1) =
-      ap (λ (b : List ℕ). set b (clientSize + (i + 1)) x) (flagged-block i) ∙ (ap (λ (y : ℕ). set (flaggedTo w k i) (clientSize + (i + 1)) y) e ∙ flag-next (clientBlockOf w k) (bitsOf w) i l) in
-      ap (λ (b : List ℕ). sets (flagged-words i) (7 + clientBlock * (k - 1)) b) b ∙
-      sets-over w (7 + clientBlock * (k - 1)) (flaggedTo w k i) (flaggedTo w k (i + 1)) (omega (arith, flagged-long i, flagged-long (i + 1)))
+      let b : set (clientBlockOf (flagged-words i) (clientNo k)) (clientSize + (i + 1)) x ≡ flaggedTo w k (i + 1) =
+      ap (λ (b : List ℕ). set b (clientSize + (i + 1)) x) (flagged-block i) ∙ (ap (λ (y : ℕ). set (flaggedTo w k i) (clientSize + (i + 1)) y) e ∙ flag-next (clientBlockOf w (clientNo k)) (bitsOf w) i l) in
+      ap (λ (b : List ℕ). sets (flagged-words i) (clientsFrom + clientBlock * (k - 1)) b) b ∙
+      sets-over w (clientsFrom + clientBlock * (k - 1)) (flaggedTo w k i) (flaggedTo w k (i + 1)) (omega (arith, flagged-long i, flagged-long (i + 1)))
 
   -- all flags are put
-  flagged-near : inEpoch (clientAt (view w) k) ≡ true
-      → Near w (sets w (7 + clientBlock * (k - 1)) (sets (clientBlockOf w k) flagsFrom (bitsOf w))) (withClient (view w) k (record { living = clientAt (view w) k .living; state = clientAt (view w) k .state; downs = downFrom 1 (view w .servers) }))
+  flagged-near : inEpoch (clientAt (view w) (clientNo k)) ≡ true
+      → Near w (sets w (clientsFrom + clientBlock * (k - 1)) (sets (clientBlockOf w (clientNo k)) flagsFrom (bitsOf w))) (withClient (view w) (clientNo k) (record { living = clientAt (view w) (clientNo k) .living; state = clientAt (view w) (clientNo k) .state; downs = downFrom 1 (view w .servers) }))
   flagged-near run =
       let p = client-place w k (H .first) (H .last) in
       let v = client-valid w (sound w (H .valid)) k (H .first) (H .last) in
-      let B : ClientIs (settingOf w .n) (settingOf w .m) (settingOf w .clients) k (sets (clientBlockOf w k) flagsFrom (bitsOf w)) (record { living = clientAt (view w) k .living; state = clientAt (view w) k .state; downs = downFrom 1 (view w .servers) }) =
-      rw p (put-block (settingOf w .n) (settingOf w .m) (settingOf w .clients) k (clientBlockOf w k) v (view w .servers) (servers-long w) (rw p at run)) in
-      client-near w (sound w (H .valid)) k (sets (clientBlockOf w k) flagsFrom (bitsOf w)) _ (H .first) (H .last) B
+      let B : ClientIs (settingOf w .n) (settingOf w .m) (settingOf w .clients) k (sets (clientBlockOf w (clientNo k)) flagsFrom (bitsOf w)) (record { living = clientAt (view w) (clientNo k) .living; state = clientAt (view w) (clientNo k) .state; downs = downFrom 1 (view w .servers) }) =
+      rw p (put-block (settingOf w .n) (settingOf w .m) (settingOf w .clients) k (clientBlockOf w (clientNo k)) v (view w .servers) (servers-long w) (rw p at run)) in
+      client-near w (sound w (H .valid)) k (sets (clientBlockOf w (clientNo k)) flagsFrom (bitsOf w)) _ (H .first) (H .last) B
 
 module _ (w : List ℕ) (k n : ℕ) (w′ : List ℕ) (i : ℕ) (P : Flagging w k n w′ i) where
   pub flagging-fits : n ≤ systemServers
@@ -224,32 +224,32 @@ module _ (w : List ℕ) (k n : ℕ) (w′ : List ℕ) (i : ℕ) (P : Flagging w 
 
   pub flagging-sized : (length w′ ≡ simulationSize) × (settingOf w′ .clients ≤ systemClients)
   flagging-sized =
-      rw (P .words) (length-sets w (7 + clientBlock * (k - 1)) (flaggedTo w k i) ∙ long w k (P .has), rw (setting-kept w (7 + clientBlock * (k - 1)) (flaggedTo w k i) (omega arith)) (few-clients w (sound w (P .has .valid))))
+      rw (P .words) (length-sets w (clientsFrom + clientBlock * (k - 1)) (flaggedTo w k i) ∙ long w k (P .has), rw (setting-kept w (clientsFrom + clientBlock * (k - 1)) (flaggedTo w k i) (omega arith)) (few-clients w (sound w (P .has .valid))))
 
   pub flagging-same : (x : ℕ) (w″ : List ℕ) → w″ ≡ set w′ 6 x → length w″ ≡ length w
   flagging-same x w″ e = ap length e ∙ (length-set w′ 6 x ∙ (flagging-sized .0 ∙ sym (long w k (P .has))))
 
-  pub flagging-server : i < n → ServerIn w′ (i + 1)
+  pub flagging-server : i < n → ServerIn w′ (serverNo (i + 1))
   flagging-server lt = record { long = flagging-sized .0; first = omega arith; last = omega (arith, flagging-fits, lt) }
 
-  pub flagging-client : i < n → ClientIn w′ k × (1 ≤ i + 1) × (i + 1 ≤ systemServers)
+  pub flagging-client : i < n → ClientIn w′ (clientNo k) × (1 ≤ i + 1) × (i + 1 ≤ systemServers)
   flagging-client lt = let h : i + 1 ≤ systemServers = omega (arith, flagging-fits, lt) in let g : 1 ≤ i + 1 = omega arith in (record { long = flagging-sized .0; first = P .has .first; last = last-client w k (P .has) }, g, h)
 
-  pub flagging-more : i < n → (x : ℕ) → x ≡ (if serverPlace (serverBlockOf w′ (i + 1)) .up then 0 else 1) → (w″ : List ℕ)
-      → w″ ≡ sets w′ (7 + clientBlock * (k - 1)) (set (clientBlockOf w′ k) (clientSize + (i + 1)) x) → Flagging w k n w″ (i + 1)
+  pub flagging-more : i < n → (x : ℕ) → x ≡ (if serverPlace (serverBlockOf w′ (serverNo (i + 1))) .up then 0 else 1) → (w″ : List ℕ)
+      → w″ ≡ sets w′ (clientsFrom + clientBlock * (k - 1)) (set (clientBlockOf w′ (clientNo k)) (clientSize + (i + 1)) x) → Flagging w k n w″ (i + 1)
   flagging-more lt x e w″ g =
       let z : i + 1 ≡ suc i = omega arith in
       let s : i < settingOf w .n = omega (arith, P .count, lt) in
-      let e′ : x ≡ (if serverPlace (serverBlockOf (flagged-words w k (P .has) i) (suc i)) .up then 0 else 1) = rw (P .words, z) at e in
-      let g′ : w″ ≡ sets (flagged-words w k (P .has) i) (7 + clientBlock * (k - 1)) (set (clientBlockOf (flagged-words w k (P .has) i) k) (clientSize + (i + 1)) x) = rw (P .words) at g in
+      let e′ : x ≡ (if serverPlace (serverBlockOf (flagged-words w k (P .has) i) (serverNo (suc i))) .up then 0 else 1) = rw (P .words, z) at e in
+      let g′ : w″ ≡ sets (flagged-words w k (P .has) i) (clientsFrom + clientBlock * (k - 1)) (set (clientBlockOf (flagged-words w k (P .has) i) (clientNo k)) (clientSize + (i + 1)) x) = rw (P .words) at g in
       record { has = P .has; count = P .count; within = omega (arith, lt); words = g′ ∙ flag-stored w k (P .has) i x s (flag-is w k (P .has) i x s e′) }
 
-  pub flagging-all : n ≤ i → inEpoch (clientAt (view w) k) ≡ true → (w″ : List ℕ) → w″ ≡ set w′ 6 (max (mostOf w′) (worst (view w′ .clients)))
-      → Becomes w w″ (withClients (view w) (put (view w .clients) k (record { living = clientAt (view w) k .living; state = clientAt (view w) k .state; downs = downFrom 1 (view w .servers) })))
+  pub flagging-all : n ≤ i → inEpoch (clientAt (view w) (clientNo k)) ≡ true → (w″ : List ℕ) → w″ ≡ set w′ 6 (max (mostOf w′) (worst (view w′ .clients)))
+      → Becomes w w″ (withClients (view w) (put (view w .clients) k (record { living = clientAt (view w) (clientNo k) .living; state = clientAt (view w) (clientNo k) .state; downs = downFrom 1 (view w .servers) })))
   flagging-all h run w″ e =
       let t : take i (bitsOf w) ≡ bitsOf w = take-all i (bitsOf w) (omega (arith, length-map (view w .servers) downBit, servers-long w, P .count, h)) in
-      let words : w′ ≡ sets w (7 + clientBlock * (k - 1)) (sets (clientBlockOf w k) flagsFrom (bitsOf w)) = P .words ∙ ap (λ (l : List ℕ). sets w (7 + clientBlock * (k - 1)) (sets (clientBlockOf w k) flagsFrom l)) t in
-      noted (put (view w .clients) k (record { living = clientAt (view w) k .living; state = clientAt (view w) k .state; downs = downFrom 1 (view w .servers) })) (flagged-near w k (P .has) run) w″ (rw words at e)
+      let words : w′ ≡ sets w (clientsFrom + clientBlock * (k - 1)) (sets (clientBlockOf w (clientNo k)) flagsFrom (bitsOf w)) = P .words ∙ ap (λ (l : List ℕ). sets w (clientsFrom + clientBlock * (k - 1)) (sets (clientBlockOf w (clientNo k)) flagsFrom l)) t in
+      noted (put (view w .clients) k (record { living = clientAt (view w) (clientNo k) .living; state = clientAt (view w) (clientNo k) .state; downs = downFrom 1 (view w .servers) })) (flagged-near w k (P .has) run) w″ (rw words at e)
 
 -- what `note_most` stores
 pub few-word : (w : List ℕ) → settingOf w .clients ≤ systemClients → getD w 3 0 ≤ systemClients
@@ -262,16 +262,16 @@ unfolding view settingOf
 noted-words w x r e g = rw (g, e)
 
 -- an epoch ends
-module _ (w : List ℕ) (k : ℕ) (H : HasClient w k) where
+module _ (w : List ℕ) (k : ℕ) (H : HasClient w (clientNo k)) where
   abbrev flagless : List ℕ
-  flagless = clientBlockOf w k
+  flagless = clientBlockOf w (clientNo k)
 
-  ending : Becomes w (sets w (7 + clientBlock * (k - 1)) (cleared flagless)) (withClient (view w) k (record { living = clientAt (view w) k .living; state = clientAt (view w) k .state; downs = [] }))
+  ending : Becomes w (sets w (clientsFrom + clientBlock * (k - 1)) (cleared flagless)) (withClient (view w) (clientNo k) (record { living = clientAt (view w) (clientNo k) .living; state = clientAt (view w) (clientNo k) .state; downs = [] }))
   ending =
-      let B : ClientIs (settingOf w .n) (settingOf w .m) (settingOf w .clients) k (cleared flagless) (record { living = clientAt (view w) k .living; state = clientAt (view w) k .state; downs = [] }) =
+      let B : ClientIs (settingOf w .n) (settingOf w .m) (settingOf w .clients) k (cleared flagless) (record { living = clientAt (view w) (clientNo k) .living; state = clientAt (view w) (clientNo k) .state; downs = [] }) =
       rw (client-place w k (H .first) (H .last)) (cleared-block (settingOf w .n) (settingOf w .m) (settingOf w .clients) k flagless (client-valid w (sound w (H .valid)) k (H .first) (H .last))) in
       client-becomes w (H .valid) k (cleared flagless) _ (H .first) (H .last) B zero-le
 
-pub epoch-ends : (w : List ℕ) (k : ℕ) → HasClient w k → (w′ : List ℕ) → w′ ≡ sets w (7 + clientBlock * (k - 1)) (cleared (clientBlockOf w k))
-    → Becomes w w′ (withClient (view w) k (record { living = clientAt (view w) k .living; state = clientAt (view w) k .state; downs = [] }))
+pub epoch-ends : (w : List ℕ) (k : ℕ) → HasClient w (clientNo k) → (w′ : List ℕ) → w′ ≡ sets w (clientsFrom + clientBlock * (k - 1)) (cleared (clientBlockOf w (clientNo k)))
+    → Becomes w w′ (withClient (view w) (clientNo k) (record { living = clientAt (view w) (clientNo k) .living; state = clientAt (view w) (clientNo k) .state; downs = [] }))
 epoch-ends w k H w′ e = rw e (ending w k H)

@@ -24,7 +24,7 @@ use Rattle.server.specs.Calls as server
 use Rattle.server.specs.Record.{validSizes as server-sizes}
 use Rattle.server.specs.declared.Stepped.{Stepped as ServerStepped}
 use Rattle.words.specs.Records as records
-use Rattle.quorum.specs.Check.{inRange}
+use Rattle.quorum.specs.Check.{inRangeUpTo}
 use Rattle.quorum.proofs.CheckLaws.{range}
 use Rattle.regions.specs.Blocks.{blocks}
 use Rattle.regions.proofs.SetsLaws.{drop-sets-before}
@@ -36,7 +36,7 @@ use Rattle.places.proofs.ClientLaws.{ClientIs, Frame}
 use Rattle.places.proofs.ClientSteps.{fresh-block}
 use Rattle.places.proofs.ServerLaws.{ServerIs, idle-block}
 use Rattle.transit.proofs.Kept.{valid-none, slots-none}
-use Rattle.layout.specs.Layout.{settingOf, clientWords, serverWords, transitWords, view, valid, validFrom, itself, blank, serversFrom, simulationSize, clientsSize, serversSize, transitFrom}
+use Rattle.layout.specs.Layout.{settingOf, clientWords, serverWords, transitWords, view, valid, validFrom, itself, blank, serversFrom, simulationSize, clientsSize, serversSize, transitFrom, clientsFrom}
 use Rattle.layout.specs.Parts.{clientBlockOf, serverBlockOf, ClientIn, ServerIn}
 use Rattle.layout.proofs.ValidLaws.{all-valid, block-here, block-other, from-facts}
 use Rattle.layout.proofs.PartLaws.{Is, itself-is, is-client-store, is-server-store, is-head-store, head-word, setting-is, view-is, settingIn, systemIn}
@@ -46,6 +46,7 @@ use Rattle.changes.proofs.Stores.{sets-over, client-block-from, server-
 use Rattle.votes.specs.Queues.{maxQueue}
 use Rattle.system.specs.Limits.{systemClients, systemServers}
 use Rattle.transit.specs.Slots.{transitSize}
+use Rattle.system.specs.Numbered.{clientNo, serverNo}
 
 -- words that are all 0
 blank-is : (l : List ℕ) → blank l ≡ true → l ≡ replicate (length l) 0
@@ -91,33 +92,33 @@ module _ (w₀ w : List ℕ) (i : ℕ) (C : Clearing w₀ w i) where
   clearing-all h = record { same = C .same; zeros = blank-all w (λ x q. C .done x (omega arith)) }
 
 -- one party's block
-module _ (n m k : ℕ) (w : List ℕ) (h : ClientIn w k) where
+module _ (n m k : ℕ) (w : List ℕ) (h : ClientIn w (clientNo k)) where
   pub client-opened : (s : ClientStepped) → s ≡ client.newResult n m (record { 0 = k }) → (w′ : List ℕ)
-      → w′ ≡ sets (set w (7 + clientBlock * (k - 1)) 1) (7 + clientBlock * (k - 1)) (sets (clientBlockOf (set w (7 + clientBlock * (k - 1)) 1) k) 1 (records.clientWords (s .client)))
+      → w′ ≡ sets (set w (clientsFrom + clientBlock * (k - 1)) 1) (clientsFrom + clientBlock * (k - 1)) (sets (clientBlockOf (set w (clientsFrom + clientBlock * (k - 1)) 1) (clientNo k)) 1 (records.clientWords (s .client)))
       → w′ ≡ newClient n m k w
   unfolding newClient
   client-opened s e w′ g =
-      let b : clientBlockOf (set w (7 + clientBlock * (k - 1)) 1) k ≡ set (clientBlockOf w k) 0 1 = client-block-from w k h (1 ∷ []) (omega arith) in
-      let l : 1 ≤ length (sets (set (clientBlockOf w k) 0 1) 1 (records.clientWords (client.newResult n m (record { 0 = k }) .client))) =
-      omega (arith, length-sets (set (clientBlockOf w k) 0 1) 1 (records.clientWords (client.newResult n m (record { 0 = k }) .client)), length-set (clientBlockOf w k) 0 1, client-block-long w k (h .long) (h .first) (h .last)) in
+      let b : clientBlockOf (set w (clientsFrom + clientBlock * (k - 1)) 1) (clientNo k) ≡ set (clientBlockOf w (clientNo k)) 0 1 = client-block-from w k h (1 ∷ []) (omega arith) in
+      let l : 1 ≤ length (sets (set (clientBlockOf w (clientNo k)) 0 1) 1 (records.clientWords (client.newResult n m (record { 0 = k }) .client))) =
+      omega (arith, length-sets (set (clientBlockOf w (clientNo k)) 0 1) 1 (records.clientWords (client.newResult n m (record { 0 = k }) .client)), length-set (clientBlockOf w (clientNo k)) 0 1, client-block-long w k (h .long) (h .first) (h .last)) in
       g ∙
-      (ap (λ (x : List ℕ). sets (set w (7 + clientBlock * (k - 1)) 1) (7 + clientBlock * (k - 1)) (sets x 1 (records.clientWords (s .client)))) b ∙
-      (ap (λ (x : ClientStepped). sets (set w (7 + clientBlock * (k - 1)) 1) (7 + clientBlock * (k - 1)) (sets (set (clientBlockOf w k) 0 1) 1 (records.clientWords (x .client)))) e ∙
-      sets-over w (7 + clientBlock * (k - 1)) (1 ∷ []) (sets (set (clientBlockOf w k) 0 1) 1 (records.clientWords (client.newResult n m (record { 0 = k }) .client))) l))
+      (ap (λ (x : List ℕ). sets (set w (clientsFrom + clientBlock * (k - 1)) 1) (clientsFrom + clientBlock * (k - 1)) (sets x 1 (records.clientWords (s .client)))) b ∙
+      (ap (λ (x : ClientStepped). sets (set w (clientsFrom + clientBlock * (k - 1)) 1) (clientsFrom + clientBlock * (k - 1)) (sets (set (clientBlockOf w (clientNo k)) 0 1) 1 (records.clientWords (x .client)))) e ∙
+      sets-over w (clientsFrom + clientBlock * (k - 1)) (1 ∷ []) (sets (set (clientBlockOf w (clientNo k)) 0 1) 1 (records.clientWords (client.newResult n m (record { 0 = k }) .client))) l))
 
-module _ (n j : ℕ) (w : List ℕ) (h : ServerIn w j) where
+module _ (n j : ℕ) (w : List ℕ) (h : ServerIn w (serverNo j)) where
   abbrev up : List ℕ
-  up = set (serverBlockOf w j) 0 1
+  up = set (serverBlockOf w (serverNo j)) 0 1
 
-  up-long : length (set (serverBlockOf w j) 0 1) ≡ serverBlock
-  up-long = length-set (serverBlockOf w j) 0 1 ∙ server-block-long w j (h .long) (h .first) (h .last)
+  up-long : length (set (serverBlockOf w (serverNo j)) 0 1) ≡ serverBlock
+  up-long = length-set (serverBlockOf w (serverNo j)) 0 1 ∙ server-block-long w j (h .long) (h .first) (h .last)
 
-  pub server-opened : (w₁ : List ℕ) → w₁ ≡ sets w (serversFrom + serverBlock * (j - 1)) (set (serverBlockOf w j) 0 1) → (s : ServerStepped) → s ≡ server.newResult n (record { 0 = j }) → (w′ : List ℕ)
-      → w′ ≡ sets w₁ (serversFrom + serverBlock * (j - 1)) (sets (serverBlockOf w₁ j) 1 (records.serverWords (s .server)))
+  pub server-opened : (w₁ : List ℕ) → w₁ ≡ sets w (serversFrom + serverBlock * (j - 1)) (set (serverBlockOf w (serverNo j)) 0 1) → (s : ServerStepped) → s ≡ server.newResult n (record { 0 = j }) → (w′ : List ℕ)
+      → w′ ≡ sets w₁ (serversFrom + serverBlock * (j - 1)) (sets (serverBlockOf w₁ (serverNo j)) 1 (records.serverWords (s .server)))
       → w′ ≡ newServer n j w
   unfolding newServer
   server-opened w₁ f s e w′ g =
-      let b : serverBlockOf w₁ j ≡ up = ap (λ (x : List ℕ). serverBlockOf x j) f ∙ server-block-stored w j h up (omega (arith, up-long)) up-long in
+      let b : serverBlockOf w₁ (serverNo j) ≡ up = ap (λ (x : List ℕ). serverBlockOf x (serverNo j)) f ∙ server-block-stored w j h up (omega (arith, up-long)) up-long in
       let l : length up ≤ length (sets up 1 (records.serverWords (server.newResult n (record { 0 = j }) .server))) = omega (arith, length-sets up 1 (records.serverWords (server.newResult n (record { 0 = j }) .server))) in
       g ∙
       (ap (λ (x : List ℕ). sets w₁ (serversFrom + serverBlock * (j - 1)) (sets x 1 (records.serverWords (s .server)))) b ∙
@@ -125,8 +126,8 @@ module _ (n j : ℕ) (w : List ℕ) (h : ServerIn w j) where
       (ap (λ (x : List ℕ). sets x (serversFrom + serverBlock * (j - 1)) (sets up 1 (records.serverWords (server.newResult n (record { 0 = j }) .server)))) f ∙
       sets-over w (serversFrom + serverBlock * (j - 1)) up (sets up 1 (records.serverWords (server.newResult n (record { 0 = j }) .server))) l)))
 
-  pub risen-in : (w₁ : List ℕ) → w₁ ≡ sets w (serversFrom + serverBlock * (j - 1)) (set (serverBlockOf w j) 0 1) → ServerIn w₁ j
-  risen-in w₁ f = record { long = ap length f ∙ (length-sets w (serversFrom + serverBlock * (j - 1)) (set (serverBlockOf w j) 0 1) ∙ h .long); first = h .first; last = h .last }
+  pub risen-in : (w₁ : List ℕ) → w₁ ≡ sets w (serversFrom + serverBlock * (j - 1)) (set (serverBlockOf w (serverNo j)) 0 1) → ServerIn w₁ (serverNo j)
+  risen-in w₁ f = record { long = ap length f ∙ (length-sets w (serversFrom + serverBlock * (j - 1)) (set (serverBlockOf w (serverNo j)) 0 1) ∙ h .long); first = h .first; last = h .last }
 
 -- what `put_server` asks
 pub new-short : (n : ℕ) (j : ℕ) (s : ServerStepped) → s ≡ server.newResult n (record { 0 = j }) → s .server .votes .queue .len ≤ maxQueue
@@ -156,10 +157,10 @@ unfolding inTurn
 putting-none f w c = record { same = refl; within = omega arith; words = refl }
 
 module _ (f : ℕ → List ℕ → List ℕ) (w₀ : List ℕ) (c : ℕ) (w : List ℕ) (i : ℕ) (P : Putting f w₀ c w i) where
-  pub putting-client : (length w₀ ≡ simulationSize) × (c ≤ systemClients) → i < c → ClientIn w (i + 1)
+  pub putting-client : (length w₀ ≡ simulationSize) × (c ≤ systemClients) → i < c → ClientIn w (clientNo (i + 1))
   putting-client h lt = record { long = P .same ∙ h .0; first = omega arith; last = omega (arith, h .1, lt) }
 
-  pub putting-server : (length w₀ ≡ simulationSize) × (c ≤ systemServers) → i < c → ServerIn w (i + 1)
+  pub putting-server : (length w₀ ≡ simulationSize) × (c ≤ systemServers) → i < c → ServerIn w (serverNo (i + 1))
   putting-server h lt = record { long = P .same ∙ h .0; first = omega arith; last = omega (arith, h .1, lt) }
 
   pub putting-more : ((k : ℕ) (l : List ℕ) → length (f k l) ≡ length l) → i < c → (w′ : List ℕ) → w′ ≡ f (i + 1) w → Putting f w₀ c w′ (i + 1)
@@ -230,21 +231,21 @@ freshServer n i = sets (set (replicate serverBlock 0) 0 1) 1 (records.serverWord
 -- the first i clients are put
 record Clients (n m : ℕ) (w₀ w : List ℕ) (i : ℕ) : Type 0 where
   long : length w ≡ simulationSize
-  head : take 7 w ≡ take 7 w₀
+  head : take clientsFrom w ≡ take clientsFrom w₀
   servers : serverWords w ≡ serverWords w₀
   transit : transitWords w ≡ transitWords w₀
   filled : Filled clientBlock (freshClient n m) (clientWords w) i
 
 record Servers (n : ℕ) (w₀ w : List ℕ) (i : ℕ) : Type 0 where
   long : length w ≡ simulationSize
-  head : take 7 w ≡ take 7 w₀
+  head : take clientsFrom w ≡ take clientsFrom w₀
   clients : clientWords w ≡ clientWords w₀
   transit : transitWords w ≡ transitWords w₀
   filled : Filled serverBlock (freshServer n) (serverWords w) i
 
 clients-room : (w : List ℕ) → length w ≡ simulationSize → length (clientWords w) ≡ clientsSize
 unfolding clientWords
-clients-room w h = length-take-le clientsSize (drop 7 w) (omega (arith, length-drop 7 w))
+clients-room w h = length-take-le clientsSize (drop clientsFrom w) (omega (arith, length-drop clientsFrom w))
 
 servers-room : (w : List ℕ) → length w ≡ simulationSize → length (serverWords w) ≡ serversSize
 unfolding serverWords
@@ -255,8 +256,8 @@ unfolding newClient
 clients-next n m w₀ w i lt C =
     let room : i * clientBlock + clientBlock ≤ length (clientWords w) = omega (arith, clients-room w (C .long)) in
     let y : suc i - 1 ≡ i = omega arith in
-    let zero-block : clientBlockOf w (suc i) ≡ replicate clientBlock 0 = ap (λ (x : ℕ). take clientBlock (drop (x * clientBlock) (clientWords w))) y ∙ next-zero clientBlock (freshClient n m) (clientWords w) i (C .filled) room in
-    let at : 7 + clientBlock * (suc i - 1) ≡ 7 + (i * clientBlock + 0) = omega arith in
+    let zero-block : clientBlockOf w (clientNo (suc i)) ≡ replicate clientBlock 0 = ap (λ (x : ℕ). take clientBlock (drop (x * clientBlock) (clientWords w))) y ∙ next-zero clientBlock (freshClient n m) (clientWords w) i (C .filled) room in
+    let at : clientsFrom + clientBlock * (suc i - 1) ≡ clientsFrom + (i * clientBlock + 0) = omega arith in
     let l : length (freshClient n m i) ≡ clientBlock = length-sets clientBase 1 (records.clientWords (client.newResult n m (record { 0 = suc i }) .client)) in
     let S = is-client-store (itself-is w (C .long)) (i * clientBlock + 0) (freshClient n m i) (omega (arith, l)) in
     rw (zero-block, at) (record {
@@ -277,7 +278,7 @@ unfolding newServer
 servers-next n w₀ w i lt C =
     let room : i * serverBlock + serverBlock ≤ length (serverWords w) = omega (arith, servers-room w (C .long)) in
     let y : suc i - 1 ≡ i = omega arith in
-    let zero-block : serverBlockOf w (suc i) ≡ replicate serverBlock 0 = ap (λ (x : ℕ). take serverBlock (drop (x * serverBlock) (serverWords w))) y ∙ next-zero serverBlock (freshServer n) (serverWords w) i (C .filled) room in
+    let zero-block : serverBlockOf w (serverNo (suc i)) ≡ replicate serverBlock 0 = ap (λ (x : ℕ). take serverBlock (drop (x * serverBlock) (serverWords w))) y ∙ next-zero serverBlock (freshServer n) (serverWords w) i (C .filled) room in
     let at : serversFrom + serverBlock * (suc i - 1) ≡ serversFrom + (i * serverBlock + 0) = omega arith in
     let l : length (freshServer n i) ≡ serverBlock = length-sets serverBase 1 (records.serverWords (server.newResult n (record { 0 = suc i }) .server)) in
     let S = is-server-store (itself-is w (C .long)) (i * serverBlock + 0) (freshServer n i) (omega (arith, l)) in
@@ -295,7 +296,7 @@ servers-put n w h z zero q = record { long = h; head = refl; clients = refl; tra
 servers-put n w h z (suc i) q = servers-next n w (inTurn (newServer n) i w) i (omega arith) (servers-put n w h z i (omega arith))
 
 -- the places that these blocks are
-module _ (n m f clients : ℕ) (ok : inRange n m f ≡ true) where
+module _ (n m f clients : ℕ) (ok : inRangeUpTo systemServers n m f ≡ true) where
   client-frame : Frame n clientBase
   unfolding clientPlace
   client-frame = record { size = refl; bit = omega arith; bits = refl; behind = zeros-drop n systemServers; fallen = λ h. refl }
@@ -327,7 +328,7 @@ worst-none zero p e = refl
 worst-none (suc c) p e = omega (arith, ap length e, worst-none c p e)
 
 -- the whole: z is cleared, and the setting is written in it
-module _ (n m f clients : ℕ) (z : List ℕ) (long : length z ≡ simulationSize) (zeros : blank z ≡ true) (ok : inRange n m f ≡ true) (some : within clients systemClients ≡ true) where
+module _ (n m f clients : ℕ) (z : List ℕ) (long : length z ≡ simulationSize) (zeros : blank z ≡ true) (ok : inRangeUpTo systemServers n m f ≡ true) (some : within clients systemClients ≡ true) where
   abbrev headed : List ℕ
   headed = set (set (set (set z 0 n) 1 m) 2 f) 3 clients
 
@@ -337,7 +338,7 @@ module _ (n m f clients : ℕ) (z : List ℕ) (long : length z ≡ simulationSiz
   headed-is : Is headed headWords (clientWords z) (serverWords z) (transitWords z)
   headed-is =
       let S = is-head-store (is-head-store (is-head-store (is-head-store (itself-is z long) 0 n (omega arith)) 1 m (omega arith)) 2 f (omega arith)) 3 clients (omega arith) in
-      let e : take 7 z ≡ replicate 7 0 = blank-is (take 7 z) (blank-take 7 z zeros) ∙ ap (λ (x : ℕ). replicate x 0) (length-take-le 7 z (omega arith)) in
+      let e : take clientsFrom z ≡ replicate clientsFrom 0 = blank-is (take clientsFrom z) (blank-take clientsFrom z zeros) ∙ ap (λ (x : ℕ). replicate x 0) (length-take-le clientsFrom z (omega arith)) in
       record {
         long = S .long;
         head = S .head ∙ ap (λ (l : List ℕ). set (set (set (set l 0 n) 1 m) 2 f) 3 clients) e;
@@ -354,7 +355,7 @@ module _ (n m f clients : ℕ) (z : List ℕ) (long : length z ≡ simulationSiz
 
   no-clients : blank (clientWords headed) ≡ true
   unfolding clientWords
-  no-clients = rw (headed-is .clients) (blank-take clientsSize (drop 7 z) (blank-drop 7 z zeros))
+  no-clients = rw (headed-is .clients) (blank-take clientsSize (drop clientsFrom z) (blank-drop clientsFrom z zeros))
 
   abbrev populated : List ℕ
   populated = inTurn (newClient n m) clients headed
@@ -403,11 +404,11 @@ module _ (n m f clients : ℕ) (z : List ℕ) (long : length z ≡ simulationSiz
   unfolding settingIn
   started-setting = setting-is whole-is
 
-  started-clients : validFrom (validClientBlock n m clients) 1 (blocks clientBlock itself clients (clientWords whole)) ≡ true
-  started-clients = all-valid (validClientBlock n m clients) clientBlock clients 1 (clientWords whole) (λ i q. let y : 1 + i ≡ suc i = omega arith in rw y (client-block i q .valid))
+  started-clients : validFrom (λ (i : ℕ). validClientBlock n m clients (clientNo i)) 1 (blocks clientBlock itself clients (clientWords whole)) ≡ true
+  started-clients = all-valid (λ (i : ℕ). validClientBlock n m clients (clientNo i)) clientBlock clients 1 (clientWords whole) (λ i q. let y : 1 + i ≡ suc i = omega arith in rw y (client-block i q .valid))
 
-  started-servers : validFrom (validServerBlock n clients) 1 (blocks serverBlock itself n (serverWords whole)) ≡ true
-  started-servers = all-valid (validServerBlock n clients) serverBlock n 1 (serverWords whole) (λ i q. let y : 1 + i ≡ suc i = omega arith in rw y (server-block i q .valid))
+  started-servers : validFrom (λ (i : ℕ). validServerBlock n clients (serverNo i)) 1 (blocks serverBlock itself n (serverWords whole)) ≡ true
+  started-servers = all-valid (λ (i : ℕ). validServerBlock n clients (serverNo i)) serverBlock n 1 (serverWords whole) (λ i q. let y : 1 + i ≡ suc i = omega arith in rw y (server-block i q .valid))
 
   started-valid : valid whole ≡ true
   unfolding start
@@ -438,7 +439,7 @@ length-turn f same zero w = refl
 length-turn f same (suc i) w = same (suc i) (inTurn f i w) ∙ length-turn f same i w
 
 -- `start`, call by call
-module _ (n m f clients : ℕ) (w z : List ℕ) (pre : (length w ≡ simulationSize) × (inRange n m f ≡ true) × (within clients systemClients ≡ true)) (E : Cleared w z) where
+module _ (n m f clients : ℕ) (w z : List ℕ) (pre : (length w ≡ simulationSize) × (inRangeUpTo systemServers n m f ≡ true) × (within clients systemClients ≡ true)) (E : Cleared w z) where
   abbrev written : List ℕ
   written = set (set (set (set z 0 n) 1 m) 2 f) 3 clients
 

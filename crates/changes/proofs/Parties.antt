@@ -8,7 +8,7 @@ use lib.ListN.{length, getD}
 use Rattle.ids.specs.Limits.{within}
 use Rattle.ids.proofs.Choice.{holds, fails}
 use Rattle.ids.proofs.LimitsLaws.{within-range}
-use Rattle.system.specs.Numbered.{has}
+use Rattle.system.specs.Numbered.{has, clientNo, serverNo}
 use Rattle.system.specs.Places.{clientAt, serverAt}
 use Rattle.places.specs.Blocks.{clientPlace, serverPlace}
 use Rattle.layout.specs.Layout.{settingOf, view, valid, simulationSize}
@@ -41,7 +41,7 @@ module _ (w : List ℕ) (ok : valid w ≡ true) (k : ℕ) (r : Bool) (e : r ≡ 
   pub client-there-is : not r ≡ false → has (view w .clients) k ≡ true
   client-there-is t = holds r (has (view w .clients) k) has-client t
 
-  pub client-found : not r ≡ false → HasClient w k
+  pub client-found : not r ≡ false → HasClient w (clientNo k)
   unfolding settingOf
   client-found t =
       let b = within-range k (getD w 3 0) (holds r (within k (getD w 3 0)) e t) in
@@ -59,23 +59,23 @@ module _ (w : List ℕ) (ok : valid w ≡ true) (j : ℕ) (r : Bool) (e : r ≡ 
   pub server-there-is : not r ≡ false → has (view w .servers) j ≡ true
   server-there-is t = holds r (has (view w .servers) j) has-server t
 
-  pub server-found : not r ≡ false → HasServer w j
+  pub server-found : not r ≡ false → HasServer w (serverNo j)
   unfolding settingOf
   server-found t =
       let b = within-range j (getD w 0 0) (holds r (within j (getD w 0 0)) e t) in
       record { valid = ok; first = b .0; last = b .1 }
 
 -- the blocks of parties that are there
-module _ (w : List ℕ) (k : ℕ) (H : HasClient w k) where
-  pub client-in : ClientIn w k
+module _ (w : List ℕ) (k : ℕ) (H : HasClient w (clientNo k)) where
+  pub client-in : ClientIn w (clientNo k)
   client-in = record { long = sound w (H .valid) .long; first = H .first; last = omega (arith, H .last, few-clients w (sound w (H .valid))) }
 
-  pub living-is : (r : Bool) → r ≡ clientPlace (clientBlockOf w k) .living → clientAt (view w) k .living ≡ r
+  pub living-is : (r : Bool) → r ≡ clientPlace (clientBlockOf w (clientNo k)) .living → clientAt (view w) (clientNo k) .living ≡ r
   living-is r e = rw (client-place w k (H .first) (H .last)) (sym e)
 
-module _ (w : List ℕ) (j : ℕ) (H : HasServer w j) where
-  pub server-in : ServerIn w j
+module _ (w : List ℕ) (j : ℕ) (H : HasServer w (serverNo j)) where
+  pub server-in : ServerIn w (serverNo j)
   server-in = record { long = sound w (H .valid) .long; first = H .first; last = omega (arith, H .last, few-servers w (sound w (H .valid))) }
 
-  pub up-is : (r : Bool) → r ≡ serverPlace (serverBlockOf w j) .up → serverAt (view w) j .up ≡ r
+  pub up-is : (r : Bool) → r ≡ serverPlace (serverBlockOf w (serverNo j)) .up → serverAt (view w) (serverNo j) .up ≡ r
   up-is r e = rw (server-place w j (H .first) (H .last)) (sym e)

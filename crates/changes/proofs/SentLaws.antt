@@ -35,6 +35,7 @@ use Rattle.sends.proofs.ClientSends as of-client
 use Rattle.sends.proofs.ServerSends as of-server
 use Rattle.sends.proofs.ServerSends.{Knows, good-knows}
 use Rattle.system.specs.Limits.{systemServers, systemMessages}
+use Rattle.system.specs.Numbered.{clientNo, serverNo}
 
 -- messages that a simulation with n servers and so many clients can send
 pub record Sends (n clients : ℕ) (l : List Message) : Type 0 where
@@ -51,7 +52,7 @@ stamped-names : (n clients k j : ℕ) → 1 ≤ k → k ≤ clients → 1 ≤ j 
 stamped-names n clients k j a b c d = rw (le-leb 1 k a, le-leb k clients b, le-leb 1 j c, le-leb j n d, le-leb 0 clients (omega arith))
 
 -- the steps of client k
-module _ (n m clients k : ℕ) (b : List ℕ) (ok : validClientBlock n m clients k b ≡ true) (first : 1 ≤ k) (last : k ≤ clients) where
+module _ (n m clients k : ℕ) (b : List ℕ) (ok : validClientBlock n m clients (clientNo k) b ≡ true) (first : 1 ≤ k) (last : k ≤ clients) where
   abbrev me : ClientId
   me = record { 0 = k }
 
@@ -134,7 +135,7 @@ module _ (n clients j : ℕ) (first : 1 ≤ j) (last : j ≤ n) where
       let (c, d) = client-range (r .client) (request-range r v .0) in
       stamped-names n clients (r .client .0) j c (leb-true (r .client .0) clients b) first last
 
-module _ (n clients j : ℕ) (b : List ℕ) (ok : validServerBlock n clients j b ≡ true) where
+module _ (n clients j : ℕ) (b : List ℕ) (ok : validServerBlock n clients (serverNo j) b ≡ true) where
   abbrev its : ServerId
   its = record { 0 = j }
 

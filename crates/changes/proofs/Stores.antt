@@ -6,13 +6,14 @@ use mathlib.Core.List.{List, [], _∷_}
 use lib.ListN.{length, set, take, drop}
 use lib.Seq.{sets, set-comm, set-set}
 use Rattle.places.proofs.BlockParts.{covered}
-use Rattle.layout.specs.Layout.{clientWords, serverWords, serversFrom}
+use Rattle.layout.specs.Layout.{clientWords, serverWords, serversFrom, clientsFrom}
 use Rattle.layout.specs.Parts.{clientBlockOf, serverBlockOf, ClientIn, ServerIn}
 use Rattle.layout.proofs.ViewLaws.{in-clients, in-servers}
 use Rattle.layout.proofs.ValidLaws.{block-here}
 use Rattle.layout.proofs.LendLaws.{client-block-long, server-block-long}
 use Rattle.places.specs.Blocks.{clientBlock, serverBlock}
 use Rattle.system.specs.Limits.{systemClients, systemServers}
+use Rattle.system.specs.Numbered.{clientNo, serverNo}
 
 set-sets : (l : List ℕ) (i a v : ℕ) (vs : List ℕ) → i < a → set (sets l a vs) i v ≡ sets (set l i v) a vs
 set-sets l i a v [] h = refl
@@ -27,24 +28,24 @@ sets-over l a (x ∷ xs) (y ∷ ys) e =
     sets-over (set l a y) (suc a) xs ys (omega arith)
 
 -- a store at the beginning of a block
-module _ (w : List ℕ) (k : ℕ) (h : ClientIn w k) (vs : List ℕ) (few : length vs ≤ clientBlock) where
-  pub client-block-from : clientBlockOf (sets w (7 + clientBlock * (k - 1)) vs) k ≡ sets (clientBlockOf w k) 0 vs
+module _ (w : List ℕ) (k : ℕ) (h : ClientIn w (clientNo k)) (vs : List ℕ) (few : length vs ≤ clientBlock) where
+  pub client-block-from : clientBlockOf (sets w (clientsFrom + clientBlock * (k - 1)) vs) (clientNo k) ≡ sets (clientBlockOf w (clientNo k)) 0 vs
   client-block-from =
       let z : clientBlock * (k - 1) ≡ (k - 1) * clientBlock + 0 = omega arith in
-      let e : clientWords (sets w (7 + clientBlock * (k - 1)) vs) ≡ sets (clientWords w) ((k - 1) * clientBlock + 0) vs =
+      let e : clientWords (sets w (clientsFrom + clientBlock * (k - 1)) vs) ≡ sets (clientWords w) ((k - 1) * clientBlock + 0) vs =
       in-clients w (clientBlock * (k - 1)) vs (omega (arith, h .first, h .last)) ∙ ap (λ (x : ℕ). sets (clientWords w) x vs) z in
       ap (λ (l : List ℕ). take clientBlock (drop ((k - 1) * clientBlock) l)) e ∙ block-here clientBlock systemClients (k - 1) (clientWords w) 0 vs (omega (arith, h .first, h .last)) (omega arith)
 
-  pub client-block-stored : length vs ≡ clientBlock → clientBlockOf (sets w (7 + clientBlock * (k - 1)) vs) k ≡ vs
-  client-block-stored l = client-block-from ∙ covered (clientBlockOf w k) vs (l ∙ sym (client-block-long w k (h .long) (h .first) (h .last)))
+  pub client-block-stored : length vs ≡ clientBlock → clientBlockOf (sets w (clientsFrom + clientBlock * (k - 1)) vs) (clientNo k) ≡ vs
+  client-block-stored l = client-block-from ∙ covered (clientBlockOf w (clientNo k)) vs (l ∙ sym (client-block-long w k (h .long) (h .first) (h .last)))
 
-module _ (w : List ℕ) (j : ℕ) (h : ServerIn w j) (vs : List ℕ) (few : length vs ≤ serverBlock) where
-  pub server-block-from : serverBlockOf (sets w (serversFrom + serverBlock * (j - 1)) vs) j ≡ sets (serverBlockOf w j) 0 vs
+module _ (w : List ℕ) (j : ℕ) (h : ServerIn w (serverNo j)) (vs : List ℕ) (few : length vs ≤ serverBlock) where
+  pub server-block-from : serverBlockOf (sets w (serversFrom + serverBlock * (j - 1)) vs) (serverNo j) ≡ sets (serverBlockOf w (serverNo j)) 0 vs
   server-block-from =
       let z : serverBlock * (j - 1) ≡ (j - 1) * serverBlock + 0 = omega arith in
       let e : serverWords (sets w (serversFrom + serverBlock * (j - 1)) vs) ≡ sets (serverWords w) ((j - 1) * serverBlock + 0) vs =
       in-servers w (serverBlock * (j - 1)) vs (omega (arith, h .first, h .last)) ∙ ap (λ (x : ℕ). sets (serverWords w) x vs) z in
       ap (λ (l : List ℕ). take serverBlock (drop ((j - 1) * serverBlock) l)) e ∙ block-here serverBlock systemServers (j - 1) (serverWords w) 0 vs (omega (arith, h .first, h .last)) (omega arith)
 
-  pub server-block-stored : length vs ≡ serverBlock → serverBlockOf (sets w (serversFrom + serverBlock * (j - 1)) vs) j ≡ vs
-  server-block-stored l = server-block-from ∙ covered (serverBlockOf w j) vs (l ∙ sym (server-block-long w j (h .long) (h .first) (h .last)))
+  pub server-block-stored : length vs ≡ serverBlock → serverBlockOf (sets w (serversFrom + serverBlock * (j - 1)) vs) (serverNo j) ≡ vs
+  server-block-stored l = server-block-from ∙ covered (serverBlockOf w (serverNo j)) vs (l ∙ sym (server-block-long w j (h .long) (h .first) (h .last)))

@@ -32,59 +32,60 @@ use Rattle.places.proofs.ServerLaws.{ServerIs, server-of, server-written}
 use Rattle.places.proofs.ClientSteps.{written, placed, tries-block, exits-block, responds-block, checked-block}
 use Rattle.places.proofs.ServerSteps.{receive-block, suspect-block, check-block}
 use Rattle.places.proofs.Facts.{server-facts}
-use Rattle.layout.specs.Layout.{settingOf, mostOf, view, serversFrom}
+use Rattle.layout.specs.Layout.{settingOf, mostOf, view, serversFrom, clientsFrom}
 use Rattle.layout.specs.Parts.{clientBlockOf, serverBlockOf}
 use Rattle.layout.proofs.PlaceLaws.{client-place, server-place}
 use Rattle.layout.proofs.ValidLaws.{facts}
 use Rattle.changes.specs.Changes.{Becomes, HasClient, HasServer, withClient, withServer}
 use Rattle.changes.proofs.Becoming.{sound, few-clients, client-valid, server-valid, client-becomes, server-becomes}
 use Rattle.system.specs.Limits.{systemClients}
+use Rattle.system.specs.Numbered.{clientNo, serverNo}
 
 -- server j's record
-module _ (w : List ℕ) (j : ℕ) (H : HasServer w j) where
+module _ (w : List ℕ) (j : ℕ) (H : HasServer w (serverNo j)) where
   abbrev block : List ℕ
-  block = serverBlockOf w j
+  block = serverBlockOf w (serverNo j)
 
   abbrev me : ServerId
   me = record { 0 = j }
 
-  pub server-block : validServerBlock (settingOf w .n) (settingOf w .clients) j (serverBlockOf w j) ≡ true
+  pub server-block : validServerBlock (settingOf w .n) (settingOf w .clients) (serverNo j) (serverBlockOf w (serverNo j)) ≡ true
   server-block = server-valid w (sound w (H .valid)) j (H .first) (H .last)
 
-  pub server-is : serverAt (view w) j ≡ serverPlace (serverBlockOf w j)
+  pub server-is : serverAt (view w) (serverNo j) ≡ serverPlace (serverBlockOf w (serverNo j))
   server-is = server-place w j (H .first) (H .last)
 
   few : settingOf w .clients ≤ systemClients
   few = few-clients w (sound w (H .valid))
 
-  module _ (s : Server) (w′ : List ℕ) (f : w′ ≡ sets w (serversFrom + serverBlock * (j - 1)) (sets (serverBlockOf w j) 1 (serverWords s))) where
+  module _ (s : Server) (w′ : List ℕ) (f : w′ ≡ sets w (serversFrom + serverBlock * (j - 1)) (sets (serverBlockOf w (serverNo j)) 1 (serverWords s))) where
     stores : (q : votes.State) → ServerIs (settingOf w .n) (settingOf w .clients) j (server-written (settingOf w .n) j block q) (record { up = serverPlace block .up; state = q })
-        → s ≡ server-of (settingOf w .n) j q → Becomes w w′ (withServer (view w) j (record { up = serverAt (view w) j .up; state = q }))
+        → s ≡ server-of (settingOf w .n) j q → Becomes w w′ (withServer (view w) (serverNo j) (record { up = serverAt (view w) (serverNo j) .up; state = q }))
     stores q B e =
         rw (f, e, server-is) (server-becomes w (H .valid) j (server-written (settingOf w .n) j block q) (record { up = serverPlace block .up; state = q }) (H .first) (H .last) B)
 
-    pub check-stored : s ≡ server-of (settingOf w .n) j (votes.check (record { 0 = j }) (serverAt (view w) j .state) .state)
-        → Becomes w w′ (withServer (view w) j (record { up = serverAt (view w) j .up; state = votes.check (record { 0 = j }) (serverAt (view w) j .state) .state }))
+    pub check-stored : s ≡ server-of (settingOf w .n) j (votes.check (record { 0 = j }) (serverAt (view w) (serverNo j) .state) .state)
+        → Becomes w w′ (withServer (view w) (serverNo j) (record { up = serverAt (view w) (serverNo j) .up; state = votes.check (record { 0 = j }) (serverAt (view w) (serverNo j) .state) .state }))
     check-stored e =
-        stores (votes.check me (serverAt (view w) j .state) .state) (rw server-is (check-block (settingOf w .n) (settingOf w .clients) j block server-block few)) e
+        stores (votes.check me (serverAt (view w) (serverNo j) .state) .state) (rw server-is (check-block (settingOf w .n) (settingOf w .clients) j block server-block few)) e
 
-    pub suspect-stored : s ≡ server-of (settingOf w .n) j (votes.suspect (record { 0 = j }) (serverAt (view w) j .state) .state)
-        → Becomes w w′ (withServer (view w) j (record { up = serverAt (view w) j .up; state = votes.suspect (record { 0 = j }) (serverAt (view w) j .state) .state }))
+    pub suspect-stored : s ≡ server-of (settingOf w .n) j (votes.suspect (record { 0 = j }) (serverAt (view w) (serverNo j) .state) .state)
+        → Becomes w w′ (withServer (view w) (serverNo j) (record { up = serverAt (view w) (serverNo j) .up; state = votes.suspect (record { 0 = j }) (serverAt (view w) (serverNo j) .state) .state }))
     suspect-stored e =
-        stores (votes.suspect me (serverAt (view w) j .state) .state) (rw server-is (suspect-block (settingOf w .n) (settingOf w .clients) j block server-block few)) e
+        stores (votes.suspect me (serverAt (view w) (serverNo j) .state) .state) (rw server-is (suspect-block (settingOf w .n) (settingOf w .clients) j block server-block few)) e
 
     pub receive-stored : (tag : Tag) (r : Request) → leb (r .client .0) (settingOf w .clients) ≡ true → validRequest r ≡ true
-        → s ≡ server-of (settingOf w .n) j (votes.receive (record { 0 = j }) tag r (serverAt (view w) j .state) .state)
-        → Becomes w w′ (withServer (view w) j (record { up = serverAt (view w) j .up; state = votes.receive (record { 0 = j }) tag r (serverAt (view w) j .state) .state }))
+        → s ≡ server-of (settingOf w .n) j (votes.receive (record { 0 = j }) tag r (serverAt (view w) (serverNo j) .state) .state)
+        → Becomes w w′ (withServer (view w) (serverNo j) (record { up = serverAt (view w) (serverNo j) .up; state = votes.receive (record { 0 = j }) tag r (serverAt (view w) (serverNo j) .state) .state }))
     receive-stored tag r c v e =
-        stores (votes.receive me tag r (serverAt (view w) j .state) .state) (rw server-is (receive-block (settingOf w .n) (settingOf w .clients) j block server-block tag r c v few)) e
+        stores (votes.receive me tag r (serverAt (view w) (serverNo j) .state) .state) (rw server-is (receive-block (settingOf w .n) (settingOf w .clients) j block server-block tag r c v few)) e
 
 -- what stands in it
-module _ (w : List ℕ) (j : ServerId) (H : HasServer w (j .0)) where
-  pub record-held : holdsServer (serverRecord (serverBlockOf w (j .0))) ≡ true
-  record-held = server-facts (settingOf w .n) (settingOf w .clients) (j .0) (serverBlockOf w (j .0)) (server-block w (j .0) H) .held
+module _ (w : List ℕ) (j : ServerId) (H : HasServer w j) where
+  pub record-held : holdsServer (serverRecord (serverBlockOf w j)) ≡ true
+  record-held = server-facts (settingOf w .n) (settingOf w .clients) (j .0) (serverBlockOf w j) (server-block w (j .0) H) .held
 
-  pub owner-is : (s : Server) → s ≡ serverFrom (serverRecord (serverBlockOf w (j .0))) → s .votes .owner ≡ serverAt (view w) (j .0) .state .owner
+  pub owner-is : (s : Server) → s ≡ serverFrom (serverRecord (serverBlockOf w j)) → s .votes .owner ≡ serverAt (view w) j .state .owner
   unfolding serverPlace
   owner-is s k = rw (k, server-is w (j .0) H)
 
@@ -103,17 +104,17 @@ unfolding clientPlace
 place-clear b h = unflagged 1 (flags b) h
 
 -- client k's record
-module _ (w : List ℕ) (k : ℕ) (H : HasClient w k) where
+module _ (w : List ℕ) (k : ℕ) (H : HasClient w (clientNo k)) where
   abbrev part : List ℕ
-  part = clientBlockOf w k
+  part = clientBlockOf w (clientNo k)
 
   abbrev self : ClientId
   self = record { 0 = k }
 
-  pub client-block : validClientBlock (settingOf w .n) (settingOf w .m) (settingOf w .clients) k (clientBlockOf w k) ≡ true
+  pub client-block : validClientBlock (settingOf w .n) (settingOf w .m) (settingOf w .clients) (clientNo k) (clientBlockOf w (clientNo k)) ≡ true
   client-block = client-valid w (sound w (H .valid)) k (H .first) (H .last)
 
-  pub client-is : clientAt (view w) k ≡ clientPlace (clientBlockOf w k)
+  pub client-is : clientAt (view w) (clientNo k) ≡ clientPlace (clientBlockOf w (clientNo k))
   client-is = client-place w k (H .first) (H .last)
 
   downs-noted : length (clientPlace part .downs) ≤ mostOf w
@@ -121,37 +122,37 @@ module _ (w : List ℕ) (k : ℕ) (H : HasClient w k) where
       let d : length (clientPlace part .downs) ≤ worst (view w .clients) = rw client-is at (worst-at (view w .clients) k) in
       omega (arith, d, facts w (H .valid) .noted)
 
-  module _ (c : Client) (w′ : List ℕ) (f : w′ ≡ sets w (7 + clientBlock * (k - 1)) (sets (clientBlockOf w k) 1 (clientWords c))) where
+  module _ (c : Client) (w′ : List ℕ) (f : w′ ≡ sets w (clientsFrom + clientBlock * (k - 1)) (sets (clientBlockOf w (clientNo k)) 1 (clientWords c))) where
     client-stores : (s : client.State) → ClientIs (settingOf w .n) (settingOf w .m) (settingOf w .clients) k (written (settingOf w .n) (settingOf w .m) k part s) (placed part s)
         → c ≡ store (settingOf w .n) (settingOf w .m) (record { 0 = k }) s
-        → Becomes w w′ (withClient (view w) k (record { living = clientAt (view w) k .living; state = s; downs = clientAt (view w) k .downs }))
+        → Becomes w w′ (withClient (view w) (clientNo k) (record { living = clientAt (view w) (clientNo k) .living; state = s; downs = clientAt (view w) (clientNo k) .downs }))
     client-stores s B e =
         rw (f, e, client-is) (client-becomes w (H .valid) k (written (settingOf w .n) (settingOf w .m) k part s) (placed part s) (H .first) (H .last) B downs-noted)
 
-    pub tries-stored : isRemainder (clientAt (view w) k .state .section) ≡ true → leb (clientAt (view w) k .state .timestamp .0) lastTry ≡ true
-        → c ≡ store (settingOf w .n) (settingOf w .m) (record { 0 = k }) (client.tries (settingOf w .n) (record { 0 = k }) (clientAt (view w) k .state) .state)
-        → Becomes w w′ (withClient (view w) k (record { living = clientAt (view w) k .living; state = client.tries (settingOf w .n) (record { 0 = k }) (clientAt (view w) k .state) .state; downs = clientAt (view w) k .downs }))
+    pub tries-stored : isRemainder (clientAt (view w) (clientNo k) .state .section) ≡ true → leb (clientAt (view w) (clientNo k) .state .timestamp .0) lastTry ≡ true
+        → c ≡ store (settingOf w .n) (settingOf w .m) (record { 0 = k }) (client.tries (settingOf w .n) (record { 0 = k }) (clientAt (view w) (clientNo k) .state) .state)
+        → Becomes w w′ (withClient (view w) (clientNo k) (record { living = clientAt (view w) (clientNo k) .living; state = client.tries (settingOf w .n) (record { 0 = k }) (clientAt (view w) (clientNo k) .state) .state; downs = clientAt (view w) (clientNo k) .downs }))
     tries-stored h g e =
-        client-stores (client.tries (settingOf w .n) self (clientAt (view w) k .state) .state)
+        client-stores (client.tries (settingOf w .n) self (clientAt (view w) (clientNo k) .state) .state)
         (rw client-is (tries-block (settingOf w .n) (settingOf w .m) (settingOf w .clients) k part client-block (rw client-is at h) (rw client-is at g))) e
 
-    pub exits-stored : clientAt (view w) k .downs ≡ []
-        → c ≡ store (settingOf w .n) (settingOf w .m) (record { 0 = k }) (client.exits (settingOf w .n) (record { 0 = k }) (clientAt (view w) k .state) .state)
-        → Becomes w w′ (withClient (view w) k (record { living = clientAt (view w) k .living; state = client.exits (settingOf w .n) (record { 0 = k }) (clientAt (view w) k .state) .state; downs = clientAt (view w) k .downs }))
+    pub exits-stored : clientAt (view w) (clientNo k) .downs ≡ []
+        → c ≡ store (settingOf w .n) (settingOf w .m) (record { 0 = k }) (client.exits (settingOf w .n) (record { 0 = k }) (clientAt (view w) (clientNo k) .state) .state)
+        → Becomes w w′ (withClient (view w) (clientNo k) (record { living = clientAt (view w) (clientNo k) .living; state = client.exits (settingOf w .n) (record { 0 = k }) (clientAt (view w) (clientNo k) .state) .state; downs = clientAt (view w) (clientNo k) .downs }))
     exits-stored h e =
-        client-stores (client.exits (settingOf w .n) self (clientAt (view w) k .state) .state)
+        client-stores (client.exits (settingOf w .n) self (clientAt (view w) (clientNo k) .state) .state)
         (rw client-is (exits-block (settingOf w .n) (settingOf w .m) (settingOf w .clients) k part client-block (place-clear part (rw client-is at h)))) e
 
     pub responds-stored : (j : ServerId) (o : Owner) → validOwner o ≡ true → named (settingOf w .clients) o ≡ true
-        → c ≡ store (settingOf w .n) (settingOf w .m) (record { 0 = k }) (client.responds (client.enough (settingOf w .m)) (settingOf w .n) (record { 0 = k }) j o (clientAt (view w) k .state) .state)
-        → Becomes w w′ (withClient (view w) k (record { living = clientAt (view w) k .living; state = client.responds (client.enough (settingOf w .m)) (settingOf w .n) (record { 0 = k }) j o (clientAt (view w) k .state) .state; downs = clientAt (view w) k .downs }))
+        → c ≡ store (settingOf w .n) (settingOf w .m) (record { 0 = k }) (client.responds (client.enough (settingOf w .m)) (settingOf w .n) (record { 0 = k }) j o (clientAt (view w) (clientNo k) .state) .state)
+        → Becomes w w′ (withClient (view w) (clientNo k) (record { living = clientAt (view w) (clientNo k) .living; state = client.responds (client.enough (settingOf w .m)) (settingOf w .n) (record { 0 = k }) j o (clientAt (view w) (clientNo k) .state) .state; downs = clientAt (view w) (clientNo k) .downs }))
     responds-stored j o v d e =
-        client-stores (client.responds (client.enough (settingOf w .m)) (settingOf w .n) self j o (clientAt (view w) k .state) .state)
+        client-stores (client.responds (client.enough (settingOf w .m)) (settingOf w .n) self j o (clientAt (view w) (clientNo k) .state) .state)
         (rw client-is (responds-block (settingOf w .n) (settingOf w .m) (settingOf w .clients) k part client-block j o v d)) e
 
     pub checked-stored : (j : ServerId) (t : Timestamp)
-        → c ≡ store (settingOf w .n) (settingOf w .m) (record { 0 = k }) (client.checked (record { 0 = k }) j t (clientAt (view w) k .state) .state)
-        → Becomes w w′ (withClient (view w) k (record { living = clientAt (view w) k .living; state = client.checked (record { 0 = k }) j t (clientAt (view w) k .state) .state; downs = clientAt (view w) k .downs }))
+        → c ≡ store (settingOf w .n) (settingOf w .m) (record { 0 = k }) (client.checked (record { 0 = k }) j t (clientAt (view w) (clientNo k) .state) .state)
+        → Becomes w w′ (withClient (view w) (clientNo k) (record { living = clientAt (view w) (clientNo k) .living; state = client.checked (record { 0 = k }) j t (clientAt (view w) (clientNo k) .state) .state; downs = clientAt (view w) (clientNo k) .downs }))
     checked-stored j t e =
-        client-stores (client.checked self j t (clientAt (view w) k .state) .state)
+        client-stores (client.checked self j t (clientAt (view w) (clientNo k) .state) .state)
         (rw client-is (checked-block (settingOf w .n) (settingOf w .m) (settingOf w .clients) k part client-block j t)) e

@@ -10,7 +10,7 @@ use Rattle.transit.specs.Slots.{slots, slotAt, ascending}
 use Rattle.transit.proofs.Kept.{Kept, slot-kept, length-slots}
 use Rattle.transit.proofs.NumbersLaws.{replaced-there}
 use Rattle.transit.proofs.ValidLaws.{known, slots-around}
-use Rattle.layout.specs.Layout.{settingOf, lengthOf, sentOf, transitWords, view}
+use Rattle.layout.specs.Layout.{settingOf, lengthOf, sentOf, transitWords, view, clientsFrom}
 use Rattle.layout.proofs.ValidLaws.{facts}
 use Rattle.changes.specs.Changes.{HasSlot}
 
@@ -21,7 +21,7 @@ module _ (w : List ℕ) (i : ℕ) (H : HasSlot w i) where
   abbrev rest : ℕ
   rest = lengthOf w - suc i
 
-  around : view w .transit ≡ slots i t ++ (slotAt t i ∷ slots rest (drop (7 * suc i) t))
+  around : view w .transit ≡ slots i t ++ (slotAt t i ∷ slots rest (drop (clientsFrom * suc i) t))
   unfolding view
   around = let z : lengthOf w ≡ i + suc rest = omega (arith, H .used) in ap (λ (x : ℕ). slots x t) z ∙ slots-around i rest t
 
@@ -31,7 +31,7 @@ module _ (w : List ℕ) (i : ℕ) (H : HasSlot w i) where
 
   length-replaced : (f : InTransit → List InTransit) → length (replaced (slotAt t i .number) f (view w .transit)) ≡ i + (length (f (slotAt t i)) + rest)
   length-replaced f =
-      let e = replaced-there (sentOf w) f 0 (slots i t) (slotAt t i) (slots rest (drop (7 * suc i) t)) (rw around at ordered) in
+      let e = replaced-there (sentOf w) f 0 (slots i t) (slotAt t i) (slots rest (drop (clientsFrom * suc i) t)) (rw around at ordered) in
       rw (around, e, length-append, length-append, length-slots, length-slots)
 
   pub length-kept : length (replaced (slotAt (transitWords w) i .number) keeping (view w .transit)) ≡ lengthOf w - 0

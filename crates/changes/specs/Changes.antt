@@ -24,6 +24,10 @@ use Rattle.system.specs.Places.{System, ClientPlace, ServerPlace, clientAt, ser
 use Rattle.layout.specs.Layout.{settingOf, lengthOf, sentOf, transitWords, view, valid}
 use Rattle.transit.specs.Slots.{slotAt, names, messagesIn}
 
+-- the bytes into which an event's step writes what it sends: more than any step needs
+abbrev pub outBytes : ℕ
+outBytes = 512
+
 -- w′ is a simulation of w's setting, and its system is u
 pub record Becomes (w w′ : List ℕ) (u : System) : Type 0 where
   pub system : view w′ ≡ u
@@ -31,27 +35,27 @@ pub record Becomes (w w′ : List ℕ) (u : System) : Type 0 where
   pub again : valid w′ ≡ true
 
 -- w is a simulation that has a client k, or a server j, or a used slot i
-pub record HasClient (w : List ℕ) (k : ℕ) : Type 0 where
+pub record HasClient (w : List ℕ) (k : ClientId) : Type 0 where
   pub valid : valid w ≡ true
-  pub first : 1 ≤ k
-  pub last : k ≤ settingOf w .clients
+  pub first : 1 ≤ k .0
+  pub last : k .0 ≤ settingOf w .clients
 
-pub record HasServer (w : List ℕ) (j : ℕ) : Type 0 where
+pub record HasServer (w : List ℕ) (j : ServerId) : Type 0 where
   pub valid : valid w ≡ true
-  pub first : 1 ≤ j
-  pub last : j ≤ settingOf w .n
+  pub first : 1 ≤ j .0
+  pub last : j .0 ≤ settingOf w .n
 
 pub record HasSlot (w : List ℕ) (i : ℕ) : Type 0 where
   pub valid : valid w ≡ true
   pub used : i < lengthOf w
 
 -- server j is up, and its owner has fallen
-pub record Missing (w : List ℕ) (j : ℕ) : Type 0 where
+pub record Missing (w : List ℕ) (j : ServerId) : Type 0 where
   pub there : HasServer w j
   pub up : serverAt (view w) j .up ≡ true
   pub owner : Pair
   pub owns : serverAt (view w) j .state .owner ≡ Of owner
-  pub fallen : clientAt (view w) (owner .client .0) .living ≡ false
+  pub fallen : clientAt (view w) (owner .client) .living ≡ false
 
 -- the number of the message in slot i
 abbrev pub numberAt : List ℕ → ℕ → MessageNumber
@@ -71,11 +75,11 @@ tagged tag.Release k j t = Release k j t
 tagged tag.Inquiry k j t = Inquiry k j t
 
 -- the system with one part changed
-abbrev pub withClient : System → ℕ → ClientPlace → System
-withClient u k p = record { clients = put (u .clients) k p; servers = u .servers; transit = u .transit; sent = u .sent; most = u .most }
+abbrev pub withClient : System → ClientId → ClientPlace → System
+withClient u k p = record { clients = put (u .clients) (k .0) p; servers = u .servers; transit = u .transit; sent = u .sent; most = u .most }
 
-abbrev pub withServer : System → ℕ → ServerPlace → System
-withServer u j q = record { clients = u .clients; servers = put (u .servers) j q; transit = u .transit; sent = u .sent; most = u .most }
+abbrev pub withServer : System → ServerId → ServerPlace → System
+withServer u j q = record { clients = u .clients; servers = put (u .servers) (j .0) q; transit = u .transit; sent = u .sent; most = u .most }
 
 abbrev pub withTransit : System → List InTransit → System
 withTransit u l = record { clients = u .clients; servers = u .servers; transit = l; sent = u .sent; most = u .most }

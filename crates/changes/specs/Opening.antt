@@ -5,13 +5,15 @@ use Prim.Native.Nat.{ℕ, zero, suc, _+_, _*_, _-_}
 use mathlib.Core.List.{List}
 use lib.ListN.{length, set}
 use lib.Seq.{sets}
+use Rattle.ids.specs.declared.ClientId.{ClientId}
+use Rattle.ids.specs.declared.ServerId.{ServerId}
 use Rattle.client.specs.Calls as client
 use Rattle.server.specs.Calls as server
 use Rattle.words.specs.Records.{clientWords, serverWords}
 use Rattle.client.specs.Figure1.{enough}
 use Rattle.system.specs.Runs.{start}
 use Rattle.layout.specs.Layout.{blank, settingOf, view, valid, serversFrom}
-use Rattle.layout.specs.Parts.{clientBlockOf, serverBlockOf}
+use Rattle.layout.specs.Parts.{clientBlockOf, serverBlockOf, withClientBlock, withServerBlock}
 use Rattle.places.specs.Blocks.{clientBlock, serverBlock}
 
 -- all words are 0, as many as before
@@ -19,13 +21,11 @@ pub record Cleared (w w′ : List ℕ) : Type 0 where
   pub same : length w′ ≡ length w
   pub zeros : blank w′ ≡ true
 
-unfoldable pub newClient : ℕ → ℕ → ℕ → List ℕ → List ℕ
-newClient n m k w =
-    sets w (7 + clientBlock * (k - 1)) (sets (set (clientBlockOf w k) 0 1) 1 (clientWords (client.newResult n m (record { 0 = k }) .client)))
+unfoldable pub newClient : ℕ → ℕ → ClientId → List ℕ → List ℕ
+newClient n m k w = withClientBlock w k (sets (set (clientBlockOf w k) 0 1) 1 (clientWords (client.newResult n m k .client)))
 
-unfoldable pub newServer : ℕ → ℕ → List ℕ → List ℕ
-newServer n j w =
-    sets w (serversFrom + serverBlock * (j - 1)) (sets (set (serverBlockOf w j) 0 1) 1 (serverWords (server.newResult n (record { 0 = j }) .server)))
+unfoldable pub newServer : ℕ → ServerId → List ℕ → List ℕ
+newServer n j w = withServerBlock w j (sets (set (serverBlockOf w j) 0 1) 1 (serverWords (server.newResult n j .server)))
 
 -- each of the first so many parties put, one after another
 unfoldable pub inTurn : (ℕ → List ℕ → List ℕ) → ℕ → List ℕ → List ℕ

@@ -6,8 +6,8 @@ ghost use Prim.Native.Nat.{_≤_, _+_, max};
 ghost use lib.ListN.{length, set};
 ghost use Rattle.ids.specs.Choice.{if_then_else_};
 ghost use Rattle.ids.specs.Limits.{within};
-ghost use Rattle.quorum.specs.Check.{inRange};
-ghost use Rattle.system.specs.Numbered.{put};
+ghost use Rattle.quorum.specs.Check.{inRangeUpTo};
+ghost use Rattle.system.specs.Numbered.{put, clientNo, serverNo};
 ghost use Rattle.system.specs.Transit.{replaced, keeping, gone, again};
 ghost use Rattle.system.specs.Places.{clientAt, serverAt, inEpoch, downFrom, downed, worst};
 ghost use Rattle.transit.specs.Slots.{messagesIn, slotAt};
@@ -88,7 +88,7 @@ fn note_most(w: &mut [u32])
 
 // Server `j` goes down: the epochs of all clients note it.
 pub fn note_down(w: &mut [u32], j: ServerId)
-    requires { ⌜ HasServer (now w) (j .0) ⌝ }
+    requires { ⌜ HasServer (now w) j ⌝ }
     ensures { λ _. ⌜ Becomes (now (w .entry)) (now (w .exit)) (withClients (view (now (w .entry))) (map (downed j) (view (now (w .entry)) .clients))) ⌝ }
 {
     let clients = w[3] as u16;
@@ -102,8 +102,8 @@ pub fn note_down(w: &mut [u32], j: ServerId)
 
 // 1 if the server is down.
 fn down_flag(w: &[u32], j: u16) -> u32
-    requires { ⌜ ServerIn (now w) j ⌝ }
-    ensures { λ r. ⌜ r ≡ (if serverPlace (serverBlockOf (now (w .entry)) j) .up then 0 else 1) ⌝ }
+    requires { ⌜ ServerIn (now w) (serverNo j) ⌝ }
+    ensures { λ r. ⌜ r ≡ (if serverPlace (serverBlockOf (now (w .entry)) (serverNo j)) .up then 0 else 1) ⌝ }
 {
     if layout::is_up(w, j) {
         return 0;
@@ -113,8 +113,8 @@ fn down_flag(w: &[u32], j: u16) -> u32
 
 // An epoch of client `k` begins: the servers that are down count.
 pub fn begin_epoch(w: &mut [u32], k: ClientId)
-    requires { ⌜ HasClient (now w) (k .0) × (inEpoch (clientAt (view (now w)) (k .0)) ≡ true) ⌝ }
-    ensures { λ _. ⌜ Becomes (now (w .entry)) (now (w .exit)) (withClients (view (now (w .entry))) (put (view (now (w .entry)) .clients) (k .0) (record { living = clientAt (view (now (w .entry))) (k .0) .living; state = clientAt (view (now (w .entry))) (k .0) .state; downs = downFrom 1 (view (now (w .entry)) .servers) }))) ⌝ }
+    requires { ⌜ HasClient (now w) k × (inEpoch (clientAt (view (now w)) k) ≡ true) ⌝ }
+    ensures { λ _. ⌜ Becomes (now (w .entry)) (now (w .exit)) (withClients (view (now (w .entry))) (put (view (now (w .entry)) .clients) (k .0) (record { living = clientAt (view (now (w .entry))) k .living; state = clientAt (view (now (w .entry))) k .state; downs = downFrom 1 (view (now (w .entry)) .servers) }))) ⌝ }
 {
     let n = w[0] as u16;
     let mut i: u16 = 0;
@@ -128,16 +128,16 @@ pub fn begin_epoch(w: &mut [u32], k: ClientId)
 
 // The epoch of client `k` ends: no server counts any more.
 pub fn end_epoch(w: &mut [u32], k: ClientId)
-    requires { ⌜ HasClient (now w) (k .0) ⌝ }
-    ensures { λ _. ⌜ Becomes (now (w .entry)) (now (w .exit)) (withClient (view (now (w .entry))) (k .0) (record { living = clientAt (view (now (w .entry))) (k .0) .living; state = clientAt (view (now (w .entry))) (k .0) .state; downs = [] })) ⌝ }
+    requires { ⌜ HasClient (now w) k ⌝ }
+    ensures { λ _. ⌜ Becomes (now (w .entry)) (now (w .exit)) (withClient (view (now (w .entry))) k (record { living = clientAt (view (now (w .entry))) k .living; state = clientAt (view (now (w .entry))) k .state; downs = [] })) ⌝ }
 {
     layout::clear_client(w, k.0);
 }
 
 // The owner in server `j`'s record.
 pub fn owner_of(w: &[u32], j: ServerId) -> Owner
-    requires { ⌜ HasServer (now w) (j .0) ⌝ }
-    ensures { λ r. ⌜ r ≡ serverAt (view (now (w .entry))) (j .0) .state .owner ⌝ }
+    requires { ⌜ HasServer (now w) j ⌝ }
+    ensures { λ r. ⌜ r ≡ serverAt (view (now (w .entry))) j .state .owner ⌝ }
 {
     let s = layout::server_record(w, j.0);
     let v = s.votes;
@@ -157,7 +157,7 @@ fn clear_all(w: &mut [u32])
 }
 
 fn new_client(w: &mut [u32], n: u16, m: u16, k: u16)
-    requires { ⌜ ClientIn (now w) k ⌝ }
+    requires { ⌜ ClientIn (now w) (clientNo k) ⌝ }
     ensures { λ _. ⌜ now (w .exit) ≡ newClient n m k (now (w .entry)) ⌝ }
 {
     w[7 + 99 * (k as usize - 1)] = 1;
@@ -177,7 +177,7 @@ fn new_clients(w: &mut [u32], n: u16, m: u16, clients: u16)
 }
 
 fn new_server(w: &mut [u32], n: u16, j: u16)
-    requires { ⌜ ServerIn (now w) j ⌝ }
+    requires { ⌜ ServerIn (now w) (serverNo j) ⌝ }
     ensures { λ _. ⌜ now (w .exit) ≡ newServer n j (now (w .entry)) ⌝ }
 {
     layout::rise_server(w, j);
@@ -198,7 +198,7 @@ fn new_servers(w: &mut [u32], n: u16)
 
 // The words are a fresh start of this setting, which is in range.
 pub fn start(w: &mut [u32], n: u32, m: u32, f: u32, clients: u32)
-    requires { ⌜ (length (now w) ≡ simulationSize) × (inRange n m f ≡ true) × (within clients systemClients ≡ true) ⌝ }
+    requires { ⌜ (length (now w) ≡ simulationSize) × (inRangeUpTo systemServers n m f ≡ true) × (within clients systemClients ≡ true) ⌝ }
     ensures { λ _. ⌜ Starts n m f clients (now (w .exit)) ⌝ }
 {
     clear_all(w);

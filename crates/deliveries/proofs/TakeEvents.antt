@@ -72,6 +72,7 @@ use Rattle.changes.proofs.Taking.{slot-message, length-kept, length-gone}
 use Rattle.bounded.proofs.ServerEvents.{ServerCalled, server-called}
 use Rattle.bounded.proofs.ClientEvents.{ClientCalled, client-called, still-client, its-facts, its-state, place-state}
 use Rattle.votes.specs.Queues.{maxQueue}
+use Rattle.system.specs.Numbered.{serverNo}
 
 -- what is known of a pending message
 module _ (w : List ℕ) (i : ℕ) (m : Message) (P : Pends w i m) where
@@ -125,7 +126,7 @@ needed b x e = rw e
 unmet : (b : Bool) (x : Step System) → b ≡ false → need b PartyDown (stepped x) ≡ refused PartyDown
 unmet b x e = rw e
 
-pub still-server : {w w₁ : List ℕ} {j : ℕ} {u : System} → Becomes w w₁ u → HasServer w j → HasServer w₁ j
+pub still-server : {w w₁ : List ℕ} {j : ℕ} {u : System} → Becomes w w₁ u → HasServer w (serverNo j) → HasServer w₁ (serverNo j)
 still-server B H = record { valid = B .again; first = H .first; last = rw (B .setting) (H .last) }
 
 module _ (w : List ℕ) (i : ℕ) (x : Tag) (k : ClientId) (j : ServerId) (t : Timestamp) (P : Pends w i (tagged x k j t)) where
@@ -138,7 +139,7 @@ module _ (w : List ℕ) (i : ℕ) (x : Tag) (k : ClientId) (j : ServerId) (t : T
   parties : There (settingOf w .n) (settingOf w .clients) k j
   parties = tagged-there (settingOf w .n) (settingOf w .clients) x k j t (of-parties w i (tagged x k j t) P)
 
-  pub taking-server : HasServer w (j .0)
+  pub taking-server : HasServer w j
   taking-server = record { valid = P .slot .valid; first = parties .some-server; last = parties .server }
 
   ranged : format.valid (message x k j t) ≡ true
@@ -153,74 +154,74 @@ module _ (w : List ℕ) (i : ℕ) (x : Tag) (k : ClientId) (j : ServerId) (t : T
   goes : event (settingOf w .n) (enough (settingOf w .m)) (view w) (Take (numberAt w i)) ≡ toServer (view w) (numberAt w i .0) x k j t
   goes = delivers w i (tagged x k j t) P ∙ deliver-tagged (settingOf w .n) (enough (settingOf w .m)) (view w) (numberAt w i .0) x k j t
 
-  module _ (b : Bool) (f : b ≡ serverPlace (serverBlockOf w (j .0)) .up) where
+  module _ (b : Bool) (f : b ≡ serverPlace (serverBlockOf w j) .up) where
     pub taking-down : not b ≡ true → Leaves w (Take (numberAt w i)) w × (Refused PartyDown ≡ movedOf (happens w (Take (numberAt w i))))
     taking-down u =
         leaves-refused w (Take (numberAt w i)) PartyDown (P .slot .valid)
-        (goes ∙ unmet (serverAt (view w) (j .0) .up) (serverTook (view w) (numberAt w i .0) x k j t) (fails b _ (sym (up-is w (j .0) taking-server b f)) u))
+        (goes ∙ unmet (serverAt (view w) j .up) (serverTook (view w) (numberAt w i .0) x k j t) (fails b _ (sym (up-is w (j .0) taking-server b f)) u))
 
-    pub taking-up : not b ≡ false → serverAt (view w) (j .0) .up ≡ true
+    pub taking-up : not b ≡ false → serverAt (view w) j .up ≡ true
     taking-up u = holds b _ (sym (up-is w (j .0) taking-server b f)) u
 
-  block-facts : ServerBlock (settingOf w .n) (settingOf w .clients) (j .0) (serverBlockOf w (j .0))
-  block-facts = server-facts (settingOf w .n) (settingOf w .clients) (j .0) (serverBlockOf w (j .0)) (server-block w (j .0) taking-server)
+  block-facts : ServerBlock (settingOf w .n) (settingOf w .clients) (j .0) (serverBlockOf w j)
+  block-facts = server-facts (settingOf w .n) (settingOf w .clients) (j .0) (serverBlockOf w j) (server-block w (j .0) taking-server)
 
   abbrev held : Server
-  held = serverFrom (serverRecord (serverBlockOf w (j .0)))
+  held = serverFrom (serverRecord (serverBlockOf w j))
 
   held-places : length (held .votes .queue .places) ≡ maxQueue
   unfolding serverFrom
   held-places =
-      length-requests (drop 5 (serverRecord (serverBlockOf w (j .0)))) maxQueue (simp length-drop (omega (arith, server-held (serverRecord (serverBlockOf w (j .0))) (block-facts .held) .fitting .size)))
+      length-requests (drop 5 (serverRecord (serverBlockOf w j))) maxQueue (simp length-drop (omega (arith, server-held (serverRecord (serverBlockOf w j)) (block-facts .held) .fitting .size)))
 
-  pub taking-padded : (s : Server) → s ≡ serverFrom (serverRecord (serverBlockOf w (j .0))) → Padded (s .votes .queue)
+  pub taking-padded : (s : Server) → s ≡ serverFrom (serverRecord (serverBlockOf w j)) → Padded (s .votes .queue)
   taking-padded s q = rw q (server-padded held true held-places (sym (block-facts .valid)) refl)
 
-  held-state : serverPlace (serverBlockOf w (j .0)) .state ≡ serverAt (view w) (j .0) .state
+  held-state : serverPlace (serverBlockOf w j) .state ≡ serverAt (view w) j .state
   held-state = rw (server-is w (j .0) taking-server)
 
-  held-outcome : server-calls.taken held x k j t ≡ stepped (votes.receive j x asker (serverAt (view w) (j .0) .state))
+  held-outcome : server-calls.taken held x k j t ≡ stepped (votes.receive j x asker (serverAt (view w) j .state))
   held-outcome =
       sym (taken-as held x k j t (block-facts .valid) ranged) ∙
-      (receive-outcome (settingOf w .n) (settingOf w .clients) (j .0) (serverBlockOf w (j .0)) (server-block w (j .0) taking-server) x k t ranged asker-there (few-clients w (sound w (P .slot .valid))) ∙
+      (receive-outcome (settingOf w .n) (settingOf w .clients) (j .0) (serverBlockOf w j) (server-block w (j .0) taking-server) x k t ranged asker-there (few-clients w (sound w (P .slot .valid))) ∙
       ap (λ (q : votes.State). stepped (votes.receive j x asker q)) held-state)
 
-  module _ (up : serverAt (view w) (j .0) .up ≡ true) (s : Server) (q : s ≡ serverFrom (serverRecord (serverBlockOf w (j .0)))) (r : ServerStepped) (bytes bytes′ : List ℕ) (long : length bytes ≡ outBytes)
+  module _ (up : serverAt (view w) j .up ≡ true) (s : Server) (q : s ≡ serverFrom (serverRecord (serverBlockOf w j))) (r : ServerStepped) (bytes bytes′ : List ℕ) (long : length bytes ≡ outBytes)
       (f : r ≡ server-calls.result s (withRoom (length bytes) (server-calls.taken s x k j t))) (g : bytes′ ≡ sentInto bytes (withRoom (length bytes) (server-calls.taken s x k j t))) where
-    pub take-called : ServerCalled w (Take (numberAt w i)) j (replaced (slotAt (transitWords w) i .number) keeping (view w .transit)) (votes.receive j x (record { client = k; timestamp = t }) (serverAt (view w) (j .0) .state)) r bytes′
+    pub take-called : ServerCalled w (Take (numberAt w i)) j (replaced (slotAt (transitWords w) i .number) keeping (view w .transit)) (votes.receive j x (record { client = k; timestamp = t }) (serverAt (view w) j .state)) r bytes′
     take-called =
         let n = settingOf w .n in
         let clients = settingOf w .clients in
-        let b = serverBlockOf w (j .0) in
+        let b = serverBlockOf w j in
         let ok = server-block w (j .0) taking-server in
-        server-called w j taking-server up (Take (numberAt w i)) kept (server-calls.taken held x k j t) (votes.receive j x asker (serverAt (view w) (j .0) .state))
-        (goes ∙ needed (serverAt (view w) (j .0) .up) (serverTook (view w) (numberAt w i .0) x k j t) up) (length-kept w i (P .slot)) held-outcome
+        server-called w j taking-server up (Take (numberAt w i)) kept (server-calls.taken held x k j t) (votes.receive j x asker (serverAt (view w) j .state))
+        (goes ∙ needed (serverAt (view w) j .up) (serverTook (view w) (numberAt w i .0) x k j t) up) (length-kept w i (P .slot)) held-outcome
         (rw (server-is w (j .0) taking-server) (receive-sends n clients (j .0) b ok x asker asker-valid asker-there))
         (rw (server-is w (j .0) taking-server) (receive-short n clients (j .0) b ok x asker asker-there asker-valid)) r bytes bytes′ long (rw q at f) (rw q at g)
 
     -- the message is delivered in w₁, and the record is stored in w₂
     pub take-stored : (w₁ : List ℕ) → Becomes w w₁ (withTransit (view w) (replaced (slotAt (transitWords w) i .number) keeping (view w .transit)))
-        → (w₂ : List ℕ) → w₂ ≡ sets w₁ (serversFrom + serverBlock * (j .0 - 1)) (sets (serverBlockOf w₁ (j .0)) 1 (serverWords (r .server)))
-        → Becomes w w₂ (withServer (withTransit (view w) (replaced (slotAt (transitWords w) i .number) keeping (view w .transit))) (j .0) (record { up = serverAt (view w) (j .0) .up; state = votes.receive j x (record { client = k; timestamp = t }) (serverAt (view w) (j .0) .state) .state }))
+        → (w₂ : List ℕ) → w₂ ≡ sets w₁ (serversFrom + serverBlock * (j .0 - 1)) (sets (serverBlockOf w₁ j) 1 (serverWords (r .server)))
+        → Becomes w w₂ (withServer (withTransit (view w) (replaced (slotAt (transitWords w) i .number) keeping (view w .transit))) j (record { up = serverAt (view w) j .up; state = votes.receive j x (record { client = k; timestamp = t }) (serverAt (view w) j .state) .state }))
     take-stored w₁ B w₂ z =
-        let same : votes.receive j x asker (serverAt (view w) (j .0) .state) .state ≡ votes.receive j x asker (serverAt (view w₁) (j .0) .state) .state =
-        ap (λ (u : System). votes.receive j x asker (serverAt u (j .0) .state) .state) (sym (B .system)) in
+        let same : votes.receive j x asker (serverAt (view w) j .state) .state ≡ votes.receive j x asker (serverAt (view w₁) j .state) .state =
+        ap (λ (u : System). votes.receive j x asker (serverAt u j .state) .state) (sym (B .system)) in
         let D = receive-stored w₁ (j .0) (still-server B taking-server) (r .server) w₂ z x asker (rw (B .setting) asker-there) asker-valid (rw (B .setting, ← same) (take-called .server)) in
-        and-then (λ u. withServer u (j .0) (record { up = serverAt u (j .0) .up; state = votes.receive j x asker (serverAt u (j .0) .state) .state })) B D
+        and-then (λ u. withServer u j (record { up = serverAt u j .up; state = votes.receive j x asker (serverAt u j .state) .state })) B D
 
 -- a message to a client
 named-owner : (clients : ℕ) (o : Owner) → ownerClient o ≤ clients → named clients o ≡ true
 named-owner clients Nobody h = refl
 named-owner clients (Of r) h = le-leb (r .client .0) clients h
 
-module _ (w : List ℕ) (i : ℕ) (k : ClientId) (b : Bool) (f : b ≡ clientPlace (clientBlockOf w (k .0)) .living) (H : HasClient w (k .0)) where
-  pub taker-lives : not b ≡ false → clientAt (view w) (k .0) .living ≡ true
+module _ (w : List ℕ) (i : ℕ) (k : ClientId) (b : Bool) (f : b ≡ clientPlace (clientBlockOf w k) .living) (H : HasClient w k) where
+  pub taker-lives : not b ≡ false → clientAt (view w) k .living ≡ true
   taker-lives u = holds b _ (sym (living-is w (k .0) H b f)) u
 
-  taker-fallen : (x : Step System) → event (settingOf w .n) (enough (settingOf w .m)) (view w) (Take (numberAt w i)) ≡ need (clientAt (view w) (k .0) .living) PartyDown (stepped x)
+  taker-fallen : (x : Step System) → event (settingOf w .n) (enough (settingOf w .m)) (view w) (Take (numberAt w i)) ≡ need (clientAt (view w) k .living) PartyDown (stepped x)
       → not b ≡ true → Leaves w (Take (numberAt w i)) w × (Refused PartyDown ≡ movedOf (happens w (Take (numberAt w i))))
   taker-fallen x e u =
-      leaves-refused w (Take (numberAt w i)) PartyDown (H .valid) (e ∙ unmet (clientAt (view w) (k .0) .living) x (fails b _ (sym (living-is w (k .0) H b f)) u))
+      leaves-refused w (Take (numberAt w i)) PartyDown (H .valid) (e ∙ unmet (clientAt (view w) k .living) x (fails b _ (sym (living-is w (k .0) H b f)) u))
 
 module _ (w : List ℕ) (i : ℕ) (k : ClientId) (j : ServerId) (o : Owner) (P : Pends w i (Response k j o)) where
   abbrev without : List InTransit
@@ -230,58 +231,58 @@ module _ (w : List ℕ) (i : ℕ) (k : ClientId) (j : ServerId) (o : Owner) (P :
   unfolding fieldsOf
   answered = of-parties w i (Response k j o) P
 
-  pub response-client : HasClient w (k .0)
+  pub response-client : HasClient w k
   response-client = record { valid = P .slot .valid; first = answered .some-client; last = answered .client }
 
   owner-valid : validOwner o ≡ true
   owner-valid = response-range k j o (in-range w i (Response k j o) P) .1
 
-  response-goes : event (settingOf w .n) (enough (settingOf w .m)) (view w) (Take (numberAt w i)) ≡ need (clientAt (view w) (k .0) .living) PartyDown (stepped (responseTook (settingOf w .n) (enough (settingOf w .m)) (view w) (numberAt w i .0) k j o))
+  response-goes : event (settingOf w .n) (enough (settingOf w .m)) (view w) (Take (numberAt w i)) ≡ need (clientAt (view w) k .living) PartyDown (stepped (responseTook (settingOf w .n) (enough (settingOf w .m)) (view w) (numberAt w i .0) k j o))
   unfolding deliver
   response-goes = delivers w i (Response k j o) P
 
-  pub response-fallen : (b : Bool) → b ≡ clientPlace (clientBlockOf w (k .0)) .living → not b ≡ true → Leaves w (Take (numberAt w i)) w × (Refused PartyDown ≡ movedOf (happens w (Take (numberAt w i))))
+  pub response-fallen : (b : Bool) → b ≡ clientPlace (clientBlockOf w k) .living → not b ≡ true → Leaves w (Take (numberAt w i)) w × (Refused PartyDown ≡ movedOf (happens w (Take (numberAt w i))))
   response-fallen b f u = taker-fallen w i k b f response-client (responseTook (settingOf w .n) (enough (settingOf w .m)) (view w) (numberAt w i .0) k j o) response-goes u
 
   abbrev heard : Client
-  heard = clientFrom (clientRecord (clientBlockOf w (k .0)))
+  heard = clientFrom (clientRecord (clientBlockOf w k))
 
-  pub respond-asks : (s : Client) → s ≡ clientFrom (clientRecord (clientBlockOf w (k .0))) → (client-record.valid s ≡ true) × (1 ≤ j .0) × (j .0 ≤ s .n) × (validOwner o ≡ true)
+  pub respond-asks : (s : Client) → s ≡ clientFrom (clientRecord (clientBlockOf w k)) → (client-record.valid s ≡ true) × (1 ≤ j .0) × (j .0 ≤ s .n) × (validOwner o ≡ true)
   respond-asks s q =
       let B = its-facts w k response-client in
       rw q (B .valid, answered .some-server, omega (arith, answered .server, B .servers), owner-valid)
 
   abbrev hearing : Step client.State
-  hearing = client.responds (enough (settingOf w .m)) (settingOf w .n) k j o (clientAt (view w) (k .0) .state)
+  hearing = client.responds (enough (settingOf w .m)) (settingOf w .n) k j o (clientAt (view w) k .state)
 
   heard-outcome : _≡_ {A = Outcome client.State} (stepped (client.responds (enough (heard .m)) (heard .n) (heard .id) j o (client-record.view heard))) (stepped hearing)
   heard-outcome =
       let B = its-facts w k response-client in
       rw (its-state w k response-client, B .threshold, B .servers, B .number)
 
-  module _ (lives : clientAt (view w) (k .0) .living ≡ true) (s : Client) (q : s ≡ clientFrom (clientRecord (clientBlockOf w (k .0)))) (r : ClientStepped) (bytes bytes′ : List ℕ) (long : length bytes ≡ outBytes)
+  module _ (lives : clientAt (view w) k .living ≡ true) (s : Client) (q : s ≡ clientFrom (clientRecord (clientBlockOf w k))) (r : ClientStepped) (bytes bytes′ : List ℕ) (long : length bytes ≡ outBytes)
       (f : r ≡ client-calls.result s (withRoom (length bytes) (stepped (client.responds (enough (s .m)) (s .n) (s .id) j o (client-record.view s)))))
       (g : bytes′ ≡ sentInto bytes (withRoom (length bytes) (stepped (client.responds (enough (s .m)) (s .n) (s .id) j o (client-record.view s))))) where
-    pub respond-called : ClientCalled w (Take (numberAt w i)) k 1 (replaced (slotAt (transitWords w) i .number) gone (view w .transit)) (clientAt (view w) (k .0) .downs) (client.responds (enough (settingOf w .m)) (settingOf w .n) k j o (clientAt (view w) (k .0) .state)) r bytes′
+    pub respond-called : ClientCalled w (Take (numberAt w i)) k 1 (replaced (slotAt (transitWords w) i .number) gone (view w .transit)) (clientAt (view w) k .downs) (client.responds (enough (settingOf w .m)) (settingOf w .n) k j o (clientAt (view w) k .state)) r bytes′
     respond-called =
         let n = settingOf w .n in
         let m = settingOf w .m in
         let clients = settingOf w .clients in
         let H = response-client in
-        client-called w k H lives (Take (numberAt w i)) 1 without (clientAt (view w) (k .0) .downs) (stepped (client.responds (enough (heard .m)) (heard .n) (heard .id) j o (client-record.view heard))) hearing
-        (response-goes ∙ needed (clientAt (view w) (k .0) .living) (responseTook n (enough m) (view w) (numberAt w i .0) k j o) lives) (length-gone w i (P .slot)) heard-outcome
-        (subst (λ (c : client.State). Sends n clients (client.responds (enough m) n k j o c .sent)) (place-state w k H) (responds-sends n m clients (k .0) (clientBlockOf w (k .0)) (client-block w (k .0) H) (H .first) (H .last) j o))
+        client-called w k H lives (Take (numberAt w i)) 1 without (clientAt (view w) k .downs) (stepped (client.responds (enough (heard .m)) (heard .n) (heard .id) j o (client-record.view heard))) hearing
+        (response-goes ∙ needed (clientAt (view w) k .living) (responseTook n (enough m) (view w) (numberAt w i .0) k j o) lives) (length-gone w i (P .slot)) heard-outcome
+        (subst (λ (c : client.State). Sends n clients (client.responds (enough m) n k j o c .sent)) (place-state w k H) (responds-sends n m clients (k .0) (clientBlockOf w k) (client-block w (k .0) H) (H .first) (H .last) j o))
         r bytes bytes′ long (rw q at f) (rw q at g)
 
     -- the message is gone in w₁, and the record is stored in w₂
     pub respond-stored : (w₁ : List ℕ) → Becomes w w₁ (withTransit (view w) (replaced (slotAt (transitWords w) i .number) gone (view w .transit)))
-        → (w₂ : List ℕ) → w₂ ≡ sets w₁ (7 + clientBlock * (k .0 - 1)) (sets (clientBlockOf w₁ (k .0)) 1 (clientWords (r .client)))
-        → Becomes w w₂ (withClient (withTransit (view w) (replaced (slotAt (transitWords w) i .number) gone (view w .transit))) (k .0) (record { living = clientAt (view w) (k .0) .living; state = client.responds (enough (settingOf w .m)) (settingOf w .n) k j o (clientAt (view w) (k .0) .state) .state; downs = clientAt (view w) (k .0) .downs }))
+        → (w₂ : List ℕ) → w₂ ≡ sets w₁ (7 + clientBlock * (k .0 - 1)) (sets (clientBlockOf w₁ k) 1 (clientWords (r .client)))
+        → Becomes w w₂ (withClient (withTransit (view w) (replaced (slotAt (transitWords w) i .number) gone (view w .transit))) k (record { living = clientAt (view w) k .living; state = client.responds (enough (settingOf w .m)) (settingOf w .n) k j o (clientAt (view w) k .state) .state; downs = clientAt (view w) k .downs }))
     respond-stored w₁ B w₂ z =
-        let step : System → client.State = λ u. client.responds (enough (settingOf w .m)) (settingOf w .n) k j o (clientAt u (k .0) .state) .state in
+        let step : System → client.State = λ u. client.responds (enough (settingOf w .m)) (settingOf w .n) k j o (clientAt u k .state) .state in
         let same : step (view w) ≡ step (view w₁) = ap step (sym (B .system)) in
         let D = responds-stored w₁ (k .0) (still-client B response-client) (r .client) w₂ z j o owner-valid (rw (B .setting) (named-owner (settingOf w .clients) o (answered .owner))) (rw (B .setting, ← same) (respond-called .client)) in
-        and-then (λ u. withClient u (k .0) (record { living = clientAt u (k .0) .living; state = step u; downs = clientAt u (k .0) .downs })) B (rw (B .setting) at D)
+        and-then (λ u. withClient u k (record { living = clientAt u k .living; state = step u; downs = clientAt u k .downs })) B (rw (B .setting) at D)
 
 module _ (w : List ℕ) (i : ℕ) (k : ClientId) (j : ServerId) (t : Timestamp) (P : Pends w i (Check k j t)) where
   abbrev left : List InTransit
@@ -291,50 +292,50 @@ module _ (w : List ℕ) (i : ℕ) (k : ClientId) (j : ServerId) (t : Timestamp) 
   unfolding fieldsOf
   told = of-parties w i (Check k j t) P
 
-  pub check-client : HasClient w (k .0)
+  pub check-client : HasClient w k
   check-client = record { valid = P .slot .valid; first = told .some-client; last = told .client }
 
-  check-goes : event (settingOf w .n) (enough (settingOf w .m)) (view w) (Take (numberAt w i)) ≡ need (clientAt (view w) (k .0) .living) PartyDown (stepped (checkTook (view w) (numberAt w i .0) k j t))
+  check-goes : event (settingOf w .n) (enough (settingOf w .m)) (view w) (Take (numberAt w i)) ≡ need (clientAt (view w) k .living) PartyDown (stepped (checkTook (view w) (numberAt w i .0) k j t))
   unfolding deliver
   check-goes = delivers w i (Check k j t) P
 
-  pub check-fallen : (b : Bool) → b ≡ clientPlace (clientBlockOf w (k .0)) .living → not b ≡ true → Leaves w (Take (numberAt w i)) w × (Refused PartyDown ≡ movedOf (happens w (Take (numberAt w i))))
+  pub check-fallen : (b : Bool) → b ≡ clientPlace (clientBlockOf w k) .living → not b ≡ true → Leaves w (Take (numberAt w i)) w × (Refused PartyDown ≡ movedOf (happens w (Take (numberAt w i))))
   check-fallen b f u = taker-fallen w i k b f check-client (checkTook (view w) (numberAt w i .0) k j t) check-goes u
 
   abbrev asked : Client
-  asked = clientFrom (clientRecord (clientBlockOf w (k .0)))
+  asked = clientFrom (clientRecord (clientBlockOf w k))
 
-  pub check-asks : (s : Client) → s ≡ clientFrom (clientRecord (clientBlockOf w (k .0))) → client-record.valid s ≡ true
+  pub check-asks : (s : Client) → s ≡ clientFrom (clientRecord (clientBlockOf w k)) → client-record.valid s ≡ true
   check-asks s q = rw q (its-facts w k check-client .valid)
 
   abbrev checking : Step client.State
-  checking = client.checked k j t (clientAt (view w) (k .0) .state)
+  checking = client.checked k j t (clientAt (view w) k .state)
 
   asked-outcome : _≡_ {A = Outcome client.State} (stepped (client.checked (asked .id) j t (client-record.view asked))) (stepped checking)
   asked-outcome = rw (its-state w k check-client, its-facts w k check-client .number)
 
-  module _ (lives : clientAt (view w) (k .0) .living ≡ true) (s : Client) (q : s ≡ clientFrom (clientRecord (clientBlockOf w (k .0)))) (r : ClientStepped) (bytes bytes′ : List ℕ) (long : length bytes ≡ outBytes)
+  module _ (lives : clientAt (view w) k .living ≡ true) (s : Client) (q : s ≡ clientFrom (clientRecord (clientBlockOf w k))) (r : ClientStepped) (bytes bytes′ : List ℕ) (long : length bytes ≡ outBytes)
       (f : r ≡ client-calls.result s (withRoom (length bytes) (stepped (client.checked (s .id) j t (client-record.view s)))))
       (g : bytes′ ≡ sentInto bytes (withRoom (length bytes) (stepped (client.checked (s .id) j t (client-record.view s))))) where
-    pub check-called : ClientCalled w (Take (numberAt w i)) k 1 (replaced (slotAt (transitWords w) i .number) gone (view w .transit)) (clientAt (view w) (k .0) .downs) (client.checked k j t (clientAt (view w) (k .0) .state)) r bytes′
+    pub check-called : ClientCalled w (Take (numberAt w i)) k 1 (replaced (slotAt (transitWords w) i .number) gone (view w .transit)) (clientAt (view w) k .downs) (client.checked k j t (clientAt (view w) k .state)) r bytes′
     check-called =
         let n = settingOf w .n in
         let m = settingOf w .m in
         let clients = settingOf w .clients in
         let H = check-client in
-        client-called w k H lives (Take (numberAt w i)) 1 left (clientAt (view w) (k .0) .downs) (stepped (client.checked (asked .id) j t (client-record.view asked))) checking
-        (check-goes ∙ needed (clientAt (view w) (k .0) .living) (checkTook (view w) (numberAt w i .0) k j t) lives) (length-gone w i (P .slot)) asked-outcome
-        (subst (λ (c : client.State). Sends n clients (client.checked k j t c .sent)) (place-state w k H) (checked-sends n m clients (k .0) (clientBlockOf w (k .0)) (client-block w (k .0) H) (H .first) (H .last) j t (in-range w i (Check k j t) P) (told .some-server) (told .server)))
+        client-called w k H lives (Take (numberAt w i)) 1 left (clientAt (view w) k .downs) (stepped (client.checked (asked .id) j t (client-record.view asked))) checking
+        (check-goes ∙ needed (clientAt (view w) k .living) (checkTook (view w) (numberAt w i .0) k j t) lives) (length-gone w i (P .slot)) asked-outcome
+        (subst (λ (c : client.State). Sends n clients (client.checked k j t c .sent)) (place-state w k H) (checked-sends n m clients (k .0) (clientBlockOf w k) (client-block w (k .0) H) (H .first) (H .last) j t (in-range w i (Check k j t) P) (told .some-server) (told .server)))
         r bytes bytes′ long (rw q at f) (rw q at g)
 
     pub check-stored-in : (w₁ : List ℕ) → Becomes w w₁ (withTransit (view w) (replaced (slotAt (transitWords w) i .number) gone (view w .transit)))
-        → (w₂ : List ℕ) → w₂ ≡ sets w₁ (7 + clientBlock * (k .0 - 1)) (sets (clientBlockOf w₁ (k .0)) 1 (clientWords (r .client)))
-        → Becomes w w₂ (withClient (withTransit (view w) (replaced (slotAt (transitWords w) i .number) gone (view w .transit))) (k .0) (record { living = clientAt (view w) (k .0) .living; state = client.checked k j t (clientAt (view w) (k .0) .state) .state; downs = clientAt (view w) (k .0) .downs }))
+        → (w₂ : List ℕ) → w₂ ≡ sets w₁ (7 + clientBlock * (k .0 - 1)) (sets (clientBlockOf w₁ k) 1 (clientWords (r .client)))
+        → Becomes w w₂ (withClient (withTransit (view w) (replaced (slotAt (transitWords w) i .number) gone (view w .transit))) k (record { living = clientAt (view w) k .living; state = client.checked k j t (clientAt (view w) k .state) .state; downs = clientAt (view w) k .downs }))
     check-stored-in w₁ B w₂ z =
-        let step : System → client.State = λ u. client.checked k j t (clientAt u (k .0) .state) .state in
+        let step : System → client.State = λ u. client.checked k j t (clientAt u k .state) .state in
         let same : step (view w) ≡ step (view w₁) = ap step (sym (B .system)) in
         let D = checked-stored w₁ (k .0) (still-client B check-client) (r .client) w₂ z j t (rw (B .setting, ← same) (check-called .client)) in
-        and-then (λ u. withClient u (k .0) (record { living = clientAt u (k .0) .living; state = step u; downs = clientAt u (k .0) .downs })) B D
+        and-then (λ u. withClient u k (record { living = clientAt u k .living; state = step u; downs = clientAt u k .downs })) B D
 
 below : (a b : ℕ) → a ≤ b → (a ≡ b → ⊥) → a < b
 below a b h n =

@@ -34,6 +34,7 @@ use Rattle.votes.specs.Queues as votes
 use Rattle.knowledge.specs.Knowledge.{requestText, requestsText, queueText, votesText, serverText, supportText, supportersText, stateText, clientText, serversText, clientsText}
 use Rattle.votes.specs.Queues.{maxQueue}
 use Rattle.system.specs.Limits.{systemServers}
+use Rattle.system.specs.Numbered.{clientNo, serverNo}
 
 -- those who wait
 requests-append : (a b : List Request) → requestsText (a ++ b) ≡ requestsText a ++ requestsText b
@@ -103,30 +104,30 @@ module _ (x : Section) (l : List (List ℕ)) (s₀ : Sheet) where
     supporters-critical e = rw e p
 
 -- the places of a valid simulation
-module _ (w : List ℕ) (j : ℕ) (H : HasServer w j) where
-  pub server-held : holdsServer (serverRecord (serverBlockOf w j)) ≡ true
-  server-held = server-facts (settingOf w .n) (settingOf w .clients) j (serverBlockOf w j) (server-block w j H) .held
+module _ (w : List ℕ) (j : ℕ) (H : HasServer w (serverNo j)) where
+  pub server-held : holdsServer (serverRecord (serverBlockOf w (serverNo j))) ≡ true
+  server-held = server-facts (settingOf w .n) (settingOf w .clients) j (serverBlockOf w (serverNo j)) (server-block w j H) .held
 
-  pub queue-few : serverFrom (serverRecord (serverBlockOf w j)) .votes .queue .len ≤ maxQueue
-  queue-few = valid-length _ (server-facts (settingOf w .n) (settingOf w .clients) j (serverBlockOf w j) (server-block w j H) .valid)
+  pub queue-few : serverFrom (serverRecord (serverBlockOf w (serverNo j))) .votes .queue .len ≤ maxQueue
+  queue-few = valid-length _ (server-facts (settingOf w .n) (settingOf w .clients) j (serverBlockOf w (serverNo j)) (server-block w j H) .valid)
 
-  pub server-text : (b : Bool) (s : Server) → b ≡ serverPlace (serverBlockOf w j) .up → s ≡ serverFrom (serverRecord (serverBlockOf w j))
-      → serverText j (serverAt (view w) j) ≡ text "keeper " ∷ decimal j ∷ ((if b then votesText (votes.view (s .votes)) else text " down" ∷ []) ++ ends)
+  pub server-text : (b : Bool) (s : Server) → b ≡ serverPlace (serverBlockOf w (serverNo j)) .up → s ≡ serverFrom (serverRecord (serverBlockOf w (serverNo j)))
+      → serverText j (serverAt (view w) (serverNo j)) ≡ text "keeper " ∷ decimal j ∷ ((if b then votesText (votes.view (s .votes)) else text " down" ∷ []) ++ ends)
   unfolding serverText serverPlace
   server-text b s e f = rw (server-is w j H, e, f)
 
-module _ (w : List ℕ) (k : ℕ) (H : HasClient w k) where
-  facts : ClientBlock (settingOf w .n) (settingOf w .m) (settingOf w .clients) k (clientBlockOf w k)
-  facts = client-facts (settingOf w .n) (settingOf w .m) (settingOf w .clients) k (clientBlockOf w k) (client-block w k H)
+module _ (w : List ℕ) (k : ℕ) (H : HasClient w (clientNo k)) where
+  facts : ClientBlock (settingOf w .n) (settingOf w .m) (settingOf w .clients) k (clientBlockOf w (clientNo k))
+  facts = client-facts (settingOf w .n) (settingOf w .m) (settingOf w .clients) k (clientBlockOf w (clientNo k)) (client-block w k H)
 
-  pub client-held : holdsClient (clientRecord (clientBlockOf w k)) ≡ true
+  pub client-held : holdsClient (clientRecord (clientBlockOf w (clientNo k))) ≡ true
   client-held = facts .held
 
-  pub servers-few : clientFrom (clientRecord (clientBlockOf w k)) .n ≤ systemServers
-  servers-few = omega (arith, facts .servers, client-few (settingOf w .n) (settingOf w .m) (settingOf w .clients) k (clientBlockOf w k) facts)
+  pub servers-few : clientFrom (clientRecord (clientBlockOf w (clientNo k))) .n ≤ systemServers
+  servers-few = omega (arith, facts .servers, client-few (settingOf w .n) (settingOf w .m) (settingOf w .clients) k (clientBlockOf w (clientNo k)) facts)
 
-  pub client-text : (b : Bool) (c : Client) → b ≡ clientPlace (clientBlockOf w k) .living → c ≡ clientFrom (clientRecord (clientBlockOf w k))
-      → clientText k (clientAt (view w) k) ≡ text "kiosk " ∷ decimal k ∷ ((if b then stateText k (client.view c) else text " fallen" ∷ []) ++ ends)
+  pub client-text : (b : Bool) (c : Client) → b ≡ clientPlace (clientBlockOf w (clientNo k)) .living → c ≡ clientFrom (clientRecord (clientBlockOf w (clientNo k)))
+      → clientText k (clientAt (view w) (clientNo k)) ≡ text "kiosk " ∷ decimal k ∷ ((if b then stateText k (client.view c) else text " fallen" ∷ []) ++ ends)
   unfolding clientText clientPlace
   client-text b c e f = rw (client-is w k H, e, f)
 
@@ -136,7 +137,7 @@ module _ (u : System) where
   unfolding serversText puts
   servers-none s = refl
 
-  pub servers-more : (j : ℕ) (s₀ : Sheet) {s₁ s₂ : Sheet} → s₁ ≡ puts (serversText u j) s₀ → s₂ ≡ puts (serverText (j + 1) (serverAt u (j + 1))) s₁
+  pub servers-more : (j : ℕ) (s₀ : Sheet) {s₁ s₂ : Sheet} → s₁ ≡ puts (serversText u j) s₀ → s₂ ≡ puts (serverText (j + 1) (serverAt u (serverNo (j + 1)))) s₁
       → s₂ ≡ puts (serversText u (j + 1)) s₀
   unfolding serversText
   servers-more j s₀ p q = rw (add-one j) (behind s₀ _ _ p (rw (add-one j) at q))
@@ -145,7 +146,7 @@ module _ (u : System) where
   unfolding clientsText puts
   clients-none s = refl
 
-  pub clients-more : (k : ℕ) (s₀ : Sheet) {s₁ s₂ : Sheet} → s₁ ≡ puts (clientsText u k) s₀ → s₂ ≡ puts (clientText (k + 1) (clientAt u (k + 1))) s₁
+  pub clients-more : (k : ℕ) (s₀ : Sheet) {s₁ s₂ : Sheet} → s₁ ≡ puts (clientsText u k) s₀ → s₂ ≡ puts (clientText (k + 1) (clientAt u (clientNo (k + 1)))) s₁
       → s₂ ≡ puts (clientsText u (k + 1)) s₀
   unfolding clientsText
   clients-more k s₀ p q = rw (add-one k) (behind s₀ _ _ p (rw (add-one k) at q))

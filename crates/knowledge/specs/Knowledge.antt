@@ -20,6 +20,7 @@ use Rattle.client.specs.Figure1 as client
 use Rattle.client.specs.declared.Section.{Section}
 use Rattle.client.specs.declared.Section.the-variants.{Remainder, Trying, Critical}
 use Rattle.system.specs.Places.{System, ClientPlace, ServerPlace, clientAt, serverAt}
+use Rattle.system.specs.Numbered.{clientNo, serverNo}
 
 -- a client with one of its timestamps
 abbrev pub requestText : Request → List (List ℕ)
@@ -69,11 +70,11 @@ clientText k p = text "kiosk " ∷ decimal k ∷ ((if p .living then stateText k
 -- places 1 to n
 unfoldable pub serversText : System → ℕ → List (List ℕ)
 serversText u zero = []
-serversText u (suc j) = serversText u j ++ serverText (suc j) (serverAt u (suc j))
+serversText u (suc j) = serversText u j ++ serverText (suc j) (serverAt u (serverNo (suc j)))
 
 unfoldable pub clientsText : System → ℕ → List (List ℕ)
 clientsText u zero = []
-clientsText u (suc k) = clientsText u k ++ clientText (suc k) (clientAt u (suc k))
+clientsText u (suc k) = clientsText u k ++ clientText (suc k) (clientAt u (clientNo (suc k)))
 
 -- all slips of a system with n servers and so many clients
 abbrev pub slipsText : System → ℕ → ℕ → List (List ℕ)

@@ -18,6 +18,7 @@ ghost use Rattle.wire.specs.declared.Message.the-variants.{Response, Check};
 ghost use Rattle.knowledge.specs.Knowledge.{requestText, requestsText, queueText, votesText, serverText, supportText, sectionText, supportersText, stateText, clientText, serversText, clientsText, slipsText};
 ghost use Rattle.knowledge.specs.Mail.{timestampText, toServerText, toClientText, ownerText, messageText, inTransitText, mailText, slipsMailText};
 ghost use Rattle.system.specs.Limits.{systemServers};
+ghost use Rattle.system.specs.Numbered.{clientNo, serverNo};
 use client::Client;
 use client::Section;
 use ids::ClientId;
@@ -101,8 +102,8 @@ fn put_knowledge(out: &mut [u8], at: usize, up: bool, v: Votes) -> usize
 }
 
 fn put_server(out: &mut [u8], at: usize, w: &[u32], j: u16) -> usize
-    requires { ⌜ HasServer (now w) j ⌝ }
-    ensures { λ r. ⌜ sheetOf (now (out .exit)) r ≡ puts (serverText j (serverAt (systemOf (now (w .entry))) j)) (sheetOf (now (out .entry)) at) ⌝ }
+    requires { ⌜ HasServer (now w) (serverNo j) ⌝ }
+    ensures { λ r. ⌜ sheetOf (now (out .exit)) r ≡ puts (serverText j (serverAt (systemOf (now (w .entry))) (serverNo j))) (sheetOf (now (out .entry)) at) ⌝ }
 {
     let up = layout::is_up(w, j);
     let s = layout::server_record(w, j);
@@ -206,8 +207,8 @@ fn put_life(out: &mut [u8], at: usize, k: u16, living: bool, c: Client) -> usize
 }
 
 fn put_client(out: &mut [u8], at: usize, w: &[u32], k: u16) -> usize
-    requires { ⌜ HasClient (now w) k ⌝ }
-    ensures { λ r. ⌜ sheetOf (now (out .exit)) r ≡ puts (clientText k (clientAt (systemOf (now (w .entry))) k)) (sheetOf (now (out .entry)) at) ⌝ }
+    requires { ⌜ HasClient (now w) (clientNo k) ⌝ }
+    ensures { λ r. ⌜ sheetOf (now (out .exit)) r ≡ puts (clientText k (clientAt (systemOf (now (w .entry))) (clientNo k))) (sheetOf (now (out .entry)) at) ⌝ }
 {
     let living = layout::is_living(w, k);
     let c = layout::client_record(w, k);

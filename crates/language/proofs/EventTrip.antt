@@ -11,7 +11,6 @@ use lib.ListN.{length}
 use borrow.Author.Tests.{le-leb, eqb-true}
 use Rattle.ids.specs.Choice.{if_then_else_, maybe}
 use Rattle.ids.proofs.Choice.{decided, both}
-use Rattle.system.specs.Setting.{client, server}
 use Rattle.system.specs.declared.Event.{Event}
 use Rattle.system.specs.declared.Event.the-variants.{Try, Exit, Fall, Down, Up, Take, Drop, Miss, Check}
 use Rattle.language.specs.Decimals.{largest, number, decimal}
@@ -24,6 +23,7 @@ use Rattle.language.specs.declared.Line.the-variants.{Event as Says}
 use Rattle.language.proofs.DecimalLaws.{decimal-short}
 use Rattle.language.proofs.PrintedLaws.{length-event}
 use Rattle.language.proofs.NumberTrip.{decimal-read, number-printed, through}
+use Rattle.system.specs.Numbered.{clientNo, serverNo}
 
 -- a printed event is read -----------------------------------------------------------------------------------------------------
 
@@ -106,15 +106,15 @@ tested w x e v c c′ e′ made called counted go h =
 event-named : (w : List ℕ) (x : ℕ) (e : Event) → eventOf (commandIn w) x ≡ some e → Named w x e
 unfolding eventOf commandIn
 event-named w x e =
-    tested w x e (text "try") command.Try _ (Try (client x)) refl refl refl (
-    tested w x e (text "exit") command.Exit _ (Exit (client x)) refl refl refl (
-    tested w x e (text "fall") command.Fall _ (Fall (client x)) refl refl refl (
-    tested w x e (text "down") command.Down _ (Down (server x)) refl refl refl (
-    tested w x e (text "up") command.Up _ (Up (server x)) refl refl refl (
+    tested w x e (text "try") command.Try _ (Try (clientNo x)) refl refl refl (
+    tested w x e (text "exit") command.Exit _ (Exit (clientNo x)) refl refl refl (
+    tested w x e (text "fall") command.Fall _ (Fall (clientNo x)) refl refl refl (
+    tested w x e (text "down") command.Down _ (Down (serverNo x)) refl refl refl (
+    tested w x e (text "up") command.Up _ (Up (serverNo x)) refl refl refl (
     tested w x e (text "take") command.Take _ (Take (record { 0 = x })) refl refl refl (
     tested w x e (text "drop") command.Drop _ (Drop (record { 0 = x })) refl refl refl (
-    tested w x e (text "miss") command.Miss _ (Miss (server x)) refl refl refl (
-    tested w x e (text "check") command.Check _ (Check (server x)) refl refl refl (
+    tested w x e (text "miss") command.Miss _ (Miss (serverNo x)) refl refl refl (
+    tested w x e (text "check") command.Check _ (Check (serverNo x)) refl refl refl (
     λ (h : none ≡ some e). let z : _≡_ {A = ℕ} 0 1 = cc in absurd (omega arith))))))))))
 
 pub event-printed : (l : List ℕ) (e : Event) → eventIn l ≡ some e → eventLine e ≡ l

@@ -4,7 +4,7 @@ use mathlib.Core.Option.{some}
 use mathlib.Core.List.{List, [], _∷_, map}
 use Prim.Native.String.{String}
 use Rattle.ids.specs.declared.Refusal.the-variants.{BadLine, NoSuchParty}
-use Rattle.system.specs.Setting.{client, server, takes}
+use Rattle.system.specs.Setting.{takes}
 use Rattle.system.specs.declared.Event.the-variants.{Try, Drop, Check}
 use Rattle.language.specs.Decimals.{digit, digits, number, lastDigits, decimal}
 use Rattle.language.specs.Words.{text, same, word, rest, spaced}
@@ -12,13 +12,14 @@ use Rattle.language.specs.Lines.{commandIn, eventOf, eventIn, sixteenBit
 use Rattle.language.specs.Printed.{headerLine, okLine, noLine, endLine, refusedLine}
 use Rattle.language.specs.declared.Line.{Line}
 use Rattle.language.specs.declared.Line.the-variants.{Event as Says, Unknown, Bad}
+use Rattle.system.specs.Numbered.{clientNo, serverNo}
 
 abbrev says : String → Line
 says s = lineOf (eventIn (text s))
 
 -- events, whatever their number; a client or server whose number has more than 16 bits
 pub event-lines : map says ("try 1" ∷ "check 31" ∷ "take 4294967295" ∷ "drop 0" ∷ "try 65535" ∷ "down 65536" ∷ [])
-    ≡ Says (Try (client 1)) ∷ Says (Check (server 31)) ∷ Says (takes 4294967295) ∷ Says (Drop (record { 0 = 0 })) ∷ Says (Try (client 65535)) ∷ Unknown ∷ []
+    ≡ Says (Try (clientNo 1)) ∷ Says (Check (serverNo 31)) ∷ Says (takes 4294967295) ∷ Says (Drop (record { 0 = 0 })) ∷ Says (Try (clientNo 65535)) ∷ Unknown ∷ []
 unfolding eventIn lineOf sixteenBits eventOf commandIn same word rest number digits digit
 event-lines = refl
 

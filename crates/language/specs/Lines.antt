@@ -6,7 +6,7 @@ use mathlib.Core.List.{List}
 use lib.Dec.{leb}
 use lib.ListN.{length}
 use Rattle.ids.specs.Choice.{if_then_else_, maybe}
-use Rattle.system.specs.Setting.{client, server, takes}
+use Rattle.system.specs.Setting.{takes}
 use Rattle.system.specs.declared.Event.{Event}
 use Rattle.system.specs.declared.Event.the-variants.{Try, Exit, Fall, Down, Up, Take, Drop, Miss, Check}
 use Rattle.language.specs.Decimals.{number}
@@ -18,6 +18,7 @@ use Rattle.language.specs.declared.Line.{Line}
 use Rattle.language.specs.declared.Line.the-variants.{Event as Says, Unknown, Bad}
 use Rattle.language.specs.declared.First.{First}
 use Rattle.language.specs.declared.First.the-variants.{Setting as Opens, Bad as NotOpening}
+use Rattle.system.specs.Numbered.{clientNo, serverNo}
 
 abbrev pub short : List ℕ → Bool
 short l = leb (length l) 40
@@ -39,15 +40,15 @@ commandIn w =
 
 -- the event with this number, whatever the number is
 unfoldable pub eventOf : Command → ℕ → Option Event
-eventOf command.Try x = some (Try (client x))
-eventOf command.Exit x = some (Exit (client x))
-eventOf command.Fall x = some (Fall (client x))
-eventOf command.Down x = some (Down (server x))
-eventOf command.Up x = some (Up (server x))
+eventOf command.Try x = some (Try (clientNo x))
+eventOf command.Exit x = some (Exit (clientNo x))
+eventOf command.Fall x = some (Fall (clientNo x))
+eventOf command.Down x = some (Down (serverNo x))
+eventOf command.Up x = some (Up (serverNo x))
 eventOf command.Take x = some (takes x)
 eventOf command.Drop x = some (Drop (record { 0 = x }))
-eventOf command.Miss x = some (Miss (server x))
-eventOf command.Check x = some (Check (server x))
+eventOf command.Miss x = some (Miss (serverNo x))
+eventOf command.Check x = some (Check (serverNo x))
 eventOf command.Other x = none
 
 -- a command, one space, and a number to the line's end

@@ -3,6 +3,7 @@ pub mod ValidLaws
 pub mod PlaceLaws
 pub mod PartLaws
 pub mod LendLaws
+pub mod ReadLaws
 pub mod LoopLaws
 pub mod TestLaws
 pub mod HolderLaws

@@ -10,26 +10,26 @@ use Rattle.regions.proofs.SetsLaws.{take-sets-after}
 use Rattle.system.specs.Places.{System}
 use Rattle.places.specs.Blocks.{clientBlock, serverBlock, clientPlace, serverPlace}
 use Rattle.transit.specs.Slots.{slots, transitSize}
-use Rattle.layout.specs.Layout.{simulationSize, Setting, settingOf, clientWords, serverWords, transitWords, view, clientsSize, serversSize, serversFrom, transitFrom}
+use Rattle.layout.specs.Layout.{simulationSize, Setting, settingOf, clientWords, serverWords, transitWords, view, clientsSize, serversSize, serversFrom, transitFrom, clientsFrom}
 use Rattle.layout.proofs.ViewLaws.{in-clients, clients-servers, clients-transit, servers-clients, in-servers, servers-transit, transit-clients, transit-servers, in-transit}
 
 -- w is these parts
 pub record Is (w h c s t : List ℕ) : Type 0 where
   pub long : length w ≡ simulationSize
-  pub head : take 7 w ≡ h
+  pub head : take clientsFrom w ≡ h
   pub clients : clientWords w ≡ c
   pub servers : serverWords w ≡ s
   pub transit : transitWords w ≡ t
 
-pub itself-is : (w : List ℕ) → length w ≡ simulationSize → Is w (take 7 w) (clientWords w) (serverWords w) (transitWords w)
+pub itself-is : (w : List ℕ) → length w ≡ simulationSize → Is w (take clientsFrom w) (clientWords w) (serverWords w) (transitWords w)
 itself-is w h = record { long = h; head = refl; clients = refl; servers = refl; transit = refl }
 
 module _ {w h c s t : List ℕ} (p : Is w h c s t) where
-  pub is-client-store : (a : ℕ) (vs : List ℕ) → a + length vs ≤ clientsSize → Is (sets w (7 + a) vs) h (sets c a vs) s t
+  pub is-client-store : (a : ℕ) (vs : List ℕ) → a + length vs ≤ clientsSize → Is (sets w (clientsFrom + a) vs) h (sets c a vs) s t
   is-client-store a vs le =
       record {
-        long = length-sets w (7 + a) vs ∙ p .long;
-        head = take-sets-after 7 w (7 + a) vs (omega arith) ∙ p .head;
+        long = length-sets w (clientsFrom + a) vs ∙ p .long;
+        head = take-sets-after clientsFrom w (clientsFrom + a) vs (omega arith) ∙ p .head;
         clients = in-clients w a vs le ∙ ap (λ (l : List ℕ). sets l a vs) (p .clients);
         servers = clients-servers w a vs le ∙ p .servers;
         transit = clients-transit w a vs le ∙ p .transit;
@@ -39,7 +39,7 @@ module _ {w h c s t : List ℕ} (p : Is w h c s t) where
   is-server-store a vs le =
       record {
         long = length-sets w (serversFrom + a) vs ∙ p .long;
-        head = take-sets-after 7 w (serversFrom + a) vs (omega arith) ∙ p .head;
+        head = take-sets-after clientsFrom w (serversFrom + a) vs (omega arith) ∙ p .head;
         clients = servers-clients w a vs le ∙ p .clients;
         servers = in-servers w a vs le ∙ ap (λ (l : List ℕ). sets l a vs) (p .servers);
         transit = servers-transit w a vs le ∙ p .transit;
@@ -49,19 +49,19 @@ module _ {w h c s t : List ℕ} (p : Is w h c s t) where
   is-transit-store a vs le =
       record {
         long = length-sets w (transitFrom + a) vs ∙ p .long;
-        head = take-sets-after 7 w (transitFrom + a) vs (omega arith) ∙ p .head;
+        head = take-sets-after clientsFrom w (transitFrom + a) vs (omega arith) ∙ p .head;
         clients = transit-clients w a vs le ∙ p .clients;
         servers = transit-servers w a vs le ∙ p .servers;
         transit = in-transit w a vs le ∙ ap (λ (l : List ℕ). sets l a vs) (p .transit);
       }
 
-  pub is-head-store : (i v : ℕ) → i < 7 → Is (set w i v) (set h i v) c s t
+  pub is-head-store : (i v : ℕ) → i < clientsFrom → Is (set w i v) (set h i v) c s t
   unfolding clientWords serverWords transitWords
   is-head-store i v lt =
       record {
         long = length-set w i v ∙ p .long;
-        head = take-set-lt 7 w i v lt ∙ ap (λ (l : List ℕ). set l i v) (p .head);
-        clients = ap (take clientsSize) (drop-set-lt 7 w i v (omega arith)) ∙ p .clients;
+        head = take-set-lt clientsFrom w i v lt ∙ ap (λ (l : List ℕ). set l i v) (p .head);
+        clients = ap (take clientsSize) (drop-set-lt clientsFrom w i v (omega arith)) ∙ p .clients;
         servers = ap (take serversSize) (drop-set-lt serversFrom w i v (omega arith)) ∙ p .servers;
         transit = ap (take transitSize) (drop-set-lt transitFrom w i v (omega arith)) ∙ p .transit;
       }
@@ -81,8 +81,8 @@ systemIn h c s t =
     }
 
 module _ {w h c s t : List ℕ} (p : Is w h c s t) where
-  pub head-word : (i : ℕ) → i < 7 → getD w i 0 ≡ getD h i 0
-  head-word i lt = sym (getD-take 7 w i 0 lt) ∙ ap (λ (l : List ℕ). getD l i 0) (p .head)
+  pub head-word : (i : ℕ) → i < clientsFrom → getD w i 0 ≡ getD h i 0
+  head-word i lt = sym (getD-take clientsFrom w i 0 lt) ∙ ap (λ (l : List ℕ). getD l i 0) (p .head)
 
   pub setting-is : settingOf w ≡ settingIn h
   unfolding settingOf settingIn

@@ -8,21 +8,21 @@ use lib.Dec.{leb, ltb}
 use lib.ListN.{set}
 use Rattle.ids.specs.Limits.{within}
 use Rattle.regions.proofs.BlockLaws.{block-at, length-blocks}
-use Rattle.system.specs.Numbered.{put, has}
+use Rattle.system.specs.Numbered.{put, has, clientNo, serverNo}
 use Rattle.system.specs.Places.{noClient, noServer, clientAt, serverAt}
 use Rattle.places.specs.Blocks.{clientPlace, serverPlace, clientBlock, serverBlock}
 use Rattle.layout.specs.Layout.{settingOf, clientWords, serverWords, view}
 use Rattle.layout.specs.Parts.{clientBlockOf, serverBlockOf}
 
 module _ (w : List ℕ) where
-  pub client-place : (k : ℕ) → 0 < k → k ≤ settingOf w .clients → clientAt (view w) k ≡ clientPlace (clientBlockOf w k)
+  pub client-place : (k : ℕ) → 0 < k → k ≤ settingOf w .clients → clientAt (view w) (clientNo k) ≡ clientPlace (clientBlockOf w (clientNo k))
   unfolding view
   client-place zero p q = absurd (omega arith)
   client-place (suc i) p q =
       let z : suc i - 1 ≡ i = omega arith in
       rw z (block-at clientBlock clientPlace (settingOf w .clients) i (clientWords w) noClient q)
 
-  pub server-place : (j : ℕ) → 0 < j → j ≤ settingOf w .n → serverAt (view w) j ≡ serverPlace (serverBlockOf w j)
+  pub server-place : (j : ℕ) → 0 < j → j ≤ settingOf w .n → serverAt (view w) (serverNo j) ≡ serverPlace (serverBlockOf w (serverNo j))
   unfolding view
   server-place zero p q = absurd (omega arith)
   server-place (suc i) p q =

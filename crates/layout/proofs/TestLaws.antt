@@ -8,7 +8,7 @@ use lib.Dec.{leb}
 use lib.ListN.{length, getD, take, drop}
 use borrow.Author.Tests.{le-leb, lt-leb, leb-true}
 use Rattle.ids.specs.Limits.{within}
-use Rattle.quorum.specs.Check.{inRange}
+use Rattle.quorum.specs.Check.{inRangeUpTo}
 use Rattle.quorum.proofs.CheckLaws.{range}
 use Rattle.transit.specs.Slots.{validSlots, transitSize}
 use lib.Seq.{drop-drop}
@@ -17,10 +17,11 @@ use Rattle.regions.specs.Blocks.{blocks}
 use Rattle.system.specs.Limits.{systemClients, systemServers}
 use Rattle.system.specs.Places.{ClientPlace, worst}
 use Rattle.places.specs.Blocks.{clientBlock, serverBlock, clientPlace, validClientBlock, validServerBlock}
-use Rattle.layout.specs.Layout.{simulationSize, settingOf, clientWords, serverWords, transitWords, lengthOf, sentOf, mostOf, view, validFrom, itself, blank, valid, serversFrom, transitFrom}
+use Rattle.layout.specs.Layout.{simulationSize, settingOf, clientWords, serverWords, transitWords, lengthOf, sentOf, mostOf, view, validFrom, itself, blank, valid, serversFrom, transitFrom, clientsFrom}
 use Rattle.layout.specs.Parts.{blocksValid, partsValid}
 use Rattle.layout.proofs.ValidLaws.{Facts, facts, from-facts}
 use Rattle.layout.proofs.LendLaws.{clients-rest, servers-rest}
+use Rattle.system.specs.Numbered.{clientNo, serverNo}
 
 -- the most servers down, block by block
 pub worst-more : (s : ℕ) (f : List ℕ → ClientPlace) (i : ℕ) (l : List ℕ) →
@@ -49,15 +50,15 @@ module _ (f : List ℕ → ClientPlace) (l : List ℕ) where
 
 -- blocks_valid
 module _ (n m clients : ℕ) (w : List ℕ) (r : (length w ≡ simulationSize) × (n ≤ systemServers) × (clients ≤ systemClients)) (a : Bool)
-    (p : a ≡ validFrom (validClientBlock n m clients) 1 (blocks clientBlock itself clients (clientWords w))) where
+    (p : a ≡ validFrom (λ (i : ℕ). validClientBlock n m clients (clientNo i)) 1 (blocks clientBlock itself clients (clientWords w))) where
   abbrev C : Bool
-  C = validFrom (validClientBlock n m clients) 1 (blocks clientBlock itself clients (clientWords w))
+  C = validFrom (λ (i : ℕ). validClientBlock n m clients (clientNo i)) 1 (blocks clientBlock itself clients (clientWords w))
 
   abbrev D : Bool
   D = blank (drop (clients * clientBlock) (clientWords w))
 
   abbrev E : Bool
-  E = validFrom (validServerBlock n clients) 1 (blocks serverBlock itself n (serverWords w))
+  E = validFrom (λ (i : ℕ). validServerBlock n clients (serverNo i)) 1 (blocks serverBlock itself n (serverWords w))
 
   abbrev F : Bool
   F = blank (drop (n * serverBlock) (serverWords w))
@@ -66,7 +67,7 @@ module _ (n m clients : ℕ) (w : List ℕ) (r : (length w ≡ simulationSize) �
   unfolding blocksValid
   clients-bad t = rw (fails a C p t)
 
-  module _ (t : not a ≡ false) (b : Bool) (q : b ≡ blank (take (serversFrom - (7 + clientBlock * clients)) (drop (7 + clientBlock * clients) w))) where
+  module _ (t : not a ≡ false) (b : Bool) (q : b ≡ blank (take (serversFrom - (clientsFrom + clientBlock * clients)) (drop (clientsFrom + clientBlock * clients) w))) where
     behind : b ≡ D
     behind = q ∙ ap blank (clients-rest w clients (r .2))
 
@@ -121,15 +122,15 @@ module _ (w : List ℕ) where
   parts-of f =
       rw (f .clients, f .noClients, f .servers, f .noServers, f .transit, le-leb (mostOf w) (settingOf w .n) (f .few), le-leb (worst (blocks clientBlock clientPlace (settingOf w .clients) (clientWords w))) (mostOf w) (f .noted))
 
-  facts-of : length w ≡ simulationSize → inRange (settingOf w .n) (settingOf w .m) (settingOf w .f) ≡ true → within (settingOf w .clients) systemClients ≡ true → inParts ≡ true → Facts w
+  facts-of : length w ≡ simulationSize → inRangeUpTo systemServers (settingOf w .n) (settingOf w .m) (settingOf w .f) ≡ true → within (settingOf w .clients) systemClients ≡ true → inParts ≡ true → Facts w
   unfolding partsValid blocksValid view
   facts-of l r k h =
       let d = both _ (leb (worst (blocks clientBlock clientPlace (settingOf w .clients) (clientWords w))) (mostOf w)) h in
       let c = both _ (leb (mostOf w) (settingOf w .n)) (d .0) in
       let b = both _ (validSlots (settingOf w .n) (settingOf w .clients) (sentOf w) (lengthOf w) (transitWords w)) (c .0) in
       let e = both _ (blank (drop (settingOf w .n * serverBlock) (serverWords w))) (b .0) in
-      let f = both _ (validFrom (validServerBlock (settingOf w .n) (settingOf w .clients)) 1 (blocks serverBlock itself (settingOf w .n) (serverWords w))) (e .0) in
-      let g = both (validFrom (validClientBlock (settingOf w .n) (settingOf w .m) (settingOf w .clients)) 1 (blocks clientBlock itself (settingOf w .clients) (clientWords w))) (blank (drop (settingOf w .clients * clientBlock) (clientWords w))) (f .0) in
+      let f = both _ (validFrom (λ (i : ℕ). validServerBlock (settingOf w .n) (settingOf w .clients) (serverNo i)) 1 (blocks serverBlock itself (settingOf w .n) (serverWords w))) (e .0) in
+      let g = both (validFrom (λ (i : ℕ). validClientBlock (settingOf w .n) (settingOf w .m) (settingOf w .clients) (clientNo i)) 1 (blocks clientBlock itself (settingOf w .clients) (clientWords w))) (blank (drop (settingOf w .clients * clientBlock) (clientWords w))) (f .0) in
       record {
         long = l;
         range = r;
@@ -150,13 +151,13 @@ module _ (w : List ℕ) where
   pub size-wrong : (length w ≡ simulationSize → ⊥) → false ≡ valid w
   size-wrong n = same-truth false (valid w) (λ z. clash false z refl) (λ z. absurd (n (facts w z .long)))
 
-  module _ (l : length w ≡ simulationSize) (a : Bool) (p : a ≡ inRange (getD w 0 0) (getD w 1 0) (getD w 2 0)) where
-    its-range : inRange (settingOf w .n) (settingOf w .m) (settingOf w .f) ≡ inRange (getD w 0 0) (getD w 1 0) (getD w 2 0)
+  module _ (l : length w ≡ simulationSize) (a : Bool) (p : a ≡ inRangeUpTo systemServers (getD w 0 0) (getD w 1 0) (getD w 2 0)) where
+    its-range : inRangeUpTo systemServers (settingOf w .n) (settingOf w .m) (settingOf w .f) ≡ inRangeUpTo systemServers (getD w 0 0) (getD w 1 0) (getD w 2 0)
     unfolding settingOf
     its-range = refl
 
     pub range-wrong : not a ≡ true → false ≡ valid w
-    range-wrong t = by-fact (inRange (settingOf w .n) (settingOf w .m) (settingOf w .f)) (λ f. f .range) (its-range ∙ fails a (inRange (getD w 0 0) (getD w 1 0) (getD w 2 0)) p t)
+    range-wrong t = by-fact (inRangeUpTo systemServers (settingOf w .n) (settingOf w .m) (settingOf w .f)) (λ f. f .range) (its-range ∙ fails a (inRangeUpTo systemServers (getD w 0 0) (getD w 1 0) (getD w 2 0)) p t)
 
     module _ (t : not a ≡ false) (b : Bool) (q : b ≡ within (getD w 3 0) systemClients) where
       its-clients : within (settingOf w .clients) systemClients ≡ within (getD w 3 0) systemClients
@@ -168,7 +169,7 @@ module _ (w : List ℕ) where
 
       pub bounds : not b ≡ false → (length w ≡ simulationSize) × (getD w 0 0 ≤ systemServers) × (getD w 3 0 ≤ systemClients)
       bounds u =
-          let r = range (getD w 0 0) (getD w 1 0) (getD w 2 0) (holds a (inRange (getD w 0 0) (getD w 1 0) (getD w 2 0)) p t) in
+          let r = range (getD w 0 0) (getD w 1 0) (getD w 2 0) (holds a (inRangeUpTo systemServers (getD w 0 0) (getD w 1 0) (getD w 2 0)) p t) in
           let k = both (leb 1 (getD w 3 0)) (leb (getD w 3 0) systemClients) (holds b (within (getD w 3 0) systemClients) q u) in
           (l, r .servers, leb-true (getD w 3 0) systemClients (k .1))
 
@@ -179,7 +180,7 @@ module _ (w : List ℕ) where
       pub parts-decide : (r : Bool) → not b ≡ false → r ≡ partsValid (getD w 0 0) (getD w 1 0) (getD w 3 0) w → r ≡ valid w
       parts-decide r u e =
           e ∙ (sym its-parts ∙ same-truth inParts (valid w)
-          (λ h. from-facts w (facts-of l (its-range ∙ holds a (inRange (getD w 0 0) (getD w 1 0) (getD w 2 0)) p t) (its-clients ∙ holds b (within (getD w 3 0) systemClients) q u) h))
+          (λ h. from-facts w (facts-of l (its-range ∙ holds a (inRangeUpTo systemServers (getD w 0 0) (getD w 1 0) (getD w 2 0)) p t) (its-clients ∙ holds b (within (getD w 3 0) systemClients) q u) h))
           (λ h. parts-of (facts w h)))
 
 -- transit_valid

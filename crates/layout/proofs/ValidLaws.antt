@@ -11,14 +11,15 @@ use lib.Seq.{sets, drop-drop, getD-set-same, getD-set-other}
 use borrow.Author.Tests.{eqb-true, eqb-false, eq-eqb, leb-true, le-leb}
 use Rattle.ids.specs.Limits.{within}
 use Rattle.ids.proofs.Choice.{both, decided}
-use Rattle.quorum.specs.Check.{inRange}
+use Rattle.quorum.specs.Check.{inRangeUpTo}
 use Rattle.regions.specs.Blocks.{blocks}
 use Rattle.regions.proofs.BlockLaws.{block-stored, block-at, length-blocks}
-use Rattle.system.specs.Limits.{systemClients}
+use Rattle.system.specs.Limits.{systemClients, systemServers}
 use Rattle.system.specs.Places.{worst}
 use Rattle.places.specs.Blocks.{clientBlock, serverBlock, validClientBlock, validServerBlock}
 use Rattle.transit.specs.Slots.{validSlots}
 use Rattle.layout.specs.Layout.{simulationSize, settingOf, clientWords, serverWords, transitWords, lengthOf, sentOf, mostOf, view, validFrom, blank, itself, valid}
+use Rattle.system.specs.Numbered.{clientNo, serverNo}
 
 -- every block as its number, block by block
 module _ (f : ℕ → List ℕ → Bool) (s : ℕ) where
@@ -79,11 +80,11 @@ still-valid f s c k i l a vs lt h v new =
 -- the facts of a valid simulation
 pub record Facts (w : List ℕ) : Type 0 where
   pub long : length w ≡ simulationSize
-  pub range : inRange (settingOf w .n) (settingOf w .m) (settingOf w .f) ≡ true
+  pub range : inRangeUpTo systemServers (settingOf w .n) (settingOf w .m) (settingOf w .f) ≡ true
   pub some : within (settingOf w .clients) systemClients ≡ true
-  pub clients : validFrom (validClientBlock (settingOf w .n) (settingOf w .m) (settingOf w .clients)) 1 (blocks clientBlock itself (settingOf w .clients) (clientWords w)) ≡ true
+  pub clients : validFrom (λ (i : ℕ). validClientBlock (settingOf w .n) (settingOf w .m) (settingOf w .clients) (clientNo i)) 1 (blocks clientBlock itself (settingOf w .clients) (clientWords w)) ≡ true
   pub noClients : blank (drop (settingOf w .clients * clientBlock) (clientWords w)) ≡ true
-  pub servers : validFrom (validServerBlock (settingOf w .n) (settingOf w .clients)) 1 (blocks serverBlock itself (settingOf w .n) (serverWords w)) ≡ true
+  pub servers : validFrom (λ (i : ℕ). validServerBlock (settingOf w .n) (settingOf w .clients) (serverNo i)) 1 (blocks serverBlock itself (settingOf w .n) (serverWords w)) ≡ true
   pub noServers : blank (drop (settingOf w .n * serverBlock) (serverWords w)) ≡ true
   pub transit : validSlots (settingOf w .n) (settingOf w .clients) (sentOf w) (lengthOf w) (transitWords w) ≡ true
   pub few : mostOf w ≤ settingOf w .n
@@ -96,11 +97,11 @@ facts w h =
     let i = both _ (leb (mostOf w) (settingOf w .n)) (j .0) in
     let g = both _ (validSlots (settingOf w .n) (settingOf w .clients) (sentOf w) (lengthOf w) (transitWords w)) (i .0) in
     let f = both _ (blank (drop (settingOf w .n * serverBlock) (serverWords w))) (g .0) in
-    let e = both _ (validFrom (validServerBlock (settingOf w .n) (settingOf w .clients)) 1 (blocks serverBlock itself (settingOf w .n) (serverWords w))) (f .0) in
+    let e = both _ (validFrom (λ (i : ℕ). validServerBlock (settingOf w .n) (settingOf w .clients) (serverNo i)) 1 (blocks serverBlock itself (settingOf w .n) (serverWords w))) (f .0) in
     let d = both _ (blank (drop (settingOf w .clients * clientBlock) (clientWords w))) (e .0) in
-    let c = both _ (validFrom (validClientBlock (settingOf w .n) (settingOf w .m) (settingOf w .clients)) 1 (blocks clientBlock itself (settingOf w .clients) (clientWords w))) (d .0) in
+    let c = both _ (validFrom (λ (i : ℕ). validClientBlock (settingOf w .n) (settingOf w .m) (settingOf w .clients) (clientNo i)) 1 (blocks clientBlock itself (settingOf w .clients) (clientWords w))) (d .0) in
     let b = both _ (within (settingOf w .clients) systemClients) (c .0) in
-    let a = both (eqb (length w) simulationSize) (inRange (settingOf w .n) (settingOf w .m) (settingOf w .f)) (b .0) in
+    let a = both (eqb (length w) simulationSize) (inRangeUpTo systemServers (settingOf w .n) (settingOf w .m) (settingOf w .f)) (b .0) in
     record {
       long = eqb-true (length w) simulationSize (a .0);
       range = a .1;

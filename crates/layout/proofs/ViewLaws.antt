@@ -9,7 +9,7 @@ use Rattle.regions.specs.Blocks.{region}
 use Rattle.regions.proofs.SetsLaws.{region-inside, region-before, region-behind, take-sets-after}
 use Rattle.regions.proofs.BlockLaws.{block-stored}
 use Rattle.places.specs.Blocks.{clientPlace, serverPlace, clientBlock, serverBlock}
-use Rattle.layout.specs.Layout.{settingOf, clientWords, serverWords, transitWords, view, clientsSize, serversFrom, serversSize, transitFrom}
+use Rattle.layout.specs.Layout.{settingOf, clientWords, serverWords, transitWords, view, clientsSize, serversFrom, serversSize, transitFrom, clientsFrom}
 use Rattle.transit.specs.Slots.{transitSize}
 use Rattle.system.specs.Limits.{systemClients, systemServers}
 
@@ -18,7 +18,7 @@ pub head-kept : (w : List ℕ) (a : ℕ) (vs : List ℕ) (i : ℕ) → i < a →
 head-kept w a vs i h = sym (getD-take a (sets w a vs) i 0 h) ∙ (ap (λ (l : List ℕ). getD l i 0) (take-sets-after a w a vs (omega arith)) ∙ getD-take a w i 0 h)
 
 module _ (w : List ℕ) (a : ℕ) (vs : List ℕ) where
-  pub setting-kept : 7 ≤ a → settingOf (sets w a vs) ≡ settingOf w
+  pub setting-kept : clientsFrom ≤ a → settingOf (sets w a vs) ≡ settingOf w
   unfolding settingOf
   setting-kept h =
       let e : (i : ℕ) → i < a → getD (sets w a vs) i 0 ≡ getD w i 0 = head-kept w a vs in
@@ -34,23 +34,23 @@ Parts w w′ = (clientWords w′ ≡ clientWords w) × (serverWords w′ ≡ ser
 
 -- a store in the client blocks
 module _ (w : List ℕ) (a : ℕ) (vs : List ℕ) (h : a + length vs ≤ clientsSize) where
-  pub in-clients : clientWords (sets w (7 + a) vs) ≡ sets (clientWords w) a vs
+  pub in-clients : clientWords (sets w (clientsFrom + a) vs) ≡ sets (clientWords w) a vs
   unfolding clientWords
-  in-clients = region-inside 7 clientsSize w a vs h
+  in-clients = region-inside clientsFrom clientsSize w a vs h
 
-  pub clients-servers : serverWords (sets w (7 + a) vs) ≡ serverWords w
+  pub clients-servers : serverWords (sets w (clientsFrom + a) vs) ≡ serverWords w
   unfolding serverWords
-  clients-servers = region-before serversFrom serversSize w (7 + a) vs (omega arith)
+  clients-servers = region-before serversFrom serversSize w (clientsFrom + a) vs (omega arith)
 
-  pub clients-transit : transitWords (sets w (7 + a) vs) ≡ transitWords w
+  pub clients-transit : transitWords (sets w (clientsFrom + a) vs) ≡ transitWords w
   unfolding transitWords
-  clients-transit = region-before transitFrom transitSize w (7 + a) vs (omega arith)
+  clients-transit = region-before transitFrom transitSize w (clientsFrom + a) vs (omega arith)
 
 -- a store in the server blocks
 module _ (w : List ℕ) (a : ℕ) (vs : List ℕ) (h : a + length vs ≤ serversSize) where
   pub servers-clients : clientWords (sets w (serversFrom + a) vs) ≡ clientWords w
   unfolding clientWords
-  servers-clients = region-behind 7 clientsSize w a vs
+  servers-clients = region-behind clientsFrom clientsSize w a vs
 
   pub in-servers : serverWords (sets w (serversFrom + a) vs) ≡ sets (serverWords w) a vs
   unfolding serverWords
@@ -64,7 +64,7 @@ module _ (w : List ℕ) (a : ℕ) (vs : List ℕ) (h : a + length vs ≤ servers
 module _ (w : List ℕ) (a : ℕ) (vs : List ℕ) (h : a + length vs ≤ transitSize) where
   pub transit-clients : clientWords (sets w (transitFrom + a) vs) ≡ clientWords w
   unfolding clientWords
-  transit-clients = let z : transitFrom + a ≡ 7 + clientsSize + (serversSize + a) = omega arith in ap (λ (i : ℕ). region 7 clientsSize (sets w i vs)) z ∙ region-behind 7 clientsSize w (serversSize + a) vs
+  transit-clients = let z : transitFrom + a ≡ clientsFrom + clientsSize + (serversSize + a) = omega arith in ap (λ (i : ℕ). region clientsFrom clientsSize (sets w i vs)) z ∙ region-behind clientsFrom clientsSize w (serversSize + a) vs
 
   pub transit-servers : serverWords (sets w (transitFrom + a) vs) ≡ serverWords w
   unfolding serverWords
@@ -76,7 +76,7 @@ module _ (w : List ℕ) (a : ℕ) (vs : List ℕ) (h : a + length vs ≤ transit
 
 -- client block i, counted from 0
 pub client-stored : (w : List ℕ) (i a : ℕ) (vs : List ℕ) → i < settingOf w .clients → settingOf w .clients ≤ systemClients → a + length vs ≤ clientBlock →
-    view (sets w (7 + (i * clientBlock + a)) vs) ≡
+    view (sets w (clientsFrom + (i * clientBlock + a)) vs) ≡
     record {
       clients = set (view w .clients) i (clientPlace (sets (take clientBlock (drop (i * clientBlock) (clientWords w))) a vs));
       servers = view w .servers;
@@ -87,8 +87,8 @@ pub client-stored : (w : List ℕ) (i a : ℕ) (vs : List ℕ) → i < settingOf
 unfolding view
 client-stored w i a vs lt few h =
     let within : i * clientBlock + a + length vs ≤ clientsSize = omega arith in
-    let s = setting-kept w (7 + (i * clientBlock + a)) vs (omega arith) in
-    let head : (j : ℕ) → j < 7 → getD (sets w (7 + (i * clientBlock + a)) vs) j 0 ≡ getD w j 0 = λ j q. head-kept w (7 + (i * clientBlock + a)) vs j (omega arith) in
+    let s = setting-kept w (clientsFrom + (i * clientBlock + a)) vs (omega arith) in
+    let head : (j : ℕ) → j < clientsFrom → getD (sets w (clientsFrom + (i * clientBlock + a)) vs) j 0 ≡ getD w j 0 = λ j q. head-kept w (clientsFrom + (i * clientBlock + a)) vs j (omega arith) in
     rw (s, in-clients w (i * clientBlock + a) vs within, clients-servers w (i * clientBlock + a) vs within, clients-transit w (i * clientBlock + a) vs within, head 4 (omega arith), head 5 (omega arith), head 6 (omega arith), block-stored clientBlock clientPlace (settingOf w .clients) i (clientWords w) a vs lt h)
 
 -- server block i, counted from 0
@@ -105,5 +105,5 @@ unfolding view
 server-stored w i a vs lt few h =
     let within : i * serverBlock + a + length vs ≤ serversSize = omega arith in
     let s = setting-kept w (serversFrom + (i * serverBlock + a)) vs (omega arith) in
-    let head : (j : ℕ) → j < 7 → getD (sets w (serversFrom + (i * serverBlock + a)) vs) j 0 ≡ getD w j 0 = λ j q. head-kept w (serversFrom + (i * serverBlock + a)) vs j (omega arith) in
+    let head : (j : ℕ) → j < clientsFrom → getD (sets w (serversFrom + (i * serverBlock + a)) vs) j 0 ≡ getD w j 0 = λ j q. head-kept w (serversFrom + (i * serverBlock + a)) vs j (omega arith) in
     rw (s, servers-clients w (i * serverBlock + a) vs within, in-servers w (i * serverBlock + a) vs within, servers-transit w (i * serverBlock + a) vs within, head 4 (omega arith), head 5 (omega arith), head 6 (omega arith), block-stored serverBlock serverPlace (settingOf w .n) i (serverWords w) a vs lt h)

@@ -7,12 +7,13 @@ use lib.Dec.{eqb, leb}
 use lib.ListN.{length, getD, drop}
 use Rattle.ids.specs.Limits.{within}
 use Rattle.ids.specs.Lists.{every}
-use Rattle.quorum.specs.Check.{inRange}
+use Rattle.quorum.specs.Check.{inRangeUpTo}
 use Rattle.system.specs.Limits.{systemClients, systemServers}
 use Rattle.system.specs.Places.{System, worst}
 use Rattle.regions.specs.Blocks.{blocks, region}
 use Rattle.places.specs.Blocks.{clientBlock, serverBlock, clientPlace, serverPlace, validClientBlock, validServerBlock}
 use Rattle.transit.specs.Slots.{transitSize, slots, validSlots}
+use Rattle.system.specs.Numbered.{clientNo, serverNo}
 
 -- the head: n, m, f, the number of clients, the messages in transit, the messages sent, the most servers down within an epoch
 abbrev pub clientsFrom : ℕ
@@ -89,10 +90,10 @@ itself b = b
 unfoldable pub valid : List ℕ → Bool
 valid w =
     eqb (length w) simulationSize
-    && inRange (settingOf w .n) (settingOf w .m) (settingOf w .f) && within (settingOf w .clients) systemClients
-    && validFrom (validClientBlock (settingOf w .n) (settingOf w .m) (settingOf w .clients)) 1 (blocks clientBlock itself (settingOf w .clients) (clientWords w))
+    && inRangeUpTo systemServers (settingOf w .n) (settingOf w .m) (settingOf w .f) && within (settingOf w .clients) systemClients
+    && validFrom (λ (i : ℕ). validClientBlock (settingOf w .n) (settingOf w .m) (settingOf w .clients) (clientNo i)) 1 (blocks clientBlock itself (settingOf w .clients) (clientWords w))
     && blank (drop (settingOf w .clients * clientBlock) (clientWords w))
-    && validFrom (validServerBlock (settingOf w .n) (settingOf w .clients)) 1 (blocks serverBlock itself (settingOf w .n) (serverWords w))
+    && validFrom (λ (i : ℕ). validServerBlock (settingOf w .n) (settingOf w .clients) (serverNo i)) 1 (blocks serverBlock itself (settingOf w .n) (serverWords w))
     && blank (drop (settingOf w .n * serverBlock) (serverWords w))
     && validSlots (settingOf w .n) (settingOf w .clients) (sentOf w) (lengthOf w) (transitWords w)
     && leb (mostOf w) (settingOf w .n) && leb (worst (view w .clients)) (mostOf w)

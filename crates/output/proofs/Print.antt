@@ -4,7 +4,7 @@ use Rattle.ids.specs.Order.{before}
 use Rattle.ids.specs.Requests.{same as equal}
 use Rattle.votes.specs.Figure1.{timestampIn, insert, enqueue, without, promote, delete, inform, act, receive, suspect, check}
 use Rattle.client.specs.Figure1.{enough, toAll, tries, exits, next, heard, reply, round, judge, responds, checked}
-use Rattle.quorum.specs.Check.{inRange}
+use Rattle.quorum.specs.Check.{inRangeUpTo, inRange}
 use Rattle.system.specs.Numbered.{added}
 use Rattle.system.specs.Transit.{numbered, pending, replaced}
 use Rattle.system.specs.Places.{downFrom, worst}
@@ -18,5 +18,5 @@ use Rattle.output.specs.Output.{linesOf, answerLine, answers, eventsIn, 
 use Rattle.output.specs.Samples.{lines, All, samples, example, twoHolders, yieldRound, redelivery, ownerlessAnswer, lostRelease, fallenOwner, epochs, refusals, empty, firstLineEmpty, firstLineUnknown, firstLineShort, firstLineZeroLed, firstLinePast32Bits, firstLineOf40Bytes, firstLineOf41Bytes, servers0, servers32, threshold0, thresholdAboveN, faultsAboveN, clients0, clients17, noLastNewline, emptyLastLine, stallingSetting}
 
 pub samples-print : All samples
-unfolding before equal timestampIn insert enqueue without promote delete inform act receive suspect check enough toAll tries exits next heard reply round judge responds checked inRange added numbered pending replaced downFrom worst deliver event withPlaces after start runBy acceptedEvents mostHolders digit digits number lastDigits decimal same word rest spaced commandIn eventOf eventIn fourIn settingIn headerLine okLine noLine endLine refusedLine linesOf answerLine answers eventsIn endOf played printedFor output lines samples example twoHolders yieldRound redelivery ownerlessAnswer lostRelease fallenOwner epochs refusals empty firstLineEmpty firstLineUnknown firstLineShort firstLineZeroLed firstLinePast32Bits firstLineOf40Bytes firstLineOf41Bytes servers0 servers32 threshold0 thresholdAboveN faultsAboveN clients0 clients17 noLastNewline emptyLastLine stallingSetting
+unfolding before equal timestampIn insert enqueue without promote delete inform act receive suspect check enough toAll tries exits next heard reply round judge responds checked inRangeUpTo added numbered pending replaced downFrom worst deliver event withPlaces after start runBy acceptedEvents mostHolders digit digits number lastDigits decimal same word rest spaced commandIn eventOf eventIn fourIn settingIn headerLine okLine noLine endLine refusedLine linesOf answerLine answers eventsIn endOf played printedFor output lines samples example twoHolders yieldRound redelivery ownerlessAnswer lostRelease fallenOwner epochs refusals empty firstLineEmpty firstLineUnknown firstLineShort firstLineZeroLed firstLinePast32Bits firstLineOf40Bytes firstLineOf41Bytes servers0 servers32 threshold0 thresholdAboveN faultsAboveN clients0 clients17 noLastNewline emptyLastLine stallingSetting
 samples-print = (refl, (refl, (refl, (refl, (refl, (refl, (refl, (refl, (refl, (refl, (refl, (refl, (refl, (refl, (refl, (refl, (refl, (refl, (refl, (refl, (refl, (refl, (refl, (refl, (refl, (refl, (refl, tt)))))))))))))))))))))))))))

@@ -9,8 +9,8 @@ use Rattle.ids.specs.Limits.{within}
 use Rattle.ids.specs.declared.Refusal.the-variants.{BadLine, ParameterOutOfRange}
 use Rattle.wire.specs.Step.{refused, stepped}
 use Rattle.client.specs.Figure1.{enough}
-use Rattle.quorum.specs.Check.{inRange}
-use Rattle.system.specs.Limits.{systemClients}
+use Rattle.quorum.specs.Check.{inRangeUpTo}
+use Rattle.system.specs.Limits.{systemClients, systemServers}
 use Rattle.system.specs.declared.Event.{Event}
 use Rattle.system.specs.Places.{System, holders}
 use Rattle.system.specs.Events.{Result}
@@ -70,7 +70,7 @@ endOf s es =
 
 -- a setting in range; an unsafe or stalling one runs
 abbrev pub runs : Setting → Bool
-runs s = inRange (s .n) (s .m) (s .f) && within (s .clients) systemClients
+runs s = inRangeUpTo systemServers (s .n) (s .m) (s .f) && within (s .clients) systemClients
 
 -- what a setting and the lines after it print
 unfoldable pub played : Setting → List (List ℕ) → List ℕ

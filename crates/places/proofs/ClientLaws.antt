@@ -23,11 +23,12 @@ use Rattle.places.specs.Blocks.{clientRecord, flags, flagged, clientPlac
 use Rattle.places.proofs.BlockParts.{read-in, covered, client-long, first-kept}
 use Rattle.places.proofs.Facts.{ClientBlock, client-facts, client-block, outside-clear}
 use Rattle.system.specs.Limits.{systemServers}
+use Rattle.system.specs.Numbered.{clientNo}
 
 -- these words are a valid block, which is place p
 pub record ClientIs (n m clients k : ℕ) (b : List ℕ) (p : ClientPlace) : Type 0 where
   pub place : clientPlace b ≡ p
-  pub valid : validClientBlock n m clients k b ≡ true
+  pub valid : validClientBlock n m clients (clientNo k) b ≡ true
 
 -- a store of a record, seen through the parts
 module _ (b ws : List ℕ) (l : length b ≡ clientBlock) (w : length ws ≡ clientSize) where
@@ -115,7 +116,7 @@ module _ (n m clients k : ℕ) (b : List ℕ) (B : Frame n b) where
     pub stored-frame : ClientIs n m clients k (with s) (record { living = clientPlace b .living; state = s; downs = clientPlace b .downs })
     stored-frame = record { place = stored-place; valid = client-block n m clients k (with s) stored-facts }
 
-module _ (n m clients k : ℕ) (b : List ℕ) (ok : validClientBlock n m clients k b ≡ true) where
+module _ (n m clients k : ℕ) (b : List ℕ) (ok : validClientBlock n m clients (clientNo k) b ≡ true) where
   abbrev facts : ClientBlock n m clients k b
   facts = client-facts n m clients k b ok
 

@@ -32,6 +32,7 @@ use Rattle.system.specs.Places.{ClientPlace}
 use Rattle.places.specs.Blocks.{clientRecord, flags, clientPlace, zeroWord, named, validClientBlock}
 use Rattle.places.proofs.Facts.{ClientBlock, client-facts, client-fits}
 use Rattle.places.proofs.ClientLaws.{Frame, stored-frame, ClientIs, remainder-clear, stored-client}
+use Rattle.system.specs.Numbered.{clientNo}
 
 -- no response names nobody
 named-none : (clients n : ℕ) → every (named clients) (replicate n Nobody) ≡ true
@@ -85,7 +86,7 @@ written n m k b s = sets b 1 (clientWords (client.store n m (record { 0 = k }) s
 abbrev pub placed : List ℕ → State → ClientPlace
 placed b s = record { living = clientPlace b .living; state = s; downs = clientPlace b .downs }
 
-module _ (n m clients k : ℕ) (b : List ℕ) (ok : validClientBlock n m clients k b ≡ true) where
+module _ (n m clients k : ℕ) (b : List ℕ) (ok : validClientBlock n m clients (clientNo k) b ≡ true) where
   abbrev me : ClientId
   me = record { 0 = k }
 

@@ -20,7 +20,7 @@ use Rattle.client.specs.Record as client
 use Rattle.client.specs.Calls.{isRemainder, lastTry}
 use Rattle.words.specs.Records.{clientFrom, clientSize}
 use Rattle.regions.proofs.SetsLaws.{region-inside, region-behind}
-use Rattle.system.specs.Numbered.{added}
+use Rattle.system.specs.Numbered.{added, clientNo}
 use Rattle.system.specs.Places.{ServerPlace, inEpoch, downed, downFrom}
 use Rattle.places.specs.Blocks.{clientRecord, flags, flagged, cleared, clientPlace, bitWord, zeroWord, validClientBlock, clientBlock, flagsFrom}
 use Rattle.ids.proofs.ListLaws.{every-append, every-drop, every-set}
@@ -32,7 +32,7 @@ use Rattle.places.proofs.ClientSteps.{written, tries-block, exits-block
 use Rattle.system.specs.Limits.{systemServers}
 
 -- a block with the record of a valid one, and flags that fit
-module _ (n m clients k : ℕ) (b b′ : List ℕ) (ok : validClientBlock n m clients k b ≡ true) where
+module _ (n m clients k : ℕ) (b b′ : List ℕ) (ok : validClientBlock n m clients (clientNo k) b ≡ true) where
   abbrev B : ClientBlock n m clients k b
   B = client-facts n m clients k b ok
 
@@ -90,13 +90,13 @@ zero-bits (x ∷ l) h =
     let z : x ≡ 0 = eqb-true x 0 a in
     rw (le-leb x 1 (omega arith)) (zero-bits l g)
 
-module _ (n m clients k : ℕ) (b b′ : List ℕ) (ok : validClientBlock n m clients k b ≡ true) (e : clientRecord b′ ≡ clientRecord b) (z : every zeroWord (flags b′) ≡ true) where
+module _ (n m clients k : ℕ) (b b′ : List ℕ) (ok : validClientBlock n m clients (clientNo k) b ≡ true) (e : clientRecord b′ ≡ clientRecord b) (z : every zeroWord (flags b′) ≡ true) where
   no-flags : length b′ ≡ clientBlock → getD b′ 0 0 ≤ 1 → ClientIs n m clients k b′ (record { living = eqb (getD b′ 0 0) 1; state = clientPlace b .state; downs = [] })
   no-flags l f =
       let M = moved n m clients k b b′ ok e l f (zero-bits (flags b′) z) (every-drop zeroWord n (flags b′) z) (rw z (or-true (eqb (getD b′ 0 0) 1 && not (isRemainder (clientPlace b .state .section))))) in
       record { place = M .place ∙ ap (λ (d : List ℕ). record { living = eqb (getD b′ 0 0) 1; state = clientPlace b .state; downs = d }) (none-flagged 1 (flags b′) z); valid = M .valid }
 
-module _ (n m clients k : ℕ) (b : List ℕ) (ok : validClientBlock n m clients k b ≡ true) where
+module _ (n m clients k : ℕ) (b : List ℕ) (ok : validClientBlock n m clients (clientNo k) b ≡ true) where
   abbrev C : ClientBlock n m clients k b
   C = client-facts n m clients k b ok
 
@@ -186,7 +186,7 @@ down-bits [] = refl
 down-bits (q ∷ qs) =
     ⊎-elim (λ (t : q .up ≡ true). rw t (down-bits qs)) (λ (t : q .up ≡ false). rw t (down-bits qs)) (decided (q .up))
 
-module _ (n m clients k : ℕ) (b : List ℕ) (ok : validClientBlock n m clients k b ≡ true) (qs : List ServerPlace) (all : length qs ≡ n) where
+module _ (n m clients k : ℕ) (b : List ℕ) (ok : validClientBlock n m clients (clientNo k) b ≡ true) (qs : List ServerPlace) (all : length qs ≡ n) where
   abbrev D : ClientBlock n m clients k b
   D = client-facts n m clients k b ok
 
@@ -219,7 +219,7 @@ module _ (n m clients k : ℕ) (b : List ℕ) (ok : validClientBlock n m clients
       record { place = M .place ∙ rw (put-first, living-is n m clients k b ok, put-flags, down-flagged 1 qs (drop n (flags b)) (D .behind)); valid = M .valid }
 
 -- the record of a try is written, and the flags of the servers are put
-pub tried-block : (n m clients k : ℕ) (b : List ℕ) → validClientBlock n m clients k b ≡ true → clientPlace b .living ≡ true → isRemainder (clientPlace b .state .section) ≡ true
+pub tried-block : (n m clients k : ℕ) (b : List ℕ) → validClientBlock n m clients (clientNo k) b ≡ true → clientPlace b .living ≡ true → isRemainder (clientPlace b .state .section) ≡ true
     → leb (clientPlace b .state .timestamp .0) lastTry ≡ true → (qs : List ServerPlace) → length qs ≡ n
     → ClientIs n m clients k (sets (written n m k b (tries n (record { 0 = k }) (clientPlace b .state) .state)) flagsFrom (map downBit qs)) (record { living = true; state = tries n (record { 0 = k }) (clientPlace b .state) .state; downs = downFrom 1 qs })
 unfolding tries

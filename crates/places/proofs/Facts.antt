@@ -26,6 +26,7 @@ use Rattle.words.proofs.RecordsLaws.{client-held, length-requests}
 use Rattle.system.specs.Places.{inEpoch}
 use Rattle.places.specs.Blocks.{clientRecord, flags, serverRecord, clientPlace, serverPlace, bitWord, zeroWord, named, namedPair, fitsClient, fitsFlags, validClientBlock, fitsServer, validServerBlock, clientBlock, serverBlock}
 use Rattle.system.specs.Limits.{systemServers}
+use Rattle.system.specs.Numbered.{clientNo, serverNo}
 
 -- block k of a client
 pub record ClientBlock (n m clients k : ℕ) (b : List ℕ) : Type 0 where
@@ -55,7 +56,7 @@ module _ (n m clients k : ℕ) (b : List ℕ) where
   abbrev its : Client
   its = clientFrom (clientRecord b)
 
-  pub client-facts : validClientBlock n m clients k b ≡ true → ClientBlock n m clients k b
+  pub client-facts : validClientBlock n m clients (clientNo k) b ≡ true → ClientBlock n m clients k b
   unfolding validClientBlock fitsClient fitsFlags clientPlace
   client-facts h =
       let (a, h₁) = both _ _ h in
@@ -83,7 +84,7 @@ module _ (n m clients k : ℕ) (b : List ℕ) where
       }
 
   module _ (B : ClientBlock n m clients k b) where
-    pub client-block : validClientBlock n m clients k b ≡ true
+    pub client-block : validClientBlock n m clients (clientNo k) b ≡ true
     unfolding validClientBlock fitsClient fitsFlags clientPlace
     client-block =
         rw (eq-eqb _ _ (B .size), le-leb _ _ (B .bit), B .held, B .valid, eq-eqb _ _ (B .servers), eq-eqb _ _ (B .threshold), eq-eqb _ _ (ap (λ (i : ClientId). i .0) (B .number)), B .names, B .bits, B .behind, B .outside)
@@ -117,7 +118,7 @@ module _ (n clients j : ℕ) (b : List ℕ) where
   abbrev own : Server
   own = serverFrom (serverRecord b)
 
-  pub server-facts : validServerBlock n clients j b ≡ true → ServerBlock n clients j b
+  pub server-facts : validServerBlock n clients (serverNo j) b ≡ true → ServerBlock n clients j b
   unfolding validServerBlock fitsServer serverPlace
   server-facts h =
       let (a, h₁) = both _ _ h in
@@ -137,7 +138,7 @@ module _ (n clients j : ℕ) (b : List ℕ) where
       }
 
   module _ (B : ServerBlock n clients j b) where
-    pub server-block : validServerBlock n clients j b ≡ true
+    pub server-block : validServerBlock n clients (serverNo j) b ≡ true
     unfolding validServerBlock fitsServer serverPlace
     server-block =
         rw (eq-eqb _ _ (B .size), le-leb _ _ (B .bit), B .held, B .valid, eq-eqb _ _ (B .servers), eq-eqb _ _ (ap (λ (i : ServerId). i .0) (B .number)), B .names)

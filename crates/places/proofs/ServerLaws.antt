@@ -23,11 +23,12 @@ use Rattle.places.specs.Blocks.{serverRecord, serverPlace, namedPair, va
 use Rattle.places.proofs.BlockParts.{read-in, covered, server-long, first-kept}
 use Rattle.places.proofs.Facts.{ServerBlock, server-facts, server-block, server-sizes}
 use Rattle.votes.specs.Queues.{maxQueue}
+use Rattle.system.specs.Numbered.{serverNo}
 
 -- these words are a valid block, which is place p
 pub record ServerIs (n clients j : ℕ) (b : List ℕ) (p : ServerPlace) : Type 0 where
   pub place : serverPlace b ≡ p
-  pub valid : validServerBlock n clients j b ≡ true
+  pub valid : validServerBlock n clients (serverNo j) b ≡ true
 
 -- the record of server j of n in state q, and the block with it
 abbrev pub server-of : ℕ → ℕ → State → Server
@@ -92,14 +93,14 @@ module _ (n clients j : ℕ) (b : List ℕ) (size : length b ≡ serverBlock) (b
           });
         }
 
-pub stored-server : (n clients j : ℕ) (b : List ℕ) → validServerBlock n clients j b ≡ true → (q : State) → Good q → every (namedPair clients) (candidates q) ≡ true → length (q .queue) ≤ maxQueue
+pub stored-server : (n clients j : ℕ) (b : List ℕ) → validServerBlock n clients (serverNo j) b ≡ true → (q : State) → Good q → every (namedPair clients) (candidates q) ≡ true → length (q .queue) ≤ maxQueue
     → ServerIs n clients j (server-written n j b q) (record { up = serverPlace b .up; state = q })
 stored-server n clients j b ok q g names short =
     let B = server-facts n clients j b ok in
     stored-record n clients j b (B .size) (B .bit) (server-sizes n clients j b B) q g names short
 
 -- the first word says whether the server is up
-module _ (n clients j : ℕ) (b : List ℕ) (ok : validServerBlock n clients j b ≡ true) (x : ℕ) (small : x ≤ 1) where
+module _ (n clients j : ℕ) (b : List ℕ) (ok : validServerBlock n clients (serverNo j) b ≡ true) (x : ℕ) (small : x ≤ 1) where
   abbrev facts : ServerBlock n clients j b
   facts = server-facts n clients j b ok
 
@@ -139,7 +140,7 @@ pub idle-block : (n clients j : ℕ) (b : List ℕ) → length b ≡ serverBlock
     → ServerIs n clients j (server-written n j b idle) (record { up = serverPlace b .up; state = idle })
 idle-block n clients j b size bit sizes = stored-record n clients j b size bit sizes idle idle-good refl (omega arith)
 
-module _ (n clients j : ℕ) (b : List ℕ) (ok : validServerBlock n clients j b ≡ true) where
+module _ (n clients j : ℕ) (b : List ℕ) (ok : validServerBlock n clients (serverNo j) b ≡ true) where
   pub rise-block : ServerIs n clients j (set b 0 1) (record { up = true; state = serverPlace b .state })
   rise-block = set-up n clients j b ok 1 (omega arith)
 

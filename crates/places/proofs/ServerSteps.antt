@@ -34,6 +34,7 @@ use Rattle.places.proofs.Pigeonhole.{queue-fits}
 use Rattle.places.proofs.ServerLaws.{ServerIs, server-of, server-written, stored-server}
 use Rattle.system.specs.Limits.{systemClients}
 use Rattle.votes.specs.Queues.{maxQueue}
+use Rattle.system.specs.Numbered.{serverNo}
 
 -- r is a request of one of so many clients
 abbrev pub OfClients : ℕ → Request → Type 0
@@ -89,7 +90,7 @@ received-as s Inquires k j t = refl
 abbrev no-one : Request → Type 0
 no-one r = ⊥
 
-module _ (n clients j : ℕ) (b : List ℕ) (ok : validServerBlock n clients j b ≡ true) where
+module _ (n clients j : ℕ) (b : List ℕ) (ok : validServerBlock n clients (serverNo j) b ≡ true) where
   abbrev me : ServerId
   me = record { 0 = j }
 

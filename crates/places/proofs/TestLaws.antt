@@ -11,6 +11,8 @@ use lib.Seq.{getD-take, getD-drop}
 use borrow.Author.Tests.{le-leb, lt-leb, leb-true, eq-eqb, ne-eqb, eqb-true}
 use Rattle.ids.specs.Lists.{every}
 use Rattle.ids.specs.Requests.{same, noRequest}
+use Rattle.ids.specs.declared.ClientId.{ClientId}
+use Rattle.ids.specs.declared.ServerId.{ServerId}
 use Rattle.ids.specs.declared.Request.{Request}
 use Rattle.ids.proofs.Choice.{both, decided, holds, fails}
 use Rattle.ids.proofs.RequestLaws.{same-true}
@@ -108,7 +110,7 @@ named-places clients (q ∷ l) =
     (λ (t : same q noRequest ≡ false). rw (t, named-places clients l))
     (decided (same q noRequest))
 
-module _ (n m clients k : ℕ) (ws : List ℕ) (c : Client) (e : c ≡ clientFrom ws) (x : Bool) (p : x ≡ client.valid c) where
+module _ (n m clients : ℕ) (k : ClientId) (ws : List ℕ) (c : Client) (e : c ≡ clientFrom ws) (x : Bool) (p : x ≡ client.valid c) where
   its-valid : x ≡ client.valid (clientFrom ws)
   its-valid = p ∙ ap client.valid e
 
@@ -134,14 +136,14 @@ module _ (n m clients k : ℕ) (ws : List ℕ) (c : Client) (e : c ≡ clientFro
       threshold-differs h = rw (good, eq-eqb (getD ws 0 0) n f, ne-eqb (getD ws 1 0) m h)
 
       module _ (g : getD ws 1 0 ≡ m) where
-        pub number-differs : (getD ws 2 0 ≡ k → ⊥) → false ≡ fitsClient n m clients k (clientFrom ws)
+        pub number-differs : (getD ws 2 0 ≡ k .0 → ⊥) → false ≡ fitsClient n m clients k (clientFrom ws)
         unfolding fitsClient clientFrom
-        number-differs h = rw (good, eq-eqb (getD ws 0 0) n f, eq-eqb (getD ws 1 0) m g, ne-eqb (getD ws 2 0) k h)
+        number-differs h = rw (good, eq-eqb (getD ws 0 0) n f, eq-eqb (getD ws 1 0) m g, ne-eqb (getD ws 2 0) (k .0) h)
 
-        pub named-decides : getD ws 2 0 ≡ k → (y : Bool) → y ≡ every (namedPair clients) (take n (requestsIn (drop 5 ws))) → y ≡ fitsClient n m clients k (clientFrom ws)
+        pub named-decides : getD ws 2 0 ≡ k .0 → (y : Bool) → y ≡ every (namedPair clients) (take n (requestsIn (drop 5 ws))) → y ≡ fitsClient n m clients k (clientFrom ws)
         unfolding fitsClient clientFrom client.view
         named-decides h y q =
-            rw (good, eq-eqb (getD ws 0 0) n f, eq-eqb (getD ws 1 0) m g, eq-eqb (getD ws 2 0) k h, f, named-places clients (take n (requestsIn (drop 5 ws)))) q
+            rw (good, eq-eqb (getD ws 0 0) n f, eq-eqb (getD ws 1 0) m g, eq-eqb (getD ws 2 0) (k .0) h, f, named-places clients (take n (requestsIn (drop 5 ws)))) q
 
 -- a server's record
 named-owner : (clients k t : ℕ) (l : List Request) → every (namedPair clients) (candidates (record { owner = ownerOf k t; queue = l })) ≡ leb k clients && every (namedPair clients) l
@@ -160,7 +162,7 @@ queue-short s v =
     let q = both (server.validSizes (s .n) (s .id)) (server.validQueue (s .votes .queue)) ab .1 in
     leb-true (s .votes .queue .len) maxQueue (both (leb (s .votes .queue .len) votes.maxQueue) (every (same noRequest) (drop (s .votes .queue .len) (s .votes .queue .places))) q .0)
 
-module _ (n clients j : ℕ) (ws : List ℕ) (s : Server) (e : s ≡ serverFrom ws) (x : Bool) (p : x ≡ server.valid s) where
+module _ (n clients : ℕ) (j : ServerId) (ws : List ℕ) (s : Server) (e : s ≡ serverFrom ws) (x : Bool) (p : x ≡ server.valid s) where
   pub server-broken : not x ≡ true → false ≡ fitsServer n clients j (serverFrom ws)
   unfolding fitsServer
   server-broken t = rw (fails x (server.valid (serverFrom ws)) (p ∙ ap server.valid e) t)
@@ -178,34 +180,34 @@ module _ (n clients j : ℕ) (ws : List ℕ) (s : Server) (e : s ≡ serverFrom 
     server-count-differs h = rw (sound, ne-eqb (getD ws 0 0) n h)
 
     module _ (f : getD ws 0 0 ≡ n) where
-      pub server-number-differs : (getD ws 1 0 ≡ j → ⊥) → false ≡ fitsServer n clients j (serverFrom ws)
+      pub server-number-differs : (getD ws 1 0 ≡ j .0 → ⊥) → false ≡ fitsServer n clients j (serverFrom ws)
       unfolding fitsServer serverFrom
-      server-number-differs h = rw (sound, eq-eqb (getD ws 0 0) n f, ne-eqb (getD ws 1 0) j h)
+      server-number-differs h = rw (sound, eq-eqb (getD ws 0 0) n f, ne-eqb (getD ws 1 0) (j .0) h)
 
-      module _ (g : getD ws 1 0 ≡ j) where
+      module _ (g : getD ws 1 0 ≡ j .0) where
         abbrev queue : List Request
         queue = take (getD ws 4 0) (requestsIn (drop 5 ws))
 
         pub owner-unknown : clients < getD ws 2 0 → false ≡ fitsServer n clients j (serverFrom ws)
         unfolding fitsServer serverFrom
         owner-unknown h =
-            rw (sound, eq-eqb (getD ws 0 0) n f, eq-eqb (getD ws 1 0) j g, named-owner clients (getD ws 2 0) (getD ws 3 0) queue, lt-leb (getD ws 2 0) clients h)
+            rw (sound, eq-eqb (getD ws 0 0) n f, eq-eqb (getD ws 1 0) (j .0) g, named-owner clients (getD ws 2 0) (getD ws 3 0) queue, lt-leb (getD ws 2 0) clients h)
 
         pub queue-decides : getD ws 2 0 ≤ clients → (y : Bool) → y ≡ every (namedPair clients) (take (getD ws 4 0) (requestsIn (drop 5 ws))) → y ≡ fitsServer n clients j (serverFrom ws)
         unfolding fitsServer serverFrom
         queue-decides h y q =
-            rw (sound, eq-eqb (getD ws 0 0) n f, eq-eqb (getD ws 1 0) j g, named-owner clients (getD ws 2 0) (getD ws 3 0) queue, le-leb (getD ws 2 0) clients h) q
+            rw (sound, eq-eqb (getD ws 0 0) n f, eq-eqb (getD ws 1 0) (j .0) g, named-owner clients (getD ws 2 0) (getD ws 3 0) queue, le-leb (getD ws 2 0) clients h) q
 
 -- a whole block
-pub few-servers : (n m clients k : ℕ) (c : Client) → fitsClient n m clients k c ≡ true → n ≤ systemServers
+pub few-servers : (n m clients : ℕ) (k : ClientId) (c : Client) → fitsClient n m clients k c ≡ true → n ≤ systemServers
 unfolding fitsClient
 few-servers n m clients k c h =
-    let (v, r) = both (client.valid c) (eqb (c .n) n && (eqb (c .m) m && (eqb (c .id .0) k && every (named clients) (client.view c .responses)))) h in
-    let e : c .n ≡ n = eqb-true (c .n) n (both (eqb (c .n) n) (eqb (c .m) m && (eqb (c .id .0) k && every (named clients) (client.view c .responses))) r .0) in
+    let (v, r) = both (client.valid c) (eqb (c .n) n && (eqb (c .m) m && (eqb (c .id .0) (k .0) && every (named clients) (client.view c .responses)))) h in
+    let e : c .n ≡ n = eqb-true (c .n) n (both (eqb (c .n) n) (eqb (c .m) m && (eqb (c .id .0) (k .0) && every (named clients) (client.view c .responses))) r .0) in
     let K = valid-known c v in
     omega (arith, K .few)
 
-module _ (n m clients k : ℕ) (b : List ℕ) where
+module _ (n m clients : ℕ) (k : ClientId) (b : List ℕ) where
   module _ (x : Bool) (p : x ≡ fitsClient n m clients k (clientFrom (clientRecord b))) where
     abbrev fits : Bool
     fits = fitsClient n m clients k (clientFrom (clientRecord b)) && fitsFlags n (inEpoch (clientPlace b)) (flags b)
@@ -237,7 +239,7 @@ module _ (n m clients k : ℕ) (b : List ℕ) where
       unfolding validClientBlock
       client-decided t y q = rw (l, le-leb (getD b 0 0) 1 h, holds x (holdsClient (clientRecord b)) p t) q
 
-module _ (n clients j : ℕ) (b : List ℕ) where
+module _ (n clients : ℕ) (j : ServerId) (b : List ℕ) where
   pub server-size : (length b ≡ serverBlock → ⊥) → false ≡ validServerBlock n clients j b
   unfolding validServerBlock
   server-size h = rw (ne-eqb (length b) serverBlock h)

@@ -10,6 +10,8 @@ use lib.Seq.{sets}
 use Rattle.ids.specs.Choice.{if_then_else_}
 use Rattle.ids.specs.Lists.{every}
 use Rattle.ids.specs.Requests.{byOwner}
+use Rattle.ids.specs.declared.ClientId.{ClientId}
+use Rattle.ids.specs.declared.ServerId.{ServerId}
 use Rattle.ids.specs.declared.Owner.{Owner}
 use Rattle.ids.specs.declared.Request.{Request}
 use Rattle.votes.specs.Queues as votes
@@ -72,17 +74,17 @@ abbrev pub namedPair : ℕ → Request → Bool
 namedPair clients r = leb (r .client .0) clients
 
 -- the record of client k of a simulation with n servers, threshold m and so many clients
-unfoldable pub fitsClient : ℕ → ℕ → ℕ → ℕ → Client → Bool
+unfoldable pub fitsClient : ℕ → ℕ → ℕ → ClientId → Client → Bool
 fitsClient n m clients k c =
     client.valid c
-    && (eqb (c .n) n && (eqb (c .m) m && (eqb (c .id .0) k && every (named clients) (client.view c .responses))))
+    && (eqb (c .n) n && (eqb (c .m) m && (eqb (c .id .0) (k .0) && every (named clients) (client.view c .responses))))
 
 -- the flags of n servers; no server counts outside an epoch
 unfoldable pub fitsFlags : ℕ → Bool → List ℕ → Bool
 fitsFlags n running l = every bitWord l && (every zeroWord (drop n l) && (running || every zeroWord l))
 
 -- block number k
-unfoldable pub validClientBlock : ℕ → ℕ → ℕ → ℕ → List ℕ → Bool
+unfoldable pub validClientBlock : ℕ → ℕ → ℕ → ClientId → List ℕ → Bool
 validClientBlock n m clients k b =
     eqb (length b) clientBlock
     && (bitWord (getD b 0 0)
@@ -90,12 +92,12 @@ validClientBlock n m clients k b =
     && (fitsClient n m clients k (clientFrom (clientRecord b)) && fitsFlags n (inEpoch (clientPlace b)) (flags b))))
 
 -- the record of server j
-unfoldable pub fitsServer : ℕ → ℕ → ℕ → Server → Bool
+unfoldable pub fitsServer : ℕ → ℕ → ServerId → Server → Bool
 fitsServer n clients j s =
-    server.valid s && (eqb (s .n) n && (eqb (s .id .0) j && every (namedPair clients) (candidates (votes.view (s .votes)))))
+    server.valid s && (eqb (s .n) n && (eqb (s .id .0) (j .0) && every (namedPair clients) (candidates (votes.view (s .votes)))))
 
 -- block number j
-unfoldable pub validServerBlock : ℕ → ℕ → ℕ → List ℕ → Bool
+unfoldable pub validServerBlock : ℕ → ℕ → ServerId → List ℕ → Bool
 validServerBlock n clients j b =
     eqb (length b) serverBlock
     && (bitWord (getD b 0 0) && (holdsServer (serverRecord b) && fitsServer n clients j (serverFrom (serverRecord b))))

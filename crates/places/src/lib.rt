@@ -14,6 +14,7 @@ ghost use Rattle.places.specs.Blocks.{clientRecord, flags, flagged, clea
 ghost use Rattle.system.specs.Limits.{systemServers};
 ghost use Rattle.votes.specs.Queues.{maxQueue};
 use client::Client;
+use ids::ClientId;
 use ids::Owner;
 use ids::ServerId;
 use server::Server;
@@ -58,7 +59,7 @@ fn requests_named(words: &[u32], count: usize, clients: u32) -> bool
     true
 }
 
-fn fits_client(words: &[u32], n: u32, m: u32, clients: u32, k: u32) -> bool
+fn fits_client(words: &[u32], n: u32, m: u32, clients: u32, k: ClientId) -> bool
     requires { ⌜ holdsClient (now words) ≡ true ⌝ }
     ensures { λ r. ⌜ r ≡ fitsClient n m clients k (clientFrom (now (words .entry))) ⌝ }
 {
@@ -72,7 +73,7 @@ fn fits_client(words: &[u32], n: u32, m: u32, clients: u32, k: u32) -> bool
     if words[1] != m {
         return false;
     }
-    if words[2] != k {
+    if words[2] != k.0 as u32 {
         return false;
     }
     requests_named(words, n as usize, clients)
@@ -126,7 +127,7 @@ fn in_epoch(b: &[u32]) -> bool
 }
 
 // What is asked of the record and of the flags.
-fn fits_client_block(b: &[u32], n: u32, m: u32, clients: u32, k: u32) -> bool
+fn fits_client_block(b: &[u32], n: u32, m: u32, clients: u32, k: ClientId) -> bool
     requires { ⌜ (length (now b) ≡ clientBlock) × (holdsClient (clientRecord (now b)) ≡ true) ⌝ }
     ensures { λ r. ⌜ r ≡ (fitsClient n m clients k (clientFrom (clientRecord (now (b .entry)))) && fitsFlags n (inEpoch (clientPlace (now (b .entry)))) (flags (now (b .entry)))) ⌝ }
 {
@@ -138,7 +139,7 @@ fn fits_client_block(b: &[u32], n: u32, m: u32, clients: u32, k: u32) -> bool
 }
 
 // Whether the words are block `k` of a simulation with `n` servers, threshold `m` and so many clients.
-pub fn valid_client_block(b: &[u32], n: u32, m: u32, clients: u32, k: u32) -> bool
+pub fn valid_client_block(b: &[u32], n: u32, m: u32, clients: u32, k: ClientId) -> bool
     ensures { λ r. ⌜ r ≡ validClientBlock n m clients k (now (b .entry)) ⌝ }
 {
     if b.len() != CLIENT_BLOCK {
@@ -242,7 +243,7 @@ pub fn count_flags(b: &[u32]) -> u32
     flags_set(&b[FLAGS_FROM..CLIENT_BLOCK])
 }
 
-fn fits_server(words: &[u32], n: u32, clients: u32, j: u32) -> bool
+fn fits_server(words: &[u32], n: u32, clients: u32, j: ServerId) -> bool
     requires { ⌜ holdsServer (now words) ≡ true ⌝ }
     ensures { λ r. ⌜ r ≡ fitsServer n clients j (serverFrom (now (words .entry))) ⌝ }
 {
@@ -253,7 +254,7 @@ fn fits_server(words: &[u32], n: u32, clients: u32, j: u32) -> bool
     if words[0] != n {
         return false;
     }
-    if words[1] != j {
+    if words[1] != j.0 as u32 {
         return false;
     }
     if clients < words[2] {
@@ -263,7 +264,7 @@ fn fits_server(words: &[u32], n: u32, clients: u32, j: u32) -> bool
 }
 
 // Whether the words are block `j` of a simulation with `n` servers and so many clients.
-pub fn valid_server_block(b: &[u32], n: u32, clients: u32, j: u32) -> bool
+pub fn valid_server_block(b: &[u32], n: u32, clients: u32, j: ServerId) -> bool
     ensures { λ r. ⌜ r ≡ validServerBlock n clients j (now (b .entry)) ⌝ }
 {
     if b.len() != SERVER_BLOCK {

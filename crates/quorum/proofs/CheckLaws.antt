@@ -11,28 +11,28 @@ use mir.Syntax.{w32}
 use mir.Val.{SFits, toZ, ofZ}
 use mir.Facts.{toZ-ofZ}
 use borrow.Author.Tests.{lt-ltb, le-ltb, le-leb, lt-leb, leb-true, leb-false, ltb-true, ltb-false}
-use Rattle.ids.specs.Limits.{within}
+use Rattle.ids.specs.Limits.{within, maxServers}
 use Rattle.ids.proofs.Choice.{decided, both, Test}
-use Rattle.quorum.specs.Check.{inRange, margin, isUnsafe}
+use Rattle.quorum.specs.Check.{inRangeUpTo, inRange, margin, isUnsafe}
 
 -- a setting in range
 pub record Range (n m f : ℕ) : Type 0 where
   pub some : 0 < n
-  pub servers : n ≤ 31
+  pub servers : n ≤ maxServers
   pub positive : 0 < m
   pub threshold : m ≤ n
   pub faults : f ≤ n
 
 pub range : (n m f : ℕ) → inRange n m f ≡ true → Range n m f
-unfolding inRange
+unfolding inRangeUpTo
 range n m f e =
-    let a = both (within n 31) (within m n && leb f n) e in
+    let a = both (within n maxServers) (within m n && leb f n) e in
     let b = both (within m n) (leb f n) (a .1) in
-    let c = both (leb 1 n) (leb n 31) (a .0) in
+    let c = both (leb 1 n) (leb n maxServers) (a .0) in
     let d = both (leb 1 m) (leb m n) (b .0) in
     record {
       some = leb-true 1 n (c .0);
-      servers = leb-true n 31 (c .1);
+      servers = leb-true n maxServers (c .1);
       positive = leb-true 1 m (d .0);
       threshold = leb-true m n (d .1);
       faults = leb-true f n (b .1);
@@ -59,23 +59,23 @@ bits : (a : ℕ) → a ≤ 1000 → toZ w32 a ≡ pos a
 bits a h = toZ-ofZ (bound h)
 
 -- the two differences as the machine makes them
-pub first-fits : (a b : ℕ) → a ≤ 62 → b ≤ 31 → SFits w32 (toZ w32 a -ℤ toZ w32 b)
+pub first-fits : (a b : ℕ) → a ≤ 2 * maxServers → b ≤ maxServers → SFits w32 (toZ w32 a -ℤ toZ w32 b)
 first-fits a b p q = rw (bits a (omega arith), bits b (omega arith)) (bound (omega (arith, mag-sub (pos a) b)))
 
-first-read : (a b : ℕ) → a ≤ 62 → b ≤ 31 → toZ w32 (ofZ w32 (toZ w32 a -ℤ toZ w32 b)) ≡ pos a -ℤ pos b
+first-read : (a b : ℕ) → a ≤ 2 * maxServers → b ≤ maxServers → toZ w32 (ofZ w32 (toZ w32 a -ℤ toZ w32 b)) ≡ pos a -ℤ pos b
 first-read a b p q = toZ-ofZ (first-fits a b p q) ∙ rw (bits a (omega arith), bits b (omega arith))
 
-pub second-fits : (a b c : ℕ) → a ≤ 62 → b ≤ 31 → c ≤ 31 → SFits w32 (toZ w32 (ofZ w32 (toZ w32 a -ℤ toZ w32 b)) -ℤ toZ w32 c)
+pub second-fits : (a b c : ℕ) → a ≤ 2 * maxServers → b ≤ maxServers → c ≤ maxServers → SFits w32 (toZ w32 (ofZ w32 (toZ w32 a -ℤ toZ w32 b)) -ℤ toZ w32 c)
 second-fits a b c p q r = rw (first-read a b p q, bits c (omega arith)) (bound (omega (arith, mag-sub (pos a -ℤ pos b) c, mag-sub (pos a) b)))
 
-pub margin-read : (n m f : ℕ) → n ≤ 31 → m ≤ 31 → f ≤ 31 →
+pub margin-read : (n m f : ℕ) → n ≤ maxServers → m ≤ maxServers → f ≤ maxServers →
     toZ w32 (ofZ w32 (toZ w32 (ofZ w32 (toZ w32 (2 * m) -ℤ toZ w32 n)) -ℤ toZ w32 f)) ≡ margin n m f
 unfolding margin
 margin-read n m f p q r =
     toZ-ofZ (second-fits (2 * m) n f (omega arith) p r) ∙ rw (first-read (2 * m) n (omega arith) p, bits f (omega arith))
 
 -- the margin as it is handed on, in 32 bits
-pub margin-kept : (n m f : ℕ) (by : ℤ) → (n ≤ 31) × (m ≤ n) × (f ≤ n) → by ≡ margin n m f → toZ w32 (ofZ w32 by) ≡ margin n m f
+pub margin-kept : (n m f : ℕ) (by : ℤ) → (n ≤ maxServers) × (m ≤ n) × (f ≤ n) → by ≡ margin n m f → toZ w32 (ofZ w32 by) ≡ margin n m f
 unfolding margin
 margin-kept n m f by r e = rw e (toZ-ofZ (bound (omega (arith, mag-sub (pos (2 * m) -ℤ pos n) f, mag-sub (pos (2 * m)) n, r .0, r .1, r .2))))
 

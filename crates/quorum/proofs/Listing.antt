@@ -9,8 +9,8 @@ use borrow.Author.Tests.{leb-true, leb-false}
 use Rattle.ids.specs.Choice.{if_then_else_}
 use Rattle.system.specs.declared.Event.{Event}
 use Rattle.system.specs.declared.Event.the-variants.{Try, Down, Up}
-use Rattle.system.specs.Numbered.{at, span}
-use Rattle.system.specs.Setting.{client, server, takes, lost, unsafeRun}
+use Rattle.system.specs.Numbered.{at, span, clientNo, serverNo}
+use Rattle.system.specs.Setting.{takes, lost, unsafeRun}
 use Rattle.system.proofs.Branch.{branch}
 use Rattle.system.proofs.Restarts.{length-span}
 use Rattle.quorum.specs.Closed.{runLength, firstEntry, restart, secondEntry, eventAt}
@@ -63,13 +63,13 @@ module _ (n m : ℕ) (le : m ≤ n) where
   part e a c = record { event = e; after = a; size = c }
 
   abbrev tries : ℕ → Event
-  tries k = Try (client k)
+  tries k = Try (clientNo k)
 
   abbrev down : ℕ → Event
-  down j = Down (server j)
+  down j = Down (serverNo j)
 
   abbrev up : ℕ → Event
-  up j = Up (server j)
+  up j = Up (serverNo j)
 
   abbrev parts : List Part
   parts =

@@ -10,43 +10,44 @@ use lib.ListN.{length}
 use borrow.Author.Tests.{le-leb, lt-leb, lt-ltb, le-ltb, leb-true, leb-false, ltb-true}
 use mir.Syntax.{w32}
 use mir.Val.{toZ, ofZ}
-use Rattle.ids.specs.Limits.{within}
+use Rattle.ids.specs.Limits.{within, maxServers}
 use Rattle.ids.specs.declared.Refusal.the-variants.{ParameterOutOfRange, NoSuchParty}
 use Rattle.ids.proofs.Choice.{decided, both, holds, fails, Test, clash}
 use Rattle.system.specs.declared.Event.{Event as Happening}
 use Rattle.system.specs.declared.Event.the-variants.{Try, Down, Up}
 use Rattle.system.specs.Setting as setting
-use Rattle.system.specs.Setting.{client, server, takes, lost, unsafeRun}
+use Rattle.system.specs.Setting.{takes, lost, unsafeRun}
 use Rattle.system.proofs.Settings.{shows-unsafe, unsafe-iff, stalls-iff}
 use Rattle.quorum.specs.declared.Verdict.{Verdict}
 use Rattle.quorum.specs.declared.Verdict.the-variants.{Accepted, Unsafe, Stalls, OutOfRange}
 use Rattle.quorum.specs.declared.Asked.{Asked}
 use Rattle.quorum.specs.declared.Asked.the-variants.{Event, Refused}
 use Rattle.quorum.specs.declared.Threshold.the-variants.{Default, OutOfRange as Outside}
-use Rattle.quorum.specs.Check.{inRange, margin, isUnsafe, isStalling, judged, verdict, numberOf, Demand3}
+use Rattle.quorum.specs.Check.{inRangeUpTo, inRange, margin, isUnsafe, isStalling, judged, verdict, numberOf, Demand3}
 use Rattle.quorum.specs.Run.{listedEvent, runEvent}
-use Rattle.quorum.specs.Closed.{runLength, firstEntry, restart, secondEntry, eventAt}
+use Rattle.quorum.specs.Closed.{runLength, longestRun, firstEntry, restart, secondEntry, eventAt}
 use Rattle.quorum.specs.Threshold.{thresholdOf}
 use Rattle.quorum.proofs.Listing.{unsafe-length, unsafe-at}
 use Rattle.quorum.proofs.CheckLaws.{Range, range, margin-kept, is-unsafe, is-safe, unsafe-test}
+use Rattle.system.specs.Numbered.{clientNo, serverNo}
 
--- in_range
-module _ (n m f : ℕ) (x : Bool) (p : x ≡ within n 31) where
-  pub no-servers : not x ≡ true → false ≡ inRange n m f
-  unfolding inRange
-  no-servers t = rw (fails x (within n 31) p t)
+-- in_range_up_to
+module _ (limit n m f : ℕ) (x : Bool) (p : x ≡ within n limit) where
+  pub no-servers : not x ≡ true → false ≡ inRangeUpTo limit n m f
+  unfolding inRangeUpTo
+  no-servers t = rw (fails x (within n limit) p t)
 
   module _ (y : Bool) (t : not x ≡ false) (q : y ≡ within m n) where
-    pub no-threshold : not y ≡ true → false ≡ inRange n m f
-    unfolding inRange
-    no-threshold u = rw (holds x (within n 31) p t, fails y (within m n) q u)
+    pub no-threshold : not y ≡ true → false ≡ inRangeUpTo limit n m f
+    unfolding inRangeUpTo
+    no-threshold u = rw (holds x (within n limit) p t, fails y (within m n) q u)
 
-    pub faults-decide : not y ≡ false → leb f n ≡ inRange n m f
-    unfolding inRange
-    faults-decide u = rw (holds x (within n 31) p t, holds y (within m n) q u)
+    pub faults-decide : not y ≡ false → leb f n ≡ inRangeUpTo limit n m f
+    unfolding inRangeUpTo
+    faults-decide u = rw (holds x (within n limit) p t, holds y (within m n) q u)
 
 -- judge
-module _ (n m f : ℕ) (by : ℤ) (r : (n ≤ 31) × (m ≤ n) × (f ≤ n)) (e : by ≡ margin n m f) where
+module _ (n m f : ℕ) (by : ℤ) (r : (n ≤ maxServers) × (m ≤ n) × (f ≤ n)) (e : by ≡ margin n m f) where
   abbrev given : ℤ
   given = toZ w32 (ofZ w32 by)
 
@@ -132,7 +133,7 @@ module _ (n m f : ℕ) (x : Bool) (p : x ≡ inRange n m f) where
   check-judges v t e = let i = holds x (inRange n m f) p t in
       (rw i e, rw e (judged-demand n m f (range n m f i)))
 
-  pub in-bounds : not x ≡ false → (n ≤ 31) × (m ≤ n) × (f ≤ n)
+  pub in-bounds : not x ≡ false → (n ≤ maxServers) × (m ≤ n) × (f ≤ n)
   in-bounds t = let r = range n m f (holds x (inRange n m f) p t) in (r .servers, r .threshold, r .faults)
 
   -- run_event
@@ -150,7 +151,7 @@ module _ (n m f i : ℕ) where
   unfolding listedEvent
   not-unsafe h = rw (is-safe n m f h)
 
-  module _ (r : (n ≤ 31) × (m ≤ n) × (f ≤ n)) (h : 2 * m ≤ n + f) (count : ℕ) (k : count ≡ runLength n m) (x : Bool) (p : x ≡ within i count) where
+  module _ (r : (n ≤ maxServers) × (m ≤ n) × (f ≤ n)) (h : 2 * m ≤ n + f) (count : ℕ) (k : count ≡ runLength n m) (x : Bool) (p : x ≡ within i count) where
     at-length : within i count ≡ within i (length (unsafeRun n m))
     at-length = rw (k, unsafe-length n m (r .1))
 
@@ -161,18 +162,18 @@ module _ (n m f i : ℕ) where
     pub inside-run : not x ≡ false → (0 < i) × (i ≤ runLength n m)
     inside-run t = let b = both (leb 1 i) (leb i count) (holds x (within i count) p t) in (leb-true 1 i (b .0), omega (arith, leb-true i count (b .1), k))
 
-    pub event-bounds : not x ≡ false → (n ≤ 31) × (m ≤ n) × (i ≤ 255)
+    pub event-bounds : not x ≡ false → (n ≤ maxServers) × (m ≤ n) × (i ≤ longestRun)
     event-bounds t = (r .0, r .1, omega (arith, inside-run t .1, r .0, r .1))
 
     pub run-element : (e : Happening) → not x ≡ false → e ≡ eventAt n m i → Event e ≡ listedEvent n m f i
     unfolding listedEvent
     run-element e t q =
         let b = inside-run t in
-        rw (is-unsafe n m f h, sym at-length ∙ holds x (within i count) p t, unsafe-at n m (r .1) (Try (client 1)) i (b .0) (b .1), q)
+        rw (is-unsafe n m f h, sym at-length ∙ holds x (within i count) p t, unsafe-at n m (r .1) (Try (clientNo 1)) i (b .0) (b .1), q)
 
 -- events of the run
 module _ (n m i : ℕ) (e : Happening) where
-  pub first-try : i ≤ 1 → e ≡ Try (client 1) → e ≡ firstEntry n m i
+  pub first-try : i ≤ 1 → e ≡ Try (clientNo 1) → e ≡ firstEntry n m i
   unfolding firstEntry
   first-try h q = rw (le-leb i 1 h) q
 
@@ -185,16 +186,16 @@ module _ (n m i : ℕ) (e : Happening) where
   first-hears g h q = rw (lt-leb i 1 g, lt-leb i (1 + m) h) q
 
 module _ (l i : ℕ) where
-  pub restart-down : i ≤ l → Down (server i) ≡ restart l i
+  pub restart-down : i ≤ l → Down (serverNo i) ≡ restart l i
   unfolding restart
   restart-down h = rw (le-leb i l h)
 
-  pub restart-up : l < i → Up (server (i - l)) ≡ restart l i
+  pub restart-up : l < i → Up (serverNo (i - l)) ≡ restart l i
   unfolding restart
   restart-up h = rw (lt-leb i l h)
 
 module _ (n m l i : ℕ) (e : Happening) where
-  pub second-try : i ≤ 1 → e ≡ Try (client 2) → e ≡ secondEntry n m l i
+  pub second-try : i ≤ 1 → e ≡ Try (clientNo 2) → e ≡ secondEntry n m l i
   unfolding secondEntry
   second-try h q = rw (le-leb i 1 h) q
 
@@ -225,14 +226,14 @@ module _ (n m i : ℕ) (e : Happening) where
     in-second h q = rw (lt-leb i (1 + 2 * m) g, ← k, lt-leb i (1 + 2 * m + 2 * l) h) q
 
 -- default_threshold
-module _ (n : ℕ) (x : Bool) (p : x ≡ within n 31) where
+module _ (n : ℕ) (x : Bool) (p : x ≡ within n maxServers) where
   pub no-default : not x ≡ true → Outside ≡ thresholdOf n
   unfolding thresholdOf
-  no-default t = rw (fails x (within n 31) p t)
+  no-default t = rw (fails x (within n maxServers) p t)
 
-  pub few-servers : not x ≡ false → n ≤ 31
-  few-servers t = leb-true n 31 (both (leb 1 n) (leb n 31) (holds x (within n 31) p t) .1)
+  pub few-servers : not x ≡ false → n ≤ maxServers
+  few-servers t = leb-true n maxServers (both (leb 1 n) (leb n maxServers) (holds x (within n maxServers) p t) .1)
 
   pub default-given : not x ≡ false → Default ((2 * n + 2) / 3) ≡ thresholdOf n
   unfolding thresholdOf
-  default-given t = rw (holds x (within n 31) p t)
+  default-given t = rw (holds x (within n maxServers) p t)

@@ -11,14 +11,20 @@ use Rattle.ids.specs.Choice.{if_then_else_}
 use Rattle.ids.specs.Limits.{within, maxServers}
 use Rattle.ids.specs.Refusals.{code}
 use Rattle.ids.specs.declared.Refusal.the-variants.{ParameterOutOfRange, Unsafe as NotSafe, Stalls as Stalling}
+use Rattle.client.specs.Figure1.{enough}
+use Rattle.system.specs.Limits.{systemClients}
 use Rattle.system.specs.Setting as setting
 use Rattle.system.specs.Setting.{ShowsUnsafe, unsafeRun}
 use Rattle.quorum.specs.declared.Verdict.{Verdict}
 use Rattle.quorum.specs.declared.Verdict.the-variants.{Accepted, Unsafe, Stalls, OutOfRange}
 
--- n servers 1 to 31, threshold 1 to n, faults 0 to n
-unfoldable pub inRange : ℕ → ℕ → ℕ → Bool
-inRange n m f = within n maxServers && (within m n && leb f n)
+-- n servers, 1 to a limit, threshold 1 to n, faults 0 to n
+unfoldable pub inRangeUpTo : ℕ → ℕ → ℕ → ℕ → Bool
+inRangeUpTo limit n m f = within n limit && (within m n && leb f n)
+
+-- the limit of a message's servers
+abbrev pub inRange : ℕ → ℕ → ℕ → Bool
+inRange n m f = inRangeUpTo maxServers n m f
 
 -- 2 times m, minus n, minus f, a signed number
 unfoldable pub margin : ℕ → ℕ → ℕ → ℤ
@@ -53,7 +59,7 @@ numberOf OutOfRange = code ParameterOutOfRange
 -- some run has two living clients in the critical section at once; then the unsafe run, which is given event by event, is
 -- such a run; a safe setting refused 9 exactly if some f servers, down for good, keep a client out.
 pub record Demand3 (n m f : ℕ) (v : Verdict) : Type 0 where
-  pub unsafe : inRange n m f ≡ true → (clients : ℕ) → 2 ≤ clients → clients ≤ 16 → (numberOf v ≡ 8) ↔ setting.Unsafe n m f clients
-  pub shown : inRange n m f ≡ true → (clients : ℕ) → 2 ≤ clients → clients ≤ 16 → numberOf v ≡ 8 → ShowsUnsafe n m f clients (unsafeRun n m)
-  pub stalls : inRange n m f ≡ true → (clients : ℕ) → 2 ≤ clients → clients ≤ 16 →
-      (numberOf v ≡ 9) ↔ ((setting.Unsafe n m f clients → ⊥) × setting.Stalls n m f clients)
+  pub unsafe : inRange n m f ≡ true → (clients : ℕ) → 2 ≤ clients → clients ≤ systemClients → (numberOf v ≡ 8) ↔ setting.Unsafe n (enough m) f clients
+  pub shown : inRange n m f ≡ true → (clients : ℕ) → 2 ≤ clients → clients ≤ systemClients → numberOf v ≡ 8 → ShowsUnsafe n (enough m) f clients (unsafeRun n m)
+  pub stalls : inRange n m f ≡ true → (clients : ℕ) → 2 ≤ clients → clients ≤ systemClients →
+      (numberOf v ≡ 9) ↔ ((setting.Unsafe n (enough m) f clients → ⊥) × setting.Stalls n (enough m) f clients)

@@ -6,8 +6,8 @@ use Rattle.ids.specs.Choice.{if_then_else_}
 use Rattle.ids.specs.Limits.{within}
 use Rattle.ids.specs.declared.Refusal.the-variants.{ParameterOutOfRange, NoSuchParty}
 use Rattle.system.specs.declared.Event.the-variants.{Try}
-use Rattle.system.specs.Numbered.{at}
-use Rattle.system.specs.Setting.{client, unsafeRun}
+use Rattle.system.specs.Numbered.{at, clientNo}
+use Rattle.system.specs.Setting.{unsafeRun}
 use Rattle.quorum.specs.declared.Asked.{Asked}
 use Rattle.quorum.specs.declared.Asked.the-variants.{Event, Refused}
 use Rattle.quorum.specs.Check.{inRange, isUnsafe}
@@ -16,7 +16,7 @@ use Rattle.quorum.specs.Check.{inRange, isUnsafe}
 unfoldable pub listedEvent : ℕ → ℕ → ℕ → ℕ → Asked
 listedEvent n m f i =
     if not (isUnsafe n m f) then Refused NoSuchParty
-    else if within i (length (unsafeRun n m)) then Event (at (Try (client 1)) (unsafeRun n m) i)
+    else if within i (length (unsafeRun n m)) then Event (at (Try (clientNo 1)) (unsafeRun n m) i)
     else Refused NoSuchParty
 
 unfoldable pub runEvent : ℕ → ℕ → ℕ → ℕ → Asked

@@ -4,12 +4,14 @@ ghost use mathlib.Core.Path.{_≡_};
 ghost use mathlib.Core.Bool.{true};
 ghost use Prim.Native.Nat.{_+_, _*_, _-_, _≤_};
 ghost use lib.IntN.{pos, negsuc, _-ℤ_};
-ghost use Rattle.system.specs.Setting.{client, takes, lost};
+ghost use Rattle.system.specs.Setting.{takes, lost};
 ghost use Rattle.system.specs.declared.Event.the-variants.{Try};
-ghost use Rattle.quorum.specs.Check.{inRange, margin as marginOf, judged, verdict, Demand3};
+ghost use Rattle.ids.specs.Limits.{maxServers};
+ghost use Rattle.quorum.specs.Check.{inRangeUpTo, inRange, margin as marginOf, judged, verdict, Demand3};
 ghost use Rattle.quorum.specs.Run.{listedEvent, runEvent};
-ghost use Rattle.quorum.specs.Closed.{runLength, firstEntry, restart as restartAt, secondEntry, eventAt};
+ghost use Rattle.quorum.specs.Closed.{runLength, longestRun, firstEntry, restart as restartAt, secondEntry, eventAt};
 ghost use Rattle.quorum.specs.Threshold.{thresholdOf};
+ghost use Rattle.system.specs.Numbered.{clientNo};
 use ids::ClientId;
 use ids::Refusal;
 use ids::ServerId;
@@ -36,10 +38,11 @@ pub enum Threshold {
     OutOfRange,
 }
 
-pub fn in_range(n: u32, m: u32, f: u32) -> bool
-    ensures { λ r. ⌜ r ≡ inRange n m f ⌝ }
+// Whether a setting is in range where there are at most so many servers.
+pub fn in_range_up_to(limit: u32, n: u32, m: u32, f: u32) -> bool
+    ensures { λ r. ⌜ r ≡ inRangeUpTo limit n m f ⌝ }
 {
-    if !ids::within_limit(n, ids::MAX_SERVERS) {
+    if !ids::within_limit(n, limit) {
         return false;
     }
     if !ids::within_limit(m, n) {
@@ -48,8 +51,14 @@ pub fn in_range(n: u32, m: u32, f: u32) -> bool
     f <= n
 }
 
+pub fn in_range(n: u32, m: u32, f: u32) -> bool
+    ensures { λ r. ⌜ r ≡ inRange n m f ⌝ }
+{
+    in_range_up_to(ids::MAX_SERVERS, n, m, f)
+}
+
 fn margin(n: u32, m: u32, f: u32) -> i32
-    requires { ⌜ (n ≤ 31) × (m ≤ 31) × (f ≤ 31) ⌝ }
+    requires { ⌜ (n ≤ maxServers) × (m ≤ maxServers) × (f ≤ maxServers) ⌝ }
     ensures { λ r. ⌜ r ≡ marginOf n m f ⌝ }
 {
     let twice = (2 * m) as i32;
@@ -60,7 +69,7 @@ fn margin(n: u32, m: u32, f: u32) -> i32
 
 // The servers that restart in the unsafe run.
 fn restarts(n: u32, m: u32) -> u32
-    requires { ⌜ (n ≤ 31) × (m ≤ 31) ⌝ }
+    requires { ⌜ (n ≤ maxServers) × (m ≤ maxServers) ⌝ }
     ensures { λ r. ⌜ r ≡ lost n m ⌝ }
 {
     if 2 * m < n {
@@ -71,7 +80,7 @@ fn restarts(n: u32, m: u32) -> u32
 
 // The events of the unsafe run.
 fn events(n: u32, m: u32) -> u32
-    requires { ⌜ (n ≤ 31) × (m ≤ 31) ⌝ }
+    requires { ⌜ (n ≤ maxServers) × (m ≤ maxServers) ⌝ }
     ensures { λ r. ⌜ r ≡ runLength n m ⌝ }
 {
     4 * m + 2 + 2 * restarts(n, m)
@@ -79,7 +88,7 @@ fn events(n: u32, m: u32) -> u32
 
 // A setting in range.
 fn judge(n: u32, m: u32, f: u32) -> Verdict
-    requires { ⌜ (n ≤ 31) × (m ≤ n) × (f ≤ n) ⌝ }
+    requires { ⌜ (n ≤ maxServers) × (m ≤ n) × (f ≤ n) ⌝ }
     ensures { λ r. ⌜ r ≡ judged n m f ⌝ }
 {
     let by = margin(n, m, f);
@@ -104,7 +113,7 @@ pub fn check(n: u32, m: u32, f: u32) -> Verdict
 }
 
 fn try_of(k: u16) -> Event
-    ensures { λ r. ⌜ r ≡ Try (client k) ⌝ }
+    ensures { λ r. ⌜ r ≡ Try (clientNo k) ⌝ }
 {
     let c = ClientId(k);
     Event::Try(c)
@@ -119,7 +128,7 @@ fn take_of(i: u32) -> Event
 
 // Client 1 enters.
 fn first_entry(n: u32, m: u32, i: u32) -> Event
-    requires { ⌜ (n ≤ 31) × (m ≤ 31) × (i ≤ 255) ⌝ }
+    requires { ⌜ (n ≤ maxServers) × (m ≤ maxServers) × (i ≤ longestRun) ⌝ }
     ensures { λ r. ⌜ r ≡ firstEntry n m i ⌝ }
 {
     if i <= 1 {
@@ -133,7 +142,7 @@ fn first_entry(n: u32, m: u32, i: u32) -> Event
 
 // The first `lost` servers go down in order, then up in order.
 fn restart(lost: u32, i: u32) -> Event
-    requires { ⌜ i ≤ 255 ⌝ }
+    requires { ⌜ i ≤ longestRun ⌝ }
     ensures { λ r. ⌜ r ≡ restartAt lost i ⌝ }
 {
     if i <= lost {
@@ -146,7 +155,7 @@ fn restart(lost: u32, i: u32) -> Event
 
 // Client 2 enters by those and by the servers from m + 1 up.
 fn second_entry(n: u32, m: u32, lost: u32, i: u32) -> Event
-    requires { ⌜ (n ≤ 31) × (m ≤ 31) × (lost ≤ 31) × (i ≤ 255) ⌝ }
+    requires { ⌜ (n ≤ maxServers) × (m ≤ maxServers) × (lost ≤ maxServers) × (i ≤ longestRun) ⌝ }
     ensures { λ r. ⌜ r ≡ secondEntry n m lost i ⌝ }
 {
     if i <= 1 {
@@ -162,7 +171,7 @@ fn second_entry(n: u32, m: u32, lost: u32, i: u32) -> Event
 }
 
 fn event_at(n: u32, m: u32, i: u32) -> Event
-    requires { ⌜ (n ≤ 31) × (m ≤ n) × (i ≤ 255) ⌝ }
+    requires { ⌜ (n ≤ maxServers) × (m ≤ n) × (i ≤ longestRun) ⌝ }
     ensures { λ r. ⌜ r ≡ eventAt n m i ⌝ }
 {
     let first = 1 + 2 * m;
@@ -178,7 +187,7 @@ fn event_at(n: u32, m: u32, i: u32) -> Event
 }
 
 fn listed(n: u32, m: u32, f: u32, i: u32) -> Asked
-    requires { ⌜ (n ≤ 31) × (m ≤ n) × (f ≤ n) ⌝ }
+    requires { ⌜ (n ≤ maxServers) × (m ≤ n) × (f ≤ n) ⌝ }
     ensures { λ r. ⌜ r ≡ listedEvent n m f i ⌝ }
 {
     if n + f < 2 * m {

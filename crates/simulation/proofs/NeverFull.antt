@@ -73,37 +73,37 @@ up-step b s = need-never b PartyDown (stepped s) down-never (step-never s)
 module _ (n : ℕ) (wins : Quorum) (u : System) where
   deliver-never : (i : ℕ) (m : Message) → Never (deliver n wins u i m)
   unfolding deliver
-  deliver-never i (Request k j t) = up-step (serverAt u (j .0) .up) (serverTook u i tag.Request k j t)
-  deliver-never i (Yield k j t) = up-step (serverAt u (j .0) .up) (serverTook u i tag.Yield k j t)
-  deliver-never i (Release k j t) = up-step (serverAt u (j .0) .up) (serverTook u i tag.Release k j t)
-  deliver-never i (Inquiry k j t) = up-step (serverAt u (j .0) .up) (serverTook u i tag.Inquiry k j t)
-  deliver-never i (Response k j o) = up-step (clientAt u (k .0) .living) (responseTook n wins u i k j o)
-  deliver-never i (CHECK k j t) = up-step (clientAt u (k .0) .living) (checkTook u i k j t)
+  deliver-never i (Request k j t) = up-step (serverAt u j .up) (serverTook u i tag.Request k j t)
+  deliver-never i (Yield k j t) = up-step (serverAt u j .up) (serverTook u i tag.Yield k j t)
+  deliver-never i (Release k j t) = up-step (serverAt u j .up) (serverTook u i tag.Release k j t)
+  deliver-never i (Inquiry k j t) = up-step (serverAt u j .up) (serverTook u i tag.Inquiry k j t)
+  deliver-never i (Response k j o) = up-step (clientAt u k .living) (responseTook n wins u i k j o)
+  deliver-never i (CHECK k j t) = up-step (clientAt u k .living) (checkTook u i k j t)
 
   taken-never : (i : ℕ) (o : Option Message) → Never (maybe o (refused NoSuchParty) (λ m. deliver n wins u i m))
   taken-never i none = party-never
   taken-never i (some m) = deliver-never i m
 
-  missed-never : (j : ServerId) (o : Owner) → Never (byOwner o (refused NoOwner) (λ r. need (not (clientAt u (r .client .0) .living)) OwnerLives (stepped (suspected u j))))
+  missed-never : (j : ServerId) (o : Owner) → Never (byOwner o (refused NoOwner) (λ r. need (not (clientAt u (r .client) .living)) OwnerLives (stepped (suspected u j))))
   missed-never j Nobody = nobody-never
-  missed-never j (Of r) = need-never (not (clientAt u (r .client .0) .living)) OwnerLives (stepped (suspected u j)) lives-never (step-never (suspected u j))
+  missed-never j (Of r) = need-never (not (clientAt u (r .client) .living)) OwnerLives (stepped (suspected u j)) lives-never (step-never (suspected u j))
 
   pub event-never : (e : Event) → Never (event n wins u e)
   unfolding event
   event-never (Try k) =
-      party-need (has (u .clients) (k .0)) (clientAt u (k .0) .living) _
-      (need-never (isRemainder (clientAt u (k .0) .state .section)) WrongSection _ section-never
-      (need-never (leb (clientAt u (k .0) .state .timestamp .0) lastTry) TimestampsSpent (stepped (tried n u k)) spent-never (step-never (tried n u k))))
+      party-need (has (u .clients) (k .0)) (clientAt u k .living) _
+      (need-never (isRemainder (clientAt u k .state .section)) WrongSection _ section-never
+      (need-never (leb (clientAt u k .state .timestamp .0) lastTry) TimestampsSpent (stepped (tried n u k)) spent-never (step-never (tried n u k))))
   event-never (Exit k) =
-      party-need (has (u .clients) (k .0)) (clientAt u (k .0) .living) _
-      (need-never (isCritical (clientAt u (k .0) .state .section)) WrongSection (stepped (exited n u k)) section-never (step-never (exited n u k)))
-  event-never (Fall k) = party-need (has (u .clients) (k .0)) (clientAt u (k .0) .living) (stepped (fallen u k)) (step-never (fallen u k))
-  event-never (Down j) = party-need (has (u .servers) (j .0)) (serverAt u (j .0) .up) (stepped (wentDown u j)) (step-never (wentDown u j))
-  event-never (Up j) = party-need (has (u .servers) (j .0)) (not (serverAt u (j .0) .up)) (stepped (cameUp u j)) (step-never (cameUp u j))
+      party-need (has (u .clients) (k .0)) (clientAt u k .living) _
+      (need-never (isCritical (clientAt u k .state .section)) WrongSection (stepped (exited n u k)) section-never (step-never (exited n u k)))
+  event-never (Fall k) = party-need (has (u .clients) (k .0)) (clientAt u k .living) (stepped (fallen u k)) (step-never (fallen u k))
+  event-never (Down j) = party-need (has (u .servers) (j .0)) (serverAt u j .up) (stepped (wentDown u j)) (step-never (wentDown u j))
+  event-never (Up j) = party-need (has (u .servers) (j .0)) (not (serverAt u j .up)) (stepped (cameUp u j)) (step-never (cameUp u j))
   event-never (Take i) = taken-never (i .0) (pending (i .0) (u .transit))
   event-never (Drop i) = need-never (present (i .0) (u .transit)) NoSuchParty (stepped (dropped u (i .0))) party-never (step-never (dropped u (i .0)))
-  event-never (Miss j) = party-need (has (u .servers) (j .0)) (serverAt u (j .0) .up) _ (missed-never j (serverAt u (j .0) .state .owner))
-  event-never (Check j) = party-need (has (u .servers) (j .0)) (serverAt u (j .0) .up) (stepped (asked u j)) (step-never (asked u j))
+  event-never (Miss j) = party-need (has (u .servers) (j .0)) (serverAt u j .up) _ (missed-never j (serverAt u j .state .owner))
+  event-never (Check j) = party-need (has (u .servers) (j .0)) (serverAt u j .up) (stepped (asked u j)) (step-never (asked u j))
 
 if-never : (a b : Result) (x : Bool) → Never a → Never b → Never (if x then a else b)
 if-never a b true f g = f

@@ -7,13 +7,13 @@ use lib.ListN.{length}
 use borrow.Author.Tests.{eq-eqb, ne-eqb}
 use Rattle.ids.specs.Limits.{within}
 use Rattle.ids.proofs.Choice.{clash, holds, fails}
-use Rattle.quorum.specs.Check.{inRange}
+use Rattle.quorum.specs.Check.{inRangeUpTo}
 use Rattle.changes.specs.Opening.{Starts}
 use Rattle.simulation.specs.Opens.{opens, newReply, NewLeaves}
 use Rattle.bounded.specs.declared.Moved.the-variants as moved
 use Rattle.ids.specs.declared.Refusal.the-variants.{ParameterOutOfRange}
 use Rattle.layout.specs.Layout.{simulationSize}
-use Rattle.system.specs.Limits.{systemClients}
+use Rattle.system.specs.Limits.{systemClients, systemServers}
 
 module _ (n m f clients : ℕ) (w : List ℕ) where
   refuses : opens (length w) n m f clients ≡ false → NewLeaves n m f clients w w × (moved.Refused ParameterOutOfRange ≡ newReply (opens (length w) n m f clients))
@@ -27,10 +27,10 @@ module _ (n m f clients : ℕ) (w : List ℕ) where
   pub new-size : (length w ≡ simulationSize → ⊥) → NewLeaves n m f clients w w × (moved.Refused ParameterOutOfRange ≡ newReply (opens (length w) n m f clients))
   new-size ne = refuses (wrong-size ne)
 
-  module _ (l : length w ≡ simulationSize) (a : Bool) (p : a ≡ inRange n m f) where
+  module _ (l : length w ≡ simulationSize) (a : Bool) (p : a ≡ inRangeUpTo systemServers n m f) where
     wrong-range : not a ≡ true → opens (length w) n m f clients ≡ false
     unfolding opens
-    wrong-range t = rw (eq-eqb (length w) simulationSize l, fails a (inRange n m f) p t)
+    wrong-range t = rw (eq-eqb (length w) simulationSize l, fails a (inRangeUpTo systemServers n m f) p t)
 
     pub new-range : not a ≡ true → NewLeaves n m f clients w w × (moved.Refused ParameterOutOfRange ≡ newReply (opens (length w) n m f clients))
     new-range t = refuses (wrong-range t)
@@ -38,17 +38,17 @@ module _ (n m f clients : ℕ) (w : List ℕ) where
     module _ (t : not a ≡ false) (b : Bool) (q : b ≡ within clients systemClients) where
       wrong-clients : not b ≡ true → opens (length w) n m f clients ≡ false
       unfolding opens
-      wrong-clients u = rw (eq-eqb (length w) simulationSize l, holds a (inRange n m f) p t, fails b (within clients systemClients) q u)
+      wrong-clients u = rw (eq-eqb (length w) simulationSize l, holds a (inRangeUpTo systemServers n m f) p t, fails b (within clients systemClients) q u)
 
       pub new-clients : not b ≡ true → NewLeaves n m f clients w w × (moved.Refused ParameterOutOfRange ≡ newReply (opens (length w) n m f clients))
       new-clients u = refuses (wrong-clients u)
 
-      pub new-asks : not b ≡ false → (length w ≡ simulationSize) × (inRange n m f ≡ true) × (within clients systemClients ≡ true)
-      new-asks u = (l, holds a (inRange n m f) p t, holds b (within clients systemClients) q u)
+      pub new-asks : not b ≡ false → (length w ≡ simulationSize) × (inRangeUpTo systemServers n m f ≡ true) × (within clients systemClients ≡ true)
+      new-asks u = (l, holds a (inRangeUpTo systemServers n m f) p t, holds b (within clients systemClients) q u)
 
       all-right : not b ≡ false → opens (length w) n m f clients ≡ true
       unfolding opens
-      all-right u = rw (eq-eqb (length w) simulationSize l, holds a (inRange n m f) p t, holds b (within clients systemClients) q u)
+      all-right u = rw (eq-eqb (length w) simulationSize l, holds a (inRangeUpTo systemServers n m f) p t, holds b (within clients systemClients) q u)
 
       pub new-starts : not b ≡ false → (w′ : List ℕ) → Starts n m f clients w′ → NewLeaves n m f clients w w′ × (moved.Sent 0 ≡ newReply (opens (length w) n m f clients))
       unfolding newReply

@@ -8,8 +8,8 @@ use lib.ListN.{length}
 use Rattle.ids.specs.Choice.{if_then_else_}
 use Rattle.ids.specs.Limits.{within}
 use Rattle.ids.specs.declared.Refusal.the-variants.{ParameterOutOfRange}
-use Rattle.quorum.specs.Check.{inRange}
-use Rattle.system.specs.Limits.{systemClients}
+use Rattle.quorum.specs.Check.{inRangeUpTo}
+use Rattle.system.specs.Limits.{systemClients, systemServers}
 use Rattle.layout.specs.Layout.{simulationSize}
 use Rattle.changes.specs.Opening.{Starts}
 use Rattle.bounded.specs.declared.Moved.{Moved}
@@ -17,7 +17,7 @@ use Rattle.bounded.specs.declared.Moved.the-variants as moved
 
 -- a new simulation: all words are there, and the setting is in range
 unfoldable pub opens : ℕ → ℕ → ℕ → ℕ → ℕ → Bool
-opens long n m f clients = eqb long simulationSize && (inRange n m f && within clients systemClients)
+opens long n m f clients = eqb long simulationSize && (inRangeUpTo systemServers n m f && within clients systemClients)
 
 unfoldable pub newReply : Bool → Moved
 newReply b = if b then moved.Sent 0 else moved.Refused ParameterOutOfRange

@@ -24,12 +24,12 @@ use Rattle.client.specs.declared.Section.the-variants.{Trying, Critical}
 use Rattle.client.specs.Figure1.{State as ClientState, next as newer, Quorum, filled, heard, judge, withResponse, responseOf, count, enough, tries, responds}
 use Rattle.client.specs.Calls.{isRemainder, lastTry}
 use Rattle.system.specs.declared.Event.the-variants.{Try}
-use Rattle.system.specs.Numbered.{at, put, member, span}
+use Rattle.system.specs.Numbered.{at, put, member, span, clientNo, serverNo}
 use Rattle.system.specs.Transit.{replaced, gone, keeping}
 use Rattle.system.specs.Places.{ClientPlace, ServerPlace, System, noClient, noServer, clientAt, serverAt, isInside, downFrom}
 use Rattle.system.specs.Events.{clientMoves, serverMoves, tried, asked, deliver, event}
 use Rattle.system.specs.Runs.{after, next}
-use Rattle.system.specs.Setting.{client, server, takes, enters, Different, no-more, another}
+use Rattle.system.specs.Setting.{takes, enters, Different, no-more, another}
 use Rattle.ids.proofs.Choice.{clash}
 use Rattle.system.proofs.Tokens.{All, empty, more, length-put}
 use Rattle.system.proofs.PlaceLaws.{Changes, each, at-other, at-replicate, flagged-in, put-flagged, mem-cons, mem-head, mem-tail}
@@ -41,16 +41,16 @@ abbrev pub vacant : ServerPlace
 vacant = record { up = true; state = idle }
 
 abbrev pair : ℕ → Timestamp → Request
-pair k t = record { client = client k; timestamp = t }
+pair k t = record { client = clientNo k; timestamp = t }
 
 -- server j, with k as owner, tells it so
 abbrev yes-to : ℕ → Timestamp → ℕ → Step ServerState
-yes-to k t j = tell (record { owner = Of (pair k t); queue = [] }) (RESPONSE (client k) (server j) (Of (pair k t)))
+yes-to k t j = tell (record { owner = Of (pair k t); queue = [] }) (RESPONSE (clientNo k) (serverNo j) (Of (pair k t)))
 
 -- Messages after i: the answers of js, in order
 abbrev Answers : ℕ → Timestamp → System → ℕ → List ℕ → Type 0
 Answers k t w i [] = Unit
-Answers k t w i (j ∷ js) = Pends w (suc i) (RESPONSE (client k) (server j) (Of (pair k t))) × Answers k t w (suc i) js
+Answers k t w i (j ∷ js) = Pends w (suc i) (RESPONSE (clientNo k) (serverNo j) (Of (pair k t))) × Answers k t w (suc i) js
 
 answers-later : (k : ℕ) (t : Timestamp) (w u : System) (i : ℕ) (js : List ℕ) → ((a : ℕ) (m : Message) → i < a → Pends w a m → Pends u a m) → Answers k t w i js → Answers k t u i js
 answers-later k t w u i [] f h = tt
@@ -59,18 +59,18 @@ answers-later k t w u i (j ∷ js) f h = (f (suc i) _ (le-refl (suc i)) (h .0), 
 module _ (n : ℕ) (wins : Quorum) (s k : ℕ) (t : Timestamp) where
   -- server j is vacant, and k's request to it waits
   record Asked (w : System) (j : ℕ) : Type 0 where
-    place : serverAt w j ≡ vacant
-    waits : Pends w (s + j) (REQUEST (client k) (server j) t)
+    place : serverAt w (serverNo j) ≡ vacant
+    waits : Pends w (s + j) (REQUEST (clientNo k) (serverNo j) t)
 
   -- server j took the request
   record Told (w : System) (j : ℕ) (u : System) : Type 0 where
     clients : u .clients ≡ w .clients
     sent : u .sent ≡ suc (w .sent)
-    servers : Changes (serverAt w) (serverAt u) j (record { up = true; state = yes-to k t j .state })
+    servers : Changes (at noServer (w .servers)) (at noServer (u .servers)) j (record { up = true; state = yes-to k t j .state })
     waits : (i : ℕ) (m : Message) → (i ≡ s + j → ⊥) → Pends w i m → Pends u i m
-    answer : Pends u (suc (w .sent)) (RESPONSE (client k) (server j) (Of (pair k t)))
+    answer : Pends u (suc (w .sent)) (RESPONSE (clientNo k) (serverNo j) (Of (pair k t)))
 
-  ask-event : {w : System} {j : ℕ} → Asked w j → event n wins w (takes (s + j)) ≡ stepped (serverMoves w (server j) (replaced (s + j) keeping (w .transit)) (yes-to k t j))
+  ask-event : {w : System} {j : ℕ} → Asked w j → event n wins w (takes (s + j)) ≡ stepped (serverMoves w (serverNo j) (replaced (s + j) keeping (w .transit)) (yes-to k t j))
   unfolding event deliver receive timestampIn act
   ask-event a = rw (a .waits, a .place)
 
@@ -89,8 +89,8 @@ module _ (n : ℕ) (wins : Quorum) (s k : ℕ) (t : Timestamp) where
   record AllTold (w : System) (js : List ℕ) (u : System) : Type 0 where
     clients : u .clients ≡ w .clients
     sent : u .sent ≡ w .sent + length js
-    others : (j : ℕ) → member j js ≡ false → serverAt u j ≡ serverAt w j
-    up : (j : ℕ) → serverAt u j .up ≡ serverAt w j .up
+    others : (j : ℕ) → member j js ≡ false → serverAt u (serverNo j) ≡ serverAt w (serverNo j)
+    up : (j : ℕ) → serverAt u (serverNo j) .up ≡ serverAt w (serverNo j) .up
     waits : (i : ℕ) (m : Message) → s + n < i → Pends w i m → Pends u i m
     responses : Answers k t u (w .sent) js
 
@@ -109,7 +109,7 @@ module _ (n : ℕ) (wins : Quorum) (s k : ℕ) (t : Timestamp) where
         clients = z .clients ∙ td .clients;
         sent = omega (arith, z .sent, td .sent);
         others = λ i m. let o = outside i j js m in z .others i (o .1) ∙ td .servers .there i (o .0);
-        up = λ i. z .up i ∙ each (td .servers) (λ q. q .up ≡ serverAt w i .up) i (λ e. rw e (sym (ap (λ (q : ServerPlace). q .up) (a .place)))) (λ _. refl);
+        up = λ i. z .up i ∙ each (td .servers) (λ q. q .up ≡ serverAt w (serverNo i) .up) i (λ e. rw e (sym (ap (λ (q : ServerPlace). q .up) (a .place)))) (λ _. refl);
         waits = λ i m lt b. z .waits i m lt (td .waits i m (λ e. omega arith) b);
         responses = (z .waits (suc (w .sent)) _ (omega arith) (td .answer), rw (td .sent) at (z .responses));
       }))
@@ -160,27 +160,27 @@ module _ (n : ℕ) (wins : Quorum) (k : ℕ) (t : Timestamp) (d : List ℕ) wher
       }
 
   -- a server with a number from 1
-  respond-put : (l : List Owner) (j : ℕ) (o : Owner) → 0 < j → withResponse l (server j) o ≡ put l j o
+  respond-put : (l : List Owner) (j : ℕ) (o : Owner) → 0 < j → withResponse l (serverNo j) o ≡ put l j o
   respond-put l zero o pos = absurd (omega arith)
   respond-put l (suc x) o pos = let z : suc x - 1 ≡ x = omega arith in rw z
 
-  respond-at : (l : List Owner) (j : ℕ) → 0 < j → responseOf l (server j) ≡ at Nobody l j
+  respond-at : (l : List Owner) (j : ℕ) → 0 < j → responseOf l (serverNo j) ≡ at Nobody l j
   respond-at l zero pos = absurd (omega arith)
   respond-at l (suc x) pos = let z : suc x - 1 ≡ x = omega arith in rw z
 
-  hear : (l : List Owner) (j : ℕ) → 0 < j → at Nobody l j ≡ Nobody → heard (pair k t) l (server j) (Of (pair k t)) ≡ put l j (Of (pair k t))
+  hear : (l : List Owner) (j : ℕ) → 0 < j → at Nobody l j ≡ Nobody → heard (pair k t) l (serverNo j) (Of (pair k t)) ≡ put l j (Of (pair k t))
   unfolding heard
   hear l j pos e = rw (respond-at l j pos, e, eq-eqb k k refl, eq-eqb (t .0) (t .0) refl) (respond-put l j (Of (pair k t)) pos)
 
   hear-client : (l : List Owner) {b : List Bool} (j : ℕ) (js : List ℕ) → 0 < j → at Nobody l j ≡ Nobody → Own (put l j (Of (pair k t))) b js → Tips wins b js →
-      responds wins n (client k) (server j) (Of (pair k t)) (record { section = Trying; timestamp = t; responses = l }) ≡ stay (Place t js (put l j (Of (pair k t))) d .state)
+      responds wins n (clientNo k) (serverNo j) (Of (pair k t)) (record { section = Trying; timestamp = t; responses = l }) ≡ stay (Place t js (put l j (Of (pair k t))) d .state)
   unfolding responds judge
   hear-client l j [] pos e o tips = rw (hear l j pos e, o .fills, o .own, tips)
   hear-client l j (i ∷ js) pos e o tips = rw (hear l j pos e, o .fills, o .own, tips .0)
 
-  hear-event : (w : System) (i : ℕ) {l l′ : List Owner} (j : ℕ) (js : List ℕ) → clientAt w k ≡ Place t (j ∷ js) l d → Pends w i (RESPONSE (client k) (server j) (Of (pair k t))) →
-      responds wins n (client k) (server j) (Of (pair k t)) (record { section = Trying; timestamp = t; responses = l }) ≡ stay (Place t js l′ d .state) →
-      event n wins w (takes i) ≡ stepped (clientMoves w (client k) (replaced i gone (w .transit)) d (stay (Place t js l′ d .state)))
+  hear-event : (w : System) (i : ℕ) {l l′ : List Owner} (j : ℕ) (js : List ℕ) → clientAt w (clientNo k) ≡ Place t (j ∷ js) l d → Pends w i (RESPONSE (clientNo k) (serverNo j) (Of (pair k t))) →
+      responds wins n (clientNo k) (serverNo j) (Of (pair k t)) (record { section = Trying; timestamp = t; responses = l }) ≡ stay (Place t js l′ d .state) →
+      event n wins w (takes i) ≡ stepped (clientMoves w (clientNo k) (replaced i gone (w .transit)) d (stay (Place t js l′ d .state)))
   unfolding event deliver
   hear-event w i j js here m e = rw (m, here, e)
 
@@ -188,10 +188,10 @@ module _ (n : ℕ) (wins : Quorum) (k : ℕ) (t : Timestamp) (d : List ℕ) wher
   record Heard (w : System) (i : ℕ) (c : ClientPlace) (u : System) : Type 0 where
     servers : u .servers ≡ w .servers
     sent : u .sent ≡ w .sent
-    clients : Changes (clientAt w) (clientAt u) k c
+    clients : Changes (at noClient (w .clients)) (at noClient (u .clients)) k c
     waits : (a : ℕ) (m : Message) → (a ≡ i → ⊥) → Pends w a m → Pends u a m
 
-  heard-by : (w : System) (i : ℕ) (c : ClientState) → clientAt w k .living ≡ true → event n wins w (takes i) ≡ stepped (clientMoves w (client k) (replaced i gone (w .transit)) d (stay c)) →
+  heard-by : (w : System) (i : ℕ) (c : ClientState) → clientAt w (clientNo k) .living ≡ true → event n wins w (takes i) ≡ stepped (clientMoves w (clientNo k) (replaced i gone (w .transit)) d (stay c)) →
       Heard w i (record { living = true; state = c; downs = d }) (next n wins w (takes i))
   unfolding after
   heard-by w i c lives e =
@@ -205,12 +205,12 @@ module _ (n : ℕ) (wins : Quorum) (k : ℕ) (t : Timestamp) (d : List ℕ) wher
   record Hears (w u : System) : Type 0 where
     servers : u .servers ≡ w .servers
     sent : u .sent ≡ w .sent
-    others : (i : ℕ) → (i ≡ k → ⊥) → clientAt u i ≡ clientAt w i
+    others : (i : ℕ) → (i ≡ k → ⊥) → clientAt u (clientNo i) ≡ clientAt w (clientNo i)
     responses : List Owner
-    here : clientAt u k ≡ Place t [] responses d
+    here : clientAt u (clientNo k) ≡ Place t [] responses d
 
   hears : {js : List ℕ} {w : System} (i : ℕ) {l : List Owner} {b : List Bool} → Different n js → Own l b js → Tips wins b js →
-      clientAt w k ≡ Place t js l d → Answers k t w i js → Leads n wins w (map takes (span i (length js))) (Hears w)
+      clientAt w (clientNo k) ≡ Place t js l d → Answers k t w i js → Leads n wins w (map takes (span i (length js))) (Hears w)
   hears i {l = l} no-more o tips here a = lead-none (record { servers = refl; sent = refl; others = λ _ _. refl; responses = l; here = here })
   hears {w = w} i {l = l} {b = b} (another {j = j} {js = js} pos jn out df) o tips here a =
       let o′ = own-put out o in
@@ -228,7 +228,7 @@ module _ (n : ℕ) (wins : Quorum) (k : ℕ) (t : Timestamp) (d : List ℕ) wher
 
 -- the next timestamp of client k
 abbrev coming : System → ℕ → Timestamp
-coming w k = newer (clientAt w k .state .timestamp)
+coming w k = newer (clientAt w (clientNo k) .state .timestamp)
 
 -- the client lives, is in the remainder section, and has a timestamp left
 pub record Free (c : ClientPlace) : Type 0 where
@@ -238,12 +238,12 @@ pub record Free (c : ClientPlace) : Type 0 where
 
 -- From w to u client k has entered by the servers js.
 pub record Entered (n k : ℕ) (js : List ℕ) (w u : System) : Type 0 where
-  pub holds : isInside (clientAt u k) ≡ true
-  pub downs : clientAt u k .downs ≡ downFrom 1 (w .servers)
-  pub timestamp : clientAt u k .state .timestamp ≡ coming w k
-  pub others : (i : ℕ) → (i ≡ k → ⊥) → clientAt u i ≡ clientAt w i
-  pub servers : (j : ℕ) → member j js ≡ false → serverAt u j ≡ serverAt w j
-  pub up : (j : ℕ) → serverAt u j .up ≡ serverAt w j .up
+  pub holds : isInside (clientAt u (clientNo k)) ≡ true
+  pub downs : clientAt u (clientNo k) .downs ≡ downFrom 1 (w .servers)
+  pub timestamp : clientAt u (clientNo k) .state .timestamp ≡ coming w k
+  pub others : (i : ℕ) → (i ≡ k → ⊥) → clientAt u (clientNo i) ≡ clientAt w (clientNo i)
+  pub servers : (j : ℕ) → member j js ≡ false → serverAt u (serverNo j) ≡ serverAt w (serverNo j)
+  pub up : (j : ℕ) → serverAt u (serverNo j) .up ≡ serverAt w (serverNo j) .up
   pub sent : u .sent ≡ w .sent + n + length js
 
 map-replicate : {A B : Type 0} (f : A → B) (n : ℕ) (a : A) → map f (replicate n a) ≡ replicate n (f a)
@@ -254,23 +254,23 @@ module _ (n : ℕ) (wins : Quorum) where
   record Tried (w : System) (k : ℕ) (u : System) : Type 0 where
     servers : u .servers ≡ w .servers
     sent : u .sent ≡ w .sent + n
-    clients : Changes (clientAt w) (clientAt u) k (record { living = true; state = record { section = Trying; timestamp = coming w k; responses = replicate n Nobody }; downs = downFrom 1 (w .servers) })
-    asked : (j : ℕ) → 0 < j → j ≤ n → Pends u (w .sent + j) (REQUEST (client k) (server j) (coming w k))
+    clients : Changes (at noClient (w .clients)) (at noClient (u .clients)) k (record { living = true; state = record { section = Trying; timestamp = coming w k; responses = replicate n Nobody }; downs = downFrom 1 (w .servers) })
+    asked : (j : ℕ) → 0 < j → j ≤ n → Pends u (w .sent + j) (REQUEST (clientNo k) (serverNo j) (coming w k))
 
-  try-event : (w : System) (k : ℕ) → Free (clientAt w k) → event n wins w (Try (client k)) ≡ stepped (tried n w (client k))
+  try-event : (w : System) (k : ℕ) → Free (clientAt w (clientNo k)) → event n wins w (Try (clientNo k)) ≡ stepped (tried n w (clientNo k))
   unfolding event
   try-event w k f =
       let i = flagged-in noClient (λ c. c .living) refl (w .clients) k (f .living) in
       rw (lt-ltb 0 k (i .0), le-leb k (length (w .clients)) (i .1), f .living, f .rests, le-leb _ lastTry (f .timestamps))
 
-  after-try : (w : System) (k : ℕ) → All (UpTo (w .sent)) (w .transit) → Free (clientAt w k) → Tried w k (next n wins w (Try (client k)))
+  after-try : (w : System) (k : ℕ) → All (UpTo (w .sent)) (w .transit) → Free (clientAt w (clientNo k)) → Tried w k (next n wins w (Try (clientNo k)))
   unfolding after tries
   after-try w k upto f =
       rw (try-event w k f) (record {
         servers = refl;
-        sent = omega (arith, length-all (λ j. REQUEST (client k) j (coming w k)) n);
+        sent = omega (arith, length-all (λ j. REQUEST (clientNo k) j (coming w k)) n);
         clients = put-flagged noClient (λ x. x .living) refl (w .clients) k _ (f .living);
-        asked = λ j pos le. pending-past (w .sent + j) _ (omega arith) upto ∙ pending-all (λ i. REQUEST (client k) i (coming w k)) (w .sent) n j pos le;
+        asked = λ j pos le. pending-past (w .sent + j) _ (omega arith) upto ∙ pending-all (λ i. REQUEST (clientNo k) i (coming w k)) (w .sent) n j pos le;
       })
 
   module _ {w v x : System} {k : ℕ} (tr : Tried w k v) where
@@ -292,12 +292,12 @@ module _ (n : ℕ) (wins : Quorum) where
         })
 
   -- The entry: a free client and vacant servers js of which only all together win.
-  pub enter : {clients x : ℕ} {w : System} (k : ℕ) {js : List ℕ} → Tally n clients x w → Free (clientAt w k) → Different n js → ((j : ℕ) → member j js ≡ true → serverAt w j ≡ vacant) →
-      0 < length js → Tips wins (replicate n false) js → Leads n wins w (enters n (w .sent) k js) (Entered n k js w)
+  pub enter : {clients x : ℕ} {w : System} (k : ℕ) {js : List ℕ} → Tally n clients x w → Free (clientAt w (clientNo k)) → Different n js → ((j : ℕ) → member j js ≡ true → serverAt w (serverNo j) ≡ vacant) →
+      0 < length js → Tips wins (replicate n false) js → Leads n wins w (enters n (w .sent) (clientNo k) js) (Entered n k js w)
   enter {clients} {w = w} k {js = js} tl f df h pos tips =
-      let tr : Tried w k (next n wins w (Try (client k))) = after-try w k (tl .counts .numbers) f in
+      let tr : Tried w k (next n wins w (Try (clientNo k))) = after-try w k (tl .counts .numbers) f in
       lead-cons (rw (try-event w k f)) (lead-append (map (λ j. takes (w .sent + j)) js)
-      (asks n wins (w .sent) k (coming w k) (tally-event n clients wins (Try (client k)) tl) (omega (arith, tr .sent)) df
+      (asks n wins (w .sent) k (coming w k) (tally-event n clients wins (Try (clientNo k)) tl) (omega (arith, tr .sent)) df
       (λ j m. let r = ranged j df m in record { place = rw (tr .servers) (h j m); waits = tr .asked j (r .0) (r .1) }))
       (λ z. answered tr z df pos tips))
 
@@ -316,8 +316,8 @@ count-none zero = refl
 count-none (suc n) = omega (arith, count-none n)
 
 -- The entry with the threshold m, by m vacant servers.
-pub enter-enough : {n m clients x : ℕ} {w : System} (k : ℕ) {js : List ℕ} → Tally n clients x w → Free (clientAt w k) → Different n js → ((j : ℕ) → member j js ≡ true → serverAt w j ≡ vacant) →
-    0 < m → length js ≡ m → Leads n (enough m) w (enters n (w .sent) k js) (Entered n k js w)
+pub enter-enough : {n m clients x : ℕ} {w : System} (k : ℕ) {js : List ℕ} → Tally n clients x w → Free (clientAt w (clientNo k)) → Different n js → ((j : ℕ) → member j js ≡ true → serverAt w (serverNo j) ≡ vacant) →
+    0 < m → length js ≡ m → Leads n (enough m) w (enters n (w .sent) (clientNo k) js) (Entered n k js w)
 enter-enough {n} {m} k tl f df h pos len =
     enter n (enough m) k tl f df h (omega arith)
     (tips-enough (replicate n false) (length-replicate n false) df (λ j _. at-replicate false (λ b. b ≡ false) n j false refl refl) (omega (arith, count-none n)))

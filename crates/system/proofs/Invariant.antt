@@ -23,7 +23,7 @@ use Rattle.votes.specs.Figure1.{receive, suspect, check}
 use Rattle.client.specs.Figure1.{State as ClientState, Quorum, next as newer, tries, exits}
 use Rattle.client.specs.Calls.{isRemainder, isCritical}
 use Rattle.system.specs.declared.Event.{Event}
-use Rattle.system.specs.Numbered.{at, put, has}
+use Rattle.system.specs.Numbered.{at, put, has, clientNo, serverNo}
 use Rattle.system.specs.Transit.{pending, replaced, gone}
 use Rattle.system.specs.Places.{ClientPlace, ServerPlace, System, noClient, noServer, clientAt, serverAt, inEpoch, downFrom}
 use Rattle.system.specs.Events.{Result, clientMoves, event}
@@ -58,12 +58,12 @@ numbered-from l (suc i) h = omega arith
 
 module _ (n : ℕ) (wins : Quorum) where
   pub record Safe (w : System) : Type 0 where
-    pub sound : Sound n wins (clientAt w) (serverAt w) (w .transit)
-    pub nest : Nest (clientAt w) (downFrom 1 (w .servers))
+    pub sound : Sound n wins (at noClient (w .clients)) (at noServer (w .servers)) (w .transit)
+    pub nest : Nest (at noClient (w .clients)) (downFrom 1 (w .servers))
 
   pub record Inv (w : System) : Type 0 where
     pub safe : Safe w
-    pub bound : (k : ℕ) → length (clientAt w k .downs) ≤ w .most
+    pub bound : (k : ℕ) → length (clientAt w (clientNo k) .downs) ≤ w .most
 
   abbrev Good : Result → Type 0
   Good (refused x) = Unit
@@ -79,23 +79,23 @@ module _ (n : ℕ) (wins : Quorum) where
       }
 
   module _ (w : System) (s : Safe w) where
-    new-client : (k : ℕ) (c : ClientPlace) → clientAt w k .living ≡ true → Changes (clientAt w) (at noClient (put (w .clients) k c)) k c
+    new-client : (k : ℕ) (c : ClientPlace) → clientAt w (clientNo k) .living ≡ true → Changes (at noClient (w .clients)) (at noClient (put (w .clients) k c)) k c
     new-client = put-flagged noClient (λ c. c .living) refl (w .clients)
 
-    new-server : (j : ℕ) (q : ServerPlace) → serverAt w j .up ≡ true → Changes (serverAt w) (at noServer (put (w .servers) j q)) j q
+    new-server : (j : ℕ) (q : ServerPlace) → serverAt w (serverNo j) .up ≡ true → Changes (at noServer (w .servers)) (at noServer (put (w .servers) j q)) j q
     new-server = put-flagged noServer (λ q. q .up) refl (w .servers)
 
-    positive : (j : ℕ) → serverAt w j .up ≡ true → 0 < j
+    positive : (j : ℕ) → serverAt w (serverNo j) .up ≡ true → 0 < j
     positive j up = flagged-in noServer (λ q. q .up) refl (w .servers) j up .0
 
     -- the timestamp of a message to a server
-    spared : (tag : Tag) (t : Timestamp) (k : ClientId) → InTime tag t (last (clientAt w) (k .0)) → (p : Request) → Runs (clientAt w) p →
+    spared : (tag : Tag) (t : Timestamp) (k : ClientId) → InTime tag t (last (at noClient (w .clients)) (k .0)) → (p : Request) → Runs (at noClient (w .clients)) p →
         Spares tag (record { client = k; timestamp = t }) p
-    spared tag t k h p run e = omega (arith, ap (λ (x : ClientId). last (clientAt w) (x .0)) e, run .1)
+    spared tag t k h p run e = omega (arith, ap (λ (x : ClientId). last (at noClient (w .clients)) (x .0)) e, run .1)
 
-    safe-calm : (k : ClientId) (i : ℕ) (m : Message) (step : Step ClientState) → pending i (w .transit) ≡ some m → clientAt w (k .0) .living ≡ true →
-        Calm n wins k (clientAt w (k .0) .state) (λ j. token (request k (clientAt w (k .0) .state)) j m) step →
-        Safe (clientMoves w k (replaced i gone (w .transit)) (clientAt w (k .0) .downs) step .state)
+    safe-calm : (k : ClientId) (i : ℕ) (m : Message) (step : Step ClientState) → pending i (w .transit) ≡ some m → clientAt w k .living ≡ true →
+        Calm n wins k (clientAt w k .state) (λ j. token (request k (clientAt w k .state)) j m) step →
+        Safe (clientMoves w k (replaced i gone (w .transit)) (clientAt w k .downs) step .state)
     safe-calm k i m step e lives c =
         record {
           sound = sound-calm n wins (k .0) step lives (new-client (k .0) _ lives) (s .sound) (posted (w .sent) (delivery-delivered stills-gone i e)) c;
@@ -106,18 +106,18 @@ module _ (n : ℕ) (wins : Quorum) where
     unfolding tries exits
     good refuses = tt
     good (begins {k = k} lives _) =
-        let t : Timestamp = newer (clientAt w (k .0) .state .timestamp) in
-        let gt = next-greater (clientAt w (k .0) .state .timestamp) in
+        let t : Timestamp = newer (clientAt w k .state .timestamp) in
+        let gt = next-greater (clientAt w k .state .timestamp) in
         let r : Request = record { client = k; timestamp = t } in
         record {
           sound = sound-client n wins (new-client (k .0) _ lives) (s .sound) (posted (w .sent) unchanged)
               (omega (arith, gt)) (by-all (λ j. REQUEST k j t) (λ j. (refl, omega arith)) n)
               (record { mine = λ _. mine-none r n; sized = λ _. length-replicate n Nobody; won = λ b. absurd (false≢true b) })
-              (λ j ep no. omega (arith, fresh (last (clientAt w)) r j gt (s .sound .mail), requests-none r j k t n, shows-none r n j));
+              (λ j ep no. omega (arith, fresh (last (at noClient (w .clients))) r j gt (s .sound .mail), requests-none r j k t n, shows-none r n j));
           nest = nest-client (new-client (k .0) _ lives) (s .nest) (λ ep. starts refl);
         }
     good (leaves {k = k} lives _) =
-        let t : Timestamp = clientAt w (k .0) .state .timestamp in
+        let t : Timestamp = clientAt w k .state .timestamp in
         record {
           sound = sound-client n wins (new-client (k .0) _ lives) (s .sound) (posted (w .sent) unchanged)
               (omega (arith, next-greater t)) (by-all (λ j. RELEASE k j t) (λ j. (refl, omega (arith, next-greater t))) n)
@@ -134,45 +134,45 @@ module _ (n : ℕ) (wins : Quorum) where
         record { sound = sound-down n wins j (counts-down j (w .clients)) (new-server (j .0) _ up) (s .sound); nest = nest-down j (counts-down j (w .clients)) (newly-down (w .servers) (j .0) _) (s .nest) }
     good (rises {j = j} there) =
         record {
-          sound = sound-server n wins j (stay (serverAt w (j .0) .state)) (numbered-from (w .servers) (j .0) there)
+          sound = sound-server n wins j (stay (serverAt w j .state)) (numbered-from (w .servers) (j .0) there)
               (put-numbered noServer (w .servers) (j .0) _ there) (s .sound) unchanged (λ p. le-refl 0) (fair-stay (s .sound .holds (j .0)));
-          nest = nest-servers (s .nest) (still-up (w .servers) (j .0) (record { up = true; state = serverAt w (j .0) .state }) refl);
+          nest = nest-servers (s .nest) (still-up (w .servers) (j .0) (record { up = true; state = serverAt w j .state }) refl);
         }
     good (serverTakes {i = i} tag k j t e up) =
         let r : Request = record { client = k; timestamp = t } in
-        let time = in-time (last (clientAt w)) tag k j t (pending-all (Past (last (clientAt w))) (i .0) e (s .sound .mail)) in
+        let time = in-time (last (at noClient (w .clients))) tag k j t (pending-all (Past (last (at noClient (w .clients)))) (i .0) e (s .sound .mail)) in
         record {
-          sound = sound-server n wins j (receive j tag r (serverAt w (j .0) .state)) (positive (j .0) up) (new-server (j .0) _ up) (s .sound)
+          sound = sound-server n wins j (receive j tag r (serverAt w j .state)) (positive (j .0) up) (new-server (j .0) _ up) (s .sound)
               (posted (w .sent) (delivery-delivered stills-keeping (i .0) e)) (λ p. token-here p tag k j t)
               (fair-receive tag r (spared tag t k time) (omega arith) (s .sound .holds (j .0)));
           nest = nest-servers (s .nest) (still-up (w .servers) (j .0) _ refl);
         }
     good (clientTakes {i = i} {k = k} {j = j} {o = o} e lives) =
         safe-calm k (i .0) (RESPONSE k j o) _ e lives
-        (calm-respond n wins k j o (pending-all (Past (last (clientAt w))) (i .0) e (s .sound .mail) .0) (s .sound .fine (k .0)))
+        (calm-respond n wins k j o (pending-all (Past (last (at noClient (w .clients)))) (i .0) e (s .sound .mail) .0) (s .sound .fine (k .0)))
     good (clientChecked {i = i} {k = k} {j = j} {t = t} e lives) =
         safe-calm k (i .0) (CHECK k j t) _ e lives
-        (calm-checked n wins k j t (pending-all (Past (last (clientAt w))) (i .0) e (s .sound .mail)) (s .sound .fine (k .0)))
+        (calm-checked n wins k j t (pending-all (Past (last (at noClient (w .clients)))) (i .0) e (s .sound .mail)) (s .sound .fine (k .0)))
     good (loses {i = i}) = record { sound = sound-mail n wins (s .sound) (delivery-dropped stills-gone (i .0)); nest = s .nest }
     good (suspects {j = j} {o = o} up e dead) =
-        let other : (p : Request) → Runs (clientAt w) p → isRequest p (serverAt w (j .0) .state .owner) ≡ false = λ p run.
-        rw e (differ o p (λ q. clash (clientAt w (p .client .0) .living)
-        (and-eq-true-iff (clientAt w (p .client .0) .living) (not (isRemainder (clientAt w (p .client .0) .state .section))) .0 (run .0) .0)
+        let other : (p : Request) → Runs (at noClient (w .clients)) p → isRequest p (serverAt w j .state .owner) ≡ false = λ p run.
+        rw e (differ o p (λ q. clash (clientAt w (p .client) .living)
+        (and-eq-true-iff (clientAt w (p .client) .living) (not (isRemainder (clientAt w (p .client) .state .section))) .0 (run .0) .0)
         (rw (ap (λ (x : Request). x .client .0) q) at dead))) in
         record {
-          sound = sound-server n wins j (suspect j (serverAt w (j .0) .state)) (positive (j .0) up) (new-server (j .0) _ up) (s .sound) (posted (w .sent) unchanged) (λ p. le-refl 0) (fair-suspect other (s .sound .holds (j .0)));
+          sound = sound-server n wins j (suspect j (serverAt w j .state)) (positive (j .0) up) (new-server (j .0) _ up) (s .sound) (posted (w .sent) unchanged) (λ p. le-refl 0) (fair-suspect other (s .sound .holds (j .0)));
           nest = nest-servers (s .nest) (still-up (w .servers) (j .0) _ refl);
         }
     good (asks {j = j} up) =
         record {
-          sound = sound-server n wins j (check j (serverAt w (j .0) .state)) (positive (j .0) up) (new-server (j .0) _ up) (s .sound) (posted (w .sent) unchanged) (λ p. le-refl 0) (fair-check (s .sound .holds (j .0)));
+          sound = sound-server n wins j (check j (serverAt w j .state)) (positive (j .0) up) (new-server (j .0) _ up) (s .sound) (posted (w .sent) unchanged) (λ p. le-refl 0) (fair-check (s .sound .holds (j .0)));
           nest = nest-servers (s .nest) (still-up (w .servers) (j .0) _ refl);
         }
 
   inv-start : (clients : ℕ) → Inv (start n wins clients)
   unfolding start
   inv-start clients =
-      let quiet : (k : ℕ) → inEpoch (clientAt (start n wins clients) k) ≡ false = λ k. at-replicate noClient (λ c. inEpoch c ≡ false) clients k _ refl refl in
+      let quiet : (k : ℕ) → inEpoch (clientAt (start n wins clients) (clientNo k)) ≡ false = λ k. at-replicate noClient (λ c. inEpoch c ≡ false) clients k _ refl refl in
       let rest : (k : ℕ) (c : ClientState) → isRemainder (c .section) ≡ true → isCritical (c .section) ≡ false → Fine n wins (id k) c = λ k c e h.
       record { mine = λ b. clash (isRemainder (c .section)) e b; sized = λ b. clash (isRemainder (c .section)) e b; won = λ b. clash (isCritical (c .section)) b h } in
       record {
@@ -181,7 +181,7 @@ module _ (n : ℕ) (wins : Quorum) where
             fine = λ k. at-replicate noClient (λ c. Fine n wins (id k) (c .state)) clients k _ (rest k _ refl refl) (rest k _ refl refl);
             tokens = λ k j ep no. clash _ ep (quiet k);
             mail = empty;
-            holds = λ j. at-replicate noServer (λ q. Holds (Old (last (clientAt (start n wins clients)))) (q .state)) n j _ (record { owner = tt; queue = empty }) (record { owner = tt; queue = empty });
+            holds = λ j. at-replicate noServer (λ q. Holds (Old (last (at noClient ((start n wins clients) .clients)))) (q .state)) n j _ (record { owner = tt; queue = empty }) (record { owner = tt; queue = empty });
           };
           nest = record { chain = λ k i ep ei. clash _ ep (quiet k); now = λ k ep. clash _ ep (quiet k) };
         };

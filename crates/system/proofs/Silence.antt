@@ -20,7 +20,7 @@ use Rattle.client.specs.Figure1.{State as ClientState, next as newer, Quorum, t
 use Rattle.client.specs.Calls.{isRemainder}
 use Rattle.system.specs.declared.Event.{Event}
 use Rattle.system.specs.declared.Event.the-variants.{Try, Exit, Fall, Down, Up, Take, Drop, Miss, Check}
-use Rattle.system.specs.Numbered.{at, member}
+use Rattle.system.specs.Numbered.{at, member, clientNo, serverNo}
 use Rattle.system.specs.Transit.{InTransit, pending, replaced, gone}
 use Rattle.system.specs.Places.{System, noClient, noServer, clientAt, serverAt}
 use Rattle.system.specs.Events.{Result, clientMoves, serverMoves, event}
@@ -51,9 +51,9 @@ module _ (d : List ℕ) where
   Blank k c = (j : ℕ) → member j d ≡ true → isRemainder (c .section) ≡ false → shows (request k c) (c .responses) j ≡ 0
 
   pub record Silent (w : System) : Type 0 where
-    pub down : (j : ℕ) → member j d ≡ true → serverAt w j .up ≡ false
+    pub down : (j : ℕ) → member j d ≡ true → serverAt w (serverNo j) .up ≡ false
     pub mail : All (Posted Unsaid) (w .transit)
-    pub blank : (k : ℕ) → Blank (id k) (clientAt w k .state)
+    pub blank : (k : ℕ) → Blank (id k) (clientAt w (clientNo k) .state)
 
   -- the event is no `up` of theirs
   abbrev pub Stays : Event → Type 0
@@ -113,10 +113,10 @@ module _ (n : ℕ) (wins : Quorum) (d : List ℕ) where
 
   module _ (w : System) (s : Silent d w) where
     -- a server that is up is not in d
-    awake : (j : ℕ) → serverAt w j .up ≡ true → member j d ≡ false
-    awake j up = absent j d (λ e. clash (serverAt w j .up) up (s .down j e))
+    awake : (j : ℕ) → serverAt w (serverNo j) .up ≡ true → member j d ≡ false
+    awake j up = absent j d (λ e. clash (serverAt w (serverNo j) .up) up (s .down j e))
 
-    silent-client : (k : ClientId) {l : List InTransit} {gain : Request → ℕ → ℕ} (ds : List ℕ) (step : Step ClientState) → clientAt w (k .0) .living ≡ true → Delivery gain (w .transit) [] l →
+    silent-client : (k : ClientId) {l : List InTransit} {gain : Request → ℕ → ℕ} (ds : List ℕ) (step : Step ClientState) → clientAt w k .living ≡ true → Delivery gain (w .transit) [] l →
         All (Unsaid d) (step .sent) → Blank d k (step .state) → Silent d (clientMoves w k l ds step .state)
     silent-client k ds step lives del sent new =
         record {
@@ -125,7 +125,7 @@ module _ (n : ℕ) (wins : Quorum) (d : List ℕ) where
           blank = λ i. each (put-flagged noClient (λ c. c .living) refl (w .clients) (k .0) _ lives) (λ c. Blank d (id i) (c .state)) i (λ e. rw e new) (λ _. s .blank i);
         }
 
-    silent-server : (j : ServerId) {l : List InTransit} {gain : Request → ℕ → ℕ} (step : Step ServerState) → serverAt w (j .0) .up ≡ true → Delivery gain (w .transit) [] l →
+    silent-server : (j : ServerId) {l : List InTransit} {gain : Request → ℕ → ℕ} (step : Step ServerState) → serverAt w j .up ≡ true → Delivery gain (w .transit) [] l →
         All (From Any j) (step .sent) → Silent d (serverMoves w j l step .state)
     silent-server j step up del sent =
         record {
@@ -134,8 +134,8 @@ module _ (n : ℕ) (wins : Quorum) (d : List ℕ) where
           blank = s .blank;
         }
 
-    silent-calm : (k : ClientId) (i : ℕ) (m : Message) {gain : ℕ → ℕ} (step : Step ClientState) → pending i (w .transit) ≡ some m → clientAt w (k .0) .living ≡ true → Calm n wins k (clientAt w (k .0) .state) gain step →
-        ((j : ℕ) → member j d ≡ true → gain j ≡ 0) → Silent d (clientMoves w k (replaced i gone (w .transit)) (clientAt w (k .0) .downs) step .state)
+    silent-calm : (k : ClientId) (i : ℕ) (m : Message) {gain : ℕ → ℕ} (step : Step ClientState) → pending i (w .transit) ≡ some m → clientAt w k .living ≡ true → Calm n wins k (clientAt w k .state) gain step →
+        ((j : ℕ) → member j d ≡ true → gain j ≡ 0) → Silent d (clientMoves w k (replaced i gone (w .transit)) (clientAt w k .downs) step .state)
     silent-calm k i m step e lives c no-gain =
         silent-client k _ step lives (delivery-delivered stills-gone i e) (all-map (by-unsaid d k _) (c .by))
         (λ j y ep. rw (c .timestamp) (omega (arith, c .kept j, no-gain j y, s .blank (k .0) j y (sym (c .epoch) ∙ ep))))
@@ -144,11 +144,11 @@ module _ (n : ℕ) (wins : Quorum) (d : List ℕ) where
     unfolding tries exits
     silent inv a refuses = tt
     silent inv a (begins {k = k} lives _) =
-        let t : Timestamp = newer (clientAt w (k .0) .state .timestamp) in
+        let t : Timestamp = newer (clientAt w k .state .timestamp) in
         silent-client k _ _ lives unchanged (all-map (by-unsaid d k (t .0)) (by-all (λ j. REQUEST k j t) (λ j. (refl, omega arith)) n))
         (λ j y ep. shows-none (record { client = k; timestamp = t }) n j)
     silent inv a (leaves {k = k} lives _) =
-        let t : Timestamp = clientAt w (k .0) .state .timestamp in
+        let t : Timestamp = clientAt w k .state .timestamp in
         silent-client k _ _ lives unchanged
         (all-map (by-unsaid d k (newer t .0)) (by-all (λ j. RELEASE k j t) (λ j. (refl, omega (arith, next-greater t))) n)) (λ j y ep. absurd (true≢false ep))
     silent inv a (dies {k = k} lives) =
@@ -170,17 +170,17 @@ module _ (n : ℕ) (wins : Quorum) (d : List ℕ) where
           blank = s .blank;
         }
     silent inv a (serverTakes {i = i} tag k j t e up) =
-        silent-server j _ up (delivery-delivered stills-keeping (i .0) e) (fair-receive {P = Any} {R = None} tag _ (λ p b. absurd b) tt (any-server (serverAt w (j .0) .state)) .from)
+        silent-server j _ up (delivery-delivered stills-keeping (i .0) e) (fair-receive {P = Any} {R = None} tag _ (λ p b. absurd b) tt (any-server (serverAt w j .state)) .from)
     silent inv a (clientTakes {i = i} {k = k} {j = j} {o = o} e lives) =
         silent-calm k (i .0) (RESPONSE k j o) _ e lives
-        (calm-respond n wins k j o (pending-all (Past (last (clientAt w))) (i .0) e (inv .safe .sound .mail) .0) (inv .safe .sound .fine (k .0)))
+        (calm-respond n wins k j o (pending-all (Past (last (at noClient (w .clients)))) (i .0) e (inv .safe .sound .mail) .0) (inv .safe .sound .fine (k .0)))
         (λ x y. rw (ne-eqb (j .0) x (λ q. clash (member x d) y (rw q at (pending-all (Unsaid d) (i .0) e (s .mail))))) refl)
     silent inv a (clientChecked {i = i} {k = k} {j = j} {t = t} e lives) =
         silent-calm k (i .0) (CHECK k j t) {gain = λ x. 0} _ e lives
-        (calm-checked n wins k j t (pending-all (Past (last (clientAt w))) (i .0) e (inv .safe .sound .mail)) (inv .safe .sound .fine (k .0))) (λ x y. refl)
+        (calm-checked n wins k j t (pending-all (Past (last (at noClient (w .clients)))) (i .0) e (inv .safe .sound .mail)) (inv .safe .sound .fine (k .0))) (λ x y. refl)
     silent inv a (loses {i = i}) = record { down = s .down; mail = delivery-dropped stills-gone (i .0) .arrive (Unsaid d) (s .mail) empty; blank = s .blank }
-    silent inv a (suspects {j = j} up _ _) = silent-server j _ up unchanged (fair-suspect {P = Any} {R = None} (λ p b. absurd b) (any-server (serverAt w (j .0) .state)) .from)
-    silent inv a (asks {j = j} up) = silent-server j _ up unchanged (fair-check {P = Any} {R = None} (any-server (serverAt w (j .0) .state)) .from)
+    silent inv a (suspects {j = j} up _ _) = silent-server j _ up unchanged (fair-suspect {P = Any} {R = None} (λ p b. absurd b) (any-server (serverAt w j .state)) .from)
+    silent inv a (asks {j = j} up) = silent-server j _ up unchanged (fair-check {P = Any} {R = None} (any-server (serverAt w j .state)) .from)
 
   -- whatever follows, but for an `up` of theirs
   pub silent-from : {w : System} → Inv n wins w → Silent d w → {es : List Event} → All (Stays d) es → Silent d (runFrom n wins w es)

@@ -61,16 +61,16 @@ serverMoves w j l s =
 
 -- an epoch begins: the servers down now count
 abbrev pub tried : ℕ → System → ClientId → Step System
-tried n w k = clientMoves w k (w .transit) (downFrom 1 (w .servers)) (client.tries n k (clientAt w (k .0) .state))
+tried n w k = clientMoves w k (w .transit) (downFrom 1 (w .servers)) (client.tries n k (clientAt w k .state))
 
 -- an epoch ends
 abbrev pub exited : ℕ → System → ClientId → Step System
-exited n w k = clientMoves w k (w .transit) [] (client.exits n k (clientAt w (k .0) .state))
+exited n w k = clientMoves w k (w .transit) [] (client.exits n k (clientAt w k .state))
 
 abbrev pub fallen : System → ClientId → Step System
 fallen w k =
     stay (record {
-      clients = put (w .clients) (k .0) (record { living = false; state = clientAt w (k .0) .state; downs = [] });
+      clients = put (w .clients) (k .0) (record { living = false; state = clientAt w k .state; downs = [] });
       servers = w .servers;
       transit = w .transit;
       sent = w .sent;
@@ -92,7 +92,7 @@ abbrev pub cameUp : System → ServerId → Step System
 cameUp w j =
     stay (record {
       clients = w .clients;
-      servers = put (w .servers) (j .0) (record { up = true; state = serverAt w (j .0) .state });
+      servers = put (w .servers) (j .0) (record { up = true; state = serverAt w j .state });
       transit = w .transit;
       sent = w .sent;
       most = w .most;
@@ -101,25 +101,25 @@ cameUp w j =
 -- server j takes the message with number i: it is delivered, and stays
 abbrev pub serverTook : System → ℕ → Tag → ClientId → ServerId → Timestamp → Step System
 serverTook w i tag k j t =
-    serverMoves w j (replaced i keeping (w .transit)) (votes.receive j tag (record { client = k; timestamp = t }) (serverAt w (j .0) .state))
+    serverMoves w j (replaced i keeping (w .transit)) (votes.receive j tag (record { client = k; timestamp = t }) (serverAt w j .state))
 
 -- client k takes the message with number i: it is gone
 abbrev pub responseTook : ℕ → Quorum → System → ℕ → ClientId → ServerId → Owner → Step System
 responseTook n wins w i k j o =
-    clientMoves w k (replaced i gone (w .transit)) (clientAt w (k .0) .downs) (client.responds wins n k j o (clientAt w (k .0) .state))
+    clientMoves w k (replaced i gone (w .transit)) (clientAt w k .downs) (client.responds wins n k j o (clientAt w k .state))
 
 abbrev pub checkTook : System → ℕ → ClientId → ServerId → Timestamp → Step System
-checkTook w i k j t = clientMoves w k (replaced i gone (w .transit)) (clientAt w (k .0) .downs) (client.checked k j t (clientAt w (k .0) .state))
+checkTook w i k j t = clientMoves w k (replaced i gone (w .transit)) (clientAt w k .downs) (client.checked k j t (clientAt w k .state))
 
 abbrev pub dropped : System → ℕ → Step System
 dropped w i =
     stay (record { clients = w .clients; servers = w .servers; transit = replaced i gone (w .transit); sent = w .sent; most = w .most })
 
 abbrev pub suspected : System → ServerId → Step System
-suspected w j = serverMoves w j (w .transit) (votes.suspect j (serverAt w (j .0) .state))
+suspected w j = serverMoves w j (w .transit) (votes.suspect j (serverAt w j .state))
 
 abbrev pub asked : System → ServerId → Step System
-asked w j = serverMoves w j (w .transit) (votes.check j (serverAt w (j .0) .state))
+asked w j = serverMoves w j (w .transit) (votes.check j (serverAt w j .state))
 
 -- events ----------------------------------------------------------------------------------------------------------------------
 
@@ -145,7 +145,7 @@ f >>= g = f g
 -- server j takes a message
 abbrev pub toServer : System → ℕ → Tag → ClientId → ServerId → Timestamp → Result
 toServer w i tag k j t = do
-  need (serverAt w (j .0) .up) PartyDown
+  need (serverAt w j .up) PartyDown
   stepped (serverTook w i tag k j t)
 
 module _ (n : ℕ) (wins : Quorum) where
@@ -156,35 +156,35 @@ module _ (n : ℕ) (wins : Quorum) where
   deliver w i (RELEASE k j t) = toServer w i tag.Release k j t
   deliver w i (INQUIRY k j t) = toServer w i tag.Inquiry k j t
   deliver w i (RESPONSE k j o) = do
-    need (clientAt w (k .0) .living) PartyDown
+    need (clientAt w k .living) PartyDown
     stepped (responseTook n wins w i k j o)
   deliver w i (CHECK k j t) = do
-    need (clientAt w (k .0) .living) PartyDown
+    need (clientAt w k .living) PartyDown
     stepped (checkTook w i k j t)
 
   unfoldable pub event : System → Event → Result
   event w (Try k) = do
     need (has (w .clients) (k .0)) NoSuchParty
-    need (clientAt w (k .0) .living) PartyDown
-    need (isRemainder (clientAt w (k .0) .state .section)) WrongSection
-    need (leb (clientAt w (k .0) .state .timestamp .0) lastTry) TimestampsSpent
+    need (clientAt w k .living) PartyDown
+    need (isRemainder (clientAt w k .state .section)) WrongSection
+    need (leb (clientAt w k .state .timestamp .0) lastTry) TimestampsSpent
     stepped (tried n w k)
   event w (Exit k) = do
     need (has (w .clients) (k .0)) NoSuchParty
-    need (clientAt w (k .0) .living) PartyDown
-    need (isCritical (clientAt w (k .0) .state .section)) WrongSection
+    need (clientAt w k .living) PartyDown
+    need (isCritical (clientAt w k .state .section)) WrongSection
     stepped (exited n w k)
   event w (Fall k) = do
     need (has (w .clients) (k .0)) NoSuchParty
-    need (clientAt w (k .0) .living) PartyDown
+    need (clientAt w k .living) PartyDown
     stepped (fallen w k)
   event w (Down j) = do
     need (has (w .servers) (j .0)) NoSuchParty
-    need (serverAt w (j .0) .up) PartyDown
+    need (serverAt w j .up) PartyDown
     stepped (wentDown w j)
   event w (Up j) = do
     need (has (w .servers) (j .0)) NoSuchParty
-    need (not (serverAt w (j .0) .up)) PartyDown
+    need (not (serverAt w j .up)) PartyDown
     stepped (cameUp w j)
   event w (Take i) = do
     m ← found (pending (i .0) (w .transit)) NoSuchParty
@@ -194,13 +194,13 @@ module _ (n : ℕ) (wins : Quorum) where
     stepped (dropped w (i .0))
   event w (Miss j) = do
     need (has (w .servers) (j .0)) NoSuchParty
-    need (serverAt w (j .0) .up) PartyDown
-    byOwner (serverAt w (j .0) .state .owner) (refused NoOwner) (λ o. do
-      need (not (clientAt w (o .client .0) .living)) OwnerLives
+    need (serverAt w j .up) PartyDown
+    byOwner (serverAt w j .state .owner) (refused NoOwner) (λ o. do
+      need (not (clientAt w (o .client) .living)) OwnerLives
       stepped (suspected w j))
   event w (Check j) = do
     need (has (w .servers) (j .0)) NoSuchParty
-    need (serverAt w (j .0) .up) PartyDown
+    need (serverAt w j .up) PartyDown
     stepped (asked w j)
 
 -- Refusal 19, last, where there is room for so many messages in transit and numbers up to `last`: an event that sends

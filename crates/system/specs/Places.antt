@@ -39,11 +39,11 @@ noClient = record { living = false; state = record { section = Remainder; timest
 abbrev pub noServer : ServerPlace
 noServer = record { up = false; state = votes.idle }
 
-abbrev pub clientAt : System → ℕ → ClientPlace
-clientAt w k = at noClient (w .clients) k
+abbrev pub clientAt : System → ClientId → ClientPlace
+clientAt w k = at noClient (w .clients) (k .0)
 
-abbrev pub serverAt : System → ℕ → ServerPlace
-serverAt w j = at noServer (w .servers) j
+abbrev pub serverAt : System → ServerId → ServerPlace
+serverAt w j = at noServer (w .servers) (j .0)
 
 -- The epoch of a client runs from its try to its exit or fall: it lives, and is trying or in the critical section.
 abbrev pub inEpoch : ClientPlace → Bool
@@ -54,7 +54,7 @@ abbrev pub isInside : ClientPlace → Bool
 isInside c = c .living && isCritical (c .state .section)
 
 abbrev pub inside : System → ClientId → Bool
-inside w k = isInside (clientAt w (k .0))
+inside w k = isInside (clientAt w k)
 
 -- how many there are at once: document 01's living holders
 abbrev pub holders : System → ℕ

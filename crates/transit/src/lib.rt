@@ -10,8 +10,9 @@ ghost use Rattle.wire.specs.Format.{words as wordsOf};
 ghost use Rattle.transit.specs.Slots.{rows, slots, slotAt, validSlot, ascending, validSlots, messagesIn, transitSize, slotSize};
 ghost use Rattle.transit.specs.Calls.{Sized, FindsPending, FindsPresent, IsAt, Marks, Removes, Restarts, Posts};
 ghost use Rattle.transit.specs.Parts.{namedFields, againWord, Bound, PostsOne};
-ghost use Rattle.system.specs.Limits.{systemMessages};
+ghost use Rattle.system.specs.Limits.{systemMessages, lastNumber};
 use ids::ServerId;
+use system::MessageNumber;
 use wire::Fields;
 use wire::Message;
 use wire::Numbers;
@@ -142,15 +143,15 @@ fn search(t: &[u32], len: usize, number: u32) -> usize
 }
 
 // The slot of the pending message with this number, or `len`. For the simulation, whose words are valid.
-pub fn find_pending(t: &[u32], len: usize, number: u32) -> usize
+pub fn find_pending(t: &[u32], len: usize, number: MessageNumber) -> usize
     requires { ⌜ Sized len (now t) ⌝ }
-    ensures { λ r. ⌜ FindsPending number len (now (t .entry)) r ⌝ }
+    ensures { λ r. ⌜ FindsPending (number .0) len (now (t .entry)) r ⌝ }
 {
-    let i = search(t, len, number);
+    let i = search(t, len, number.0);
     if len <= i {
         return len;
     }
-    if t[SLOT * i] != number {
+    if t[SLOT * i] != number.0 {
         return len;
     }
     if t[SLOT * i + 1] == 1 {
@@ -160,26 +161,26 @@ pub fn find_pending(t: &[u32], len: usize, number: u32) -> usize
 }
 
 // The slot of the message with this number, pending or delivered, or `len`. For the simulation, whose words are valid.
-pub fn find_present(t: &[u32], len: usize, number: u32) -> usize
+pub fn find_present(t: &[u32], len: usize, number: MessageNumber) -> usize
     requires { ⌜ Sized len (now t) ⌝ }
-    ensures { λ r. ⌜ FindsPresent number len (now (t .entry)) r ⌝ }
+    ensures { λ r. ⌜ FindsPresent (number .0) len (now (t .entry)) r ⌝ }
 {
-    let i = search(t, len, number);
+    let i = search(t, len, number.0);
     if len <= i {
         return len;
     }
-    if t[SLOT * i] != number {
+    if t[SLOT * i] != number.0 {
         return len;
     }
     i
 }
 
 // The number of the message in slot `i`. For what shows a simulation, whose words are valid.
-pub fn number_at(t: &[u32], i: usize) -> u32
+pub fn number_at(t: &[u32], i: usize) -> MessageNumber
     requires { ⌜ (length (now t) ≡ transitSize) × (i < systemMessages) ⌝ }
-    ensures { λ r. ⌜ r ≡ slotAt (now (t .entry)) i .number ⌝ }
+    ensures { λ r. ⌜ r .0 ≡ slotAt (now (t .entry)) i .number ⌝ }
 {
-    t[SLOT * i]
+    MessageNumber(t[SLOT * i])
 }
 
 // Whether the message in slot `i` is delivered. For what shows a simulation, whose words are valid.
@@ -301,7 +302,7 @@ fn post_one(t: &mut [u32], at: usize, number: u32, bytes: &[u8], from: usize) ->
 
 // The first `count` messages of the bytes join the `len` that are kept, as sent after number `sent`. For the simulation, which knows that they fit.
 pub fn post(t: &mut [u32], len: usize, sent: u32, bytes: &[u8], count: usize)
-    requires { ⌜ Sized (len + count) (now t) × (sent + count ≤ 4294967295) × (length (messagesIn count (now bytes)) ≡ count) ⌝ }
+    requires { ⌜ Sized (len + count) (now t) × (sent + count ≤ lastNumber) × (length (messagesIn count (now bytes)) ≡ count) ⌝ }
     ensures { λ _. ⌜ Posts len sent (messagesIn count (now (bytes .entry))) (now (t .entry)) (now (t .exit)) ⌝ }
 {
     let mut number = sent;

@@ -9,7 +9,7 @@ use Rattle.layout.proofs.clear_client.Tie as tie
 
 returns : tie.Need-returns
 returns c =
-    let d = c .before .before .before .before .before in
+    let d = c .before .before .before .before .before .before in
     let a = d .args in
     client-written (now (a .w)) (a .k) (d .pre) cleared _ (λ l. length-flags l) (c .before .before .clear-flags .ensures)
 
@@ -17,6 +17,7 @@ pub clear-client-spec : {M : Type 1} → statement M
 clear-client-spec =
     tie.close
     (tie.spec
+    (λ c. search needs)
     (λ c. search needs)
     (λ c. search needs)
     (λ c. search needs)

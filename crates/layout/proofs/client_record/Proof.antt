@@ -10,22 +10,23 @@ use Rattle.layout.proofs.client_record.Tie as tie
 
 client-record-requires : tie.Need-client-record-requires
 client-record-requires c κs =
-    let d = c .before .before in
+    let d = c .before .before .before in
     let a = d .args in
     let i = d .pre .0 in (
-      client-lent (now (a .w)) (a .k) i length clientBlock (client-block-long (now (a .w)) (a .k) (i .long) (i .first) (i .last)),
+      client-lent (now (a .w)) (a .k) i length clientBlock (client-block-long (now (a .w)) (a .k .0) (i .long) (i .first) (i .last)),
       client-lent (now (a .w)) (a .k) i (λ b. holdsClient (clientRecord b)) _ (d .pre .1),
     )
 
 returns : tie.Need-returns
 returns c =
-    let a = c .before .before .before .args in
-    client-read (now (a .w)) (a .k) (c .before .before .before .pre .0) (λ b. clientFrom (clientRecord b)) _ (c .client-record .ensures)
+    let a = c .before .before .before .before .args in
+    client-read (now (a .w)) (a .k) (c .before .before .before .before .pre .0) (λ b. clientFrom (clientRecord b)) _ (c .client-record .ensures)
 
 pub client-record-spec : {M : Type 1} → statement M
 client-record-spec =
     tie.close
     (tie.spec
+    (λ c. search needs)
     (λ c. search needs)
     (λ c. search needs)
     (λ c. search needs)

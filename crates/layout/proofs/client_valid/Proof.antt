@@ -8,13 +8,14 @@ use Rattle.layout.proofs.client_valid.Tie as tie
 
 returns : tie.Need-returns
 returns c =
-    let a = c .before .before .before .args in
-    client-read (now (a .w)) (a .k) (c .before .before .before .pre) (λ b. validClientBlock (a .n) (a .m) (a .clients) (a .k) b) _ (c .valid-client-block .ensures)
+    let a = c .before .before .before .before .args in
+    client-read (now (a .w)) (a .k) (c .before .before .before .before .pre) (λ b. validClientBlock (a .n) (a .m) (a .clients) (a .k) b) _ (c .valid-client-block .ensures)
 
 pub client-valid-spec : {M : Type 1} → statement M
 client-valid-spec =
     tie.close
     (tie.spec
+    (λ c. search needs)
     (λ c. search needs)
     (λ c. search needs)
     (λ c. search needs)

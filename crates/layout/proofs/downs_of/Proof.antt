@@ -9,13 +9,14 @@ use Rattle.layout.proofs.downs_of.Tie as tie
 
 returns : tie.Need-returns
 returns c =
-    let a = c .before .before .before .args in
-    client-read (now (a .w)) (a .k) (c .before .before .before .pre) (λ b. length (clientPlace b .downs)) _ (c .count-flags .ensures)
+    let a = c .before .before .before .before .args in
+    client-read (now (a .w)) (a .k) (c .before .before .before .before .pre) (λ b. length (clientPlace b .downs)) _ (c .count-flags .ensures)
 
 pub downs-of-spec : {M : Type 1} → statement M
 downs-of-spec =
     tie.close
     (tie.spec
+    (λ c. search needs)
     (λ c. search needs)
     (λ c. search needs)
     (λ c. search needs)

@@ -10,7 +10,7 @@ use Rattle.layout.proofs.fall_client.Tie as tie
 
 returns : tie.Need-returns
 returns c =
-    let d = c .before .before .before .before .before in
+    let d = c .before .before .before .before .before .before in
     let a = d .args in
     client-written (now (a .w)) (a .k) (d .pre) (λ b. cleared (set b 0 0)) _ (λ l. length-cleared l) (c .before .before .fall .ensures)
 
@@ -18,6 +18,7 @@ pub fall-client-spec : {M : Type 1} → statement M
 fall-client-spec =
     tie.close
     (tie.spec
+    (λ c. search needs)
     (λ c. search needs)
     (λ c. search needs)
     (λ c. search needs)

@@ -9,13 +9,14 @@ use Rattle.layout.proofs.is_inside.Tie as tie
 
 returns : tie.Need-returns
 returns c =
-    let a = c .before .before .before .args in
-    client-read (now (a .w)) (a .k) (c .before .before .before .pre) (λ b. isInside (clientPlace b)) _ (c .is-inside .ensures)
+    let a = c .before .before .before .before .args in
+    client-read (now (a .w)) (a .k) (c .before .before .before .before .pre) (λ b. isInside (clientPlace b)) _ (c .is-inside .ensures)
 
 pub is-inside-spec : {M : Type 1} → statement M
 is-inside-spec =
     tie.close
     (tie.spec
+    (λ c. search needs)
     (λ c. search needs)
     (λ c. search needs)
     (λ c. search needs)

@@ -8,13 +8,14 @@ use Rattle.layout.proofs.is_living.Tie as tie
 
 returns : tie.Need-returns
 returns c =
-    let a = c .before .before .before .args in
-    client-read (now (a .w)) (a .k) (c .before .before .before .pre) (λ b. clientPlace b .living) _ (c .is-living .ensures)
+    let a = c .before .before .before .before .args in
+    client-read (now (a .w)) (a .k) (c .before .before .before .before .pre) (λ b. clientPlace b .living) _ (c .is-living .ensures)
 
 pub is-living-spec : {M : Type 1} → statement M
 is-living-spec =
     tie.close
     (tie.spec
+    (λ c. search needs)
     (λ c. search needs)
     (λ c. search needs)
     (λ c. search needs)

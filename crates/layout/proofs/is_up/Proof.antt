@@ -8,13 +8,14 @@ use Rattle.layout.proofs.is_up.Tie as tie
 
 returns : tie.Need-returns
 returns c =
-    let a = c .before .before .before .args in
-    server-read (now (a .w)) (a .j) (c .before .before .before .pre) (λ b. serverPlace b .up) _ (c .is-up .ensures)
+    let a = c .before .before .before .before .args in
+    server-read (now (a .w)) (a .j) (c .before .before .before .before .pre) (λ b. serverPlace b .up) _ (c .is-up .ensures)
 
 pub is-up-spec : {M : Type 1} → statement M
 is-up-spec =
     tie.close
     (tie.spec
+    (λ c. search needs)
     (λ c. search needs)
     (λ c. search needs)
     (λ c. search needs)

@@ -9,7 +9,7 @@ use Rattle.layout.proofs.put_client.Tie as tie
 
 returns : tie.Need-returns
 returns c =
-    let d = c .before .before .before .before .before in
+    let d = c .before .before .before .before .before .before in
     let a = d .args in
     client-written (now (a .w)) (a .k) (d .pre) (λ b. sets b 1 (clientWords (a .c))) _ (λ l. length-sets l 1 (clientWords (a .c))) (c .before .before .put-client .ensures)
 
@@ -17,6 +17,7 @@ pub put-client-spec : {M : Type 1} → statement M
 put-client-spec =
     tie.close
     (tie.spec
+    (λ c. search needs)
     (λ c. search needs)
     (λ c. search needs)
     (λ c. search needs)

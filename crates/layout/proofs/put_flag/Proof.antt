@@ -10,7 +10,7 @@ use Rattle.words.specs.Records.{clientSize}
 
 returns : tie.Need-returns
 returns c =
-    let d = c .before .before .before .before .before in
+    let d = c .before .before .before .before .before .before in
     let a = d .args in
     client-written (now (a .w)) (a .k) (d .pre .0) (λ b. set b (clientSize + a .j .0) (a .x)) _ (λ l. length-set l _ _) (c .before .before .put-flag .ensures)
 
@@ -18,6 +18,7 @@ pub put-flag-spec : {M : Type 1} → statement M
 put-flag-spec =
     tie.close
     (tie.spec
+    (λ c. search needs)
     (λ c. search needs)
     (λ c. search needs)
     (λ c. search needs)

@@ -9,7 +9,7 @@ use Rattle.layout.proofs.put_server.Tie as tie
 
 returns : tie.Need-returns
 returns c =
-    let d = c .before .before .before .before .before in
+    let d = c .before .before .before .before .before .before in
     let a = d .args in
     server-written (now (a .w)) (a .j) (d .pre .0) (λ b. sets b 1 (serverWords (a .s))) _ (λ l. length-sets l 1 (serverWords (a .s))) (c .before .before .put-server .ensures)
 
@@ -17,6 +17,7 @@ pub put-server-spec : {M : Type 1} → statement M
 put-server-spec =
     tie.close
     (tie.spec
+    (λ c. search needs)
     (λ c. search needs)
     (λ c. search needs)
     (λ c. search needs)

@@ -8,7 +8,7 @@ use Rattle.layout.proofs.rise_server.Tie as tie
 
 returns : tie.Need-returns
 returns c =
-    let d = c .before .before .before .before .before in
+    let d = c .before .before .before .before .before .before in
     let a = d .args in
     server-written (now (a .w)) (a .j) (d .pre) (λ b. set b 0 1) _ (λ l. length-set l 0 1) (c .before .before .rise .ensures)
 
@@ -16,6 +16,7 @@ pub rise-server-spec : {M : Type 1} → statement M
 rise-server-spec =
     tie.close
     (tie.spec
+    (λ c. search needs)
     (λ c. search needs)
     (λ c. search needs)
     (λ c. search needs)

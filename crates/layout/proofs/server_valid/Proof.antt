@@ -8,13 +8,14 @@ use Rattle.layout.proofs.server_valid.Tie as tie
 
 returns : tie.Need-returns
 returns c =
-    let a = c .before .before .before .args in
-    server-read (now (a .w)) (a .j) (c .before .before .before .pre) (λ b. validServerBlock (a .n) (a .clients) (a .j) b) _ (c .valid-server-block .ensures)
+    let a = c .before .before .before .before .args in
+    server-read (now (a .w)) (a .j) (c .before .before .before .before .pre) (λ b. validServerBlock (a .n) (a .clients) (a .j) b) _ (c .valid-server-block .ensures)
 
 pub server-valid-spec : {M : Type 1} → statement M
 server-valid-spec =
     tie.close
     (tie.spec
+    (λ c. search needs)
     (λ c. search needs)
     (λ c. search needs)
     (λ c. search needs)

@@ -14,10 +14,10 @@ use Rattle.layout.proofs.sink_server.Tie as tie
 
 sink-requires : tie.Need-sink-requires
 sink-requires c κs =
-    let d = c .before .before in
+    let d = c .before .before .before in
     let a = d .args in
     let i = d .pre .0 in (
-      server-lent (now (a .w)) (a .j) i length serverBlock (server-block-long (now (a .w)) (a .j) (i .long) (i .first) (i .last)),
+      server-lent (now (a .w)) (a .j) i length serverBlock (server-block-long (now (a .w)) (a .j .0) (i .long) (i .first) (i .last)),
       server-lent (now (a .w)) (a .j) i (λ b. holdsServer (serverRecord b)) _ (d .pre .1),
     )
 
@@ -29,7 +29,7 @@ length-sunk b = length-set (sets b 1 (serverWords (emptied (serverFrom (serverRe
 
 returns : tie.Need-returns
 returns c =
-    let d = c .before .before .before .before .before in
+    let d = c .before .before .before .before .before .before in
     let a = d .args in
     server-written (now (a .w)) (a .j) (d .pre .0) sunk _ length-sunk (c .before .before .sink .ensures)
 
@@ -37,6 +37,7 @@ pub sink-server-spec : {M : Type 1} → statement M
 sink-server-spec =
     tie.close
     (tie.spec
+    (λ c. search needs)
     (λ c. search needs)
     (λ c. search needs)
     (λ c. search needs)

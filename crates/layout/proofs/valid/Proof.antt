@@ -16,37 +16,37 @@ returns-2 : tie.Need-returns-2
 returns-2 c =
     let d = c .before .before .before .before .before .before .before in
     let a = d .args in
-    range-wrong (now (a .w)) (c .before .before .before .before .before .if1 .left) _ (c .before .in-range .ensures) (c .if2 .taken)
+    range-wrong (now (a .w)) (c .before .before .before .before .before .if1 .left) _ (c .before .in-range-up-to .ensures) (c .if2 .taken)
 
 returns-3 : tie.Need-returns-3
 returns-3 c =
     let d = c .before .before .before .before .before .before .before .before .before .before in
     let a = d .args in
-    clients-wrong (now (a .w)) (c .before .before .before .before .before .before .before .before .if1 .left) _ (c .before .before .before .before .in-range .ensures) (c .before .before .before .if2 .left) _ (c .before .within-limit .ensures) (c .if3 .taken)
+    clients-wrong (now (a .w)) (c .before .before .before .before .before .before .before .before .if1 .left) _ (c .before .before .before .before .in-range-up-to .ensures) (c .before .before .before .if2 .left) _ (c .before .within-limit .ensures) (c .if3 .taken)
 
 cast-parts-valid : tie.Need-cast-parts-valid
 cast-parts-valid c =
     let d = c .before .before .before .before .before .before .before .before .before .before in
     let a = d .args in
-    omega (arith, bounds (now (a .w)) (c .before .before .before .before .before .before .before .before .if1 .left) _ (c .before .before .before .before .in-range .ensures) (c .before .before .before .if2 .left) _ (c .before .within-limit .ensures) (c .if3 .left))
+    omega (arith, bounds (now (a .w)) (c .before .before .before .before .before .before .before .before .if1 .left) _ (c .before .before .before .before .in-range-up-to .ensures) (c .before .before .before .if2 .left) _ (c .before .within-limit .ensures) (c .if3 .left))
 
 cast-parts-valid-2 : tie.Need-cast-parts-valid-2
 cast-parts-valid-2 c =
     let d = c .before .before .before .before .before .before .before .before .before .before in
     let a = d .args in
-    omega (arith, bounds (now (a .w)) (c .before .before .before .before .before .before .before .before .if1 .left) _ (c .before .before .before .before .in-range .ensures) (c .before .before .before .if2 .left) _ (c .before .within-limit .ensures) (c .if3 .left))
+    omega (arith, bounds (now (a .w)) (c .before .before .before .before .before .before .before .before .if1 .left) _ (c .before .before .before .before .in-range-up-to .ensures) (c .before .before .before .if2 .left) _ (c .before .within-limit .ensures) (c .if3 .left))
 
 parts-valid-requires : tie.Need-parts-valid-requires
 parts-valid-requires c κs =
     let d = c .before .before .before .before .before .before .before .before .before .before in
     let a = d .args in
-    bounds (now (a .w)) (c .before .before .before .before .before .before .before .before .if1 .left) _ (c .before .before .before .before .in-range .ensures) (c .before .before .before .if2 .left) _ (c .before .within-limit .ensures) (c .if3 .left)
+    bounds (now (a .w)) (c .before .before .before .before .before .before .before .before .if1 .left) _ (c .before .before .before .before .in-range-up-to .ensures) (c .before .before .before .if2 .left) _ (c .before .within-limit .ensures) (c .if3 .left)
 
 returns-4 : tie.Need-returns-4
 returns-4 c =
     let d = c .before .before .before .before .before .before .before .before .before .before .before in
     let a = d .args in
-    parts-decide (now (a .w)) (c .before .before .before .before .before .before .before .before .before .if1 .left) _ (c .before .before .before .before .before .in-range .ensures) (c .before .before .before .before .if2 .left) _ (c .before .before .within-limit .ensures) _ (c .before .if3 .left) (c .parts-valid .ensures)
+    parts-decide (now (a .w)) (c .before .before .before .before .before .before .before .before .before .if1 .left) _ (c .before .before .before .before .before .in-range-up-to .ensures) (c .before .before .before .before .if2 .left) _ (c .before .before .within-limit .ensures) _ (c .before .if3 .left) (c .parts-valid .ensures)
 
 pub valid-spec : {M : Type 1} → statement M
 valid-spec =

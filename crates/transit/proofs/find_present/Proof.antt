@@ -20,10 +20,10 @@ shared-slice-read-if2 : tie.Need-shared-slice-read-if2
 shared-slice-read-if2 c = search needs
 
 returns-2 : tie.Need-returns-2
-returns-2 c = present-other _ _ _ _ (c .before .before .before .search .ensures) (c .if2 .taken)
+returns-2 c = present-other _ _ _ _ (c .before .before .before .before .search .ensures) (c .if2 .taken)
 
 returns-3 : tie.Need-returns-3
-returns-3 c = present-found _ _ _ _ (c .before .before .before .search .ensures) (c .before .before .if1 .left) (c .if2 .left)
+returns-3 c = present-found _ _ _ _ (c .before .before .before .before .search .ensures) (c .before .before .before .if1 .left) (c .if2 .left)
 
 pub find-present-spec : {M : Type 1} → statement M
 find-present-spec =

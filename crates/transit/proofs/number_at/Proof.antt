@@ -10,4 +10,8 @@ returns : tie.Need-returns
 returns c = let a = c .before .args in sym (number-at (now (a .t)) (a .i))
 
 pub number-at-spec : {M : Type 1} → statement M
-number-at-spec = tie.close (tie.spec (λ c. search needs) (λ c. search needs) (λ c. search needs) returns)
+number-at-spec = tie.close (tie.spec
+    (λ c. search needs)
+    (λ c. search needs)
+    (λ c. search needs)
+    returns)
