@@ -7,6 +7,7 @@ ghost use Rattle.layout.specs.Layout.{view, valid};
 ghost use Rattle.changes.specs.Changes.{HasClient, HasServer, Missing};
 ghost use Rattle.bounded.specs.Happens.{happens, Leaves, movedOf};
 use bounded::Moved;
+use changes::OUT_BYTES;
 use ids::ClientId;
 use ids::Owner;
 use ids::Refusal;
@@ -21,13 +22,13 @@ pub fn fall(w: &mut [u32], k: ClientId) -> Moved
     requires { ⌜ valid (now w) ≡ true ⌝ }
     ensures { λ r. ⌜ Leaves (now (w .entry)) (Fall k) (now (w .exit)) × (r ≡ movedOf (happens (now (w .entry)) (Fall k))) ⌝ }
 {
-    if !ids::within_limit(k.0 as u32, w[3]) {
+    if !layout::has_client(w, k) {
         return Moved::Refused(Refusal::NoSuchParty);
     }
-    if !layout::is_living(w, k.0) {
+    if !layout::is_living(w, k) {
         return Moved::Refused(Refusal::PartyDown);
     }
-    layout::fall_client(w, k.0);
+    layout::fall_client(w, k);
     Moved::Sent(0)
 }
 
@@ -36,13 +37,13 @@ pub fn up(w: &mut [u32], j: ServerId) -> Moved
     requires { ⌜ valid (now w) ≡ true ⌝ }
     ensures { λ r. ⌜ Leaves (now (w .entry)) (Up j) (now (w .exit)) × (r ≡ movedOf (happens (now (w .entry)) (Up j))) ⌝ }
 {
-    if !ids::within_limit(j.0 as u32, w[0]) {
+    if !layout::has_server(w, j) {
         return Moved::Refused(Refusal::NoSuchParty);
     }
-    if layout::is_up(w, j.0) {
+    if layout::is_up(w, j) {
         return Moved::Refused(Refusal::PartyDown);
     }
-    layout::rise_server(w, j.0);
+    layout::rise_server(w, j);
     Moved::Sent(0)
 }
 
@@ -51,9 +52,8 @@ pub fn drop(w: &mut [u32], number: MessageNumber) -> Moved
     requires { ⌜ valid (now w) ≡ true ⌝ }
     ensures { λ r. ⌜ Leaves (now (w .entry)) (Drop number) (now (w .exit)) × (r ≡ movedOf (happens (now (w .entry)) (Drop number))) ⌝ }
 {
-    let len = w[4] as usize;
-    let i = transit::find_present(&w[2769..6353], len, number.0);
-    if i == len {
+    let i = layout::find_present(w, number);
+    if i == layout::in_transit(w) {
         return Moved::Refused(Refusal::NoSuchParty);
     }
     changes::remove_message(w, i);
@@ -65,13 +65,13 @@ pub fn down(w: &mut [u32], j: ServerId) -> Moved
     requires { ⌜ valid (now w) ≡ true ⌝ }
     ensures { λ r. ⌜ Leaves (now (w .entry)) (Down j) (now (w .exit)) × (r ≡ movedOf (happens (now (w .entry)) (Down j))) ⌝ }
 {
-    if !ids::within_limit(j.0 as u32, w[0]) {
+    if !layout::has_server(w, j) {
         return Moved::Refused(Refusal::NoSuchParty);
     }
-    if !layout::is_up(w, j.0) {
+    if !layout::is_up(w, j) {
         return Moved::Refused(Refusal::PartyDown);
     }
-    layout::sink_server(w, j.0);
+    layout::sink_server(w, j);
     changes::restart_messages(w, j);
     changes::note_down(w, j);
     Moved::Sent(0)
@@ -84,8 +84,8 @@ fn begin(w: &mut [u32], k: ClientId) -> Moved
     requires { ⌜ HasClient (now w) k × (clientAt (view (now w)) k .living ≡ true) ⌝ }
     ensures { λ r. ⌜ Leaves (now (w .entry)) (Try k) (now (w .exit)) × (r ≡ movedOf (happens (now (w .entry)) (Try k))) ⌝ }
 {
-    let mut bytes = [0u8; 512];
-    let s = client::begin(layout::client_record(w, k.0), &mut bytes);
+    let mut bytes = [0u8; OUT_BYTES];
+    let s = client::begin(layout::client_record(w, k), &mut bytes);
     let answer = s.answer;
     match answer {
         Answer::Refused(x) => Moved::Refused(x),
@@ -93,7 +93,7 @@ fn begin(w: &mut [u32], k: ClientId) -> Moved
             if !changes::has_room(w, 0, count) {
                 return Moved::Refused(Refusal::SystemFull);
             }
-            layout::put_client(w, k.0, s.client);
+            layout::put_client(w, k, s.client);
             changes::begin_epoch(w, k);
             changes::send(w, &bytes, count);
             Moved::Sent(count as u32)
@@ -105,10 +105,10 @@ pub fn try_enter(w: &mut [u32], k: ClientId) -> Moved
     requires { ⌜ valid (now w) ≡ true ⌝ }
     ensures { λ r. ⌜ Leaves (now (w .entry)) (Try k) (now (w .exit)) × (r ≡ movedOf (happens (now (w .entry)) (Try k))) ⌝ }
 {
-    if !ids::within_limit(k.0 as u32, w[3]) {
+    if !layout::has_client(w, k) {
         return Moved::Refused(Refusal::NoSuchParty);
     }
-    if !layout::is_living(w, k.0) {
+    if !layout::is_living(w, k) {
         return Moved::Refused(Refusal::PartyDown);
     }
     begin(w, k)
@@ -119,8 +119,8 @@ fn leave(w: &mut [u32], k: ClientId) -> Moved
     requires { ⌜ HasClient (now w) k × (clientAt (view (now w)) k .living ≡ true) ⌝ }
     ensures { λ r. ⌜ Leaves (now (w .entry)) (Exit k) (now (w .exit)) × (r ≡ movedOf (happens (now (w .entry)) (Exit k))) ⌝ }
 {
-    let mut bytes = [0u8; 512];
-    let s = client::exit(layout::client_record(w, k.0), &mut bytes);
+    let mut bytes = [0u8; OUT_BYTES];
+    let s = client::exit(layout::client_record(w, k), &mut bytes);
     let answer = s.answer;
     match answer {
         Answer::Refused(x) => Moved::Refused(x),
@@ -129,7 +129,7 @@ fn leave(w: &mut [u32], k: ClientId) -> Moved
                 return Moved::Refused(Refusal::SystemFull);
             }
             changes::end_epoch(w, k);
-            layout::put_client(w, k.0, s.client);
+            layout::put_client(w, k, s.client);
             changes::send(w, &bytes, count);
             Moved::Sent(count as u32)
         }
@@ -140,10 +140,10 @@ pub fn exit(w: &mut [u32], k: ClientId) -> Moved
     requires { ⌜ valid (now w) ≡ true ⌝ }
     ensures { λ r. ⌜ Leaves (now (w .entry)) (Exit k) (now (w .exit)) × (r ≡ movedOf (happens (now (w .entry)) (Exit k))) ⌝ }
 {
-    if !ids::within_limit(k.0 as u32, w[3]) {
+    if !layout::has_client(w, k) {
         return Moved::Refused(Refusal::NoSuchParty);
     }
-    if !layout::is_living(w, k.0) {
+    if !layout::is_living(w, k) {
         return Moved::Refused(Refusal::PartyDown);
     }
     leave(w, k)
@@ -154,8 +154,8 @@ fn suspect(w: &mut [u32], j: ServerId) -> Moved
     requires { ⌜ Missing (now w) j ⌝ }
     ensures { λ r. ⌜ Leaves (now (w .entry)) (Miss j) (now (w .exit)) × (r ≡ movedOf (happens (now (w .entry)) (Miss j))) ⌝ }
 {
-    let mut bytes = [0u8; 512];
-    let s = server::suspect(layout::server_record(w, j.0), &mut bytes);
+    let mut bytes = [0u8; OUT_BYTES];
+    let s = server::suspect(layout::server_record(w, j), &mut bytes);
     let answer = s.answer;
     match answer {
         Answer::Refused(x) => Moved::Refused(x),
@@ -163,7 +163,7 @@ fn suspect(w: &mut [u32], j: ServerId) -> Moved
             if !changes::has_room(w, 0, count) {
                 return Moved::Refused(Refusal::SystemFull);
             }
-            layout::put_server(w, j.0, s.server);
+            layout::put_server(w, j, s.server);
             changes::send(w, &bytes, count);
             Moved::Sent(count as u32)
         }
@@ -174,10 +174,10 @@ pub fn miss(w: &mut [u32], j: ServerId) -> Moved
     requires { ⌜ valid (now w) ≡ true ⌝ }
     ensures { λ r. ⌜ Leaves (now (w .entry)) (Miss j) (now (w .exit)) × (r ≡ movedOf (happens (now (w .entry)) (Miss j))) ⌝ }
 {
-    if !ids::within_limit(j.0 as u32, w[0]) {
+    if !layout::has_server(w, j) {
         return Moved::Refused(Refusal::NoSuchParty);
     }
-    if !layout::is_up(w, j.0) {
+    if !layout::is_up(w, j) {
         return Moved::Refused(Refusal::PartyDown);
     }
     let owner = changes::owner_of(w, j);
@@ -185,7 +185,7 @@ pub fn miss(w: &mut [u32], j: ServerId) -> Moved
         Owner::Nobody => Moved::Refused(Refusal::NoOwner),
         Owner::Of(o) => {
             let k = o.client;
-            if layout::is_living(w, k.0) {
+            if layout::is_living(w, k) {
                 return Moved::Refused(Refusal::OwnerLives);
             }
             suspect(w, j)
@@ -198,8 +198,8 @@ fn ask(w: &mut [u32], j: ServerId) -> Moved
     requires { ⌜ HasServer (now w) j × (serverAt (view (now w)) j .up ≡ true) ⌝ }
     ensures { λ r. ⌜ Leaves (now (w .entry)) (Check j) (now (w .exit)) × (r ≡ movedOf (happens (now (w .entry)) (Check j))) ⌝ }
 {
-    let mut bytes = [0u8; 512];
-    let s = server::check(layout::server_record(w, j.0), &mut bytes);
+    let mut bytes = [0u8; OUT_BYTES];
+    let s = server::check(layout::server_record(w, j), &mut bytes);
     let answer = s.answer;
     match answer {
         Answer::Refused(x) => Moved::Refused(x),
@@ -207,7 +207,7 @@ fn ask(w: &mut [u32], j: ServerId) -> Moved
             if !changes::has_room(w, 0, count) {
                 return Moved::Refused(Refusal::SystemFull);
             }
-            layout::put_server(w, j.0, s.server);
+            layout::put_server(w, j, s.server);
             changes::send(w, &bytes, count);
             Moved::Sent(count as u32)
         }
@@ -218,10 +218,10 @@ pub fn check(w: &mut [u32], j: ServerId) -> Moved
     requires { ⌜ valid (now w) ≡ true ⌝ }
     ensures { λ r. ⌜ Leaves (now (w .entry)) (Check j) (now (w .exit)) × (r ≡ movedOf (happens (now (w .entry)) (Check j))) ⌝ }
 {
-    if !ids::within_limit(j.0 as u32, w[0]) {
+    if !layout::has_server(w, j) {
         return Moved::Refused(Refusal::NoSuchParty);
     }
-    if !layout::is_up(w, j.0) {
+    if !layout::is_up(w, j) {
         return Moved::Refused(Refusal::PartyDown);
     }
     ask(w, j)

@@ -95,7 +95,7 @@ module _ (w₀ w : List ℕ) (i : ℕ) (C : Clearing w₀ w i) where
 module _ (n m k : ℕ) (w : List ℕ) (h : ClientIn w (clientNo k)) where
   pub client-opened : (s : ClientStepped) → s ≡ client.newResult n m (record { 0 = k }) → (w′ : List ℕ)
       → w′ ≡ sets (set w (clientsFrom + clientBlock * (k - 1)) 1) (clientsFrom + clientBlock * (k - 1)) (sets (clientBlockOf (set w (clientsFrom + clientBlock * (k - 1)) 1) (clientNo k)) 1 (records.clientWords (s .client)))
-      → w′ ≡ newClient n m k w
+      → w′ ≡ newClient n m (clientNo k) w
   unfolding newClient
   client-opened s e w′ g =
       let b : clientBlockOf (set w (clientsFrom + clientBlock * (k - 1)) 1) (clientNo k) ≡ set (clientBlockOf w (clientNo k)) 0 1 = client-block-from w k h (1 ∷ []) (omega arith) in
@@ -115,7 +115,7 @@ module _ (n j : ℕ) (w : List ℕ) (h : ServerIn w (serverNo j)) where
 
   pub server-opened : (w₁ : List ℕ) → w₁ ≡ sets w (serversFrom + serverBlock * (j - 1)) (set (serverBlockOf w (serverNo j)) 0 1) → (s : ServerStepped) → s ≡ server.newResult n (record { 0 = j }) → (w′ : List ℕ)
       → w′ ≡ sets w₁ (serversFrom + serverBlock * (j - 1)) (sets (serverBlockOf w₁ (serverNo j)) 1 (records.serverWords (s .server)))
-      → w′ ≡ newServer n j w
+      → w′ ≡ newServer n (serverNo j) w
   unfolding newServer
   server-opened w₁ f s e w′ g =
       let b : serverBlockOf w₁ (serverNo j) ≡ up = ap (λ (x : List ℕ). serverBlockOf x (serverNo j)) f ∙ server-block-stored w j h up (omega (arith, up-long)) up-long in
@@ -138,11 +138,11 @@ new-short n j s e = rw e (by-test (server-sizes n (record { 0 = j })) _ _ (omega
     by-test true x y p q = p
     by-test false x y p q = q
 
-pub length-client : (n m k : ℕ) (w : List ℕ) → length (newClient n m k w) ≡ length w
+pub length-client : (n m k : ℕ) (w : List ℕ) → length (newClient n m (clientNo k) w) ≡ length w
 unfolding newClient
 length-client n m k w = simp length-sets
 
-pub length-server : (n j : ℕ) (w : List ℕ) → length (newServer n j w) ≡ length w
+pub length-server : (n j : ℕ) (w : List ℕ) → length (newServer n (serverNo j) w) ≡ length w
 unfolding newServer
 length-server n j w = simp length-sets
 
@@ -251,7 +251,7 @@ servers-room : (w : List ℕ) → length w ≡ simulationSize → length (server
 unfolding serverWords
 servers-room w h = length-take-le serversSize (drop serversFrom w) (omega (arith, length-drop serversFrom w))
 
-clients-next : (n m : ℕ) (w₀ w : List ℕ) (i : ℕ) → i < systemClients → Clients n m w₀ w i → Clients n m w₀ (newClient n m (suc i) w) (suc i)
+clients-next : (n m : ℕ) (w₀ w : List ℕ) (i : ℕ) → i < systemClients → Clients n m w₀ w i → Clients n m w₀ (newClient n m (clientNo (suc i)) w) (suc i)
 unfolding newClient
 clients-next n m w₀ w i lt C =
     let room : i * clientBlock + clientBlock ≤ length (clientWords w) = omega (arith, clients-room w (C .long)) in
@@ -268,12 +268,12 @@ clients-next n m w₀ w i lt C =
       filled = rw (S .clients) (filled-more clientBlock (freshClient n m) (clientWords w) i (C .filled) systemClients lt room l);
     })
 
-clients-put : (n m : ℕ) (w : List ℕ) → length w ≡ simulationSize → blank (clientWords w) ≡ true → (i : ℕ) → i ≤ systemClients → Clients n m w (inTurn (newClient n m) i w) i
+clients-put : (n m : ℕ) (w : List ℕ) → length w ≡ simulationSize → blank (clientWords w) ≡ true → (i : ℕ) → i ≤ systemClients → Clients n m w (inTurn (λ (i : ℕ). newClient n m (clientNo i)) i w) i
 unfolding inTurn
 clients-put n m w h z zero q = record { long = h; head = refl; servers = refl; transit = refl; filled = filled-none clientBlock (freshClient n m) (clientWords w) z }
-clients-put n m w h z (suc i) q = clients-next n m w (inTurn (newClient n m) i w) i (omega arith) (clients-put n m w h z i (omega arith))
+clients-put n m w h z (suc i) q = clients-next n m w (inTurn (λ (i : ℕ). newClient n m (clientNo i)) i w) i (omega arith) (clients-put n m w h z i (omega arith))
 
-servers-next : (n : ℕ) (w₀ w : List ℕ) (i : ℕ) → i < systemServers → Servers n w₀ w i → Servers n w₀ (newServer n (suc i) w) (suc i)
+servers-next : (n : ℕ) (w₀ w : List ℕ) (i : ℕ) → i < systemServers → Servers n w₀ w i → Servers n w₀ (newServer n (serverNo (suc i)) w) (suc i)
 unfolding newServer
 servers-next n w₀ w i lt C =
     let room : i * serverBlock + serverBlock ≤ length (serverWords w) = omega (arith, servers-room w (C .long)) in
@@ -290,10 +290,10 @@ servers-next n w₀ w i lt C =
       filled = rw (S .servers) (filled-more serverBlock (freshServer n) (serverWords w) i (C .filled) systemServers lt room l);
     })
 
-servers-put : (n : ℕ) (w : List ℕ) → length w ≡ simulationSize → blank (serverWords w) ≡ true → (i : ℕ) → i ≤ systemServers → Servers n w (inTurn (newServer n) i w) i
+servers-put : (n : ℕ) (w : List ℕ) → length w ≡ simulationSize → blank (serverWords w) ≡ true → (i : ℕ) → i ≤ systemServers → Servers n w (inTurn (λ (i : ℕ). newServer n (serverNo i)) i w) i
 unfolding inTurn
 servers-put n w h z zero q = record { long = h; head = refl; clients = refl; transit = refl; filled = filled-none serverBlock (freshServer n) (serverWords w) z }
-servers-put n w h z (suc i) q = servers-next n w (inTurn (newServer n) i w) i (omega arith) (servers-put n w h z i (omega arith))
+servers-put n w h z (suc i) q = servers-next n w (inTurn (λ (i : ℕ). newServer n (serverNo i)) i w) i (omega arith) (servers-put n w h z i (omega arith))
 
 -- the places that these blocks are
 module _ (n m f clients : ℕ) (ok : inRangeUpTo systemServers n m f ≡ true) where
@@ -358,7 +358,7 @@ module _ (n m f clients : ℕ) (z : List ℕ) (long : length z ≡ simulationSiz
   no-clients = rw (headed-is .clients) (blank-take clientsSize (drop clientsFrom z) (blank-drop clientsFrom z zeros))
 
   abbrev populated : List ℕ
-  populated = inTurn (newClient n m) clients headed
+  populated = inTurn (λ (i : ℕ). newClient n m (clientNo i)) clients headed
 
   clients-are : Clients n m headed populated clients
   clients-are = clients-put n m headed (headed-is .long) no-clients clients few-clients
@@ -368,7 +368,7 @@ module _ (n m f clients : ℕ) (z : List ℕ) (long : length z ≡ simulationSiz
   no-servers = rw (clients-are .servers, headed-is .servers) (blank-take serversSize (drop serversFrom z) (blank-drop serversFrom z zeros))
 
   abbrev whole : List ℕ
-  whole = inTurn (newServer n) n populated
+  whole = inTurn (λ (i : ℕ). newServer n (serverNo i)) n populated
 
   servers-are : Servers n populated whole n
   servers-are = servers-put n populated (clients-are .long) no-servers n few-servers
@@ -430,7 +430,7 @@ module _ (n m f clients : ℕ) (z : List ℕ) (long : length z ≡ simulationSiz
         noted = rw (w6, started-system, worst-none clients (record { living = true; state = fresh n; downs = [] }) refl) (omega arith);
       })
 
-  pub started : (w′ : List ℕ) → w′ ≡ inTurn (newServer n) n (inTurn (newClient n m) clients (set (set (set (set z 0 n) 1 m) 2 f) 3 clients)) → Starts n m f clients w′
+  pub started : (w′ : List ℕ) → w′ ≡ inTurn (λ (i : ℕ). newServer n (serverNo i)) n (inTurn (λ (i : ℕ). newClient n m (clientNo i)) clients (set (set (set (set z 0 n) 1 m) 2 f) 3 clients)) → Starts n m f clients w′
   started w′ e = rw e (record { system = started-system; setting = started-setting; again = started-valid })
 
 length-turn : (f : ℕ → List ℕ → List ℕ) → ((k : ℕ) (l : List ℕ) → length (f k l) ≡ length l) → (i : ℕ) (w : List ℕ) → length (inTurn f i w) ≡ length w
@@ -456,13 +456,13 @@ module _ (n m f clients : ℕ) (w z : List ℕ) (pre : (length w ≡ simulationS
   start-clients =
       (omega (arith, length-set (set (set (set z 0 n) 1 m) 2 f) 3 clients, length-set (set (set z 0 n) 1 m) 2 f, length-set (set z 0 n) 1 m, length-set z 0 n, E .same, pre .0), start-fits .2)
 
-  module _ (w₂ : List ℕ) (e : w₂ ≡ inTurn (newClient n m) clients written) where
+  module _ (w₂ : List ℕ) (e : w₂ ≡ inTurn (λ (i : ℕ). newClient n m (clientNo i)) clients written) where
     pub start-servers : (length w₂ ≡ simulationSize) × (n ≤ systemServers)
-    start-servers = (ap length e ∙ (length-turn (newClient n m) (length-client n m) clients written ∙ start-clients .0), start-fits .0)
+    start-servers = (ap length e ∙ (length-turn (λ (i : ℕ). newClient n m (clientNo i)) (length-client n m) clients written ∙ start-clients .0), start-fits .0)
 
-    module _ (w₃ : List ℕ) (g : w₃ ≡ inTurn (newServer n) n w₂) where
+    module _ (w₃ : List ℕ) (g : w₃ ≡ inTurn (λ (i : ℕ). newServer n (serverNo i)) n w₂) where
       pub start-same : length w₃ ≡ length w
-      start-same = ap length g ∙ (length-turn (newServer n) (length-server n) n w₂ ∙ (start-servers .0 ∙ sym (pre .0)))
+      start-same = ap length g ∙ (length-turn (λ (i : ℕ). newServer n (serverNo i)) (length-server n) n w₂ ∙ (start-servers .0 ∙ sym (pre .0)))
 
       pub start-done : Starts n m f clients w₃
-      start-done = started n m f clients z (E .same ∙ pre .0) (E .zeros) (pre .1) (pre .2) w₃ (g ∙ ap (λ (l : List ℕ). inTurn (newServer n) n l) e)
+      start-done = started n m f clients z (E .same ∙ pre .0) (E .zeros) (pre .1) (pre .2) w₃ (g ∙ ap (λ (l : List ℕ). inTurn (λ (i : ℕ). newServer n (serverNo i)) n l) e)

@@ -20,15 +20,29 @@ ghost use Rattle.system.specs.Limits.{systemMessages, systemClients, systemServ
 use ids::ClientId;
 use ids::Owner;
 use ids::ServerId;
+use layout::CLIENTS;
+use layout::CLIENTS_FROM;
+use layout::FAULTS;
+use layout::LENGTH;
+use layout::MOST;
+use layout::SENT;
+use layout::SERVERS;
+use layout::SIMULATION_WORDS;
+use layout::THRESHOLD;
+use layout::TRANSIT_FROM;
+use places::CLIENT_BLOCK;
+
+// The bytes into which an event's step writes what it sends.
+pub const OUT_BYTES: usize = 512;
 
 // The message in slot `i` is gone.
 pub fn remove_message(w: &mut [u32], i: usize)
     requires { ⌜ HasSlot (now w) i ⌝ }
     ensures { λ _. ⌜ Becomes (now (w .entry)) (now (w .exit)) (withTransit (view (now (w .entry))) (replaced (slotAt (transitWords (now (w .entry))) i .number) gone (view (now (w .entry)) .transit))) ⌝ }
 {
-    let len = w[4] as usize;
-    transit::remove(&mut w[2769..6353], len, i);
-    w[4] = (len - 1) as u32;
+    let len = w[LENGTH] as usize;
+    transit::remove(&mut w[TRANSIT_FROM..SIMULATION_WORDS], len, i);
+    w[LENGTH] = (len - 1) as u32;
 }
 
 // The message in slot `i` is delivered, and stays.
@@ -36,7 +50,7 @@ pub fn mark_message(w: &mut [u32], i: usize)
     requires { ⌜ HasSlot (now w) i ⌝ }
     ensures { λ _. ⌜ Becomes (now (w .entry)) (now (w .exit)) (withTransit (view (now (w .entry))) (replaced (slotAt (transitWords (now (w .entry))) i .number) keeping (view (now (w .entry)) .transit))) ⌝ }
 {
-    transit::mark(&mut w[2769..6353], i);
+    transit::mark(&mut w[TRANSIT_FROM..SIMULATION_WORDS], i);
 }
 
 // What was delivered to server `j` is pending again.
@@ -44,8 +58,8 @@ pub fn restart_messages(w: &mut [u32], j: ServerId)
     requires { ⌜ valid (now w) ≡ true ⌝ }
     ensures { λ _. ⌜ Becomes (now (w .entry)) (now (w .exit)) (withTransit (view (now (w .entry))) (map (again j) (view (now (w .entry)) .transit))) ⌝ }
 {
-    let len = w[4] as usize;
-    transit::restart(&mut w[2769..6353], len, j);
+    let len = w[LENGTH] as usize;
+    transit::restart(&mut w[TRANSIT_FROM..SIMULATION_WORDS], len, j);
 }
 
 // Whether so many messages may be sent once `gone` messages are gone.
@@ -57,10 +71,10 @@ pub fn has_room(w: &[u32], gone: u32, count: usize) -> bool
         return true;
     }
     let more = count as u32;
-    if 512 < w[4] - gone + more {
+    if system::MAX_MESSAGES < w[LENGTH] - gone + more {
         return false;
     }
-    w[5] <= 4294967295 - more
+    w[SENT] <= system::LAST_NUMBER - more
 }
 
 // The first `count` messages of the bytes are sent.
@@ -68,11 +82,17 @@ pub fn send(w: &mut [u32], bytes: &[u8], count: usize)
     requires { ⌜ Sendable (now w) count (now bytes) ⌝ }
     ensures { λ _. ⌜ Becomes (now (w .entry)) (now (w .exit)) (sending (view (now (w .entry))) (messagesIn count (now (bytes .entry)))) ⌝ }
 {
-    let len = w[4] as usize;
-    let sent = w[5];
-    transit::post(&mut w[2769..6353], len, sent, bytes, count);
-    w[4] = (len + count) as u32;
-    w[5] = sent + count as u32;
+    let len = w[LENGTH] as usize;
+    let sent = w[SENT];
+    transit::post(
+        &mut w[TRANSIT_FROM..SIMULATION_WORDS],
+        len,
+        sent,
+        bytes,
+        count,
+    );
+    w[LENGTH] = (len + count) as u32;
+    w[SENT] = sent + count as u32;
 }
 
 // The most servers down within an epoch are noted.
@@ -80,10 +100,10 @@ fn note_most(w: &mut [u32])
     requires { ⌜ (length (now w) ≡ simulationSize) × (settingOf (now w) .clients ≤ systemClients) ⌝ }
     ensures { λ _. ⌜ now (w .exit) ≡ set (now (w .entry)) 6 (max (mostOf (now (w .entry))) (worst (view (now (w .entry)) .clients))) ⌝ }
 {
-    let clients = w[3];
+    let clients = w[CLIENTS];
     let worst = layout::worst_down(w, clients as u16);
-    let most = layout::larger(w[6], worst);
-    w[6] = most;
+    let most = layout::larger(w[MOST], worst);
+    w[MOST] = most;
 }
 
 // Server `j` goes down: the epochs of all clients note it.
@@ -91,19 +111,19 @@ pub fn note_down(w: &mut [u32], j: ServerId)
     requires { ⌜ HasServer (now w) j ⌝ }
     ensures { λ _. ⌜ Becomes (now (w .entry)) (now (w .exit)) (withClients (view (now (w .entry))) (map (downed j) (view (now (w .entry)) .clients))) ⌝ }
 {
-    let clients = w[3] as u16;
+    let clients = w[CLIENTS] as u16;
     let mut i: u16 = 0;
     while i < clients {
-        layout::mark_client(w, i + 1, j);
+        layout::mark_client(w, ClientId(i + 1), j);
         i += 1;
     }
     note_most(w);
 }
 
 // 1 if the server is down.
-fn down_flag(w: &[u32], j: u16) -> u32
-    requires { ⌜ ServerIn (now w) (serverNo j) ⌝ }
-    ensures { λ r. ⌜ r ≡ (if serverPlace (serverBlockOf (now (w .entry)) (serverNo j)) .up then 0 else 1) ⌝ }
+fn down_flag(w: &[u32], j: ServerId) -> u32
+    requires { ⌜ ServerIn (now w) j ⌝ }
+    ensures { λ r. ⌜ r ≡ (if serverPlace (serverBlockOf (now (w .entry)) j) .up then 0 else 1) ⌝ }
 {
     if layout::is_up(w, j) {
         return 0;
@@ -116,11 +136,11 @@ pub fn begin_epoch(w: &mut [u32], k: ClientId)
     requires { ⌜ HasClient (now w) k × (inEpoch (clientAt (view (now w)) k) ≡ true) ⌝ }
     ensures { λ _. ⌜ Becomes (now (w .entry)) (now (w .exit)) (withClients (view (now (w .entry))) (put (view (now (w .entry)) .clients) (k .0) (record { living = clientAt (view (now (w .entry))) k .living; state = clientAt (view (now (w .entry))) k .state; downs = downFrom 1 (view (now (w .entry)) .servers) }))) ⌝ }
 {
-    let n = w[0] as u16;
+    let n = w[SERVERS] as u16;
     let mut i: u16 = 0;
     while i < n {
-        let x = down_flag(w, i + 1);
-        layout::put_flag(w, k.0, ServerId(i + 1), x);
+        let x = down_flag(w, ServerId(i + 1));
+        layout::put_flag(w, k, ServerId(i + 1), x);
         i += 1;
     }
     note_most(w);
@@ -131,7 +151,7 @@ pub fn end_epoch(w: &mut [u32], k: ClientId)
     requires { ⌜ HasClient (now w) k ⌝ }
     ensures { λ _. ⌜ Becomes (now (w .entry)) (now (w .exit)) (withClient (view (now (w .entry))) k (record { living = clientAt (view (now (w .entry))) k .living; state = clientAt (view (now (w .entry))) k .state; downs = [] })) ⌝ }
 {
-    layout::clear_client(w, k.0);
+    layout::clear_client(w, k);
 }
 
 // The owner in server `j`'s record.
@@ -139,7 +159,7 @@ pub fn owner_of(w: &[u32], j: ServerId) -> Owner
     requires { ⌜ HasServer (now w) j ⌝ }
     ensures { λ r. ⌜ r ≡ serverAt (view (now (w .entry))) j .state .owner ⌝ }
 {
-    let s = layout::server_record(w, j.0);
+    let s = layout::server_record(w, j);
     let v = s.votes;
     v.owner
 }
@@ -156,42 +176,42 @@ fn clear_all(w: &mut [u32])
     }
 }
 
-fn new_client(w: &mut [u32], n: u16, m: u16, k: u16)
-    requires { ⌜ ClientIn (now w) (clientNo k) ⌝ }
+fn new_client(w: &mut [u32], n: u16, m: u16, k: ClientId)
+    requires { ⌜ ClientIn (now w) k ⌝ }
     ensures { λ _. ⌜ now (w .exit) ≡ newClient n m k (now (w .entry)) ⌝ }
 {
-    w[7 + 99 * (k as usize - 1)] = 1;
-    let s = client::new(n, m, ClientId(k));
+    w[CLIENTS_FROM + CLIENT_BLOCK * (k.0 as usize - 1)] = 1;
+    let s = client::new(n, m, k);
     layout::put_client(w, k, s.client);
 }
 
 fn new_clients(w: &mut [u32], n: u16, m: u16, clients: u16)
     requires { ⌜ (length (now w) ≡ simulationSize) × (clients ≤ systemClients) ⌝ }
-    ensures { λ _. ⌜ now (w .exit) ≡ inTurn (newClient n m) clients (now (w .entry)) ⌝ }
+    ensures { λ _. ⌜ now (w .exit) ≡ inTurn (λ i. newClient n m (clientNo i)) clients (now (w .entry)) ⌝ }
 {
     let mut i: u16 = 0;
     while i < clients {
-        new_client(w, n, m, i + 1);
+        new_client(w, n, m, ClientId(i + 1));
         i += 1;
     }
 }
 
-fn new_server(w: &mut [u32], n: u16, j: u16)
-    requires { ⌜ ServerIn (now w) (serverNo j) ⌝ }
+fn new_server(w: &mut [u32], n: u16, j: ServerId)
+    requires { ⌜ ServerIn (now w) j ⌝ }
     ensures { λ _. ⌜ now (w .exit) ≡ newServer n j (now (w .entry)) ⌝ }
 {
     layout::rise_server(w, j);
-    let s = server::new(n, ServerId(j));
+    let s = server::new(n, j);
     layout::put_server(w, j, s.server);
 }
 
 fn new_servers(w: &mut [u32], n: u16)
     requires { ⌜ (length (now w) ≡ simulationSize) × (n ≤ systemServers) ⌝ }
-    ensures { λ _. ⌜ now (w .exit) ≡ inTurn (newServer n) n (now (w .entry)) ⌝ }
+    ensures { λ _. ⌜ now (w .exit) ≡ inTurn (λ i. newServer n (serverNo i)) n (now (w .entry)) ⌝ }
 {
     let mut i: u16 = 0;
     while i < n {
-        new_server(w, n, i + 1);
+        new_server(w, n, ServerId(i + 1));
         i += 1;
     }
 }
@@ -202,10 +222,10 @@ pub fn start(w: &mut [u32], n: u32, m: u32, f: u32, clients: u32)
     ensures { λ _. ⌜ Starts n m f clients (now (w .exit)) ⌝ }
 {
     clear_all(w);
-    w[0] = n;
-    w[1] = m;
-    w[2] = f;
-    w[3] = clients;
+    w[SERVERS] = n;
+    w[THRESHOLD] = m;
+    w[FAULTS] = f;
+    w[CLIENTS] = clients;
     new_clients(w, n as u16, m as u16, clients as u16);
     new_servers(w, n as u16);
 }

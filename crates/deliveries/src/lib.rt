@@ -7,6 +7,7 @@ ghost use Rattle.layout.specs.Layout.{valid};
 ghost use Rattle.changes.specs.Changes.{Pends, numberAt, tagged};
 ghost use Rattle.bounded.specs.Happens.{happens, Leaves, movedOf};
 use bounded::Moved;
+use changes::OUT_BYTES;
 use ids::ClientId;
 use ids::Owner;
 use ids::Refusal;
@@ -22,11 +23,11 @@ fn to_server(w: &mut [u32], i: usize, tag: Tag, k: ClientId, j: ServerId, t: Tim
     requires { ⌜ Pends (now w) i (tagged tag k j t) ⌝ }
     ensures { λ r. ⌜ Leaves (now (w .entry)) (Take (numberAt (now (w .entry)) i)) (now (w .exit)) × (r ≡ movedOf (happens (now (w .entry)) (Take (numberAt (now (w .entry)) i)))) ⌝ }
 {
-    if !layout::is_up(w, j.0) {
+    if !layout::is_up(w, j) {
         return Moved::Refused(Refusal::PartyDown);
     }
-    let mut bytes = [0u8; 512];
-    let s = server::take(layout::server_record(w, j.0), tag, k, j, t, &mut bytes);
+    let mut bytes = [0u8; OUT_BYTES];
+    let s = server::take(layout::server_record(w, j), tag, k, j, t, &mut bytes);
     let answer = s.answer;
     match answer {
         Answer::Refused(x) => Moved::Refused(x),
@@ -35,7 +36,7 @@ fn to_server(w: &mut [u32], i: usize, tag: Tag, k: ClientId, j: ServerId, t: Tim
                 return Moved::Refused(Refusal::SystemFull);
             }
             changes::mark_message(w, i);
-            layout::put_server(w, j.0, s.server);
+            layout::put_server(w, j, s.server);
             changes::send(w, &bytes, count);
             Moved::Sent(count as u32)
         }
@@ -47,11 +48,11 @@ fn to_client(w: &mut [u32], i: usize, k: ClientId, j: ServerId, o: Owner) -> Mov
     requires { ⌜ Pends (now w) i (RESPONSE k j o) ⌝ }
     ensures { λ r. ⌜ Leaves (now (w .entry)) (Take (numberAt (now (w .entry)) i)) (now (w .exit)) × (r ≡ movedOf (happens (now (w .entry)) (Take (numberAt (now (w .entry)) i)))) ⌝ }
 {
-    if !layout::is_living(w, k.0) {
+    if !layout::is_living(w, k) {
         return Moved::Refused(Refusal::PartyDown);
     }
-    let mut bytes = [0u8; 512];
-    let s = client::respond(layout::client_record(w, k.0), j, o, &mut bytes);
+    let mut bytes = [0u8; OUT_BYTES];
+    let s = client::respond(layout::client_record(w, k), j, o, &mut bytes);
     let answer = s.answer;
     match answer {
         Answer::Refused(x) => Moved::Refused(x),
@@ -60,7 +61,7 @@ fn to_client(w: &mut [u32], i: usize, k: ClientId, j: ServerId, o: Owner) -> Mov
                 return Moved::Refused(Refusal::SystemFull);
             }
             changes::remove_message(w, i);
-            layout::put_client(w, k.0, s.client);
+            layout::put_client(w, k, s.client);
             changes::send(w, &bytes, count);
             Moved::Sent(count as u32)
         }
@@ -72,11 +73,11 @@ fn checks_client(w: &mut [u32], i: usize, k: ClientId, j: ServerId, t: Timestamp
     requires { ⌜ Pends (now w) i (CHECK k j t) ⌝ }
     ensures { λ r. ⌜ Leaves (now (w .entry)) (Take (numberAt (now (w .entry)) i)) (now (w .exit)) × (r ≡ movedOf (happens (now (w .entry)) (Take (numberAt (now (w .entry)) i)))) ⌝ }
 {
-    if !layout::is_living(w, k.0) {
+    if !layout::is_living(w, k) {
         return Moved::Refused(Refusal::PartyDown);
     }
-    let mut bytes = [0u8; 512];
-    let s = client::check(layout::client_record(w, k.0), j, t, &mut bytes);
+    let mut bytes = [0u8; OUT_BYTES];
+    let s = client::check(layout::client_record(w, k), j, t, &mut bytes);
     let answer = s.answer;
     match answer {
         Answer::Refused(x) => Moved::Refused(x),
@@ -85,7 +86,7 @@ fn checks_client(w: &mut [u32], i: usize, k: ClientId, j: ServerId, t: Timestamp
                 return Moved::Refused(Refusal::SystemFull);
             }
             changes::remove_message(w, i);
-            layout::put_client(w, k.0, s.client);
+            layout::put_client(w, k, s.client);
             changes::send(w, &bytes, count);
             Moved::Sent(count as u32)
         }
@@ -112,11 +113,10 @@ pub fn take(w: &mut [u32], number: MessageNumber) -> Moved
     requires { ⌜ valid (now w) ≡ true ⌝ }
     ensures { λ r. ⌜ Leaves (now (w .entry)) (Take number) (now (w .exit)) × (r ≡ movedOf (happens (now (w .entry)) (Take number))) ⌝ }
 {
-    let len = w[4] as usize;
-    let i = transit::find_pending(&w[2769..6353], len, number.0);
-    if i == len {
+    let i = layout::find_pending(w, number);
+    if i == layout::in_transit(w) {
         return Moved::Refused(Refusal::NoSuchParty);
     }
-    let m = transit::message_at(&w[2769..6353], i);
+    let m = layout::message_at(w, i);
     deliver(w, i, m)
 }

@@ -4,6 +4,7 @@ use native.Mathlib.Omega.{arith}
 use Rattle.changes.proofs.Parties.{words-long, servers-fit}
 use Rattle.changes.proofs.Epochs.{Flagging, flagging-none, flagging-fits, flagging-server, flagging-client, flagging-more, flagging-sized, flagging-same, flagging-all}
 use Prim.Native.Nat.{_-_}
+use borrow.Author.Needs.{needs}
 use Rattle.changes.proofs.begin_epoch.Statement.{statement}
 use Rattle.changes.proofs.begin_epoch.Tie as tie
 
@@ -31,14 +32,14 @@ loop-holds c =
     let a = d .args in
     flagging-none (now (a .w)) (a .k .0) (d .pre .0)
 
-add-down-flag : tie.Need-add-down-flag Inv-loop μ-loop
-add-down-flag c = omega (arith, flagging-fits _ _ _ _ _ (c .before .before .loop .inv), (c .before .loop-test .taken))
+add-t11-2 : tie.Need-add-t11-2 Inv-loop μ-loop
+add-t11-2 c = omega (arith, flagging-fits _ _ _ _ _ (c .before .before .before .before .loop .inv), (c .before .before .before .loop-test .taken))
 
 down-flag-requires : tie.Need-down-flag-requires Inv-loop μ-loop
 down-flag-requires c κs = flagging-server _ _ _ _ _ (c .before .before .loop .inv) (c .before .loop-test .taken)
 
 add-t11 : tie.Need-add-t11 Inv-loop μ-loop
-add-t11 c = omega (arith, flagging-fits _ _ _ _ _ (c .before .before .before .before .loop .inv), (c .before .before .before .loop-test .taken))
+add-t11 c = omega (arith, flagging-fits _ _ _ _ _ (c .before .before .loop .inv), (c .before .loop-test .taken))
 
 put-flag-requires : tie.Need-put-flag-requires Inv-loop μ-loop
 put-flag-requires c κs = flagging-client _ _ _ _ _ (c .before .before .before .before .loop .inv) (c .before .before .before .loop-test .taken)
@@ -73,9 +74,9 @@ begin-epoch-spec =
     slice-read-n
     cast-n
     loop-holds
-    add-down-flag
-    down-flag-requires
     add-t11
+    down-flag-requires
+    add-t11-2
     put-flag-requires
     add-i
     loop-less

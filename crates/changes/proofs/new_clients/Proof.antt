@@ -1,25 +1,21 @@
 -- `changes::new_clients` meets its contract. The invariant: the first i clients are put.
 use native.Mathlib.Omega.{arith}
-use Prim.Native.Nat.{_-_}
+use Prim.Native.Nat.{ℕ, _-_}
 use Rattle.changes.proofs.Opening.{Putting, putting-none, putting-client, putting-more, putting-all, length-client}
 use Rattle.changes.specs.Opening.{newClient}
+use borrow.Author.Needs.{needs}
 use Rattle.changes.proofs.new_clients.Statement.{statement}
 use Rattle.changes.proofs.new_clients.Tie as tie
+use Rattle.system.specs.Numbered.{clientNo}
 
 abbrev Inv-loop : tie.InvT-loop
-Inv-loop w₀ n m clients i₀ w i = Putting (newClient n m) w₀ clients w i
+Inv-loop w₀ n m clients i₀ w i = Putting (λ (i : ℕ). newClient n m (clientNo i)) w₀ clients w i
 
 abbrev μ-loop : tie.MeasureT-loop
 μ-loop w₀ n m clients i₀ w i = clients - i
 
 loop-holds : tie.Need-loop-holds Inv-loop μ-loop
 loop-holds c = putting-none _ _ _
-
-add-new-client : tie.Need-add-new-client Inv-loop μ-loop
-add-new-client c =
-    let d = c .before .before .before .before in
-    let a = d .args in
-    omega (arith, d .pre .1, (c .before .loop-test .taken))
 
 new-client-requires : tie.Need-new-client-requires Inv-loop μ-loop
 new-client-requires c κs =
@@ -55,7 +51,7 @@ new-clients-spec =
     Inv-loop
     μ-loop
     loop-holds
-    add-new-client
+    (λ c. search needs)
     new-client-requires
     add-i
     loop-less

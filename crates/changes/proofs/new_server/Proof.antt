@@ -15,7 +15,7 @@ put-server-requires : tie.Need-put-server-requires
 put-server-requires c κs =
     let d = c .before .before .before .before .before .before .before in
     let a = d .args in
-    (risen-in (a .n) (a .j) (now (a .w)) (d .pre) _ (c .before .before .before .before .rise-server .ensures), new-short (a .n) (a .j) _ (c .before .new .ensures))
+    (risen-in (a .n) (a .j .0) (now (a .w)) (d .pre) _ (c .before .before .before .before .rise-server .ensures), new-short (a .n) (a .j .0) _ (c .before .new .ensures))
 
 same-length : tie.Need-same-length
 same-length c = search needs
@@ -24,7 +24,7 @@ returns : tie.Need-returns
 returns c =
     let d = c .before .before .before .before .before .before .before .before .before .before in
     let a = d .args in
-    server-opened (a .n) (a .j) (now (a .w)) (d .pre) _ (c .before .before .before .before .before .before .before .rise-server .ensures) _ (c .before .before .before .before .new .ensures) _ (c .before .before .put-server .ensures)
+    server-opened (a .n) (a .j .0) (now (a .w)) (d .pre) _ (c .before .before .before .before .before .before .before .rise-server .ensures) _ (c .before .before .before .before .new .ensures) _ (c .before .before .put-server .ensures)
 
 pub new-server-spec : {M : Type 1} → statement M
 new-server-spec =

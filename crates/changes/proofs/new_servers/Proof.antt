@@ -1,25 +1,21 @@
 -- `changes::new_servers` meets its contract. The invariant: the first i servers are put.
 use native.Mathlib.Omega.{arith}
-use Prim.Native.Nat.{_-_}
+use Prim.Native.Nat.{ℕ, _-_}
 use Rattle.changes.proofs.Opening.{Putting, putting-none, putting-server, putting-more, putting-all, length-server}
 use Rattle.changes.specs.Opening.{newServer}
+use borrow.Author.Needs.{needs}
 use Rattle.changes.proofs.new_servers.Statement.{statement}
 use Rattle.changes.proofs.new_servers.Tie as tie
+use Rattle.system.specs.Numbered.{serverNo}
 
 abbrev Inv-loop : tie.InvT-loop
-Inv-loop w₀ n i₀ w i = Putting (newServer n) w₀ n w i
+Inv-loop w₀ n i₀ w i = Putting (λ (i : ℕ). newServer n (serverNo i)) w₀ n w i
 
 abbrev μ-loop : tie.MeasureT-loop
 μ-loop w₀ n i₀ w i = n - i
 
 loop-holds : tie.Need-loop-holds Inv-loop μ-loop
 loop-holds c = putting-none _ _ _
-
-add-new-server : tie.Need-add-new-server Inv-loop μ-loop
-add-new-server c =
-    let d = c .before .before .before .before in
-    let a = d .args in
-    omega (arith, d .pre .1, (c .before .loop-test .taken))
 
 new-server-requires : tie.Need-new-server-requires Inv-loop μ-loop
 new-server-requires c κs =
@@ -55,7 +51,7 @@ new-servers-spec =
     Inv-loop
     μ-loop
     loop-holds
-    add-new-server
+    (λ c. search needs)
     new-server-requires
     add-i
     loop-less

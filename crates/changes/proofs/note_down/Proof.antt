@@ -4,6 +4,7 @@ use native.Mathlib.Omega.{arith}
 use Rattle.changes.proofs.Parties.{words-long, clients-fit}
 use Rattle.changes.proofs.Epochs.{Marking, marking-none, marking-fits, marking-in, marking-more, marking-sized, marking-same, marking-all}
 use Prim.Native.Nat.{_-_}
+use borrow.Author.Needs.{needs}
 use Rattle.changes.proofs.note_down.Statement.{statement}
 use Rattle.changes.proofs.note_down.Tie as tie
 
@@ -31,8 +32,8 @@ loop-holds c =
     let a = d .args in
     marking-none (now (a .w)) (a .j) (d .pre)
 
-add-mark-client : tie.Need-add-mark-client Inv-loop μ-loop
-add-mark-client c = omega (arith, marking-fits _ _ _ _ _ (c .before .before .loop .inv), (c .before .loop-test .taken))
+add-t11 : tie.Need-add-t11 Inv-loop μ-loop
+add-t11 c = omega (arith, marking-fits _ _ _ _ _ (c .before .before .loop .inv), (c .before .loop-test .taken))
 
 mark-client-requires : tie.Need-mark-client-requires Inv-loop μ-loop
 mark-client-requires c κs = marking-in _ _ _ _ _ (c .before .before .loop .inv) (c .before .loop-test .taken)
@@ -64,7 +65,7 @@ note-down-spec =
     slice-read-clients
     cast-clients
     loop-holds
-    add-mark-client
+    add-t11
     mark-client-requires
     add-i
     loop-less
