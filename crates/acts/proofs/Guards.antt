@@ -22,7 +22,7 @@ use Rattle.bounded.proofs.Answers.{no-client-tries, no-client-exits, fallen-tri
 use Rattle.bounded.proofs.Leaving.{leaves-refused}
 use Rattle.changes.proofs.Parties.{client-missing, client-there-is, client-found, living-is, server-missing, server-there-is, server-found, up-is}
 
-module _ (w : List ℕ) (k : ClientId) (ok : valid w ≡ true) (a : Bool) (e : a ≡ within (k .0) (getD w 3 0)) where
+module _ (w : List ℕ) (k : ClientId) (ok : valid w ≡ true) (a : Bool) (e : a ≡ within (k .0) (settingOf w .clients)) where
   pub try-missing : not a ≡ true → Leaves w (Try k) w × (Refused NoSuchParty ≡ movedOf (happens w (Try k)))
   try-missing t = leaves-refused w (Try k) NoSuchParty ok (no-client-tries (settingOf w .n) (enough (settingOf w .m)) (view w) k (client-missing w ok (k .0) a e t))
 
@@ -44,7 +44,7 @@ module _ (w : List ℕ) (k : ClientId) (ok : valid w ≡ true) (a : Bool) (e : a
     pub client-lives : not b ≡ false → HasClient w k × (clientAt (view w) k .living ≡ true)
     client-lives u = (client-found w ok (k .0) a e t, holds b _ lives-is u)
 
-module _ (w : List ℕ) (j : ServerId) (ok : valid w ≡ true) (a : Bool) (e : a ≡ within (j .0) (getD w 0 0)) where
+module _ (w : List ℕ) (j : ServerId) (ok : valid w ≡ true) (a : Bool) (e : a ≡ within (j .0) (settingOf w .n)) where
   pub miss-missing : not a ≡ true → Leaves w (Miss j) w × (Refused NoSuchParty ≡ movedOf (happens w (Miss j)))
   miss-missing t = leaves-refused w (Miss j) NoSuchParty ok (no-server-misses (settingOf w .n) (enough (settingOf w .m)) (view w) j (server-missing w ok (j .0) a e t))
 

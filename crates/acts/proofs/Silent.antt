@@ -60,7 +60,7 @@ module _ (w : List ℕ) (k : ℕ) (H : HasClient w (clientNo k)) where
       client-becomes w (H .valid) k (cleared (set block 0 0)) _ (H .first) (H .last) B zero-le
 
 -- fall, test by test
-module _ (w : List ℕ) (k : ClientId) (ok : valid w ≡ true) (a : Bool) (e : a ≡ within (k .0) (getD w 3 0)) where
+module _ (w : List ℕ) (k : ClientId) (ok : valid w ≡ true) (a : Bool) (e : a ≡ within (k .0) (settingOf w .clients)) where
   pub fall-missing : not a ≡ true → Leaves w (Fall k) w × (Refused NoSuchParty ≡ movedOf (happens w (Fall k)))
   fall-missing t = leaves-refused w (Fall k) NoSuchParty ok (no-client-falls (settingOf w .n) (enough (settingOf w .m)) (view w) k (client-missing w ok (k .0) a e t))
 
@@ -94,7 +94,7 @@ module _ (w : List ℕ) (j : ℕ) (H : HasServer w (serverNo j)) where
       server-becomes w (H .valid) j _ _ (H .first) (H .last) (sink-block (settingOf w .n) (settingOf w .clients) j place (server-valid w (sound w (H .valid)) j (H .first) (H .last)))
 
 -- up, test by test
-module _ (w : List ℕ) (j : ServerId) (ok : valid w ≡ true) (a : Bool) (e : a ≡ within (j .0) (getD w 0 0)) where
+module _ (w : List ℕ) (j : ServerId) (ok : valid w ≡ true) (a : Bool) (e : a ≡ within (j .0) (settingOf w .n)) where
   pub up-missing : not a ≡ true → Leaves w (Up j) w × (Refused NoSuchParty ≡ movedOf (happens w (Up j)))
   up-missing t = leaves-refused w (Up j) NoSuchParty ok (no-server-ups (settingOf w .n) (enough (settingOf w .m)) (view w) j (server-missing w ok (j .0) a e t))
 
@@ -114,7 +114,7 @@ module _ (w : List ℕ) (j : ServerId) (ok : valid w ≡ true) (a : Bool) (e : a
         (ups (settingOf w .n) (enough (settingOf w .m)) (view w) j present-server (up-is w (j .0) its-server b f ∙ u)) refl _ (rising w (j .0) its-server))
 
 -- down, test by test, then store by store
-module _ (w : List ℕ) (j : ServerId) (ok : valid w ≡ true) (a : Bool) (e : a ≡ within (j .0) (getD w 0 0)) where
+module _ (w : List ℕ) (j : ServerId) (ok : valid w ≡ true) (a : Bool) (e : a ≡ within (j .0) (settingOf w .n)) where
   pub down-missing : not a ≡ true → Leaves w (Down j) w × (Refused NoSuchParty ≡ movedOf (happens w (Down j)))
   down-missing t = leaves-refused w (Down j) NoSuchParty ok (no-server-downs (settingOf w .n) (enough (settingOf w .m)) (view w) j (server-missing w ok (j .0) a e t))
 
@@ -154,12 +154,12 @@ module _ (w : List ℕ) (j : ServerId) (ok : valid w ≡ true) (a : Bool) (e : a
               w₃ (record { system = down-system; setting = N .setting ∙ (R .setting ∙ sunk .setting); again = N .again })
 
 -- drop: r is what `find_present` gave
-module _ (w : List ℕ) (i : MessageNumber) (ok : valid w ≡ true) (r : ℕ) (F : FindsPresent (i .0) (lengthOf w) (take transitSize (drop transitFrom w)) r) where
-  there-is : (b : Bool) → present (i .0) (slots (lengthOf w) (take transitSize (drop transitFrom w))) ≡ b → present (i .0) (view w .transit) ≡ b
+module _ (w : List ℕ) (i : MessageNumber) (ok : valid w ≡ true) (r : ℕ) (F : FindsPresent (i .0) (lengthOf w) (transitWords w) r) where
+  there-is : (b : Bool) → present (i .0) (slots (lengthOf w) (transitWords w)) ≡ b → present (i .0) (view w .transit) ≡ b
   unfolding transitWords
   there-is b e = rw (← its-transit w ok) e
 
-  in-words : Valid (settingOf w .n) (settingOf w .clients) (sentOf w) (lengthOf w) (take transitSize (drop transitFrom w))
+  in-words : Valid (settingOf w .n) (settingOf w .clients) (sentOf w) (lengthOf w) (transitWords w)
   unfolding transitWords
   in-words = facts w ok .transit
 

@@ -30,9 +30,8 @@ unfolding settingOf
 servers-fit w ok = few-servers w (sound w ok)
 
 -- client k
-module _ (w : List ℕ) (ok : valid w ≡ true) (k : ℕ) (r : Bool) (e : r ≡ within k (getD w 3 0)) where
+module _ (w : List ℕ) (ok : valid w ≡ true) (k : ℕ) (r : Bool) (e : r ≡ within k (settingOf w .clients)) where
   has-client : r ≡ has (view w .clients) k
-  unfolding settingOf
   has-client = e ∙ sym (client-there w k)
 
   pub client-missing : not r ≡ true → has (view w .clients) k ≡ false
@@ -42,15 +41,13 @@ module _ (w : List ℕ) (ok : valid w ≡ true) (k : ℕ) (r : Bool) (e : r ≡ 
   client-there-is t = holds r (has (view w .clients) k) has-client t
 
   pub client-found : not r ≡ false → HasClient w (clientNo k)
-  unfolding settingOf
   client-found t =
-      let b = within-range k (getD w 3 0) (holds r (within k (getD w 3 0)) e t) in
+      let b = within-range k (settingOf w .clients) (holds r (within k (settingOf w .clients)) e t) in
       record { valid = ok; first = b .0; last = b .1 }
 
 -- server j
-module _ (w : List ℕ) (ok : valid w ≡ true) (j : ℕ) (r : Bool) (e : r ≡ within j (getD w 0 0)) where
+module _ (w : List ℕ) (ok : valid w ≡ true) (j : ℕ) (r : Bool) (e : r ≡ within j (settingOf w .n)) where
   has-server : r ≡ has (view w .servers) j
-  unfolding settingOf
   has-server = e ∙ sym (server-there w j)
 
   pub server-missing : not r ≡ true → has (view w .servers) j ≡ false
@@ -60,9 +57,8 @@ module _ (w : List ℕ) (ok : valid w ≡ true) (j : ℕ) (r : Bool) (e : r ≡ 
   server-there-is t = holds r (has (view w .servers) j) has-server t
 
   pub server-found : not r ≡ false → HasServer w (serverNo j)
-  unfolding settingOf
   server-found t =
-      let b = within-range j (getD w 0 0) (holds r (within j (getD w 0 0)) e t) in
+      let b = within-range j (settingOf w .n) (holds r (within j (settingOf w .n)) e t) in
       record { valid = ok; first = b .0; last = b .1 }
 
 -- the blocks of parties that are there

@@ -342,9 +342,9 @@ below a b h n =
     ⊎-elim (λ (t : ltb a b ≡ true). ltb-true a b t) (λ (t : ltb a b ≡ false). absurd (n (omega (arith, ltb-false a b t)))) (decided (ltb a b))
 
 -- the message with a number is found
-module _ (w : List ℕ) (number : MessageNumber) (ok : valid w ≡ true) (i : ℕ) (F : FindsPending (number .0) (lengthOf w) (take transitSize (drop transitFrom w)) i) where
+module _ (w : List ℕ) (number : MessageNumber) (ok : valid w ≡ true) (i : ℕ) (F : FindsPending (number .0) (lengthOf w) (transitWords w) i) where
   none-found : i ≡ lengthOf w → pending (number .0) (view w .transit) ≡ none
-  unfolding view transitWords
+  unfolding view
   none-found e = F .missing (settingOf w .n) (settingOf w .clients) (sentOf w) (facts w ok .transit) e
 
   pub take-nothing : i ≡ lengthOf w → Leaves w (Take number) w × (Refused NoSuchParty ≡ movedOf (happens w (Take number)))
@@ -355,14 +355,12 @@ module _ (w : List ℕ) (number : MessageNumber) (ok : valid w ≡ true) (i : �
     take-used = below i (lengthOf w) (F .within) used
 
     its-number : numberAt w i ≡ number
-    unfolding transitWords
     its-number = let e = F .numbered take-used in λ x. record { 0 = e x }
 
-    pub take-pends : (m : Message) → IsAt i (take transitSize (drop transitFrom w)) m → (m′ : Message) → m ≡ m′ → Pends w i m′
-    unfolding view transitWords
-    take-pends m A m′ e =
+    pub take-pends : (m : Message) → m ≡ slotAt (transitWords w) i .message → (m′ : Message) → m ≡ m′ → Pends w i m′
+    unfolding view
+    take-pends m h m′ e =
         let v = facts w ok .transit in
-        let h : m ≡ slotAt (transitWords w) i .message = A (settingOf w .n) (settingOf w .clients) (sentOf w) (lengthOf w) v take-used in
         let p = F .found (settingOf w .n) (settingOf w .clients) (sentOf w) v take-used in
         let q = F .numbered take-used in
         record { slot = record { valid = ok; used = take-used }; holds = sym h ∙ e; waits = rw (q, ← e, h) p }

@@ -7,61 +7,54 @@ use borrow.Author.Needs.{needs}
 use Rattle.acts.proofs.down.Statement.{statement}
 use Rattle.acts.proofs.down.Tie as tie
 
-slice-read-within-limit : tie.Need-slice-read-within-limit
-slice-read-within-limit c =
-    let d = c .before .before .before in
-    let a = d .args in
-    omega (arith, words-long (now (a .w)) (d .pre))
-
 returns : tie.Need-returns
 returns c =
-    let d = c .before .before .before .before .before in
+    let d = c .before .before .before .before in
     let a = d .args in
-    down-missing (now (a .w)) (a .j) (d .pre) _ (c .before .within-limit .ensures) (c .if1 .taken)
+    down-missing (now (a .w)) (a .j) (d .pre) _ (c .before .has-server .ensures) (c .if1 .taken)
 
 is-up-requires : tie.Need-is-up-requires
 is-up-requires c κs =
-    let d = c .before .before .before .before .before .before in
+    let d = c .before .before .before .before .before in
     let a = d .args in
-    sinkable (now (a .w)) (a .j) (d .pre) _ (c .before .before .within-limit .ensures) (c .before .if1 .left) .0
+    sinkable (now (a .w)) (a .j) (d .pre) _ (c .before .before .has-server .ensures) (c .before .if1 .left) .0
 
 returns-2 : tie.Need-returns-2
 returns-2 c =
-    let d = c .before .before .before .before .before .before .before .before in
+    let d = c .before .before .before .before .before .before .before in
     let a = d .args in
-    down-twice (now (a .w)) (a .j) (d .pre) _ (c .before .before .before .before .within-limit .ensures) (c .before .before .before .if1 .left) _ (c .before .is-up .ensures) (c .if2 .taken)
+    down-twice (now (a .w)) (a .j) (d .pre) _ (c .before .before .before .before .has-server .ensures) (c .before .before .before .if1 .left) _ (c .before .is-up .ensures) (c .if2 .taken)
 
 sink-server-requires : tie.Need-sink-server-requires
 sink-server-requires c κs =
-    let d = c .before .before .before .before .before .before .before .before .before in
+    let d = c .before .before .before .before .before .before .before .before in
     let a = d .args in
-    sinkable (now (a .w)) (a .j) (d .pre) _ (c .before .before .before .before .before .within-limit .ensures) (c .before .before .before .before .if1 .left)
+    sinkable (now (a .w)) (a .j) (d .pre) _ (c .before .before .before .before .before .has-server .ensures) (c .before .before .before .before .if1 .left)
 
 restart-messages-requires : tie.Need-restart-messages-requires
 restart-messages-requires c κs =
-    let d = c .before .before .before .before .before .before .before .before .before .before .before .before .before in
+    let d = c .before .before .before .before .before .before .before .before .before .before .before .before in
     let a = d .args in
-    sunk (now (a .w)) (a .j) (d .pre) _ (c .before .before .before .before .before .before .before .before .before .within-limit .ensures) (c .before .before .before .before .before .before .before .before .if1 .left) _ (c .before .before .before .sink-server .ensures) .again
+    sunk (now (a .w)) (a .j) (d .pre) _ (c .before .before .before .before .before .before .before .before .before .has-server .ensures) (c .before .before .before .before .before .before .before .before .if1 .left) _ (c .before .before .before .sink-server .ensures) .again
 
 note-down-requires : tie.Need-note-down-requires
 note-down-requires c κs =
-    let d = c .before .before .before .before .before .before .before .before .before .before .before .before .before .before .before .before .before in
+    let d = c .before .before .before .before .before .before .before .before .before .before .before .before .before .before .before .before in
     let a = d .args in
-    still-server (now (a .w)) (a .j) (d .pre) _ (c .before .before .before .before .before .before .before .before .before .before .before .before .before .within-limit .ensures) (c .before .before .before .before .before .before .before .before .before .before .before .before .if1 .left) _ (c .before .before .before .before .before .before .before .sink-server .ensures) _ (c .before .before .before .restart-messages .ensures)
+    still-server (now (a .w)) (a .j) (d .pre) _ (c .before .before .before .before .before .before .before .before .before .before .before .before .before .has-server .ensures) (c .before .before .before .before .before .before .before .before .before .before .before .before .if1 .left) _ (c .before .before .before .before .before .before .before .sink-server .ensures) _ (c .before .before .before .restart-messages .ensures)
 
 returns-3 : tie.Need-returns-3
 returns-3 c =
-    let d = c .before .before .before .before .before .before .before .before .before .before .before .before .before .before .before .before .before .before .before .before in
+    let d = c .before .before .before .before .before .before .before .before .before .before .before .before .before .before .before .before .before .before .before in
     let a = d .args in
-    down-leaves (now (a .w)) (a .j) (d .pre) _ (c .before .before .before .before .before .before .before .before .before .before .before .before .before .before .before .before .within-limit .ensures) (c .before .before .before .before .before .before .before .before .before .before .before .before .before .before .before .if1 .left) _ (c .before .before .before .before .before .before .before .before .before .before .sink-server .ensures) _ (c .before .before .before .before .before .before .restart-messages .ensures) _ (c .before .before .note-down .ensures) _ (c .before .before .before .before .before .before .before .before .before .before .before .before .before .is-up .ensures) (c .before .before .before .before .before .before .before .before .before .before .before .before .if2 .left)
+    down-leaves (now (a .w)) (a .j) (d .pre) _ (c .before .before .before .before .before .before .before .before .before .before .before .before .before .before .before .before .has-server .ensures) (c .before .before .before .before .before .before .before .before .before .before .before .before .before .before .before .if1 .left) _ (c .before .before .before .before .before .before .before .before .before .before .sink-server .ensures) _ (c .before .before .before .before .before .before .restart-messages .ensures) _ (c .before .before .note-down .ensures) _ (c .before .before .before .before .before .before .before .before .before .before .before .before .before .is-up .ensures) (c .before .before .before .before .before .before .before .before .before .before .before .before .if2 .left)
 
 pub down-spec : {M : Type 1} → statement M
 down-spec =
     tie.close
     (tie.spec
-    (λ c. search needs)
-    slice-read-within-limit
     (λ c κs. search needs)
+    (λ c. search needs)
     returns
     is-up-requires
     (λ c. search needs)

@@ -7,49 +7,42 @@ use borrow.Author.Needs.{needs}
 use Rattle.acts.proofs.fall.Statement.{statement}
 use Rattle.acts.proofs.fall.Tie as tie
 
-slice-read-within-limit : tie.Need-slice-read-within-limit
-slice-read-within-limit c =
-    let d = c .before .before .before in
-    let a = d .args in
-    omega (arith, words-long (now (a .w)) (d .pre))
-
 returns : tie.Need-returns
 returns c =
-    let d = c .before .before .before .before .before in
+    let d = c .before .before .before .before in
     let a = d .args in
-    fall-missing (now (a .w)) (a .k) (d .pre) _ (c .before .within-limit .ensures) (c .if1 .taken)
+    fall-missing (now (a .w)) (a .k) (d .pre) _ (c .before .has-client .ensures) (c .if1 .taken)
 
 is-living-requires : tie.Need-is-living-requires
 is-living-requires c κs =
-    let d = c .before .before .before .before .before .before in
+    let d = c .before .before .before .before .before in
     let a = d .args in
-    client-in (now (a .w)) (a .k .0) (client-found (now (a .w)) (d .pre) (a .k .0) _ (c .before .before .within-limit .ensures) (c .before .if1 .left))
+    client-in (now (a .w)) (a .k .0) (client-found (now (a .w)) (d .pre) (a .k .0) _ (c .before .before .has-client .ensures) (c .before .if1 .left))
 
 returns-2 : tie.Need-returns-2
 returns-2 c =
-    let d = c .before .before .before .before .before .before .before .before in
+    let d = c .before .before .before .before .before .before .before in
     let a = d .args in
-    fall-twice (now (a .w)) (a .k) (d .pre) _ (c .before .before .before .before .within-limit .ensures) (c .before .before .before .if1 .left) _ (c .before .is-living .ensures) (c .if2 .taken)
+    fall-twice (now (a .w)) (a .k) (d .pre) _ (c .before .before .before .before .has-client .ensures) (c .before .before .before .if1 .left) _ (c .before .is-living .ensures) (c .if2 .taken)
 
 fall-client-requires : tie.Need-fall-client-requires
 fall-client-requires c κs =
-    let d = c .before .before .before .before .before .before .before .before .before in
+    let d = c .before .before .before .before .before .before .before .before in
     let a = d .args in
-    client-in (now (a .w)) (a .k .0) (client-found (now (a .w)) (d .pre) (a .k .0) _ (c .before .before .before .before .before .within-limit .ensures) (c .before .before .before .before .if1 .left))
+    client-in (now (a .w)) (a .k .0) (client-found (now (a .w)) (d .pre) (a .k .0) _ (c .before .before .before .before .before .has-client .ensures) (c .before .before .before .before .if1 .left))
 
 returns-3 : tie.Need-returns-3
 returns-3 c =
-    let d = c .before .before .before .before .before .before .before .before .before .before .before .before in
+    let d = c .before .before .before .before .before .before .before .before .before .before .before in
     let a = d .args in
-    fall-leaves (now (a .w)) (a .k) (d .pre) _ (c .before .before .before .before .before .before .before .before .within-limit .ensures) (c .before .before .before .before .before .before .before .if1 .left) _ (c .before .before .before .before .before .is-living .ensures) (c .before .before .before .before .if2 .left) _ (c .before .before .fall-client .ensures)
+    fall-leaves (now (a .w)) (a .k) (d .pre) _ (c .before .before .before .before .before .before .before .before .has-client .ensures) (c .before .before .before .before .before .before .before .if1 .left) _ (c .before .before .before .before .before .is-living .ensures) (c .before .before .before .before .if2 .left) _ (c .before .before .fall-client .ensures)
 
 pub fall-spec : {M : Type 1} → statement M
 fall-spec =
     tie.close
     (tie.spec
-    (λ c. search needs)
-    slice-read-within-limit
     (λ c κs. search needs)
+    (λ c. search needs)
     returns
     is-living-requires
     (λ c. search needs)

@@ -7,49 +7,42 @@ use borrow.Author.Needs.{needs}
 use Rattle.acts.proofs.up.Statement.{statement}
 use Rattle.acts.proofs.up.Tie as tie
 
-slice-read-within-limit : tie.Need-slice-read-within-limit
-slice-read-within-limit c =
-    let d = c .before .before .before in
-    let a = d .args in
-    omega (arith, words-long (now (a .w)) (d .pre))
-
 returns : tie.Need-returns
 returns c =
-    let d = c .before .before .before .before .before in
+    let d = c .before .before .before .before in
     let a = d .args in
-    up-missing (now (a .w)) (a .j) (d .pre) _ (c .before .within-limit .ensures) (c .if1 .taken)
+    up-missing (now (a .w)) (a .j) (d .pre) _ (c .before .has-server .ensures) (c .if1 .taken)
 
 is-up-requires : tie.Need-is-up-requires
 is-up-requires c κs =
-    let d = c .before .before .before .before .before .before in
+    let d = c .before .before .before .before .before in
     let a = d .args in
-    server-in (now (a .w)) (a .j .0) (server-found (now (a .w)) (d .pre) (a .j .0) _ (c .before .before .within-limit .ensures) (c .before .if1 .left))
+    server-in (now (a .w)) (a .j .0) (server-found (now (a .w)) (d .pre) (a .j .0) _ (c .before .before .has-server .ensures) (c .before .if1 .left))
 
 returns-2 : tie.Need-returns-2
 returns-2 c =
-    let d = c .before .before .before .before .before .before .before .before in
+    let d = c .before .before .before .before .before .before .before in
     let a = d .args in
-    up-twice (now (a .w)) (a .j) (d .pre) _ (c .before .before .before .before .within-limit .ensures) (c .before .before .before .if1 .left) _ (c .before .is-up .ensures) (c .if2 .taken)
+    up-twice (now (a .w)) (a .j) (d .pre) _ (c .before .before .before .before .has-server .ensures) (c .before .before .before .if1 .left) _ (c .before .is-up .ensures) (c .if2 .taken)
 
 rise-server-requires : tie.Need-rise-server-requires
 rise-server-requires c κs =
-    let d = c .before .before .before .before .before .before .before .before .before in
+    let d = c .before .before .before .before .before .before .before .before in
     let a = d .args in
-    server-in (now (a .w)) (a .j .0) (server-found (now (a .w)) (d .pre) (a .j .0) _ (c .before .before .before .before .before .within-limit .ensures) (c .before .before .before .before .if1 .left))
+    server-in (now (a .w)) (a .j .0) (server-found (now (a .w)) (d .pre) (a .j .0) _ (c .before .before .before .before .before .has-server .ensures) (c .before .before .before .before .if1 .left))
 
 returns-3 : tie.Need-returns-3
 returns-3 c =
-    let d = c .before .before .before .before .before .before .before .before .before .before .before .before in
+    let d = c .before .before .before .before .before .before .before .before .before .before .before in
     let a = d .args in
-    up-leaves (now (a .w)) (a .j) (d .pre) _ (c .before .before .before .before .before .before .before .before .within-limit .ensures) (c .before .before .before .before .before .before .before .if1 .left) _ (c .before .before .before .before .before .is-up .ensures) (c .before .before .before .before .if2 .left) _ (c .before .before .rise-server .ensures)
+    up-leaves (now (a .w)) (a .j) (d .pre) _ (c .before .before .before .before .before .before .before .before .has-server .ensures) (c .before .before .before .before .before .before .before .if1 .left) _ (c .before .before .before .before .before .is-up .ensures) (c .before .before .before .before .if2 .left) _ (c .before .before .rise-server .ensures)
 
 pub up-spec : {M : Type 1} → statement M
 up-spec =
     tie.close
     (tie.spec
-    (λ c. search needs)
-    slice-read-within-limit
     (λ c κs. search needs)
+    (λ c. search needs)
     returns
     is-up-requires
     (λ c. search needs)
