@@ -235,8 +235,8 @@ pub fn put_slips(out: &mut [u8], w: &[u32]) -> usize
     requires { ⌜ valid (now w) ≡ true ⌝ }
     ensures { λ r. ⌜ sheetOf (now (out .exit)) r ≡ puts (slipsText (systemOf (now (w .entry))) (settingOf (now (w .entry)) .n) (settingOf (now (w .entry)) .clients)) (sheetOf (now (out .entry)) 0) ⌝ }
 {
-    let n = w[0] as u16;
-    let clients = w[3] as u16;
+    let n = layout::servers(w);
+    let clients = layout::clients(w);
     let p = put_servers(out, 0, w, n);
     put_clients(out, p, w, clients)
 }
@@ -323,9 +323,9 @@ fn put_in_transit(out: &mut [u8], at: usize, w: &[u32], i: usize) -> usize
     requires { ⌜ (valid (now w) ≡ true) × (i < lengthOf (now w)) ⌝ }
     ensures { λ r. ⌜ sheetOf (now (out .exit)) r ≡ puts (inTransitText (slotAt (transitWords (now (w .entry))) i)) (sheetOf (now (out .entry)) at) ⌝ }
 {
-    let number = transit::number_at(&w[2769..6353], i);
-    let delivered = transit::is_delivered(&w[2769..6353], i);
-    let m = transit::message_at(&w[2769..6353], i);
+    let number = layout::number_at(w, i);
+    let delivered = layout::is_delivered(w, i);
+    let m = layout::message_at(w, i);
     let p = sheet::put_with(out, at, b"mail ", number);
     let q = put_message(out, p, m);
     put_standing(out, q, delivered)
@@ -335,7 +335,7 @@ fn put_mail(out: &mut [u8], at: usize, w: &[u32]) -> usize
     requires { ⌜ valid (now w) ≡ true ⌝ }
     ensures { λ r. ⌜ sheetOf (now (out .exit)) r ≡ puts (mailText (systemOf (now (w .entry)) .transit)) (sheetOf (now (out .entry)) at) ⌝ }
 {
-    let len = w[4] as usize;
+    let len = layout::in_transit(w);
     let mut end = at;
     let mut i: usize = 0;
     while i < len {

@@ -15,7 +15,7 @@ use Rattle.system.specs.declared.Event.{Event}
 use Rattle.system.specs.declared.Event.the-variants.{Try, Exit, Fall, Down, Up, Take, Drop, Miss, Check}
 use Rattle.language.specs.Decimals.{largest, number, decimal}
 use Rattle.language.specs.Words.{text, space, same, word, rest, spaced}
-use Rattle.language.specs.Lines.{short, commandIn, eventOf, eventIn, sixteenBits, lineOf}
+use Rattle.language.specs.Lines.{short, commandIn, eventOf, eventIn, sixteenBits, lineOf, maxLine}
 use Rattle.language.specs.Printed.{wordOf, numberOf, eventLine}
 use Rattle.language.specs.declared.Command.{Command}
 use Rattle.language.specs.declared.Command.the-variants as command
@@ -63,8 +63,8 @@ pub event-read : (e : Event) → numberOf e ≤ largest → eventIn (eventLine e
 unfolding eventIn
 event-read e h =
     let p = parts e in
-    let s : length (eventLine e) ≤ 40 = omega (arith, event-short e) in
-    simp (le-leb (length (eventLine e)) 40 s, p .first, p .second, decimal-read (numberOf e) h, p .event)
+    let s : length (eventLine e) ≤ maxLine = omega (arith, event-short e) in
+    simp (le-leb (length (eventLine e)) maxLine s, p .first, p .second, decimal-read (numberOf e) h, p .event)
 
 -- an event that is read is printed as it stood --------------------------------------------------------------------------------
 

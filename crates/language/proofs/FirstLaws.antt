@@ -14,7 +14,7 @@ use Rattle.ids.specs.Choice.{maybe}
 use Rattle.ids.proofs.Choice.{decided}
 use Rattle.language.specs.Decimals.{number}
 use Rattle.language.specs.Words.{text, same, word, rest}
-use Rattle.language.specs.Lines.{next, fourIn, settingIn, firstOf}
+use Rattle.language.specs.Lines.{next, fourIn, settingIn, firstOf, maxLine}
 use Rattle.language.specs.Answers.{readingOf, fieldAt}
 use Rattle.language.specs.declared.Setting.{Setting}
 use Rattle.language.specs.declared.Reading.{Reading}
@@ -139,16 +139,16 @@ module _ (s : List ℕ) (at : ℕ) where
             simp (g₁ .value, g₁ .behind, g₂ .value, g₂ .behind, g₃ .value, g₃ .behind, o)
 
 -- the whole line
-pub setting-long : (s : List ℕ) → 40 < length s → NotOpening ≡ firstOf (settingIn s)
+pub setting-long : (s : List ℕ) → maxLine < length s → NotOpening ≡ firstOf (settingIn s)
 unfolding settingIn
-setting-long s h = simp (lt-leb (length s) 40 h)
+setting-long s h = simp (lt-leb (length s) maxLine h)
 
-one-word : (s : List ℕ) → rest s ≡ none → (b : Bool) → same (word s) (text "setting") ≡ b → length s ≤ 40 → NotOpening ≡ firstOf (settingIn s)
+one-word : (s : List ℕ) → rest s ≡ none → (b : Bool) → same (word s) (text "setting") ≡ b → length s ≤ maxLine → NotOpening ≡ firstOf (settingIn s)
 unfolding settingIn
-one-word s e true t h = simp (le-leb (length s) 40 h, t, e)
-one-word s e false t h = simp (le-leb (length s) 40 h, t)
+one-word s e true t h = simp (le-leb (length s) maxLine h, t, e)
+one-word s e false t h = simp (le-leb (length s) maxLine h, t)
 
-module _ (s : List ℕ) (p : ℕ) (short : length s ≤ 40) (ends : (p ≡ 0 + length (word (drop 0 s))) × (p ≤ length s)) where
+module _ (s : List ℕ) (p : ℕ) (short : length s ≤ maxLine) (ends : (p ≡ 0 + length (word (drop 0 s))) × (p ≤ length s)) where
   pub setting-one-word : p ≡ length s → NotOpening ≡ firstOf (settingIn s)
   setting-one-word e = one-word s (cut-none s 0 p (ends .0) e) (same (word s) (text "setting")) refl short
 
@@ -158,10 +158,10 @@ module _ (s : List ℕ) (p : ℕ) (short : length s ≤ 40) (ends : (p ≡ 0 + l
 
     pub setting-other : not r ≡ true → NotOpening ≡ firstOf (settingIn s)
     unfolding settingIn
-    setting-other e = simp (le-leb (length s) 40 short, no told-word (not-true _ e))
+    setting-other e = simp (le-leb (length s) maxLine short, no told-word (not-true _ e))
 
     pub setting-numbers : (l : First) → not r ≡ false → l ≡ firstOf (fourIn (drop (p + 1) s)) → l ≡ firstOf (settingIn s)
     unfolding settingIn
     setting-numbers l e f =
         let b : rest s ≡ some (drop (p + 1) s) = cut-some s 0 p (ends .0) (omega (arith, ends .1)) in
-        simp (le-leb (length s) 40 short, yes told-word (not-false _ e), b) f
+        simp (le-leb (length s) maxLine short, yes told-word (not-false _ e), b) f

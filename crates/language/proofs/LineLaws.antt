@@ -8,7 +8,7 @@ use lib.ListN.{length, take, drop}
 use borrow.Author.Tests.{le-leb, lt-leb}
 use Rattle.language.specs.Decimals.{number}
 use Rattle.language.specs.Words.{word, rest}
-use Rattle.language.specs.Lines.{commandIn, eventOf, eventIn, lineOf}
+use Rattle.language.specs.Lines.{commandIn, eventOf, eventIn, lineOf, maxLine}
 use Rattle.language.specs.Answers.{readingOf}
 use Rattle.language.specs.declared.Command.{Command}
 use Rattle.language.specs.declared.Reading.{Reading}
@@ -18,14 +18,14 @@ use Rattle.language.specs.declared.Line.the-variants.{Bad}
 use Rattle.language.proofs.ReadLaws.{read-some, read-none}
 use Rattle.language.proofs.WordLaws.{cut-word, cut-none, cut-some, cut-end}
 
-pub event-long : (s : List ℕ) → 40 < length s → Bad ≡ lineOf (eventIn s)
+pub event-long : (s : List ℕ) → maxLine < length s → Bad ≡ lineOf (eventIn s)
 unfolding eventIn lineOf
-event-long s h = simp (lt-leb (length s) 40 h)
+event-long s h = simp (lt-leb (length s) maxLine h)
 
-module _ (s : List ℕ) (p : ℕ) (short : length s ≤ 40) (ends : (p ≡ 0 + length (word (drop 0 s))) × (p ≤ length s)) where
+module _ (s : List ℕ) (p : ℕ) (short : length s ≤ maxLine) (ends : (p ≡ 0 + length (word (drop 0 s))) × (p ≤ length s)) where
   pub event-one-word : p ≡ length s → Bad ≡ lineOf (eventIn s)
   unfolding eventIn lineOf
-  event-one-word e = simp (le-leb (length s) 40 short, cut-none s 0 p (ends .0) e)
+  event-one-word e = simp (le-leb (length s) maxLine short, cut-none s 0 p (ends .0) e)
 
   module _ (n : p ≡ length s → ⊥) where
     behind : rest s ≡ some (drop (p + 1) s)
@@ -39,11 +39,11 @@ module _ (s : List ℕ) (p : ℕ) (short : length s ≤ 40) (ends : (p ≡ 0 + l
       unfolding eventIn lineOf
       event-no-number e =
           let o : number (drop (p + 1) s) ≡ none = read-none _ (sym read-all ∙ e) in
-          simp (le-leb (length s) 40 short, behind, o)
+          simp (le-leb (length s) maxLine short, behind, o)
 
       pub event-command : (x : ℕ) (c : Command) (l : Line) → r ≡ Number x → c ≡ commandIn (take (p - 0) (drop 0 s)) → l ≡ lineOf (eventOf c x) → l ≡ lineOf (eventIn s)
       unfolding eventIn
       event-command x c l e k f =
           let o : number (drop (p + 1) s) ≡ some x = read-some _ x (sym read-all ∙ e) in
           let w : c ≡ commandIn (word s) = rw (cut-word s 0 p (ends .0)) at k in
-          simp (le-leb (length s) 40 short, behind, o, ← w) f
+          simp (le-leb (length s) maxLine short, behind, o, ← w) f

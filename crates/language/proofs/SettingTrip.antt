@@ -13,7 +13,7 @@ use Rattle.ids.specs.Choice.{maybe}
 use Rattle.ids.proofs.Choice.{decided, both, passed}
 use Rattle.language.specs.Decimals.{largest, digit, digits, number, decimal}
 use Rattle.language.specs.Words.{text, space, same, word, rest, spaced}
-use Rattle.language.specs.Lines.{short, next, fourIn, settingIn}
+use Rattle.language.specs.Lines.{short, next, fourIn, settingIn, maxLine}
 use Rattle.language.specs.Printed.{settingLine}
 use Rattle.language.specs.declared.Setting.{Setting}
 use Rattle.language.proofs.FirstLaws.{fourth, third, second}
@@ -58,9 +58,9 @@ module _ (s : Setting) (hn : s .n ≤ largest) (hm : s .m ≤ largest) (hf : s .
       let r₁ : List ℕ = decimal (s .m) ++ (space ∷ r₂) in
       next-read (s .n) r₁ second hn ∙ (next-read (s .m) r₂ (third (s .n)) hm ∙ (next-read (s .f) r₃ (fourth (s .n) (s .m)) hf ∙ rw (decimal-read (s .clients) hk)))
 
-  pub setting-read : length (settingLine s) ≤ 40 → settingIn (settingLine s) ≡ some s
+  pub setting-read : length (settingLine s) ≤ maxLine → settingIn (settingLine s) ≡ some s
   unfolding settingIn settingLine spaced word rest same
-  setting-read h = simp (le-leb (length (settingLine s)) 40 h) four-read
+  setting-read h = simp (le-leb (length (settingLine s)) maxLine h) four-read
 
 -- a setting that is read is printed as it stood -------------------------------------------------------------------------------
 

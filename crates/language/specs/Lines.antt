@@ -20,8 +20,12 @@ use Rattle.language.specs.declared.First.{First}
 use Rattle.language.specs.declared.First.the-variants.{Setting as Opens, Bad as NotOpening}
 use Rattle.system.specs.Numbered.{clientNo, serverNo}
 
+-- the bytes of the longest line that is read
+abbrev pub maxLine : ℕ
+maxLine = 40
+
 abbrev pub short : List ℕ → Bool
-short l = leb (length l) 40
+short l = leb (length l) maxLine
 
 -- event lines -----------------------------------------------------------------------------------------------------------------
 

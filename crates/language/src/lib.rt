@@ -15,6 +15,9 @@ use ids::ServerId;
 use system::Event;
 use system::MessageNumber;
 
+// The bytes of the longest line that is read, without its newline.
+pub const MAX_LINE: usize = 40;
+
 // The word that an event line begins with; `Other` is any word that is no command.
 pub enum Command {
     Try,
@@ -263,7 +266,7 @@ pub fn parse_event(line: &[u8]) -> Line
     ensures { λ r. ⌜ r ≡ lineOf (eventIn (now (line .entry))) ⌝ }
 {
     let n = line.len();
-    if n > 40 {
+    if n > MAX_LINE {
         return Line::Bad;
     }
     let p = word_end(line, 0);
@@ -318,7 +321,7 @@ fn four_from(line: &[u8], at: usize) -> First
 pub fn parse_setting(line: &[u8]) -> First
     ensures { λ r. ⌜ r ≡ firstOf (settingIn (now (line .entry))) ⌝ }
 {
-    if line.len() > 40 {
+    if line.len() > MAX_LINE {
         return First::Bad;
     }
     let p = word_end(line, 0);

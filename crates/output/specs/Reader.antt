@@ -11,7 +11,7 @@ use Rattle.system.specs.Places.{System, holders}
 use Rattle.system.specs.Events.{Result}
 use Rattle.system.specs.Runs.{after, isStepped}
 use Rattle.language.specs.Words.{newline}
-use Rattle.language.specs.Lines.{eventIn, settingIn}
+use Rattle.language.specs.Lines.{maxLine, eventIn, settingIn}
 use Rattle.language.specs.Printed.{headerLine, noLine, endLine, refusedLine}
 use Rattle.language.specs.declared.Setting.{Setting}
 use Rattle.output.specs.Output.{maxLines, happens, answerLine, fresh, runs}
@@ -84,7 +84,7 @@ worked closed l = record { now = closed; out = [] }
 
 -- a byte behind a line; of a longer line than any that is read, no more is kept
 abbrev pub maxKept : ℕ
-maxKept = 41
+maxKept = maxLine + 1
 
 abbrev pub behind : List ℕ → ℕ → List ℕ
 behind l b = take maxKept (l ++ (b ∷ []))

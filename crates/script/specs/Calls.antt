@@ -1,5 +1,5 @@
 -- What the calls on a script's state give and leave, and what the functions inside do to it.
-use Prim.Native.Nat.{ℕ, suc, _+_, _≤_, _<_}
+use Prim.Native.Nat.{ℕ, suc, _+_, _≤_, _<_, _*_}
 use mathlib.Core.Path.{_≡_}
 use mathlib.Core.Bool.{Bool, true, false, _&&_}
 use mathlib.Core.List.{List, []}
@@ -43,7 +43,7 @@ pub record FeedLeaves (w input out w′ out′ : List ℕ) : Type 0 where
 
 -- the end: 21, 6 no room for two lines
 abbrev pub maxEnding : ℕ
-maxEnding = 104
+maxEnding = 2 * maxPrinted
 
 unfoldable pub finishAnswer : List ℕ → ℕ → Progress
 finishAnswer w room =

@@ -23,6 +23,36 @@ use simulation::Moved;
 use simulation::Reply;
 use system::Event;
 
+// The words of the head: the stage, the event lines answered and those accepted, the most holders at once, and the bytes of the line so far.
+// Then the line, a word for each byte, and the simulation.
+pub const STAGE: usize = 0;
+
+pub const ANSWERED: usize = 1;
+
+const ACCEPTED: usize = 2;
+
+const HOLDING: usize = 3;
+
+pub const LENGTH: usize = 4;
+
+const LINE_FROM: usize = 5;
+
+pub const STATE_HEAD: usize = LINE_FROM + LINE;
+
+pub const STATE_WORDS: usize = STATE_HEAD + layout::SIMULATION_WORDS;
+
+// The bytes of a line that are kept, one more than a line may have; the event lines that are answered; the longest printed line, and the
+// longest end, which is two lines.
+const MAX_KEPT: u32 = language::MAX_LINE as u32 + 1;
+
+const LINE: usize = MAX_KEPT as usize;
+
+pub const MAX_LINES: u32 = 1_000_000;
+
+pub const MAX_PRINTED: usize = 52;
+
+pub const MAX_ENDING: usize = 2 * MAX_PRINTED;
+
 // Bytes used and bytes written, or the refusal.
 pub enum Progress {
     Took(usize, usize),
@@ -35,8 +65,8 @@ fn bytes_valid(w: &[u32]) -> bool
     ensures { λ r. ⌜ r ≡ every byteWord (keptIn (now (w .entry))) ⌝ }
 {
     let mut i: usize = 0;
-    while i < 41 {
-        if 255 < w[5 + i] {
+    while i < LINE {
+        if 255 < w[LINE_FROM + i] {
             return false;
         }
         i += 1;
@@ -49,40 +79,39 @@ fn run_valid(w: &[u32]) -> bool
     requires { ⌜ length (now w) ≡ stateSize ⌝ }
     ensures { λ r. ⌜ r ≡ validRun (headIn (now (w .entry))) (simulationIn (now (w .entry))) ⌝ }
 {
-    let s = &w[46..6399];
+    let s = &w[STATE_HEAD..STATE_WORDS];
     if !layout::valid(s) {
         return false;
     }
-    if 1000000 < w[1] {
+    if MAX_LINES < w[ANSWERED] {
         return false;
     }
-    if w[1] < w[2] {
+    if w[ANSWERED] < w[ACCEPTED] {
         return false;
     }
-    let clients = s[3];
-    if w[3] < layout::count_inside(s, clients as u16) {
+    if w[HOLDING] < layout::holders(s) {
         return false;
     }
-    w[3] <= 16
+    w[HOLDING] <= system::MAX_CLIENTS
 }
 
 // Whether the words are the state of a script.
 pub fn valid(w: &[u32]) -> bool
     ensures { λ r. ⌜ r ≡ isValid (now (w .entry)) ⌝ }
 {
-    if w.len() != 6399 {
+    if w.len() != STATE_WORDS {
         return false;
     }
-    if 2 < w[0] {
+    if 2 < w[STAGE] {
         return false;
     }
-    if 41 < w[4] {
+    if MAX_KEPT < w[LENGTH] {
         return false;
     }
     if !bytes_valid(w) {
         return false;
     }
-    if w[0] != 1 {
+    if w[STAGE] != 1 {
         return true;
     }
     run_valid(w)
@@ -93,13 +122,13 @@ fn keep(w: &mut [u32], b: u8)
     requires { ⌜ Sound (now w) ⌝ }
     ensures { λ _. ⌜ (view (now (w .exit)) ≡ record { stage = view (now (w .entry)) .stage; line = behind (view (now (w .entry)) .line) b }) × (isValid (now (w .exit)) ≡ true) ⌝ }
 {
-    let len = w[4];
-    if 40 < len {
+    let len = w[LENGTH];
+    if MAX_KEPT <= len {
         return;
     }
-    let at = 5 + len as usize;
+    let at = LINE_FROM + len as usize;
     w[at] = b as u32;
-    w[4] = len + 1;
+    w[LENGTH] = len + 1;
 }
 
 // The line so far, as bytes at the start of the buffer.
@@ -107,10 +136,10 @@ fn copy_line(w: &[u32], line: &mut [u8])
     requires { ⌜ Sound (now w) × (length (now line) ≡ maxKept) ⌝ }
     ensures { λ _. ⌜ now (line .exit) ≡ sets (now (line .entry)) 0 (view (now (w .entry)) .line) ⌝ }
 {
-    let len = w[4] as usize;
+    let len = w[LENGTH] as usize;
     let mut i: usize = 0;
     while i < len {
-        line[i] = w[5 + i] as u8;
+        line[i] = w[LINE_FROM + i] as u8;
         i += 1;
     }
 }
@@ -119,9 +148,9 @@ fn read_setting(w: &[u32]) -> First
     requires { ⌜ Sound (now w) ⌝ }
     ensures { λ r. ⌜ r ≡ firstOf (settingIn (view (now (w .entry)) .line)) ⌝ }
 {
-    let mut line = [0u8; 41];
+    let mut line = [0u8; LINE];
     copy_line(w, &mut line);
-    let len = w[4] as usize;
+    let len = w[LENGTH] as usize;
     language::parse_setting(&line[0..len])
 }
 
@@ -129,9 +158,9 @@ fn read_event(w: &[u32]) -> Line
     requires { ⌜ Sound (now w) ⌝ }
     ensures { λ r. ⌜ r ≡ lineOf (eventIn (view (now (w .entry)) .line)) ⌝ }
 {
-    let mut line = [0u8; 41];
+    let mut line = [0u8; LINE];
     copy_line(w, &mut line);
-    let len = w[4] as usize;
+    let len = w[LENGTH] as usize;
     language::parse_event(&line[0..len])
 }
 
@@ -140,7 +169,7 @@ fn refuse(w: &mut [u32], out: &mut [u8], at: usize, x: Refusal) -> usize
     requires { ⌜ Ready (now w) (now out) at ⌝ }
     ensures { λ r. ⌜ Does (now (w .entry)) (now (out .entry)) at (record { now = closed; out = refusedLine x }) (now (w .exit)) (now (out .exit)) r ⌝ }
 {
-    w[0] = 2;
+    w[STAGE] = 2;
     language::put_refused(out, at, x)
 }
 
@@ -149,10 +178,10 @@ fn start_counts(w: &mut [u32])
     requires { ⌜ length (now w) ≡ stateSize ⌝ }
     ensures { λ _. ⌜ now (w .exit) ≡ set (set (set (set (now (w .entry)) 0 1) 1 0) 2 0) 3 0 ⌝ }
 {
-    w[0] = 1;
-    w[1] = 0;
-    w[2] = 0;
-    w[3] = 0;
+    w[STAGE] = 1;
+    w[ANSWERED] = 0;
+    w[ACCEPTED] = 0;
+    w[HOLDING] = 0;
 }
 
 // The first line is a setting.
@@ -160,7 +189,7 @@ fn begin(w: &mut [u32], out: &mut [u8], at: usize, s: Setting) -> usize
     requires { ⌜ Ready (now w) (now out) at × (getD (now w) 0 0 ≡ 0) ⌝ }
     ensures { λ r. ⌜ Does (now (w .entry)) (now (out .entry)) at (opened (some s)) (now (w .exit)) (now (out .exit)) r ⌝ }
 {
-    let made = simulation::new(&mut w[46..6399], s.n, s.m, s.f, s.clients);
+    let made = simulation::new(&mut w[STATE_HEAD..STATE_WORDS], s.n, s.m, s.f, s.clients);
     match made {
         Moved::Refused(x) => refuse(w, out, at, x),
         Moved::Sent(_) => {
@@ -187,10 +216,10 @@ fn count_accepted(w: &mut [u32], holders: u32)
     requires { ⌜ (length (now w) ≡ stateSize) × (getD (now w) 2 0 ≤ maxLines) ⌝ }
     ensures { λ _. ⌜ now (w .exit) ≡ set (set (now (w .entry)) 2 (getD (now (w .entry)) 2 0 + 1)) 3 (max (getD (now (w .entry)) 3 0) holders) ⌝ }
 {
-    let accepted = w[2] + 1;
-    let most = layout::larger(w[3], holders);
-    w[2] = accepted;
-    w[3] = most;
+    let accepted = w[ACCEPTED] + 1;
+    let most = layout::larger(w[HOLDING], holders);
+    w[ACCEPTED] = accepted;
+    w[HOLDING] = most;
 }
 
 // An event of a script that runs.
@@ -198,9 +227,9 @@ fn happen(w: &mut [u32], out: &mut [u8], at: usize, e: Event) -> usize
     requires { ⌜ Ready (now w) (now out) at × Reads (now w) ⌝ }
     ensures { λ r. ⌜ Does (now (w .entry)) (now (out .entry)) at (happened (runIn (headIn (now (w .entry))) (simulationIn (now (w .entry)))) e) (now (w .exit)) (now (out .exit)) r ⌝ }
 {
-    let number = w[1] + 1;
-    let reply = simulation::happen(&mut w[46..6399], e);
-    w[1] = number;
+    let number = w[ANSWERED] + 1;
+    let reply = simulation::happen(&mut w[STATE_HEAD..STATE_WORDS], e);
+    w[ANSWERED] = number;
     match reply {
         Reply::Refused(x) => language::put_no(out, at, number, x),
         Reply::Accepted(sent, holders) => {
@@ -215,8 +244,8 @@ fn pass(w: &mut [u32], out: &mut [u8], at: usize, x: Refusal) -> usize
     requires { ⌜ Ready (now w) (now out) at × Reads (now w) ⌝ }
     ensures { λ r. ⌜ Does (now (w .entry)) (now (out .entry)) at (passing (runIn (headIn (now (w .entry))) (simulationIn (now (w .entry)))) x) (now (w .exit)) (now (out .exit)) r ⌝ }
 {
-    let number = w[1] + 1;
-    w[1] = number;
+    let number = w[ANSWERED] + 1;
+    w[ANSWERED] = number;
     language::put_no(out, at, number, x)
 }
 
@@ -225,7 +254,7 @@ fn answer(w: &mut [u32], out: &mut [u8], at: usize) -> usize
     requires { ⌜ Ready (now w) (now out) at × (getD (now w) 0 0 ≡ 1) ⌝ }
     ensures { λ r. ⌜ Does (now (w .entry)) (now (out .entry)) at (worked (view (now (w .entry)) .stage) (view (now (w .entry)) .line)) (now (w .exit)) (now (out .exit)) r ⌝ }
 {
-    if 1000000 <= w[1] {
+    if MAX_LINES <= w[ANSWERED] {
         return at;
     }
     let line = read_event(w);
@@ -241,10 +270,10 @@ fn work(w: &mut [u32], out: &mut [u8], at: usize) -> usize
     requires { ⌜ Ready (now w) (now out) at ⌝ }
     ensures { λ r. ⌜ Does (now (w .entry)) (now (out .entry)) at (worked (view (now (w .entry)) .stage) (view (now (w .entry)) .line)) (now (w .exit)) (now (out .exit)) r ⌝ }
 {
-    if w[0] == 0 {
+    if w[STAGE] == 0 {
         return open(w, out, at);
     }
-    if w[0] == 1 {
+    if w[STAGE] == 1 {
         return answer(w, out, at);
     }
     at
@@ -257,7 +286,7 @@ fn take(w: &mut [u32], out: &mut [u8], at: usize, b: u8) -> usize
 {
     if b == b'\n' {
         let end = work(w, out, at);
-        w[4] = 0;
+        w[LENGTH] = 0;
         return end;
     }
     keep(w, b);
@@ -268,7 +297,7 @@ fn take(w: &mut [u32], out: &mut [u8], at: usize, b: u8) -> usize
 pub fn new(w: &mut [u32]) -> Progress
     ensures { λ r. ⌜ (r ≡ newAnswer (now (w .entry))) × (now (w .exit) ≡ newWords (now (w .entry))) ⌝ }
 {
-    if w.len() != 6399 {
+    if w.len() != STATE_WORDS {
         return Progress::Refused(Refusal::ParameterOutOfRange);
     }
     clear(w);
@@ -280,7 +309,7 @@ fn clear(w: &mut [u32])
     ensures { λ _. ⌜ now (w .exit) ≡ sets (now (w .entry)) 0 (replicate stateHead 0) ⌝ }
 {
     let mut i: usize = 0;
-    while i < 46 {
+    while i < STATE_HEAD {
         w[i] = 0;
         i += 1;
     }
@@ -294,7 +323,7 @@ fn take_all(w: &mut [u32], input: &[u8], out: &mut [u8]) -> Progress
     let mut used: usize = 0;
     let mut at: usize = 0;
     while used < input.len() {
-        if out.len() - at < 52 {
+        if out.len() - at < MAX_PRINTED {
             return Progress::Took(used, at);
         }
         at = take(w, out, at, input[used]);
@@ -310,7 +339,7 @@ pub fn feed(w: &mut [u32], input: &[u8], out: &mut [u8]) -> Progress
     if !valid(w) {
         return Progress::Refused(Refusal::InvalidRecord);
     }
-    if out.len() < 52 {
+    if out.len() < MAX_PRINTED {
         return Progress::Refused(Refusal::RoomShort);
     }
     take_all(w, input, out)
@@ -321,7 +350,7 @@ fn last(w: &mut [u32], out: &mut [u8]) -> usize
     requires { ⌜ Ready (now w) (now out) 0 ⌝ }
     ensures { λ r. ⌜ Does (now (w .entry)) (now (out .entry)) 0 (lastLine (view (now (w .entry)))) (now (w .exit)) (now (out .exit)) r ⌝ }
 {
-    if w[4] == 0 {
+    if w[LENGTH] == 0 {
         return 0;
     }
     work(w, out, 0)
@@ -332,11 +361,17 @@ fn end(w: &[u32], out: &mut [u8], at: usize) -> usize
     requires { ⌜ Ready (now w) (now out) at ⌝ }
     ensures { λ r. ⌜ (r ≡ at + length (ended (view (now (w .entry)) .stage))) × (now (out .exit) ≡ sets (now (out .entry)) at (ended (view (now (w .entry)) .stage))) ⌝ }
 {
-    if w[0] == 0 {
+    if w[STAGE] == 0 {
         return language::put_refused(out, at, Refusal::BadLine);
     }
-    if w[0] == 1 {
-        return language::put_end(out, at, w[2], w[3], w[46 + 6]);
+    if w[STAGE] == 1 {
+        return language::put_end(
+            out,
+            at,
+            w[ACCEPTED],
+            w[HOLDING],
+            layout::most_down(&w[STATE_HEAD..STATE_WORDS]),
+        );
     }
     at
 }
@@ -346,8 +381,8 @@ fn seal(w: &mut [u32])
     requires { ⌜ length (now w) ≡ stateSize ⌝ }
     ensures { λ _. ⌜ now (w .exit) ≡ set (set (now (w .entry)) 0 2) 4 0 ⌝ }
 {
-    w[0] = 2;
-    w[4] = 0;
+    w[STAGE] = 2;
+    w[LENGTH] = 0;
 }
 
 fn close(w: &mut [u32], out: &mut [u8]) -> usize
@@ -367,7 +402,7 @@ pub fn finish(w: &mut [u32], out: &mut [u8]) -> Progress
     if !valid(w) {
         return Progress::Refused(Refusal::InvalidRecord);
     }
-    if out.len() < 104 {
+    if out.len() < MAX_ENDING {
         return Progress::Refused(Refusal::RoomShort);
     }
     let wrote = close(w, out);

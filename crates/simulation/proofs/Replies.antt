@@ -3,20 +3,17 @@ use mathlib.Core.Path.{_≡_, refl, sym, ap, _∙_}
 use Prim.Native.Nat.{ℕ}
 use native.Mathlib.Omega.{arith}
 use mathlib.Core.Bool.{Bool, true, false, not}
-use mathlib.Core.List.{List, map}
-use lib.ListN.{length, getD}
+use mathlib.Core.List.{List}
+use lib.ListN.{length}
 use Rattle.ids.specs.declared.Refusal.{Refusal}
 use Rattle.ids.specs.declared.Refusal.the-variants.{InvalidRecord}
 use Rattle.ids.proofs.Choice.{clash, holds, fails}
 use Rattle.wire.specs.Step.{refused, stepped}
-use Rattle.client.specs.Figure1.{count}
-use Rattle.regions.specs.Blocks.{blocks}
 use Rattle.system.specs.declared.Event.{Event}
-use Rattle.system.specs.Places.{System, isInside, holders}
+use Rattle.system.specs.Places.{System, holders}
 use Rattle.system.specs.Events.{Result}
 use Rattle.system.specs.Runs.{after}
-use Rattle.places.specs.Blocks.{clientPlace, clientBlock}
-use Rattle.layout.specs.Layout.{settingOf, clientWords, view, valid}
+use Rattle.layout.specs.Layout.{view, valid}
 use Rattle.bounded.specs.declared.Moved.{Moved}
 use Rattle.bounded.specs.declared.Moved.the-variants as moved
 use Rattle.bounded.specs.declared.Reply.{Reply}
@@ -44,14 +41,8 @@ module _ (w : List ℕ) (e : Event) (w′ : List ℕ) (r : Moved) (h : Leaves w 
   pub happened-refused : (x : Refusal) → r ≡ moved.Refused x → Leaves w e w′ × (reply.Refused x ≡ replyOf (view w) (happens w e))
   happened-refused x g = (h .0, refused-reply (view w) (happens w e) x (sym g ∙ h .1))
 
-  inside-is : holders (view w′) ≡ count (map isInside (blocks clientBlock clientPlace (getD w′ 3 0) (clientWords w′)))
-  unfolding view settingOf
-  inside-is = refl
-
-  pub happened : (c i : ℕ) → r ≡ moved.Sent c → i ≡ count (map isInside (blocks clientBlock clientPlace (getD w′ 3 0) (clientWords w′)))
-      → Leaves w e w′ × (reply.Accepted c i ≡ replyOf (view w) (happens w e))
-  happened c i g f =
-      (h .0, ap (λ (a : ℕ). reply.Accepted c a) (f ∙ sym inside-is) ∙ accepted-reply (view w) (happens w e) (view w′) c (h .0 .system) (sym g ∙ h .1))
+  pub happened : (c i : ℕ) → r ≡ moved.Sent c → i ≡ holders (view w′) → Leaves w e w′ × (reply.Accepted c i ≡ replyOf (view w) (happens w e))
+  happened c i g f = (h .0, ap (λ (a : ℕ). reply.Accepted c a) f ∙ accepted-reply (view w) (happens w e) (view w′) c (h .0 .system) (sym g ∙ h .1))
 
 module _ (w : List ℕ) (e : Event) (b : Bool) (t : b ≡ valid w) where
   pub event-invalid : not b ≡ true → EventLeaves w e w × (reply.Refused InvalidRecord ≡ eventReply w e)

@@ -9,6 +9,7 @@ ghost use Rattle.simulation.specs.Opens.{opens, newReply, NewLeaves};
 pub use bounded::Moved;
 pub use bounded::Reply;
 use ids::Refusal;
+use layout::SIMULATION_WORDS;
 use system::Event;
 
 fn work(w: &mut [u32], e: Event) -> Moved
@@ -37,8 +38,8 @@ pub fn happen(w: &mut [u32], e: Event) -> Reply
     match moved {
         Moved::Refused(x) => Reply::Refused(x),
         Moved::Sent(count) => {
-            let clients = w[3];
-            Reply::Accepted(count, layout::count_inside(w, clients as u16))
+            let holders = layout::holders(w);
+            Reply::Accepted(count, holders)
         }
     }
 }
@@ -57,13 +58,13 @@ pub fn event(w: &mut [u32], e: Event) -> Reply
 pub fn new(w: &mut [u32], n: u32, m: u32, f: u32, clients: u32) -> Moved
     ensures { λ r. ⌜ NewLeaves n m f clients (now (w .entry)) (now (w .exit)) × (r ≡ newReply (opens (length (now (w .entry))) n m f clients)) ⌝ }
 {
-    if w.len() != 6353 {
+    if w.len() != SIMULATION_WORDS {
         return Moved::Refused(Refusal::ParameterOutOfRange);
     }
-    if !quorum::in_range(n, m, f) {
+    if !quorum::in_range_up_to(system::MAX_SERVERS, n, m, f) {
         return Moved::Refused(Refusal::ParameterOutOfRange);
     }
-    if !ids::within_limit(clients, 16) {
+    if !ids::within_limit(clients, system::MAX_CLIENTS) {
         return Moved::Refused(Refusal::ParameterOutOfRange);
     }
     changes::start(w, n, m, f, clients);
@@ -72,7 +73,7 @@ pub fn new(w: &mut [u32], n: u32, m: u32, f: u32, clients: u32) -> Moved
 
 // A simulation by value, for callers that keep one and go on from another: it costs a copy of its words at each event.
 pub struct Simulation {
-    pub words: [u32; 6353],
+    pub words: [u32; SIMULATION_WORDS],
 }
 
 // A simulation after an event, and what the event did.

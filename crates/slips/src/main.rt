@@ -39,13 +39,13 @@ fn put_all(out: &mut [u8], w: &[u32], mail: bool) -> usize
 fn show(w: &[u32], out: &mut [u8], mail: bool) -> bool
     requires { ⌜ valid (now w) ≡ true ⌝ }
 {
-    if w[0] != 1 {
+    if w[script::STAGE] != 1 {
         return true;
     }
-    if w[1] == 0 {
+    if w[script::ANSWERED] == 0 {
         return true;
     }
-    let end = put_all(out, &w[46..6399], mail);
+    let end = put_all(out, &w[script::STATE_HEAD..script::STATE_WORDS], mail);
     console::write_out(STDOUT_FILENO, &out[0..end])
 }
 
@@ -76,11 +76,11 @@ fn answer_line(w: &mut [u32], line: &[u8], out: &mut [u8], wanted: Wanted) -> bo
     requires { ⌜ (valid (now w) ≡ true) × (maxPrinted ≤ length (now out)) ⌝ }
     ensures { λ r. ⌜ (valid (now (w .exit)) ≡ true) × (r ≡ true → Taken (now (w .entry)) (now (line .entry)) (now (w .exit))) ⌝ }
 {
-    let before = w[1];
+    let before = w[script::ANSWERED];
     if !stream::answer_part(w, line, out) {
         return false;
     }
-    if w[1] == before {
+    if w[script::ANSWERED] == before {
         return true;
     }
     show_behind(w, out, wanted)
@@ -119,7 +119,7 @@ fn close_line(w: &mut [u32], out: &mut [u8], wanted: Wanted) -> bool
     requires { ⌜ (valid (now w) ≡ true) × (maxPrinted ≤ length (now out)) ⌝ }
     ensures { λ _. ⌜ valid (now (w .exit)) ≡ true ⌝ }
 {
-    if w[4] == 0 {
+    if w[script::LENGTH] == 0 {
         return true;
     }
     answer_line(w, b"\n", out, wanted)

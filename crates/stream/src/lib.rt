@@ -17,14 +17,14 @@ use console::Input;
 use libc::STDOUT_FILENO;
 use script::Progress;
 
-fn zeros() -> [u32; 6399]
+fn zeros() -> [u32; script::STATE_WORDS]
     ensures { λ r. ⌜ stateSize ≡ length r ⌝ }
 {
-    [0; 6399]
+    [0; script::STATE_WORDS]
 }
 
 // The state of a script of which nothing is read yet.
-pub fn start() -> [u32; 6399]
+pub fn start() -> [u32; script::STATE_WORDS]
     ensures { λ r. ⌜ (valid r ≡ true) × (view r ≡ empty) ⌝ }
 {
     let mut w = zeros();
@@ -84,13 +84,13 @@ fn over(w: &[u32]) -> bool
     requires { ⌜ valid (now w) ≡ true ⌝ }
     ensures { λ r. ⌜ (r ≡ true → Over (view (now (w .entry)))) ⌝ }
 {
-    if w[0] == 2 {
+    if w[script::STAGE] == 2 {
         return true;
     }
-    if w[0] == 0 {
+    if w[script::STAGE] == 0 {
         return false;
     }
-    1000000 <= w[1]
+    script::MAX_LINES <= w[script::ANSWERED]
 }
 
 // The next part, of a valid state; the end too where nothing more need be read.
