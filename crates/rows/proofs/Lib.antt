@@ -1,0 +1,7 @@
+pub mod WordLaws
+pub mod ShiftLaws
+pub mod QueueLaws
+pub mod ListLaws
+pub mod SearchLaws
+pub mod GoodLaws
+pub mod CopyLaws
