@@ -197,6 +197,10 @@ module _ (row after : List ℕ) (len : ℕ) (l : List Request) (H : Holds row af
       sym (row-again after (g .places .even)) ∙ ap requestWords (row-split after len g)
       ∙ rw (words-append, words-empty, H .list, k)
 
+  pub holds-row : after ≡ rowOf (length row) l
+  unfolding rowOf
+  holds-row = rw holds-length holds-words
+
 -- one change after another: what the first leaves is what the second finds
 module _ (row mid after : List ℕ) where
   pub holds-again : (n : ℕ) (l : List Request) → length mid ≡ length row → Holds mid after n l → Holds row after n l
