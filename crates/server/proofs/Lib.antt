@@ -1,1 +1,5 @@
 pub mod SendLaws
+pub mod ValidLaws
+pub mod RecordLaws
+pub mod TurnLaws
+pub mod CallLaws

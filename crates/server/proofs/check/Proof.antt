@@ -1,0 +1,17 @@
+-- `server::check` meets its contract: the call on the record's row, and then what was to be sent.
+use Rattle.server.proofs.TurnLaws.{turns-by-value}
+use borrow.Author.Needs.{needs}
+use Rattle.server.proofs.check.Statement.{statement}
+use Rattle.server.proofs.check.Tie as tie
+returns : tie.Need-returns
+returns c = turns-by-value (c .before .before .before .before .before .before .before .before .before .args .s) _ _ _ _ _ _ (c .before .before .before .before .check-row .ensures) (c .before .before .finish .ensures)
+
+pub check-spec : {M : Type 1} → statement M
+check-spec =
+    tie.close
+    (tie.spec
+    (λ c. search needs)
+    (λ c κs. search needs)
+    (λ c κs. search needs)
+    (λ c. search needs)
+    returns)

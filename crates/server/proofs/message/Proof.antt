@@ -1,0 +1,17 @@
+-- `server::message` meets its contract: the call on the record's row, and then what was to be sent.
+use Rattle.server.proofs.TurnLaws.{turns-by-value}
+use borrow.Author.Needs.{needs}
+use Rattle.server.proofs.message.Statement.{statement}
+use Rattle.server.proofs.message.Tie as tie
+returns : tie.Need-returns
+returns c = turns-by-value (c .before .before .before .before .before .before .before .before .before .before .args .s) _ _ _ _ _ _ (c .before .before .before .before .before .message-row .ensures) (c .before .before .finish .ensures)
+
+pub message-spec : {M : Type 1} → statement M
+message-spec =
+    tie.close
+    (tie.spec
+    (λ c. search needs)
+    (λ c κs. search needs)
+    (λ c κs. search needs)
+    (λ c. search needs)
+    returns)
