@@ -3,3 +3,6 @@ pub mod ValidLaws
 pub mod RecordLaws
 pub mod TurnLaws
 pub mod CallLaws
+pub mod KeepsValid
+pub mod OwnResponse
+pub mod QueueFull

@@ -1,6 +1,6 @@
 -- A call's outcome from its parts: what was done is the definition's step, or the refusal left everything as it was; and the same call by value.
 use Prim.Native.Nat.{ℕ}
-use mathlib.Core.Path.{_≡_, refl, sym, ap, _∙_}
+use mathlib.Core.Path.{_≡_, refl, sym, _∙_}
 use mathlib.Core.Bool.{true, false}
 use mathlib.Core.List.{List}
 use mathlib.Core.Logic.{⊎-elim}
@@ -16,12 +16,10 @@ use Rattle.ids.specs.declared.Timestamp.{Timestamp}
 use Rattle.rows.proofs.QueueLaws.{holds-length, holds-row}
 use Rattle.wire.specs.Format.{sizeOfAll}
 use Rattle.wire.specs.Step.{Step, Outcome, refused, stepped, withRoom, sentInto}
-use Rattle.wire.specs.declared.Message.{Message}
 use Rattle.wire.specs.declared.Answer.{Answer}
 use Rattle.wire.specs.declared.Answer.the-variants.{Sent, Refused}
 use Rattle.votes.specs.declared.Moved.{Moved}
 use Rattle.votes.specs.declared.Tag.{Tag}
-use Rattle.votes.specs.declared.Votes.{Votes}
 use Rattle.votes.specs.Figure1.{State, receive}
 use Rattle.votes.specs.Queues.{view}
 use Rattle.votes.specs.Places.{Moves}
@@ -29,11 +27,10 @@ use Rattle.server.specs.declared.Head.{Head}
 use Rattle.server.specs.declared.Server.{Server}
 use Rattle.server.specs.declared.Stepped.{Stepped}
 use Rattle.server.specs.declared.Turned.{Turned}
-use Rattle.server.specs.declared.Ruling.{Ruling}
 use Rattle.server.specs.declared.Ruling.the-variants.{Done, Refused as Ruled}
 use Rattle.server.specs.Record.{serverOf}
 use Rattle.server.specs.Parts.{threeMails, sentAnswer, sentBuffer, refusing, doing, answersBy, buffersBy, answering, buffering, keeping}
-use Rattle.server.specs.Calls.{headAfter, rowAfter, serverAfter, result, taken}
+use Rattle.server.specs.Calls.{headAfter, rowAfter, result, taken}
 use Rattle.server.specs.Rows.{rulingOf, sentOf, Turns}
 
 module _ (h : Head) (row : List ℕ) (o : Outcome State) (r : Turned) where

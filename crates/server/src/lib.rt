@@ -1,7 +1,6 @@
 // The server's record and its calls: Figure 1, lines 26 to 56. A call works on a head by value and a lent row of words, two words a place,
 // of any even length; the same calls on a record by value lend the record's own row and write what is sent.
 ghost use mathlib.Core.Path.{_≡_};
-ghost use mathlib.Core.List.{_∷_, _++_};
 ghost use Prim.Native.Nat.{_+_, _<_, _≤_};
 ghost use lib.ListN.{length, drop};
 ghost use lib.Seq.{sets};
@@ -162,7 +161,14 @@ fn done(h: Head, m: Moved) -> Turned
 }
 
 // A message of this tag to server `j`, with `k`'s timestamp `t`. For callers that know the record to be valid.
-pub fn take_row(h: Head, row: &mut [u32], tag: Tag, k: ClientId, j: ServerId, t: Timestamp) -> Turned
+pub fn take_row(
+    h: Head,
+    row: &mut [u32],
+    tag: Tag,
+    k: ClientId,
+    j: ServerId,
+    t: Timestamp,
+) -> Turned
     requires { ⌜ Padded (now row) (h .votes .len) ⌝ }
     ensures { λ r. ⌜ Turns h (now (row .entry)) (taken (serverOf h (now (row .entry))) tag k j t) r (now (row .exit)) ⌝ }
 {

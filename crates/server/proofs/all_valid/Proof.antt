@@ -14,6 +14,7 @@ use Rattle.server.proofs.ValidLaws.{Passing, places-start, valid-on, va
 use borrow.Author.Needs.{needs}
 use Rattle.server.proofs.all_valid.Statement.{statement}
 use Rattle.server.proofs.all_valid.Tie as tie
+
 abbrev Inv-loop : tie.InvT-loop
 Inv-loop row len i₀ i = Passing (every validRequest) (queueOf row len) 0 i
 

@@ -3,6 +3,7 @@ use Rattle.server.proofs.TurnLaws.{answers-refused, answers-done}
 use borrow.Author.Needs.{needs}
 use Rattle.server.proofs.answered.Statement.{statement}
 use Rattle.server.proofs.answered.Tie as tie
+
 returns : tie.Need-returns
 returns c = answers-done (c .before .before .before .before .before .before .before .args .t) _ _ _ (c .before .before .before .before .enum-told .given .1) (c .before .before .send .ensures)
 

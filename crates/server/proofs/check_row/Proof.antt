@@ -6,6 +6,7 @@ use Rattle.server.proofs.CallLaws.{check-broken, check-idle, check-aske
 use borrow.Author.Needs.{needs}
 use Rattle.server.proofs.check_row.Statement.{statement}
 use Rattle.server.proofs.check_row.Tie as tie
+
 -- the record is tested
 module _ (c : tie.After-valid-row) where
   abbrev entry : tie.Start

@@ -3,6 +3,7 @@ use Rattle.server.proofs.TurnLaws.{keeps-sent, keeps-old}
 use borrow.Author.Needs.{needs}
 use Rattle.server.proofs.finish.Statement.{statement}
 use Rattle.server.proofs.finish.Tie as tie
+
 -- it is answered
 module _ (c : tie.After-answered) where
   abbrev entry : tie.Start

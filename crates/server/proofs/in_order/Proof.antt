@@ -2,7 +2,7 @@
 use denote.Ref.{now}
 use Prim.Native.Nat.{_+_, _*_, _-_, _≤_}
 use native.Mathlib.Omega.{arith}
-use mathlib.Core.Path.{_≡_, ap, _∙_}
+use mathlib.Core.Path.{_≡_, _∙_}
 use mathlib.Core.List.{List}
 use lib.ListN.{length, getD}
 use Rattle.ids.specs.Requests.{noRequest}
@@ -14,6 +14,7 @@ use Rattle.server.proofs.ValidLaws.{Passing, places-start, passing-with
 use borrow.Author.Needs.{needs}
 use Rattle.server.proofs.in_order.Statement.{statement}
 use Rattle.server.proofs.in_order.Tie as tie
+
 abbrev Inv-loop : tie.InvT-loop
 Inv-loop row len i₀ i = Passing ordered (queueOf row len) 0 i
 

@@ -9,6 +9,7 @@ use Rattle.server.proofs.CallLaws.{message-broken, message-range, messa
 use borrow.Author.Needs.{needs}
 use Rattle.server.proofs.message_row.Statement.{statement}
 use Rattle.server.proofs.message_row.Tie as tie
+
 -- the record is tested
 module _ (c : tie.After-valid-row) where
   abbrev entry : tie.Start

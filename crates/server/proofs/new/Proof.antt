@@ -4,6 +4,7 @@ use Rattle.server.proofs.CallLaws.{new-few, new-other, new-made}
 use borrow.Author.Needs.{needs}
 use Rattle.server.proofs.new.Statement.{statement}
 use Rattle.server.proofs.new.Tie as tie
+
 -- the server's number is compared
 module _ (c : tie.After-within-limit2) where
   abbrev few : tie.Else1

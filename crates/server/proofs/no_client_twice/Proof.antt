@@ -6,6 +6,7 @@ use Rattle.server.proofs.ValidLaws.{Passing, places-start, single-on, s
 use borrow.Author.Needs.{needs}
 use Rattle.server.proofs.no_client_twice.Statement.{statement}
 use Rattle.server.proofs.no_client_twice.Tie as tie
+
 abbrev Inv-loop : tie.InvT-loop
 Inv-loop row len i₀ i = Passing once (queueOf row len) 0 i
 

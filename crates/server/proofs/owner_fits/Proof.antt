@@ -3,6 +3,7 @@ use Rattle.server.proofs.RecordLaws.{fits-nobody, fits-owner}
 use borrow.Author.Needs.{needs}
 use Rattle.server.proofs.owner_fits.Statement.{statement}
 use Rattle.server.proofs.owner_fits.Tie as tie
+
 returns : tie.Need-returns
 returns c = fits-nobody _ _ (c .before .before .before .pre) _ (c .enum-told .given .1)
 

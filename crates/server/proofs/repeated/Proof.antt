@@ -4,6 +4,7 @@ use Rattle.server.proofs.ValidLaws.{repeats-by-search}
 use borrow.Author.Needs.{needs}
 use Rattle.server.proofs.repeated.Statement.{statement}
 use Rattle.server.proofs.repeated.Tie as tie
+
 request-at-requires : tie.Need-request-at-requires
 request-at-requires c κs = let e = c .before in (e .pre .1 .places, omega (arith, e .pre .1 .within, e .pre .1 .places .even))
 

@@ -6,6 +6,7 @@ use Rattle.server.proofs.CallLaws.{suspect-broken, suspect-nobody, susp
 use borrow.Author.Needs.{needs}
 use Rattle.server.proofs.suspect_row.Statement.{statement}
 use Rattle.server.proofs.suspect_row.Tie as tie
+
 -- the record is tested
 module _ (c : tie.After-valid-row) where
   abbrev entry : tie.Start

@@ -3,6 +3,7 @@ use Rattle.server.proofs.TurnLaws.{takes-not, takes-full, takes}
 use borrow.Author.Needs.{needs}
 use Rattle.server.proofs.take_row.Statement.{statement}
 use Rattle.server.proofs.take_row.Tie as tie
+
 -- the address is compared
 module _ (c : tie.After-struct-known2) where
   abbrev entry : tie.Start

@@ -5,6 +5,7 @@ use Rattle.server.specs.declared.Server.{Server}
 use borrow.Author.Needs.{needs}
 use Rattle.server.proofs.unmade.Statement.{statement}
 use Rattle.server.proofs.unmade.Tie as tie
+
 returns : tie.Need-returns
 returns c = ap (λ (s : Server). record { server = s; answer = Refused (c .before .args .e) }) (c .empty-server .ensures)
 

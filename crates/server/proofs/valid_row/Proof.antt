@@ -3,6 +3,7 @@ use Rattle.server.proofs.RecordLaws.{server-1, server-2, server-3, serv
 use borrow.Author.Needs.{needs}
 use Rattle.server.proofs.valid_row.Statement.{statement}
 use Rattle.server.proofs.valid_row.Tie as tie
+
 -- n is in range
 module _ (c : tie.Else1) where
   abbrev entry : tie.Start

@@ -3,6 +3,7 @@ use Rattle.server.proofs.RecordLaws.{votes-1, votes-2, votes-3, votes-4
 use borrow.Author.Needs.{needs}
 use Rattle.server.proofs.valid_votes.Statement.{statement}
 use Rattle.server.proofs.valid_votes.Tie as tie
+
 -- the owner is valid, and so are those who wait
 module _ (c : tie.Else2) where
   abbrev one : tie.Else1
