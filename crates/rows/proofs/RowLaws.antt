@@ -31,6 +31,10 @@ unfolding requestWords
 length-words [] = refl
 length-words (q ∷ l) = omega (arith, length-words l)
 
+pub length-row-of : (size : ℕ) (l : List Request) → 2 * length l ≤ size → length (rowOf size l) ≡ size
+unfolding rowOf
+length-row-of size l h = simp (length-append, length-replicate) (omega (arith, length-words l))
+
 -- a list in a row of so many words
 pub row-of-holds : (row : List ℕ) (n : ℕ) (l : List Request) → length row ≡ 2 * n → length l ≤ n → every fitsPlace l ≡ true → Holds row (rowOf (length row) l) (length l) l
 unfolding rowOf

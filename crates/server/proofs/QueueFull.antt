@@ -1,46 +1,33 @@
 -- Refusal 14 is a REQUEST's alone: every other message leaves the queue at most as long as it was.
-use mathlib.Core.Path.{_≡_, refl, ap}
+use mathlib.Core.Path.{_≡_, refl}
 use Prim.Native.Nat.{ℕ, _*_, _≤_}
 use native.Mathlib.Omega.{arith}
 use mathlib.Core.Bool.{true, false}
-use mathlib.Core.List.{List}
 use mathlib.Core.Option.{Option, none, some}
 use mathlib.Core.Logic.{_⊎_, inl, inr}
 use lib.Dec.{ltb}
 use lib.ListN.{length}
 use borrow.Author.Tests.{le-ltb}
 use Rattle.ids.specs.Choice.{maybe}
-use Rattle.ids.specs.Requests.{isRequest}
 use Rattle.ids.specs.declared.ServerId.{ServerId}
 use Rattle.ids.specs.declared.Timestamp.{Timestamp}
 use Rattle.ids.specs.declared.Request.{Request as Pair}
-use Rattle.ids.specs.declared.Owner.{Owner}
-use Rattle.ids.specs.declared.Owner.the-variants.{Nobody, Of}
 use Rattle.ids.proofs.Choice.{decided}
 use Rattle.wire.specs.Step.{stepped}
 use Rattle.votes.specs.declared.Tag.{Tag}
 use Rattle.votes.specs.declared.Tag.the-variants.{Request as REQUEST, Yield as YIELD, Release as RELEASE, Inquiry as INQUIRY}
-use Rattle.rows.specs.Queue.{timestampIn, insert}
-use Rattle.rows.proofs.ListLaws.{length-insert}
-use Rattle.votes.specs.Figure1.{State, candidates, promote, delete, act, compare, receive}
-use Rattle.votes.proofs.RoomLaws.{informed-state, length-promoted, length-deleted}
+use Rattle.rows.specs.Queue.{timestampIn}
+use Rattle.votes.specs.Figure1.{State, candidates, delete, act, compare, receive}
+use Rattle.votes.proofs.RoomLaws.{length-deleted, length-yielded, length-inquired}
 use Rattle.server.specs.Calls.{held}
 
 module _ (j : ServerId) where
   act-shorter : (tag : Tag) (r : Pair) (q : State) → (tag ≡ REQUEST → ⊥) → length (act j tag r q .state .queue) ≤ length (q .queue)
   unfolding act
   act-shorter REQUEST r q n = absurd (n refl)
-  act-shorter YIELD r q n = go (decided (isRequest r (q .owner)))
-    where
-      go : (isRequest r (q .owner) ≡ true) ⊎ (isRequest r (q .owner) ≡ false) → length (act j YIELD r q .state .queue) ≤ length (q .queue)
-      go (inl e) = rw e (omega (arith, ap (λ (x : State). length (x .queue)) (informed-state j (r .client) (promote j (insert r (q .queue)) .state)), length-promoted j (insert r (q .queue)), length-insert r (q .queue)))
-      go (inr e) = rw e (omega (arith, ap (λ (x : State). length (x .queue)) (informed-state j (r .client) q)))
+  act-shorter YIELD r q n = length-yielded j r (q .queue) (q .owner)
   act-shorter RELEASE r q n = length-deleted j r q
-  act-shorter INQUIRY r q n = go (q .owner) (q .queue)
-    where
-      go : (o : Owner) (l : List Pair) → length (act j INQUIRY r (record { owner = o; queue = l }) .state .queue) ≤ length l
-      go Nobody l = omega arith
-      go (Of x) l = omega (arith, ap (λ (y : State). length (y .queue)) (informed-state j (r .client) (record { owner = Of x; queue = l })))
+  act-shorter INQUIRY r q n = length-inquired j r (q .queue) (q .owner)
 
   receive-shorter : (tag : Tag) (r : Pair) (q : State) → (tag ≡ REQUEST → ⊥) → length (receive j tag r q .state .queue) ≤ length (q .queue)
   unfolding receive

@@ -66,30 +66,30 @@ module _ (j : ServerId) (r : Request) where
     yielded-head true o = omega (arith, length-promoted j (insert r l), length-insert r l)
     yielded-head false o = omega arith
 
-    inquired : (o : Owner) → length (act j INQUIRY r (record { owner = o; queue = l }) .state .queue) ≤ length l
+    pub length-inquired : (o : Owner) → length (act j INQUIRY r (record { owner = o; queue = l }) .state .queue) ≤ length l
     unfolding act
-    inquired Nobody = omega arith
-    inquired (Of o) = omega (arith, ap (λ (x : State). length (x .queue)) (informed-state j (r .client) (record { owner = Of o; queue = l })))
+    length-inquired Nobody = omega arith
+    length-inquired (Of o) = omega (arith, ap (λ (x : State). length (x .queue)) (informed-state j (r .client) (record { owner = Of o; queue = l })))
 
-    yielded : (o : Owner) → length (act j YIELD r (record { owner = o; queue = l }) .state .queue) ≤ length l
+    pub length-yielded : (o : Owner) → length (act j YIELD r (record { owner = o; queue = l }) .state .queue) ≤ length l
     unfolding act
-    yielded o =
+    length-yielded o =
         let x = (if isRequest r o then promote j (insert r l) else stay (record { owner = o; queue = l })) .state in
         omega (arith, ap (λ (x : State). length (x .queue)) (informed-state j (r .client) x), yielded-head (isRequest r o) o)
 
   pub length-acted : (tag : Tag) (q : State) → length (act j tag r q .state .queue) ≤ suc (length (q .queue))
   unfolding act
   length-acted REQUEST q = requested-head (q .queue) (isClient (r .client) (q .owner)) (q .owner)
-  length-acted YIELD q = omega (arith, yielded (q .queue) (q .owner))
+  length-acted YIELD q = omega (arith, length-yielded (q .queue) (q .owner))
   length-acted RELEASE q = omega (arith, length-deleted j r q)
-  length-acted INQUIRY q = omega (arith, inquired (q .queue) (q .owner))
+  length-acted INQUIRY q = omega (arith, length-inquired (q .queue) (q .owner))
 
   acted-alone : (tag : Tag) (l : List Request) → length (act j tag r (record { owner = Nobody; queue = l }) .state .queue) ≤ length l
   unfolding act
   acted-alone REQUEST l = omega arith
-  acted-alone YIELD l = yielded l Nobody
+  acted-alone YIELD l = length-yielded l Nobody
   acted-alone RELEASE l = length-deleted j r (record { owner = Nobody; queue = l })
-  acted-alone INQUIRY l = inquired l Nobody
+  acted-alone INQUIRY l = length-inquired l Nobody
 
   promoted-acted : (tag : Tag) (l : List Request) → length (act j tag r (promote j l .state) .state .queue) ≤ length l
   unfolding promote
