@@ -378,6 +378,7 @@ fn finish(s: Server, t: Turned, row: [u32; ROW_WORDS], out: &mut [u8]) -> Steppe
     }
 }
 
+// `valid_row` of a record by value.
 pub fn valid_server(s: Server) -> bool
     ensures { λ b. ⌜ b ≡ valid s ⌝ }
 {

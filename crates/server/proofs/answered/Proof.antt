@@ -5,7 +5,10 @@ use Rattle.server.proofs.answered.Statement.{statement}
 use Rattle.server.proofs.answered.Tie as tie
 
 returns : tie.Need-returns
-returns c = answers-done (c .before .before .before .before .before .before .before .args .t) _ _ _ (c .before .before .before .before .enum-told .given .1) (c .before .before .send .ensures)
+returns c =
+    let sent = c .before .before in
+    let told = sent .before .before in
+    answers-done (told .before .before .before .args .t) _ _ _ (told .enum-told .given .1) (sent .send .ensures)
 
 returns-2 : tie.Need-returns-2
 returns-2 c = answers-refused (c .before .before .before .before .args .t) _ _ (c .before .ruling .given .1)

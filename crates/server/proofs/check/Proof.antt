@@ -4,8 +4,13 @@ use borrow.Author.Needs.{needs}
 use Rattle.server.proofs.check.Statement.{statement}
 use Rattle.server.proofs.check.Tie as tie
 
+-- the call on the row is made
+module _ (c : tie.After-check-row) where
+  abbrev entry : tie.Start
+  entry = c .before .before .before .before .before
+
 returns : tie.Need-returns
-returns c = turns-by-value (c .before .before .before .before .before .before .before .before .before .args .s) _ _ _ _ _ _ (c .before .before .before .before .check-row .ensures) (c .before .before .finish .ensures)
+returns c = let made = c .before .before .before .before in turns-by-value (entry made .args .s) _ _ _ _ _ _ (made .check-row .ensures) (c .before .before .finish .ensures)
 
 pub check-spec : {M : Type 1} → statement M
 check-spec =

@@ -11,8 +11,9 @@ module _ (c : tie.After-answered) where
 
 returns : tie.Need-returns
 returns c =
-    let d = c .before .before .before .before .before in
-    (keeps-sent (entry d .args .s) _ _ _ _ (d .answered .ensures .0) _ _ (c .before .enum-told .given .1), d .answered .ensures .1)
+    let told = c .before in
+    let d = told .before .before .before .before in
+    (keeps-sent (entry d .args .s) _ _ _ _ (d .answered .ensures .0) _ _ (told .enum-told .given .1), d .answered .ensures .1)
 
 returns-2 : tie.Need-returns-2
 returns-2 c =

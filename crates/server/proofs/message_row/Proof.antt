@@ -37,40 +37,44 @@ returns-2 c =
     message-range (from v .args .h) _ _ _ (v .before .valid-row .ensures) (v .if1 .left) _ _ (c .before .before .valid-message .ensures) (c .before .if2 .taken) (c .refuse2 .ensures)
 
 take-row-requires : tie.Need-take-row-requires
-take-row-requires c κs = padded (c .before .before .before .before .before .before)
+take-row-requires c κs = padded (one (c .before .before .before .before))
 
 take-row-requires-2 : tie.Need-take-row-requires-2
-take-row-requires-2 c κs = padded (c .before .before .before .before .before .before)
+take-row-requires-2 c κs = padded (one (c .before .before .before .before))
 
 take-row-requires-3 : tie.Need-take-row-requires-3
-take-row-requires-3 c κs = padded (c .before .before .before .before .before .before)
+take-row-requires-3 c κs = padded (one (c .before .before .before .before))
 
 take-row-requires-4 : tie.Need-take-row-requires-4
-take-row-requires-4 c κs = padded (c .before .before .before .before .before .before)
+take-row-requires-4 c κs = padded (one (c .before .before .before .before))
 
 returns-3 : tie.Need-returns-3
 returns-3 c =
     let did = c .before .before in
-    let w = did .before .before .before .before .before in
-    message-taken (from (one w) .args .h) _ _ _ (one w .before .valid-row .ensures) (one w .if1 .left) _ _ (w .before .valid-message .ensures) (w .if2 .left) _ _ (ap (received (serverOf (from (one w) .args .h) (now (from (one w) .args .row)))) (did .before .before .before .m .given .1)) (did .take-row .ensures)
+    let told = did .before .before .before in
+    let w = told .before .before in
+    message-taken (from (one w) .args .h) _ _ _ (one w .before .valid-row .ensures) (one w .if1 .left) _ _ (w .before .valid-message .ensures) (w .if2 .left) _ _ (ap (received (serverOf (from (one w) .args .h) (now (from (one w) .args .row)))) (told .m .given .1)) (did .take-row .ensures)
 
 returns-4 : tie.Need-returns-4
 returns-4 c =
     let did = c .before .before in
-    let w = did .before .before .before .before .before in
-    message-taken (from (one w) .args .h) _ _ _ (one w .before .valid-row .ensures) (one w .if1 .left) _ _ (w .before .valid-message .ensures) (w .if2 .left) _ _ (ap (received (serverOf (from (one w) .args .h) (now (from (one w) .args .row)))) (did .before .before .before .m2 .given .1)) (did .take-row2 .ensures)
+    let told = did .before .before .before in
+    let w = told .before .before in
+    message-taken (from (one w) .args .h) _ _ _ (one w .before .valid-row .ensures) (one w .if1 .left) _ _ (w .before .valid-message .ensures) (w .if2 .left) _ _ (ap (received (serverOf (from (one w) .args .h) (now (from (one w) .args .row)))) (told .m2 .given .1)) (did .take-row2 .ensures)
 
 returns-5 : tie.Need-returns-5
 returns-5 c =
     let did = c .before .before in
-    let w = did .before .before .before .before .before in
-    message-taken (from (one w) .args .h) _ _ _ (one w .before .valid-row .ensures) (one w .if1 .left) _ _ (w .before .valid-message .ensures) (w .if2 .left) _ _ (ap (received (serverOf (from (one w) .args .h) (now (from (one w) .args .row)))) (did .before .before .before .m3 .given .1)) (did .take-row3 .ensures)
+    let told = did .before .before .before in
+    let w = told .before .before in
+    message-taken (from (one w) .args .h) _ _ _ (one w .before .valid-row .ensures) (one w .if1 .left) _ _ (w .before .valid-message .ensures) (w .if2 .left) _ _ (ap (received (serverOf (from (one w) .args .h) (now (from (one w) .args .row)))) (told .m3 .given .1)) (did .take-row3 .ensures)
 
 returns-6 : tie.Need-returns-6
 returns-6 c =
     let did = c .before .before in
-    let w = did .before .before .before .before .before in
-    message-taken (from (one w) .args .h) _ _ _ (one w .before .valid-row .ensures) (one w .if1 .left) _ _ (w .before .valid-message .ensures) (w .if2 .left) _ _ (ap (received (serverOf (from (one w) .args .h) (now (from (one w) .args .row)))) (did .before .before .before .m4 .given .1)) (did .take-row4 .ensures)
+    let told = did .before .before .before in
+    let w = told .before .before in
+    message-taken (from (one w) .args .h) _ _ _ (one w .before .valid-row .ensures) (one w .if1 .left) _ _ (w .before .valid-message .ensures) (w .if2 .left) _ _ (ap (received (serverOf (from (one w) .args .h) (now (from (one w) .args .row)))) (told .m4 .given .1)) (did .take-row4 .ensures)
 
 returns-7 : tie.Need-returns-7
 returns-7 c =

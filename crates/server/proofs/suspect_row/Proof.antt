@@ -24,18 +24,20 @@ returns : tie.Need-returns
 returns c = let d = c .before .before in suspect-broken (entry d .args .h) _ _ _ (d .valid-row .ensures) (c .before .if1 .taken) (c .refuse .ensures)
 
 delete-requires : tie.Need-delete-requires
-delete-requires c κs = padded (c .before .before .before .before .before .before)
+delete-requires c κs = let owned = c .before .before in padded (owned .before .before .before .before)
 
 returns-2 : tie.Need-returns-2
 returns-2 c =
-    let v = c .before .before .before .before .before in
-    suspect-nobody (from v .args .h) _ _ _ (v .before .valid-row .ensures) (v .if1 .left) (c .before .enum-told .given .1) (c .refuse2 .ensures)
+    let none = c .before in
+    let v = none .before .before .before .before in
+    suspect-nobody (from v .args .h) _ _ _ (v .before .valid-row .ensures) (v .if1 .left) (none .enum-told .given .1) (c .refuse2 .ensures)
 
 returns-3 : tie.Need-returns-3
 returns-3 c =
     let gone = c .before .before .before in
-    let v = gone .before .before .before .before .before .before .before in
-    suspect-done (from v .args .h) _ _ _ (v .before .valid-row .ensures) (v .if1 .left) (padded v) _ (gone .before .before .before .owner .given .1) _ _ (gone .delete .ensures) (c .done .ensures)
+    let owned = gone .before .before .before in
+    let v = owned .before .before .before .before in
+    suspect-done (from v .args .h) _ _ _ (v .before .valid-row .ensures) (v .if1 .left) (padded v) _ (owned .owner .given .1) _ _ (gone .delete .ensures) (c .done .ensures)
 
 pub suspect-row-spec : {M : Type 1} → statement M
 suspect-row-spec =

@@ -5,10 +5,10 @@ use borrow.Author.Needs.{needs}
 use Rattle.votes.proofs.compare.Statement.{statement}
 use Rattle.votes.proofs.compare.Tie as tie
 
--- the message is not an older one
-module _ (c : tie.Else1) where
+-- the timestamps are there to compare
+module _ (c : tie.After-struct-known2) where
   abbrev entry : tie.Start
-  entry = c .before .before .before .before .before
+  entry = c .before .before .before .before
 
 -- the older pair is gone
 module _ (c : tie.After-delete) where
@@ -16,13 +16,13 @@ module _ (c : tie.After-delete) where
   newer = c .before .before .before
 
   abbrev from : tie.Start
-  from = entry (newer .before .before .before)
+  from = entry (newer .before .before .before .before)
 
   padded : Padded (c .delete .last .1 .1 .1 .0) (c .delete .result .votes .len)
   padded = deleted-padded _ (from .args .tag) (from .args .r) (from .args .v) _ (from .pre .0) _ _ _ (c .delete .ensures)
 
 returns : tie.Need-returns
-returns c = let e = c .before .before .before .before .before .before in compares-older _ _ (e .args .r) (e .args .v) _ (e .pre .0) _ _ (c .before .if1 .taken) (c .still .ensures)
+returns c = let e = entry (c .before .before) in compares-older _ _ (e .args .r) (e .args .v) _ (e .pre .0) _ _ (c .before .if1 .taken) (c .still .ensures)
 
 act-requires : tie.Need-act-requires
 act-requires c κs = padded (c .before .before .before)
@@ -37,8 +37,9 @@ returns-2 c =
 returns-3 : tie.Need-returns-3
 returns-3 c =
     let acted = c .before .before in
-    let e = entry (acted .before .before .before .before .before) in
-    compares-same _ _ (e .args .r) (e .args .v) _ (e .pre .0) _ _ _ (acted .before .before .before .before .before .if1 .left) (acted .before .before .if2 .left) (acted .act2 .ensures)
+    let one = acted .before .before .before .before .before in
+    let e = entry (one .before) in
+    compares-same _ _ (e .args .r) (e .args .v) _ (e .pre .0) _ _ _ (one .if1 .left) (acted .before .before .if2 .left) (acted .act2 .ensures)
 
 pub compare-spec : {M : Type 1} → statement M
 compare-spec =

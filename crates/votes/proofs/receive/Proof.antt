@@ -14,13 +14,16 @@ compare-requires c κs = let seen = c .before .before .before .before in (entry 
 
 returns : tie.Need-returns
 returns c =
-    let seen = c .before .before .before .before .before .before in
-    receives-new _ _ (entry seen .args .r) _ _ _ _ _ (seen .standing-of .ensures) (c .before .before .before .before .enum-told .given .1) (c .before .before .act .ensures)
+    let acted = c .before .before in
+    let seen = acted .before .before .before .before in
+    receives-new _ _ (entry seen .args .r) _ _ _ _ _ (seen .standing-of .ensures) (acted .before .before .enum-told .given .1) (acted .act .ensures)
 
 returns-2 : tie.Need-returns-2
 returns-2 c =
-    let seen = c .before .before .before .before .before .before .before in
-    receives-known _ _ (entry seen .args .r) _ _ _ _ _ (seen .standing-of .ensures) _ (c .before .before .before .before .before .s .given .1) (c .before .before .compare .ensures)
+    let compared = c .before .before in
+    let stands = compared .before .before .before in
+    let seen = stands .before .before in
+    receives-known _ _ (entry seen .args .r) _ _ _ _ _ (seen .standing-of .ensures) _ (stands .s .given .1) (compared .compare .ensures)
 
 pub receive-spec : {M : Type 1} → statement M
 receive-spec =
