@@ -3,7 +3,7 @@ use Prim.Native.Nat.{ℕ, _+_, _*_, _-_, _<_, _≤_}
 use native.Mathlib.Omega.{arith}
 use mathlib.Core.Path.{_≡_, refl, sym, ap, subst, _∙_}
 use mathlib.Core.Bool.{Bool, true, false, false≢true}
-use mathlib.Core.List.{List, [], _∷_}
+use mathlib.Core.List.{List, [], _∷_, _++_}
 use mathlib.Core.Option.{none}
 use lib.ListN.{length, getD, drop}
 use lib.Seq.{drop-cons, getD-take}
@@ -25,16 +25,18 @@ use Rattle.wire.specs.Step.{Step, stay, tell}
 use Rattle.wire.specs.declared.Message.{Message}
 use Rattle.wire.specs.declared.Message.the-variants.{Response}
 use Rattle.votes.specs.declared.Votes.{Votes}
+use Rattle.votes.specs.declared.Mail.{Mail}
+use Rattle.votes.specs.declared.Mail.the-variants.{Nothing, One}
 use Rattle.votes.specs.declared.Moved.{Moved}
 use Rattle.votes.specs.Figure1.{State, idle, enqueue, promote, delete}
 use Rattle.votes.specs.Queues.{view}
-use Rattle.votes.specs.Places.{MovesOne, still, telling, overflowing, leading, joining, informed}
+use Rattle.votes.specs.Places.{mails, MovesOne, still, telling, overflowing, leading, joining, informed}
 use Rattle.votes.proofs.ListLaws.{timestamp-first, timestamp-none}
 
 -- nothing sent, and one message sent
 module _ (row after : List ℕ) (m : Moved) (v : Votes) (s : Step State) (H : Holds row after (v .len) (s .state .queue)) (o : v .owner ≡ s .state .owner) where
-  pub moves-still : m ≡ still v → [] ≡ s .sent → MovesOne row after m s
-  moves-still e p =
+  sends : (x : Mail) → m ≡ record { votes = v; full = false; first = x; second = Nothing; third = Nothing } → mails x ++ [] ++ [] ≡ s .sent → MovesOne row after m s
+  sends x e p =
       record {
         moves = record {
           full = rw (e, le-ltb _ _ (holds-fits _ _ _ _ H));
@@ -47,19 +49,11 @@ module _ (row after : List ℕ) (m : Moved) (v : Votes) (s : Step State) (H : Ho
         third = rw e;
       }
 
+  pub moves-still : m ≡ still v → [] ≡ s .sent → MovesOne row after m s
+  moves-still e p = sends Nothing e p
+
   pub moves-telling : (x : Message) → m ≡ telling v x → x ∷ [] ≡ s .sent → MovesOne row after m s
-  moves-telling x e p =
-      record {
-        moves = record {
-          full = rw (e, le-ltb _ _ (holds-fits _ _ _ _ H));
-          kept = λ f. absurd (false≢true (rw e at f));
-          owner = λ f. rw e o;
-          queue = λ f. rw e H;
-          sent = rw e p;
-        };
-        second = rw e;
-        third = rw e;
-      }
+  moves-telling x e p = sends (One x) e p
 
 -- the row is too short, and stays
 pub moves-overflowing : (row : List ℕ) (m : Moved) (v : Votes) (s : Step State) (x : Message) → length row < 2 * length (s .state .queue) → m ≡ overflowing v x → x ∷ [] ≡ s .sent → MovesOne row row m s
