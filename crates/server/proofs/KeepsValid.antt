@@ -1,21 +1,20 @@
 -- Every step of a valid server gives a valid server: insertion and removal keep a queue strictly in order and its clients apart.
-use Prim.Native.Nat.{ℕ, zero, suc, _-_, _≤_}
+use Prim.Native.Nat.{ℕ, suc, _*_, _≤_}
 use native.Mathlib.Omega.{arith}
-use mathlib.Core.Path.{_≡_, refl, sym, ap, _∙_, subst}
+use mathlib.Core.Path.{_≡_, refl, sym, ap, subst}
 use mathlib.Core.Bool.{Bool, true, false, _&&_}
-use mathlib.Core.List.{List, [], _∷_, _++_}
+use mathlib.Core.List.{List, [], _∷_}
 use mathlib.Core.Option.{Option, none, some}
 use mathlib.Core.Logic.{⊎-elim}
 use lib.Dec.{eqb, leb, ltb}
-use lib.ListN.{length, replicate, take, drop, length-take}
-use lib.Seq.{take-at, drop-at}
-use borrow.Author.Tests.{ltb-false, leb-true, le-leb, eqb-true, eqb-false, eq-eqb, ne-eqb}
+use lib.ListN.{length}
+use borrow.Author.Tests.{ltb-false, eqb-true, eqb-false, eq-eqb, ne-eqb}
 use Rattle.ids.specs.Choice.{if_then_else_, maybe}
 use Rattle.ids.specs.Order.{before}
-use Rattle.ids.specs.Limits.{validRequest, validOwner, validStamped, validParties, validClient, validServer, validTimestamp}
+use Rattle.ids.specs.Limits.{maxServers, validRequest, validOwner, validStamped, validParties, validClient, validServer, validTimestamp}
 use Rattle.ids.specs.declared.Refusal.{Refusal}
 use Rattle.ids.specs.declared.Refusal.the-variants.{QueueFull, NotForServer, NumberOutOfRange, NoOwner}
-use Rattle.ids.specs.Requests.{same, noRequest, isRequest, byOwner}
+use Rattle.ids.specs.Requests.{same, isRequest, byOwner}
 use Rattle.ids.specs.declared.ClientId.{ClientId}
 use Rattle.ids.specs.declared.ServerId.{ServerId}
 use Rattle.ids.specs.declared.Request.{Request as Pair}
@@ -32,14 +31,20 @@ use Rattle.wire.specs.declared.Message.the-variants.{Request, Yield, Release, I
 use Rattle.wire.specs.Format as format
 use Rattle.votes.specs.declared.Tag.{Tag}
 use Rattle.votes.specs.declared.Tag.the-variants.{Request as REQUEST, Yield as YIELD, Release as RELEASE, Inquiry as INQUIRY}
-use Rattle.votes.specs.Figure1.{State, candidates, timestampIn, insert, enqueue, without, promote, delete, inform, act, compare, receive, suspect, check}
-use Rattle.votes.proofs.ActLaws.{informed-state, length-promoted}
-use Rattle.votes.proofs.ListLaws.{length-without}
+use Rattle.rows.specs.Rows.{requestsIn, rowOf, fitsPlace, Padded}
+use Rattle.rows.specs.Queue.{timestampIn, insert, without}
+use Rattle.rows.proofs.ListLaws.{length-without}
+use Rattle.rows.proofs.QueueLaws.{length-queue}
+use Rattle.rows.proofs.GoodLaws.{padded-good}
+use Rattle.rows.proofs.RowLaws.{row-of-holds}
+use Rattle.votes.specs.Figure1.{State, candidates, enqueue, promote, delete, inform, act, compare, receive, suspect, check}
+use Rattle.votes.proofs.RoomLaws.{informed-state, length-deleted}
 use Rattle.ids.specs.Lists.{every}
-use Rattle.server.specs.Record.{ordered, once, behindOwner, validState, validQueue, validSizes, valid}
-use Rattle.server.specs.Calls.{held, taken, received, messageOutcome, suspectOutcome, checkOutcome, serverAfter}
+use Rattle.server.specs.declared.Head.{Head}
 use Rattle.server.specs.declared.Server.{Server}
-use Rattle.votes.specs.Queues.{maxQueue, listOf, queueOf, view, store}
+use Rattle.server.specs.Record.{ordered, once, behindOwner, validState, validSizesUpTo, validUpTo, valid, view}
+use Rattle.server.specs.Calls.{held, taken, received, messageOutcomeUpTo, messageOutcome, suspectOutcome, checkOutcome, headAfter, rowAfter, serverAfter}
+use Rattle.server.proofs.RecordLaws.{valid-sized, valid-padded, valid-state}
 
 -- x stands before the head of l
 abbrev Above : Pair → List Pair → Type 0
@@ -316,114 +321,124 @@ module _ (j : ServerId) where
   unfolding check
   check-good q g = subst (λ (x : State). Good x) (sym (check-kept (q .owner) q)) g
 
-  delete-shortens : (r : Pair) (q : State) → length (delete j r q .state .queue) ≤ length (q .queue)
-  unfolding delete
-  delete-shortens r q =
-      let n = length-promoted j (q .queue) in
-      let l = length-without r (q .queue) in
-      ⊎-elim (λ (t : isRequest r (q .owner) ≡ true). rw t (omega arith)) (λ (t : isRequest r (q .owner) ≡ false). rw t l) (decided (isRequest r (q .owner)))
-
   owner-shortens : (o : Owner) (q : State) → length (byOwner o (stay q) (λ x. delete j x q) .state .queue) ≤ length (q .queue)
   owner-shortens Nobody q = omega arith
-  owner-shortens (Of o) q = delete-shortens o q
+  owner-shortens (Of o) q = length-deleted j o q
 
   suspect-shortens : (q : State) → length (suspect j q .state .queue) ≤ length (q .queue)
   unfolding suspect
   suspect-shortens q = owner-shortens (q .owner) q
 
--- the record of a good state is valid
-every-empties : (n : ℕ) → every (same noRequest) (replicate n noRequest) ≡ true
-unfolding same
-every-empties zero = refl
-every-empties (suc n) = every-empties n
+-- a valid request fits its place
+request-fits : (r : Pair) → validRequest r ≡ true → fitsPlace r ≡ true
+unfolding validRequest
+request-fits r v =
+    let (a, b) = both (validClient (r .client)) (validTimestamp (r .timestamp)) v in
+    both (leb 1 (r .client .0)) (fitsPlace r) a .1
 
-pub stored-valid : (n : ℕ) (j : ServerId) (q : State) → validSizes n j ≡ true → length (q .queue) ≤ 16 → Good q → valid (record { n = n; id = j; votes = store q }) ≡ true
-unfolding valid validQueue queueOf
-stored-valid n j q z f g =
-    let rest : drop (length (q .queue)) (q .queue ++ replicate (16 - length (q .queue)) noRequest) ≡ replicate (16 - length (q .queue)) noRequest = drop-at (q .queue) _ (length (q .queue)) refl in
-    let list : take (length (q .queue)) (q .queue ++ replicate (16 - length (q .queue)) noRequest) ≡ q .queue = take-at (q .queue) _ (length (q .queue)) refl in
-    rw (z, le-leb _ _ f, rest, every-empties (16 - length (q .queue)), list) (good-valid q g)
+requests-fit : (l : List Pair) → every validRequest l ≡ true → every fitsPlace l ≡ true
+requests-fit [] v = refl
+requests-fit (r ∷ l) v =
+    let (a, b) = both (validRequest r) (every validRequest l) v in
+    rw (request-fits r a) (requests-fit l b)
+
+-- the record of a good state is valid: head h's numbers, and the queue in as many words as the row has, which are places
+pub stored-valid : (limit : ℕ) (h : Head) (row : List ℕ) (n : ℕ) (p : Step State) → validSizesUpTo limit (h .n) (h .id) ≡ true → length row ≡ 2 * n → length (p .state .queue) ≤ n → Good (p .state)
+    → validUpTo limit (record { head = headAfter h (stepped p); row = rowAfter row (stepped p) }) ≡ true
+unfolding validUpTo
+stored-valid limit h row n p z e f g =
+    let q = p .state in
+    let H = row-of-holds row n (q .queue) e f (requests-fit (q .queue) (g .all)) in
+    rw (z, padded-good (rowOf (length row) (q .queue)) (length (q .queue)) (H .good), H .list) (good-valid q g)
 
 -- a valid record's state is good
-pub view-good : (s : Server) → valid s ≡ true → (validSizes (s .n) (s .id) ≡ true) × Good (view (s .votes))
-unfolding valid
-view-good s v =
-    let (ab, c) = both (validSizes (s .n) (s .id) && validQueue (s .votes .queue)) (validState (view (s .votes))) v in
-    (both (validSizes (s .n) (s .id)) (validQueue (s .votes .queue)) ab .0, valid-good (view (s .votes)) c)
+pub view-good : (limit : ℕ) (s : Server) → validUpTo limit s ≡ true → (validSizesUpTo limit (s .head .n) (s .head .id) ≡ true) × Good (view s)
+view-good limit s v = (valid-sized limit s v, valid-good (view s) (valid-state limit s v))
 
--- THE CALLS: an accepted step of a valid server leaves a valid server
+-- THE CALLS: an accepted step of a valid server leaves a valid server, whatever the limit of servers
 not-stepped : {A : Type 0} (e : Refusal) (p : Step State) → _≡_ {A = Outcome State} (refused e) (stepped p) → A
 not-stepped e p h = let z : _≡_ {A = ℕ} 0 1 = cc in absurd (omega arith)
 
-module _ (s : Server) (v : valid s ≡ true) where
-  its-good : Good (view (s .votes))
-  its-good = view-good s v .1
+module _ (limit : ℕ) (s : Server) (v : validUpTo limit s ≡ true) where
+  its-good : Good (view s)
+  its-good = view-good limit s v .1
 
-  kept : (q : State) → length (q .queue) ≤ 16 → Good q → valid (record { n = s .n; id = s .id; votes = store q }) ≡ true
-  kept q f g = stored-valid (s .n) (s .id) q (view-good s v .0) f g
+  its-padded : Padded (s .row) (s .head .votes .len)
+  its-padded = valid-padded limit s v
 
-  held-keeps : (x p : Step State) → Good (x .state) → held x ≡ stepped p → valid (record { n = s .n; id = s .id; votes = store (p .state) }) ≡ true
+  its-room : 2 * length (view s .queue) ≤ length (s .row)
+  its-room = omega (arith, length-queue (s .row) (s .head .votes .len) its-padded, its-padded .within, its-padded .places .even)
+
+  kept : (p : Step State) → 2 * length (p .state .queue) ≤ length (s .row) → Good (p .state) → validUpTo limit (serverAfter s (stepped p)) ≡ true
+  kept p f g =
+      let e = its-padded .places .even in
+      stored-valid limit (s .head) (s .row) (length (requestsIn (s .row))) p (view-good limit s v .0) e (omega arith) g
+
+  held-keeps : (x p : Step State) → Good (x .state) → held (length (s .row)) x ≡ stepped p → validUpTo limit (serverAfter s (stepped p)) ≡ true
   held-keeps x p g e =
       ⊎-elim
-      (λ (t : ltb maxQueue (length (x .state .queue)) ≡ true). not-stepped QueueFull p (rw t at e))
-      (λ (t : ltb maxQueue (length (x .state .queue)) ≡ false).
+      (λ (t : ltb (length (s .row)) (2 * length (x .state .queue)) ≡ true). not-stepped QueueFull p (rw t at e))
+      (λ (t : ltb (length (s .row)) (2 * length (x .state .queue)) ≡ false).
       let w : _≡_ {A = Outcome State} (stepped x) (stepped p) = rw t at e in
       let h : x ≡ p = cc in
-      rw (← h) (kept (x .state) (ltb-false _ _ t) g))
-      (decided (ltb maxQueue (length (x .state .queue))))
+      rw (← h) (kept x (ltb-false _ _ t) g))
+      (decided (ltb (length (s .row)) (2 * length (x .state .queue))))
 
-  taken-keeps : (tag : Tag) (k : ClientId) (j : ServerId) (t : Timestamp) (p : Step State) → validStamped k j t ≡ true → taken s tag k j t ≡ stepped p
-      → valid (record { n = s .n; id = s .id; votes = store (p .state) }) ≡ true
+  pub taken-keeps-valid : (tag : Tag) (k : ClientId) (j : ServerId) (t : Timestamp) (p : Step State) → validStamped k j t ≡ true → taken s tag k j t ≡ stepped p → validUpTo limit (serverAfter s (stepped p)) ≡ true
   unfolding validStamped validParties validRequest
-  taken-keeps tag k j t p w e =
+  taken-keeps-valid tag k j t p w e =
       let (a, b) = both (validParties k j) (validTimestamp t) w in
       let c : validClient k ≡ true = both (validClient k) (validServer j) a .0 in
       let r : validRequest (record { client = k; timestamp = t }) ≡ true = rw c b in
       ⊎-elim
-      (λ (d : eqb (j .0) (s .id .0) ≡ true). held-keeps _ p (receive-good (s .id) tag (record { client = k; timestamp = t }) (view (s .votes)) r its-good) (rw d at e))
-      (λ (d : eqb (j .0) (s .id .0) ≡ false). not-stepped NotForServer p (rw d at e))
-      (decided (eqb (j .0) (s .id .0)))
+      (λ (d : eqb (j .0) (s .head .id .0) ≡ true). held-keeps _ p (receive-good (s .head .id) tag (record { client = k; timestamp = t }) (view s) r its-good) (rw d at e))
+      (λ (d : eqb (j .0) (s .head .id .0) ≡ false). not-stepped NotForServer p (rw d at e))
+      (decided (eqb (j .0) (s .head .id .0)))
 
-  received-keeps : (m : Message) (p : Step State) → format.valid m ≡ true → received s m ≡ stepped p → valid (record { n = s .n; id = s .id; votes = store (p .state) }) ≡ true
+  received-keeps : (m : Message) (p : Step State) → format.valid m ≡ true → received s m ≡ stepped p → validUpTo limit (serverAfter s (stepped p)) ≡ true
   unfolding format.valid
-  received-keeps (Request k j t) p w e = taken-keeps REQUEST k j t p w e
-  received-keeps (Yield k j t) p w e = taken-keeps YIELD k j t p w e
-  received-keeps (Release k j t) p w e = taken-keeps RELEASE k j t p w e
-  received-keeps (Inquiry k j t) p w e = taken-keeps INQUIRY k j t p w e
+  received-keeps (Request k j t) p w e = taken-keeps-valid REQUEST k j t p w e
+  received-keeps (Yield k j t) p w e = taken-keeps-valid YIELD k j t p w e
+  received-keeps (Release k j t) p w e = taken-keeps-valid RELEASE k j t p w e
+  received-keeps (Inquiry k j t) p w e = taken-keeps-valid INQUIRY k j t p w e
   received-keeps (Response k j o) p w e = not-stepped NotForServer p e
   received-keeps (Check k j t) p w e = not-stepped NotForServer p e
 
-  pub message-keeps-valid : (m : Message) (p : Step State) → messageOutcome s m ≡ stepped p → valid (serverAfter s (stepped p)) ≡ true
-  unfolding messageOutcome
-  message-keeps-valid m p e =
+  pub message-keeps : (m : Message) (p : Step State) → messageOutcomeUpTo limit s m ≡ stepped p → validUpTo limit (serverAfter s (stepped p)) ≡ true
+  unfolding messageOutcomeUpTo
+  message-keeps m p e =
       ⊎-elim
       (λ (w : format.valid m ≡ true). received-keeps m p w (rw (v, w) at e))
       (λ (w : format.valid m ≡ false). not-stepped NumberOutOfRange p (rw (v, w) at e))
       (decided (format.valid m))
 
-  suspected-keeps : (o : Owner) (p : Step State) → byOwner {B = Outcome State} o (refused NoOwner) (λ x. stepped (suspect (s .id) (view (s .votes)))) ≡ stepped p → suspect (s .id) (view (s .votes)) ≡ p
-  suspected-keeps Nobody p e = not-stepped NoOwner p e
-  suspected-keeps (Of x) p e = cc
+  pub suspect-keeps : validUpTo limit (serverAfter s (stepped (suspect (s .head .id) (view s)))) ≡ true
+  suspect-keeps = kept (suspect (s .head .id) (view s)) (omega (arith, suspect-shortens (s .head .id) (view s), its-room)) (suspect-good (s .head .id) (view s) its-good)
 
-  its-length : length (listOf (s .votes .queue)) ≤ 16
-  unfolding valid validQueue
-  its-length =
-      let (ab, c) = both (validSizes (s .n) (s .id) && validQueue (s .votes .queue)) (validState (view (s .votes))) v in
-      let q : validQueue (s .votes .queue) ≡ true = both (validSizes (s .n) (s .id)) (validQueue (s .votes .queue)) ab .1 in
-      let w : s .votes .queue .len ≤ 16 = leb-true _ _ (both (leb (s .votes .queue .len) maxQueue) (every (same noRequest) (drop (s .votes .queue .len) (s .votes .queue .places))) q .0) in
-      omega (arith, length-take (s .votes .queue .len) (s .votes .queue .places))
+  pub check-keeps : validUpTo limit (serverAfter s (stepped (check (s .head .id) (view s)))) ≡ true
+  unfolding check
+  check-keeps =
+      let k : check (s .head .id) (view s) .state ≡ view s = check-kept (s .head .id) (s .head .votes .owner) (view s) in
+      kept (check (s .head .id) (view s)) (rw k its-room) (rw k its-good)
+
+-- and so with the calls' own limit
+module _ (s : Server) (v : valid s ≡ true) where
+  pub message-keeps-valid : (m : Message) (p : Step State) → messageOutcome s m ≡ stepped p → valid (serverAfter s (stepped p)) ≡ true
+  message-keeps-valid m p e = message-keeps maxServers s v m p e
+
+  suspected : (o : Owner) (p : Step State) → byOwner {B = Outcome State} o (refused NoOwner) (λ x. stepped (suspect (s .head .id) (view s))) ≡ stepped p → suspect (s .head .id) (view s) ≡ p
+  suspected Nobody p e = not-stepped NoOwner p e
+  suspected (Of x) p e = cc
 
   pub suspect-keeps-valid : (p : Step State) → suspectOutcome s ≡ stepped p → valid (serverAfter s (stepped p)) ≡ true
   unfolding suspectOutcome
   suspect-keeps-valid p e =
-      let h : suspect (s .id) (view (s .votes)) ≡ p = suspected-keeps (s .votes .owner) p (rw v at e) in
-      let f : length (suspect (s .id) (view (s .votes)) .state .queue) ≤ 16 = omega (arith, suspect-shortens (s .id) (view (s .votes)), its-length) in
-      rw (← h) (kept _ f (suspect-good (s .id) (view (s .votes)) its-good))
+      let h : suspect (s .head .id) (view s) ≡ p = suspected (s .head .votes .owner) p (rw v at e) in
+      rw (← h) (suspect-keeps maxServers s v)
 
   pub check-keeps-valid : (p : Step State) → checkOutcome s ≡ stepped p → valid (serverAfter s (stepped p)) ≡ true
-  unfolding checkOutcome check
+  unfolding checkOutcome
   check-keeps-valid p e =
-      let w : _≡_ {A = Outcome State} (stepped (check (s .id) (view (s .votes)))) (stepped p) = rw v at e in
-      let h : check (s .id) (view (s .votes)) ≡ p = cc in
-      let k : check (s .id) (view (s .votes)) .state ≡ view (s .votes) = check-kept (s .id) (s .votes .owner) (view (s .votes)) in
-      rw (← h, k) (kept (view (s .votes)) its-length its-good)
+      let w : _≡_ {A = Outcome State} (stepped (check (s .head .id) (view s))) (stepped p) = rw v at e in
+      let h : check (s .head .id) (view s) ≡ p = cc in
+      rw (← h) (check-keeps maxServers s v)

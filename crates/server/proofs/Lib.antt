@@ -1,7 +1,7 @@
 pub mod SendLaws
-pub mod FinishLaws
 pub mod ValidLaws
 pub mod RecordLaws
+pub mod TurnLaws
 pub mod CallLaws
 pub mod KeepsValid
 pub mod OwnResponse

@@ -24,7 +24,8 @@ use Rattle.wire.specs.declared.Message.{Message}
 use Rattle.wire.specs.declared.Message.the-variants.{Check}
 use Rattle.votes.specs.declared.Tag.{Tag}
 use Rattle.votes.specs.declared.Tag.the-variants.{Request as REQUEST, Yield as YIELD, Release as RELEASE, Inquiry as INQUIRY}
-use Rattle.votes.specs.Figure1.{State, candidates, timestampIn, insert, promote, delete, inform, act, compare, receive, suspect, check}
+use Rattle.rows.specs.Queue.{timestampIn, insert}
+use Rattle.votes.specs.Figure1.{State, candidates, promote, delete, inform, act, compare, receive, suspect, check}
 use Rattle.server.specs.Told.{own, isYield, givesBack, becomes}
 use Rattle.server.proofs.KeepsValid.{Single, Good, valid-good, delete-good}
 use Rattle.server.specs.Record.{validState}

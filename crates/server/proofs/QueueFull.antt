@@ -1,54 +1,33 @@
 -- Refusal 14 is a REQUEST's alone: every other message leaves the queue at most as long as it was.
-use mathlib.Core.Path.{_≡_, refl, ap}
-use Prim.Native.Nat.{_≤_}
+use mathlib.Core.Path.{_≡_, refl}
+use Prim.Native.Nat.{ℕ, _*_, _≤_}
 use native.Mathlib.Omega.{arith}
 use mathlib.Core.Bool.{true, false}
-use mathlib.Core.List.{List}
 use mathlib.Core.Option.{Option, none, some}
 use mathlib.Core.Logic.{_⊎_, inl, inr}
 use lib.Dec.{ltb}
 use lib.ListN.{length}
 use borrow.Author.Tests.{le-ltb}
 use Rattle.ids.specs.Choice.{maybe}
-use Rattle.ids.specs.Requests.{isRequest}
 use Rattle.ids.specs.declared.ServerId.{ServerId}
 use Rattle.ids.specs.declared.Timestamp.{Timestamp}
 use Rattle.ids.specs.declared.Request.{Request as Pair}
-use Rattle.ids.specs.declared.Owner.{Owner}
-use Rattle.ids.specs.declared.Owner.the-variants.{Nobody, Of}
 use Rattle.ids.proofs.Choice.{decided}
 use Rattle.wire.specs.Step.{stepped}
 use Rattle.votes.specs.declared.Tag.{Tag}
 use Rattle.votes.specs.declared.Tag.the-variants.{Request as REQUEST, Yield as YIELD, Release as RELEASE, Inquiry as INQUIRY}
-use Rattle.votes.specs.Figure1.{State, candidates, timestampIn, insert, promote, delete, act, compare, receive}
-use Rattle.votes.specs.Queues.{maxQueue}
-use Rattle.votes.proofs.ActLaws.{informed-state, length-promoted}
-use Rattle.votes.proofs.ListLaws.{length-without, length-insert}
+use Rattle.rows.specs.Queue.{timestampIn}
+use Rattle.votes.specs.Figure1.{State, candidates, delete, act, compare, receive}
+use Rattle.votes.proofs.RoomLaws.{length-deleted, length-yielded, length-inquired}
 use Rattle.server.specs.Calls.{held}
 
 module _ (j : ServerId) where
-  delete-shorter : (r : Pair) (q : State) → length (delete j r q .state .queue) ≤ length (q .queue)
-  unfolding delete
-  delete-shorter r q = go (decided (isRequest r (q .owner)))
-    where
-      go : (isRequest r (q .owner) ≡ true) ⊎ (isRequest r (q .owner) ≡ false) → length (delete j r q .state .queue) ≤ length (q .queue)
-      go (inl e) = rw e (omega (arith, length-promoted j (q .queue)))
-      go (inr e) = rw e (length-without r (q .queue))
-
   act-shorter : (tag : Tag) (r : Pair) (q : State) → (tag ≡ REQUEST → ⊥) → length (act j tag r q .state .queue) ≤ length (q .queue)
   unfolding act
   act-shorter REQUEST r q n = absurd (n refl)
-  act-shorter YIELD r q n = go (decided (isRequest r (q .owner)))
-    where
-      go : (isRequest r (q .owner) ≡ true) ⊎ (isRequest r (q .owner) ≡ false) → length (act j YIELD r q .state .queue) ≤ length (q .queue)
-      go (inl e) = rw e (omega (arith, ap (λ (x : State). length (x .queue)) (informed-state j (r .client) (promote j (insert r (q .queue)) .state)), length-promoted j (insert r (q .queue)), length-insert r (q .queue)))
-      go (inr e) = rw e (omega (arith, ap (λ (x : State). length (x .queue)) (informed-state j (r .client) q)))
-  act-shorter RELEASE r q n = delete-shorter r q
-  act-shorter INQUIRY r q n = go (q .owner) (q .queue)
-    where
-      go : (o : Owner) (l : List Pair) → length (act j INQUIRY r (record { owner = o; queue = l }) .state .queue) ≤ length l
-      go Nobody l = omega arith
-      go (Of x) l = omega (arith, ap (λ (y : State). length (y .queue)) (informed-state j (r .client) (record { owner = Of x; queue = l })))
+  act-shorter YIELD r q n = length-yielded j r (q .queue) (q .owner)
+  act-shorter RELEASE r q n = length-deleted j r q
+  act-shorter INQUIRY r q n = length-inquired j r (q .queue) (q .owner)
 
   receive-shorter : (tag : Tag) (r : Pair) (q : State) → (tag ≡ REQUEST → ⊥) → length (receive j tag r q .state .queue) ≤ length (q .queue)
   unfolding receive
@@ -59,7 +38,7 @@ module _ (j : ServerId) where
       compared t (inl a) b = rw a (omega arith)
       compared t (inr a) (inl b) =
           let old : Pair = record { client = r .client; timestamp = t } in
-          rw (a, b) (omega (arith, act-shorter tag r (delete j old q .state) n, delete-shorter old q))
+          rw (a, b) (omega (arith, act-shorter tag r (delete j old q .state) n, length-deleted j old q))
       compared t (inr a) (inr b) = rw (a, b) (act-shorter tag r q n)
 
       go : (o : Option Timestamp) → length (maybe o (act j tag r q) (compare j tag r q) .state .queue) ≤ length (q .queue)
@@ -67,5 +46,5 @@ module _ (j : ServerId) where
       go (some t) = compared t (decided (ltb (r .timestamp .0) (t .0))) (decided (ltb (t .0) (r .timestamp .0)))
 
   -- no message but a REQUEST is refused 14
-  pub full-by-request : (tag : Tag) (r : Pair) (q : State) → (tag ≡ REQUEST → ⊥) → length (q .queue) ≤ maxQueue → held (receive j tag r q) ≡ stepped (receive j tag r q)
-  full-by-request tag r q n h = rw (le-ltb maxQueue (length (receive j tag r q .state .queue)) (omega (arith, receive-shorter tag r q n)))
+  pub full-by-request : (words : ℕ) (tag : Tag) (r : Pair) (q : State) → (tag ≡ REQUEST → ⊥) → 2 * length (q .queue) ≤ words → held words (receive j tag r q) ≡ stepped (receive j tag r q)
+  full-by-request words tag r q n h = rw (le-ltb words (2 * length (receive j tag r q .state .queue)) (omega (arith, receive-shorter tag r q n)))

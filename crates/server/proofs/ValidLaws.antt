@@ -17,12 +17,12 @@ use Rattle.ids.specs.Order.{before}
 use Rattle.ids.specs.Requests.{noRequest}
 use Rattle.ids.specs.declared.Request.{Request}
 use Rattle.ids.specs.declared.Timestamp.{Timestamp}
-use Rattle.votes.specs.Figure1.{timestampIn}
+use Rattle.rows.specs.Queue.{timestampIn}
 use Rattle.ids.specs.Lists.{every}
 use Rattle.server.specs.Record.{ordered, once}
-use Rattle.votes.specs.Places.{first, matching}
+use Rattle.rows.specs.Queues.{first, matching}
 use Rattle.server.specs.Parts.{repeats}
-use Rattle.votes.specs.declared.Wanted.the-variants.{Client}
+use Rattle.rows.specs.declared.Wanted.the-variants.{Client}
 use Rattle.votes.proofs.ListLaws.{timestamp-first, timestamp-none}
 
 -- a test of a list from place `from` on, which the code makes place by place: all that was passed leaves the answer to the rest
@@ -92,10 +92,13 @@ once-ends : (l : List Request) (i : ℕ) → length l ≤ i → once (drop i l) 
 unfolding once
 once-ends l i h = rw (drop-of-length-le l h)
 
--- the same in the places, as the code looks at them: the first len of P
-module _ (P : List Request) (len : ℕ) (size : length P ≡ 16) (w : len ≤ 16) where
+-- the same in the places of a row, as the code looks at them: the first len of P
+module _ (P : List Request) (len : ℕ) (w : len ≤ length P) where
   held : length (take len P) ≡ len
   held = length-take-le len P (omega arith)
+
+  pub passing-within : (test : List Request → Bool) (i : ℕ) → Passing test (take len P) 0 i → i ≤ len
+  passing-within test i p = omega (arith, p .within, held)
 
   pub places-start : (test : List Request → Bool) → Passing test (take len P) 0 0
   places-start test = passing-start test (take len P) 0 (omega arith)
@@ -147,29 +150,13 @@ module _ (P : List Request) (len : ℕ) (size : length P ≡ 16) (w : len ≤ 16
     pub single-ends : len ≤ i → Passing once (take len P) 0 i → true ≡ once (take len P)
     single-ends h p = sym (p .left ∙ once-ends (take len P) i (omega (arith, held)))
 
--- and behind them
-module _ (f : Request → Bool) (P : List Request) (len : ℕ) (size : length P ≡ 16) where
-  pub rest-start : len ≤ 16 → Passing (every f) P len len
-  rest-start w = passing-start (every f) P len (omega arith)
-
-  module _ (i : ℕ) (h : i < 16) (b : Bool) (e : b ≡ f (getD P i noRequest)) (p : Passing (every f) P len i) where
-    pub rest-on : not b ≡ false → Passing (every f) P len (i + 1)
-    rest-on n = passing-on (every f) P len i (omega arith) (every-on f P i (omega arith) b e n) p
-
-    pub rest-stops : not b ≡ true → false ≡ every f (drop len P)
-    rest-stops n = sym (p .left ∙ every-stops f P i (omega arith) b e n)
-
-  pub rest-ends : (i : ℕ) → 16 ≤ i → Passing (every f) P len i → true ≡ every f (drop len P)
-  rest-ends i h p = sym (p .left ∙ every-ends f P i (omega arith))
-
 -- a client that stands again further on, by the search for it
-module _ (P : List Request) (len i at : ℕ) (size : length P ≡ 16) (w : len ≤ 16) (h : i < len) (e : at ≡ i + 1 + first (matching Client (getD P i noRequest)) (drop (i + 1) (take len P))) where
+module _ (P : List Request) (len i at : ℕ) (w : len ≤ length P) (h : i < len) (x : Request) (p : x ≡ getD P i noRequest) (e : at ≡ i + 1 + first (matching Client x) (drop (i + 1) (take len P))) where
   pub repeats-by-search : ltb at len ≡ repeats (drop i (take len P))
   repeats-by-search =
       let l : List Request = take len P in
-      let x : Request = getD P i noRequest in
       let n : length l ≡ len = length-take-le len P (omega arith) in
-      let k : getD l i noRequest ≡ x = getD-take len P i noRequest h in
+      let k : getD l i noRequest ≡ x = getD-take len P i noRequest h ∙ sym p in
       let head : drop i l ≡ x ∷ drop (suc i) l = drop-cons l i noRequest (omega arith) ∙ ap (λ (y : Request). y ∷ drop (suc i) l) k in
       let m : length (drop (suc i) l) ≡ len - suc i = length-drop (suc i) l ∙ ap (λ (y : ℕ). y - suc i) n in
       let f : ℕ = first (λ y. eqb (y .client .0) (x .client .0)) (drop (suc i) l) in

@@ -1,4 +1,5 @@
 pub mod Record
 pub mod Parts
 pub mod Calls
+pub mod Rows
 pub mod Told

@@ -1,24 +1,44 @@
--- The server's record: which records are valid, and how a record and the state of Figure 1 are one another.
-use Prim.Native.Nat.{ℕ}
+-- The server's record: which records are valid, and the state of Figure 1 in a record.
+use Prim.Native.Nat.{ℕ, _*_}
 use mathlib.Core.Bool.{Bool, true, false, _&&_}
 use mathlib.Core.List.{List, [], _∷_}
-use lib.Dec.{eqb, leb}
-use lib.ListN.{length, drop}
+use lib.Dec.{eqb}
+use lib.ListN.{length}
 use Rattle.ids.specs.Lists.{every}
 use Rattle.ids.specs.Choice.{maybe}
 use Rattle.ids.specs.Limits.{within, maxServers, validRequest, validOwner}
 use Rattle.ids.specs.Order.{before}
-use Rattle.ids.specs.Requests.{same, noRequest, byOwner}
+use Rattle.ids.specs.Requests.{byOwner}
 use Rattle.ids.specs.declared.ServerId.{ServerId}
 use Rattle.ids.specs.declared.Request.{Request}
-use Rattle.votes.specs.declared.Queue.{Queue}
-use Rattle.votes.specs.Queues.{maxQueue, view}
+use Rattle.rows.specs.Good.{goodRow}
+use Rattle.rows.specs.Queue.{timestampIn}
+use Rattle.votes.specs.Queues as votes
+use Rattle.votes.specs.Figure1.{State, candidates}
+use Rattle.server.specs.declared.Head.{Head}
 use Rattle.server.specs.declared.Server.{Server}
-use Rattle.votes.specs.Figure1.{State, timestampIn, candidates}
 
--- server id of n
+-- document 01's places of a waiting line, and the words of a record's row
+abbrev pub queuePlaces : ℕ
+queuePlaces = 16
+
+abbrev pub rowWords : ℕ
+rowWords = 2 * queuePlaces
+
+-- the record in a head and a row of any length
+abbrev pub serverOf : Head → List ℕ → Server
+serverOf h row = record { head = h; row = row }
+
+-- the state that a record holds
+abbrev pub view : Server → State
+view s = votes.view (s .head .votes) (s .row)
+
+-- server id of n, where so many servers are the most
+abbrev pub validSizesUpTo : ℕ → ℕ → ServerId → Bool
+validSizesUpTo limit n j = within n limit && within (j .0) n
+
 abbrev pub validSizes : ℕ → ServerId → Bool
-validSizes n j = within n maxServers && within (j .0) n
+validSizes = validSizesUpTo maxServers
 
 -- strictly in order: each before the next
 unfoldable pub ordered : List Request → Bool
@@ -40,9 +60,8 @@ unfoldable pub validState : State → Bool
 validState q =
     validOwner (q .owner) && every validRequest (q .queue) && behindOwner q && ordered (q .queue) && once (candidates q)
 
--- a queue's length is in range, and the places behind it are empty
-unfoldable pub validQueue : Queue → Bool
-validQueue q = leb (q .len) maxQueue && every (same noRequest) (drop (q .len) (q .places))
+unfoldable pub validUpTo : ℕ → Server → Bool
+validUpTo limit s = validSizesUpTo limit (s .head .n) (s .head .id) && goodRow (s .row) (s .head .votes .len) && validState (view s)
 
-unfoldable pub valid : Server → Bool
-valid s = validSizes (s .n) (s .id) && validQueue (s .votes .queue) && validState (view (s .votes))
+abbrev pub valid : Server → Bool
+valid = validUpTo maxServers

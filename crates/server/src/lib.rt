@@ -1,46 +1,69 @@
-// The server's record and its calls: Figure 1, lines 26 to 56.
+// The server's record and its calls: Figure 1, lines 26 to 56. A call works on a head by value and a lent row of words, two words a place,
+// of any even length; the same calls on a record by value lend the record's own row and write what is sent.
 ghost use mathlib.Core.Path.{_≡_};
-ghost use mathlib.Core.List.{_∷_, _++_};
 ghost use Prim.Native.Nat.{_+_, _<_, _≤_};
 ghost use lib.ListN.{length, drop};
 ghost use lib.Seq.{sets};
 ghost use Rattle.ids.specs.Limits.{validRequest};
-ghost use Rattle.ids.specs.Requests.{noRequest, same};
+ghost use Rattle.ids.specs.Lists.{every};
+ghost use Rattle.rows.specs.Rows.{queueOf, Padded};
 ghost use Rattle.wire.specs.Format.{bytesOfAll, sizeOfAll};
 ghost use Rattle.wire.specs.Step.{withRoom, sentInto};
-ghost use Rattle.votes.specs.Figure1.{idle};
-ghost use Rattle.votes.specs.Queues.{listOf, view, store as storeOf};
-ghost use Rattle.votes.specs.Places.{Padded, mails};
-ghost use Rattle.ids.specs.Lists.{every};
-ghost use Rattle.server.specs.Record.{ordered, once, validQueue, validState, valid};
-ghost use Rattle.server.specs.Parts.{threeMails, sentAnswer, sentBuffer, finished, repeats, fitsOwner};
-ghost use Rattle.server.specs.Calls.{result, taken, blank, newResult, messageOutcome, suspectOutcome, checkOutcome};
+ghost use Rattle.votes.specs.Queues.{view as votesView};
+ghost use Rattle.votes.specs.Places.{mails};
+ghost use Rattle.server.specs.Record.{ordered, once, validState, serverOf, valid};
+ghost use Rattle.server.specs.Parts.{threeMails, sentAnswer, sentBuffer, refusing, doing, answering, buffering, keeping, repeats, fitsOwner};
+ghost use Rattle.server.specs.Calls.{result, taken, emptyServer, blank, newResult, messageOutcome, suspectOutcome, checkOutcome};
+ghost use Rattle.server.specs.Rows.{Turns};
 use ids::ClientId;
 use ids::Owner;
 use ids::Refusal;
 use ids::Request;
 use ids::ServerId;
 use ids::Timestamp;
+use rows::Wanted;
 use votes::Mail;
 use votes::Moved;
-use votes::Queue;
 use votes::Tag;
 use votes::Votes;
-use votes::Wanted;
 use wire::Answer;
 use wire::Message;
 
-// Server `id` of `n`.
-pub struct Server {
+// Document 01's places of a waiting line, in a record by value.
+pub const QUEUE_PLACES: usize = 16;
+
+pub const ROW_WORDS: usize = 2 * QUEUE_PLACES;
+
+// Server `id` of `n`: its record but for the queue's row.
+pub struct Head {
     pub n: u16,
     pub id: ServerId,
     pub votes: Votes,
+}
+
+pub struct Server {
+    pub head: Head,
+    pub row: [u32; ROW_WORDS],
 }
 
 // The record after a call, and what was sent.
 pub struct Stepped {
     pub server: Server,
     pub answer: Answer,
+}
+
+pub enum Ruling {
+    Done,
+    Refused(Refusal),
+}
+
+// What a call on a lent row leaves beside the row: the head, and the messages to send, in order.
+pub struct Turned {
+    pub head: Head,
+    pub ruling: Ruling,
+    pub first: Mail,
+    pub second: Mail,
+    pub third: Mail,
 }
 
 fn mail_size(m: Mail) -> usize
@@ -77,7 +100,8 @@ fn sizes(first: Mail, second: Mail, third: Mail) -> usize
     mail_size(first) + mail_size(second) + mail_size(third)
 }
 
-fn counts(first: Mail, second: Mail, third: Mail) -> usize
+// How many messages a step sends.
+pub fn counts(first: Mail, second: Mail, third: Mail) -> usize
     ensures { λ r. ⌜ r ≡ length (threeMails first second third) ⌝ }
 {
     mail_count(first) + mail_count(second) + mail_count(third)
@@ -93,7 +117,7 @@ fn put_three(out: &mut [u8], first: Mail, second: Mail, third: Mail)
 }
 
 // The messages of a step written one after another, if there is room for all of them.
-fn send(first: Mail, second: Mail, third: Mail, out: &mut [u8]) -> Answer
+pub fn send(first: Mail, second: Mail, third: Mail, out: &mut [u8]) -> Answer
     ensures { λ r. ⌜ (r ≡ sentAnswer (threeMails first second third) (length (now (out .entry)))) × (now (out .exit) ≡ sentBuffer (threeMails first second third) (now (out .entry))) ⌝ }
 {
     let size = sizes(first, second, third);
@@ -104,81 +128,72 @@ fn send(first: Mail, second: Mail, third: Mail, out: &mut [u8]) -> Answer
     Answer::Sent(counts(first, second, third), size)
 }
 
-fn refuse(server: Server, e: Refusal) -> Stepped
-    ensures { λ r. ⌜ r ≡ record { server = server; answer = Answer.Refused e } ⌝ }
+fn refuse(head: Head, e: Refusal) -> Turned
+    ensures { λ r. ⌜ r ≡ refusing head e ⌝ }
 {
-    let answer = Answer::Refused(e);
-    Stepped { server, answer }
+    let ruling = Ruling::Refused(e);
+    Turned {
+        head,
+        ruling,
+        first: Mail::Nothing,
+        second: Mail::Nothing,
+        third: Mail::Nothing,
+    }
 }
 
-// The step's messages are sent and its votes kept, or, for want of room, neither.
-fn finish(s: Server, m: Moved, out: &mut [u8]) -> Stepped
-    ensures { λ r. ⌜ (r ≡ finished s m (length (now (out .entry)))) × (now (out .exit) ≡ sentBuffer (threeMails (m .first) (m .second) (m .third)) (now (out .entry))) ⌝ }
+// A step that was made: its votes in the head, and its messages.
+fn done(h: Head, m: Moved) -> Turned
+    ensures { λ r. ⌜ r ≡ doing h m ⌝ }
 {
+    let n = h.n;
+    let id = h.id;
+    let votes = m.votes;
     let first = m.first;
     let second = m.second;
     let third = m.third;
-    let answer = send(first, second, third, out);
-    match answer {
-        Answer::Sent(_, _) => {
-            let n = s.n;
-            let id = s.id;
-            let votes = m.votes;
-            let server = Server { n, id, votes };
-            Stepped { server, answer }
-        }
-        Answer::Refused(_) => Stepped { server: s, answer },
+    Turned {
+        head: Head { n, id, votes },
+        ruling: Ruling::Done,
+        first,
+        second,
+        third,
     }
 }
 
 // A message of this tag to server `j`, with `k`'s timestamp `t`. For callers that know the record to be valid.
-pub fn take(s: Server, tag: Tag, k: ClientId, j: ServerId, t: Timestamp, out: &mut [u8]) -> Stepped
-    requires { ⌜ Padded (s .votes .queue) ⌝ }
-    ensures { λ r. ⌜ (r ≡ result s (withRoom (length (now (out .entry))) (taken s tag k j t))) × (now (out .exit) ≡ sentInto (now (out .entry)) (withRoom (length (now (out .entry))) (taken s tag k j t))) ⌝ }
+pub fn take_row(
+    h: Head,
+    row: &mut [u32],
+    tag: Tag,
+    k: ClientId,
+    j: ServerId,
+    t: Timestamp,
+) -> Turned
+    requires { ⌜ Padded (now row) (h .votes .len) ⌝ }
+    ensures { λ r. ⌜ Turns h (now (row .entry)) (taken (serverOf h (now (row .entry))) tag k j t) r (now (row .exit)) ⌝ }
 {
-    let id = s.id;
+    let id = h.id;
     if j.0 != id.0 {
-        return refuse(s, Refusal::NotForServer);
+        return refuse(h, Refusal::NotForServer);
     }
     let r = Request {
         client: k,
         timestamp: t,
     };
-    let m = votes::receive(id, tag, r, s.votes);
+    let m = votes::receive(id, tag, r, h.votes, row);
     if m.full {
-        return refuse(s, Refusal::QueueFull);
+        return refuse(h, Refusal::QueueFull);
     }
-    finish(s, m, out)
+    done(h, m)
 }
 
-// Whether the places behind the queue are empty.
-fn rest_empty(q: Queue) -> bool
-    requires { ⌜ q .len ≤ 16 ⌝ }
-    ensures { λ b. ⌜ b ≡ every (same noRequest) (drop (q .len) (q .places)) ⌝ }
+fn all_valid(row: &[u32], len: usize) -> bool
+    requires { ⌜ Padded (now row) len ⌝ }
+    ensures { λ b. ⌜ b ≡ every validRequest (queueOf (now (row .entry)) len) ⌝ }
 {
-    votes::sized(q);
-    let places = q.places;
-    let none = votes::nobody();
-    let mut i = q.len;
-    while i < 16 {
-        if !ids::same_request(none, places[i]) {
-            return false;
-        }
-        i += 1;
-    }
-    true
-}
-
-fn all_valid(q: Queue) -> bool
-    requires { ⌜ q .len ≤ 16 ⌝ }
-    ensures { λ b. ⌜ b ≡ every validRequest (listOf q) ⌝ }
-{
-    votes::sized(q);
-    let places = q.places;
-    let len = q.len;
     let mut i: usize = 0;
     while i < len {
-        if !ids::valid_request(places[i]) {
+        if !ids::valid_request(rows::request_at(row, i)) {
             return false;
         }
         i += 1;
@@ -186,16 +201,13 @@ fn all_valid(q: Queue) -> bool
     true
 }
 
-fn in_order(q: Queue) -> bool
-    requires { ⌜ q .len ≤ 16 ⌝ }
-    ensures { λ b. ⌜ b ≡ ordered (listOf q) ⌝ }
+fn in_order(row: &[u32], len: usize) -> bool
+    requires { ⌜ Padded (now row) len ⌝ }
+    ensures { λ b. ⌜ b ≡ ordered (queueOf (now (row .entry)) len) ⌝ }
 {
-    votes::sized(q);
-    let places = q.places;
-    let len = q.len;
     let mut i: usize = 0;
     while i + 1 < len {
-        if !ids::precedes(places[i], places[i + 1]) {
+        if !ids::precedes(rows::request_at(row, i), rows::request_at(row, i + 1)) {
             return false;
         }
         i += 1;
@@ -203,15 +215,13 @@ fn in_order(q: Queue) -> bool
     true
 }
 
-fn no_client_twice(q: Queue) -> bool
-    requires { ⌜ q .len ≤ 16 ⌝ }
-    ensures { λ b. ⌜ b ≡ once (listOf q) ⌝ }
+fn no_client_twice(row: &[u32], len: usize) -> bool
+    requires { ⌜ Padded (now row) len ⌝ }
+    ensures { λ b. ⌜ b ≡ once (queueOf (now (row .entry)) len) ⌝ }
 {
-    votes::sized(q);
-    let len = q.len;
     let mut i: usize = 0;
     while i < len {
-        if repeated(q, i) {
+        if repeated(row, len, i) {
             return false;
         }
         i += 1;
@@ -220,94 +230,181 @@ fn no_client_twice(q: Queue) -> bool
 }
 
 // Whether the client at place `i` stands at a later place too.
-fn repeated(q: Queue, i: usize) -> bool
-    requires { ⌜ (i < q .len) × (q .len ≤ 16) ⌝ }
-    ensures { λ b. ⌜ b ≡ repeats (drop i (listOf q)) ⌝ }
+fn repeated(row: &[u32], len: usize, i: usize) -> bool
+    requires { ⌜ (i < len) × Padded (now row) len ⌝ }
+    ensures { λ b. ⌜ b ≡ repeats (drop i (queueOf (now (row .entry)) len)) ⌝ }
 {
-    votes::sized(q);
-    let places = q.places;
-    let at = votes::search(q, Wanted::Client, places[i], i + 1);
-    at < q.len
-}
-
-// Whether the queue's length is in range and the places behind it are empty.
-fn valid_queue(q: Queue) -> bool
-    ensures { λ b. ⌜ b ≡ validQueue q ⌝ }
-{
-    if 16 < q.len {
-        return false;
-    }
-    rest_empty(q)
+    let x = rows::request_at(row, i);
+    let at = rows::find(row, len, Wanted::Client, x, i + 1);
+    at < len
 }
 
 // Whether a queue stands only behind an owner, who does not wait in it.
-fn owner_fits(o: Owner, q: Queue) -> bool
-    requires { ⌜ q .len ≤ 16 ⌝ }
-    ensures { λ b. ⌜ b ≡ fitsOwner o (listOf q) ⌝ }
+fn owner_fits(o: Owner, row: &[u32], len: usize) -> bool
+    requires { ⌜ Padded (now row) len ⌝ }
+    ensures { λ b. ⌜ b ≡ fitsOwner o (queueOf (now (row .entry)) len) ⌝ }
 {
-    votes::sized(q);
     match o {
-        Owner::Nobody => q.len == 0,
-        Owner::Of(r) => votes::search(q, Wanted::Client, r, 0) == q.len,
+        Owner::Nobody => len == 0,
+        Owner::Of(r) => rows::search(row, len, r.client) == len,
     }
 }
 
-fn valid_votes(v: Votes) -> bool
-    requires { ⌜ v .queue .len ≤ 16 ⌝ }
-    ensures { λ b. ⌜ b ≡ validState (view v) ⌝ }
+fn valid_votes(v: Votes, row: &[u32]) -> bool
+    requires { ⌜ Padded (now row) (v .len) ⌝ }
+    ensures { λ b. ⌜ b ≡ validState (votesView v (now (row .entry))) ⌝ }
 {
     let owner = v.owner;
-    let q = v.queue;
+    let len = v.len;
     if !ids::valid_owner(owner) {
         return false;
     }
-    if !all_valid(q) {
+    if !all_valid(row, len) {
         return false;
     }
-    if !owner_fits(owner, q) {
+    if !owner_fits(owner, row, len) {
         return false;
     }
-    if !in_order(q) {
+    if !in_order(row, len) {
         return false;
     }
-    no_client_twice(q)
+    no_client_twice(row, len)
 }
 
-// Whether the record is one that a server can have: document 01's 'A record is broken if ..', turned round.
+// Whether head and row are a record that a server can have: document 01's 'A record is broken if ..', turned round.
+pub fn valid_row(h: Head, row: &[u32]) -> bool
+    ensures { λ b. ⌜ b ≡ valid (serverOf h (now (row .entry))) ⌝ }
+{
+    let id = h.id;
+    let v = h.votes;
+    if !ids::within_limit(h.n as u32, ids::MAX_SERVERS) {
+        return false;
+    }
+    if !ids::within_limit(id.0 as u32, h.n as u32) {
+        return false;
+    }
+    if !rows::good_row(row, v.len) {
+        return false;
+    }
+    valid_votes(v, row)
+}
+
+// Lines 26 to 45: a REQUEST, YIELD, RELEASE or INQUIRY. Refused 21, 5, 13, 14.
+pub fn message_row(h: Head, row: &mut [u32], m: Message) -> Turned
+    ensures { λ r. ⌜ Turns h (now (row .entry)) (messageOutcome (serverOf h (now (row .entry))) m) r (now (row .exit)) ⌝ }
+{
+    if !valid_row(h, row) {
+        return refuse(h, Refusal::InvalidRecord);
+    }
+    if !wire::valid_message(m) {
+        return refuse(h, Refusal::NumberOutOfRange);
+    }
+    match m {
+        Message::Request(k, j, t) => take_row(h, row, Tag::Request, k, j, t),
+        Message::Yield(k, j, t) => take_row(h, row, Tag::Yield, k, j, t),
+        Message::Release(k, j, t) => take_row(h, row, Tag::Release, k, j, t),
+        Message::Inquiry(k, j, t) => take_row(h, row, Tag::Inquiry, k, j, t),
+        Message::Response(_, _, _) => refuse(h, Refusal::NotForServer),
+        Message::Check(_, _, _) => refuse(h, Refusal::NotForServer),
+    }
+}
+
+// Lines 46 and 47: the owner is suspected to have crashed. Refused 21, 15.
+pub fn suspect_row(h: Head, row: &mut [u32]) -> Turned
+    ensures { λ r. ⌜ Turns h (now (row .entry)) (suspectOutcome (serverOf h (now (row .entry)))) r (now (row .exit)) ⌝ }
+{
+    if !valid_row(h, row) {
+        return refuse(h, Refusal::InvalidRecord);
+    }
+    let id = h.id;
+    let v = h.votes;
+    let owner = v.owner;
+    match owner {
+        Owner::Nobody => refuse(h, Refusal::NoOwner),
+        Owner::Of(o) => {
+            let m = votes::delete(id, o, v, row);
+            done(h, m)
+        }
+    }
+}
+
+// Lines 48 and 49: CHECK to the owner. Refused 21.
+pub fn check_row(h: Head, row: &[u32]) -> Turned
+    ensures { λ r. ⌜ Turns h (now (row .entry)) (checkOutcome (serverOf h (now (row .entry)))) r (now (row .entry)) ⌝ }
+{
+    if !valid_row(h, row) {
+        return refuse(h, Refusal::InvalidRecord);
+    }
+    let id = h.id;
+    let v = h.votes;
+    let owner = v.owner;
+    match owner {
+        Owner::Nobody => done(h, votes::still(v)),
+        Owner::Of(o) => {
+            let client = o.client;
+            let timestamp = o.timestamp;
+            let message = Message::Check(client, id, timestamp);
+            done(h, votes::telling(v, message))
+        }
+    }
+}
+
+// What a call by value answers: the refusal, or what sending the step's messages answers.
+fn answered(t: Turned, out: &mut [u8]) -> Answer
+    ensures { λ a. ⌜ (a ≡ answering t (length (now (out .entry)))) × (now (out .exit) ≡ buffering t (now (out .entry))) ⌝ }
+{
+    let ruling = t.ruling;
+    let first = t.first;
+    let second = t.second;
+    let third = t.third;
+    match ruling {
+        Ruling::Done => send(first, second, third, out),
+        Ruling::Refused(e) => Answer::Refused(e),
+    }
+}
+
+// The step's messages are sent and its record kept, or, for want of room, neither.
+fn finish(s: Server, t: Turned, row: [u32; ROW_WORDS], out: &mut [u8]) -> Stepped
+    ensures { λ r. ⌜ (r ≡ keeping s (t .head) row (answering t (length (now (out .entry))))) × (now (out .exit) ≡ buffering t (now (out .entry))) ⌝ }
+{
+    let answer = answered(t, out);
+    match answer {
+        Answer::Sent(_, _) => {
+            let head = t.head;
+            let server = Server { head, row };
+            Stepped { server, answer }
+        }
+        Answer::Refused(_) => Stepped { server: s, answer },
+    }
+}
+
+// `valid_row` of a record by value.
 pub fn valid_server(s: Server) -> bool
     ensures { λ b. ⌜ b ≡ valid s ⌝ }
 {
-    let id = s.id;
-    let v = s.votes;
-    let q = v.queue;
-    if !ids::within_limit(s.n as u32, ids::MAX_SERVERS) {
-        return false;
-    }
-    if !ids::within_limit(id.0 as u32, s.n as u32) {
-        return false;
-    }
-    if !valid_queue(q) {
-        return false;
-    }
-    valid_votes(v)
+    let row = s.row;
+    valid_row(s.head, &row)
 }
 
-fn idle_votes() -> Votes
-    ensures { λ v. ⌜ v ≡ storeOf idle ⌝ }
+// Server `id` of `n` with no owner and nobody waiting.
+fn empty_server(n: u16, id: ServerId) -> Server
+    ensures { λ s. ⌜ s ≡ emptyServer n id ⌝ }
 {
-    let none = votes::nobody();
-    let places = [none; 16];
     let owner = Owner::Nobody;
-    let queue = Queue { len: 0, places };
-    Votes { owner, queue }
+    let votes = Votes { owner, len: 0 };
+    let head = Head { n, id, votes };
+    let row = [0u32; ROW_WORDS];
+    Server { head, row }
 }
 
-fn blank_server() -> Server
-    ensures { λ s. ⌜ s ≡ blank ⌝ }
+// What a refused `new` hands back: a record that no call accepts.
+fn unmade(e: Refusal) -> Stepped
+    ensures { λ r. ⌜ r ≡ record { server = blank; answer = Answer.Refused e } ⌝ }
 {
-    let votes = idle_votes();
     let id = ServerId(0);
-    Server { n: 0, id, votes }
+    let server = empty_server(0, id);
+    let answer = Answer::Refused(e);
+    Stepped { server, answer }
 }
 
 // Server `id` of `n`, with no owner. Refused 7.
@@ -315,74 +412,42 @@ pub fn new(n: u16, id: ServerId) -> Stepped
     ensures { λ r. ⌜ r ≡ newResult n id ⌝ }
 {
     if !ids::within_limit(n as u32, ids::MAX_SERVERS) {
-        return refuse(blank_server(), Refusal::ParameterOutOfRange);
+        return unmade(Refusal::ParameterOutOfRange);
     }
     if !ids::within_limit(id.0 as u32, n as u32) {
-        return refuse(blank_server(), Refusal::ParameterOutOfRange);
+        return unmade(Refusal::ParameterOutOfRange);
     }
-    let votes = idle_votes();
-    let server = Server { n, id, votes };
+    let server = empty_server(n, id);
     let answer = Answer::Sent(0, 0);
     Stepped { server, answer }
 }
 
-// Lines 26 to 45: a REQUEST, YIELD, RELEASE or INQUIRY. Refused 21, 5, 13, 14, 6.
+// `message_row` on a record by value. Refused 21, 5, 13, 14, 6.
 pub fn message(s: Server, m: Message, out: &mut [u8]) -> Stepped
     ensures { λ r. ⌜ (r ≡ result s (withRoom (length (now (out .entry))) (messageOutcome s m))) × (now (out .exit) ≡ sentInto (now (out .entry)) (withRoom (length (now (out .entry))) (messageOutcome s m))) ⌝ }
 {
-    let v = s.votes;
-    votes::sized(v.queue);
-    if !valid_server(s) {
-        return refuse(s, Refusal::InvalidRecord);
-    }
-    if !wire::valid_message(m) {
-        return refuse(s, Refusal::NumberOutOfRange);
-    }
-    match m {
-        Message::Request(k, j, t) => take(s, Tag::Request, k, j, t, out),
-        Message::Yield(k, j, t) => take(s, Tag::Yield, k, j, t, out),
-        Message::Release(k, j, t) => take(s, Tag::Release, k, j, t, out),
-        Message::Inquiry(k, j, t) => take(s, Tag::Inquiry, k, j, t, out),
-        Message::Response(_, _, _) => refuse(s, Refusal::NotForServer),
-        Message::Check(_, _, _) => refuse(s, Refusal::NotForServer),
-    }
+    let mut row = s.row;
+    let head = s.head;
+    let t = message_row(head, &mut row, m);
+    finish(s, t, row, out)
 }
 
-// Lines 46 and 47: the owner is suspected to have crashed. Refused 21, 15, 6.
+// `suspect_row` on a record by value. Refused 21, 15, 6.
 pub fn suspect(s: Server, out: &mut [u8]) -> Stepped
     ensures { λ r. ⌜ (r ≡ result s (withRoom (length (now (out .entry))) (suspectOutcome s))) × (now (out .exit) ≡ sentInto (now (out .entry)) (withRoom (length (now (out .entry))) (suspectOutcome s))) ⌝ }
 {
-    let v = s.votes;
-    votes::sized(v.queue);
-    if !valid_server(s) {
-        return refuse(s, Refusal::InvalidRecord);
-    }
-    let id = s.id;
-    let owner = v.owner;
-    match owner {
-        Owner::Nobody => refuse(s, Refusal::NoOwner),
-        Owner::Of(o) => finish(s, votes::delete(id, o, v), out),
-    }
+    let mut row = s.row;
+    let head = s.head;
+    let t = suspect_row(head, &mut row);
+    finish(s, t, row, out)
 }
 
-// Lines 48 and 49: CHECK to the owner. Refused 21, 6.
+// `check_row` on a record by value. Refused 21, 6.
 pub fn check(s: Server, out: &mut [u8]) -> Stepped
     ensures { λ r. ⌜ (r ≡ result s (withRoom (length (now (out .entry))) (checkOutcome s))) × (now (out .exit) ≡ sentInto (now (out .entry)) (withRoom (length (now (out .entry))) (checkOutcome s))) ⌝ }
 {
-    let v = s.votes;
-    votes::sized(v.queue);
-    if !valid_server(s) {
-        return refuse(s, Refusal::InvalidRecord);
-    }
-    let id = s.id;
-    let owner = v.owner;
-    match owner {
-        Owner::Nobody => finish(s, votes::still(v), out),
-        Owner::Of(o) => {
-            let client = o.client;
-            let timestamp = o.timestamp;
-            let message = Message::Check(client, id, timestamp);
-            finish(s, votes::telling(v, message), out)
-        }
-    }
+    let row = s.row;
+    let head = s.head;
+    let t = check_row(head, &row);
+    finish(s, t, row, out)
 }

@@ -8,7 +8,7 @@ use Rattle.ids.specs.Order.{before}
 use Rattle.ids.specs.Requests.{same}
 use Rattle.ids.specs.declared.Request.{Request}
 use Rattle.ids.proofs.Choice.{both, decided}
-use Rattle.votes.specs.Figure1.{insert, without}
+use Rattle.rows.specs.Queue.{insert, without}
 
 module _ (g : Request → Bool) (r : Request) where
   pub every-insert : (l : List Request) → g r ≡ true → every g l ≡ true → every g (insert r l) ≡ true

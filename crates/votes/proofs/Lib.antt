@@ -1,9 +1,7 @@
-pub mod SearchLaws
-pub mod ShiftLaws
-pub mod QueueLaws
 pub mod ListLaws
 pub mod PartLaws
 pub mod MoveLaws
+pub mod RoomLaws
 pub mod ActLaws
 pub mod OwnerLaws
 pub mod EveryLaws

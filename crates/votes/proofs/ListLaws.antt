@@ -1,102 +1,53 @@
--- The queue's list operations by the place that a search finds.
-use Prim.Native.Nat.{ℕ, zero, suc, _+_, _<_, _≤_}
+-- A client's timestamp in a queue: it stands where the client is found, and without that pair the queue is shorter by one.
+use Prim.Native.Nat.{ℕ, suc, _<_, _≤_}
 use native.Mathlib.Omega.{arith}
-use mathlib.Core.Path.{_≡_, refl, sym, ap, _∙_}
-use mathlib.Core.Bool.{Bool, true, false}
-use mathlib.Core.List.{List, [], _∷_, _++_}
+use mathlib.Core.Path.{_≡_, refl, ap}
+use mathlib.Core.Bool.{Bool, true, false, false≢true}
+use mathlib.Core.List.{List, [], _∷_}
 use mathlib.Core.Option.{Option, none, some}
-use lib.Dec.{eqb}
-use lib.ListN.{length, getD, take, drop}
+use lib.ListN.{length, getD}
+use borrow.Author.Tests.{eq-eqb}
 use Rattle.ids.specs.Choice.{if_then_else_}
-use Rattle.ids.specs.Order.{before}
 use Rattle.ids.specs.Requests.{same, noRequest}
 use Rattle.ids.specs.declared.ClientId.{ClientId}
 use Rattle.ids.specs.declared.Request.{Request}
 use Rattle.ids.specs.declared.Timestamp.{Timestamp}
-use Rattle.votes.specs.Figure1.{timestampIn, insert, without}
-use Rattle.votes.specs.Places.{first}
-
-module _ (n m : ℕ) where
-  step-within : (b : Bool) → n ≤ m → (if b then 0 else suc n) ≤ suc m
-  step-within true h = omega arith
-  step-within false h = omega arith
-
-pub first-within : (f : Request → Bool) (l : List Request) → first f l ≤ length l
-unfolding first
-first-within f [] = omega arith
-first-within f (x ∷ l) = step-within (first f l) (length l) (f x) (first-within f l)
-
--- insertion: r goes before the first that it precedes
-insert-head : (b : Bool) (r x : Request) (l m : List Request) (n : ℕ) → m ≡ take n l ++ r ∷ drop n l
-    → (if b then r ∷ (x ∷ l) else x ∷ m) ≡ take (if b then 0 else suc n) (x ∷ l) ++ r ∷ drop (if b then 0 else suc n) (x ∷ l)
-insert-head true r x l m n e = refl
-insert-head false r x l m n e = ap (λ (t : List Request). x ∷ t) e
-
-pub insert-first : (r : Request) (l : List Request) → insert r l ≡ take (first (before r) l) l ++ r ∷ drop (first (before r) l) l
-unfolding insert first
-insert-first r [] = refl
-insert-first r (x ∷ l) = insert-head (before r x) r x l (insert r l) (first (before r) l) (insert-first r l)
-
-length-head : (b : Bool) (r x : Request) (l m : List Request) → length m ≡ suc (length l) → length (if b then r ∷ (x ∷ l) else x ∷ m) ≡ suc (suc (length l))
-length-head true r x l m e = refl
-length-head false r x l m e = ap suc e
-
-pub length-insert : (r : Request) (l : List Request) → length (insert r l) ≡ suc (length l)
-unfolding insert
-length-insert r [] = refl
-length-insert r (x ∷ l) = length-head (before r x) r x l (insert r l) (length-insert r l)
-
-shorter-head : (b : Bool) (x : Request) (l m : List Request) → length m ≤ length l → length (if b then l else x ∷ m) ≤ suc (length l)
-shorter-head true x l m e = omega arith
-shorter-head false x l m e = omega arith
-
-pub length-without : (r : Request) (l : List Request) → length (without r l) ≤ length l
-unfolding without
-length-without r [] = omega arith
-length-without r (x ∷ l) = shorter-head (same x r) x l (without r l) (length-without r l)
-
--- removal: the first that is r goes, if there is one
-abbrev is : Request → Request → Bool
-is r x = same x r
-
-without-head : (b : Bool) (x : Request) (l m : List Request) (n : ℕ) → (n < length l → m ≡ take n l ++ drop (suc n) l)
-    → (if b then 0 else suc n) < suc (length l) → (if b then l else x ∷ m) ≡ take (if b then 0 else suc n) (x ∷ l) ++ drop (suc (if b then 0 else suc n)) (x ∷ l)
-without-head true x l m n e h = refl
-without-head false x l m n e h = ap (λ (t : List Request). x ∷ t) (e (omega arith))
-
-pub without-first : (r : Request) (l : List Request) → first (is r) l < length l → without r l ≡ take (first (is r) l) l ++ drop (suc (first (is r) l)) l
-unfolding without first
-without-first r [] h = absurd (omega arith)
-without-first r (x ∷ l) h = without-head (same x r) x l (without r l) (first (is r) l) (without-first r l) h
-
-absent-head : (b : Bool) (x : Request) (l m : List Request) (n : ℕ) → (length l ≤ n → m ≡ l) → suc (length l) ≤ (if b then 0 else suc n) → (if b then l else x ∷ m) ≡ x ∷ l
-absent-head true x l m n e h = absurd (omega arith)
-absent-head false x l m n e h = ap (λ (t : List Request). x ∷ t) (e (omega arith))
-
-pub without-none : (r : Request) (l : List Request) → length l ≤ first (is r) l → without r l ≡ l
-unfolding without first
-without-none r [] h = refl
-without-none r (x ∷ l) h = absent-head (same x r) x l (without r l) (first (is r) l) (without-none r l) h
-
--- the client's timestamp stands where the client is found
-abbrev of : ClientId → Request → Bool
-of k x = eqb (x .client .0) (k .0)
+use Rattle.rows.specs.Queue.{timestampIn, without}
+use Rattle.rows.specs.Queues.{isClient, first}
 
 found-head : (b : Bool) (x : Request) (l : List Request) (m : Option Timestamp) (n : ℕ) → (n < length l → m ≡ some (getD l n noRequest .timestamp))
     → (if b then 0 else suc n) < suc (length l) → (if b then some (x .timestamp) else m) ≡ some (getD (x ∷ l) (if b then 0 else suc n) noRequest .timestamp)
 found-head true x l m n e h = refl
 found-head false x l m n e h = e (omega arith)
 
-pub timestamp-first : (k : ClientId) (l : List Request) → first (of k) l < length l → timestampIn k l ≡ some (getD l (first (of k) l) noRequest .timestamp)
+pub timestamp-first : (k : ClientId) (l : List Request) → first (isClient k) l < length l → timestampIn k l ≡ some (getD l (first (isClient k) l) noRequest .timestamp)
 unfolding timestampIn first
 timestamp-first k [] h = absurd (omega arith)
-timestamp-first k (x ∷ l) h = found-head (of k x) x l (timestampIn k l) (first (of k) l) (timestamp-first k l) h
+timestamp-first k (x ∷ l) h = found-head (isClient k x) x l (timestampIn k l) (first (isClient k) l) (timestamp-first k l) h
 
 missing-head : (b : Bool) (x : Request) (l : List Request) (m : Option Timestamp) (n : ℕ) → (length l ≤ n → m ≡ none) → suc (length l) ≤ (if b then 0 else suc n) → (if b then some (x .timestamp) else m) ≡ none
 missing-head true x l m n e h = absurd (omega arith)
 missing-head false x l m n e h = e (omega arith)
 
-pub timestamp-none : (k : ClientId) (l : List Request) → length l ≤ first (of k) l → timestampIn k l ≡ none
+pub timestamp-none : (k : ClientId) (l : List Request) → length l ≤ first (isClient k) l → timestampIn k l ≡ none
 unfolding timestampIn first
 timestamp-none k [] h = refl
-timestamp-none k (x ∷ l) h = missing-head (of k x) x l (timestampIn k l) (first (of k) l) (timestamp-none k l) h
+timestamp-none k (x ∷ l) h = missing-head (isClient k x) x l (timestampIn k l) (first (isClient k) l) (timestamp-none k l) h
+
+-- the pair of client k and timestamp t is the client's place
+pub its-pair : (k : ClientId) (t : Timestamp) (x : Request) (b : Bool) → isClient k x ≡ b → b ≡ true → x .timestamp ≡ t → same x (record { client = k; timestamp = t }) ≡ true
+unfolding same
+its-pair k t x b e y s = rw (e, y, eq-eqb _ _ (ap (λ (u : Timestamp). u .0) s))
+
+gone-head : (b c : Bool) (x : Request) (l m : List Request) (u : Option Timestamp) (t : Timestamp) → (b ≡ true → x .timestamp ≡ t → c ≡ true) → (u ≡ some t → length m < length l)
+    → (if b then some (x .timestamp) else u) ≡ some t → length (if c then l else x ∷ m) < suc (length l)
+gone-head b true x l m u t y n e = omega arith
+gone-head true false x l m u t y n e = absurd (false≢true (y refl cc))
+gone-head false false x l m u t y n e = omega (arith, n e)
+
+pub without-standing : (k : ClientId) (t : Timestamp) (l : List Request) → timestampIn k l ≡ some t → length (without (record { client = k; timestamp = t }) l) < length l
+unfolding timestampIn without
+without-standing k t [] e = let z : _≡_ {A = ℕ} 0 1 = cc in absurd (omega arith)
+without-standing k t (x ∷ l) e =
+    gone-head (isClient k x) (same x (record { client = k; timestamp = t })) x l (without (record { client = k; timestamp = t }) l) (timestampIn k l) t
+    (λ a s. its-pair k t x (isClient k x) refl a s) (without-standing k t l) e

@@ -1,132 +1,152 @@
--- Each part of the code's step does what Figure 1's part does: the votes are the state's record, the messages are its messages.
-use Prim.Native.Nat.{ℕ, zero, suc, _+_, _-_, _<_, _≤_}
+-- Each part of the code's step does what Figure 1's part does: the row holds the state's queue, the messages are its messages.
+use Prim.Native.Nat.{ℕ, _+_, _*_, _-_, _<_, _≤_}
 use native.Mathlib.Omega.{arith}
-use mathlib.Core.Path.{_≡_, refl, sym, ap, _∙_, subst}
-use mathlib.Core.Bool.{Bool, true, false}
+use mathlib.Core.Path.{_≡_, refl, sym, ap, subst, _∙_}
+use mathlib.Core.Bool.{Bool, true, false, false≢true}
 use mathlib.Core.List.{List, [], _∷_, _++_}
-use mathlib.Core.Option.{Option, none, some}
-use lib.Dec.{eqb, ltb}
-use lib.ListN.{length, getD, take, drop, length-drop, length-append, length-take}
-use lib.Seq.{drop-cons, getD-take, length-take-le}
-use borrow.Author.Tests.{eq-eqb, ne-eqb, le-ltb, lt-ltb}
+use mathlib.Core.Option.{none}
+use lib.ListN.{length, getD, drop}
+use lib.Seq.{drop-cons, getD-take}
+use borrow.Author.Tests.{le-ltb, lt-ltb}
 use Rattle.ids.specs.Choice.{if_then_else_}
 use Rattle.ids.specs.Order.{before}
-use Rattle.ids.specs.Requests.{same, isRequest, isClient, noRequest}
+use Rattle.ids.specs.Requests.{isRequest, isClient, noRequest}
 use Rattle.ids.specs.declared.ClientId.{ClientId}
 use Rattle.ids.specs.declared.ServerId.{ServerId}
 use Rattle.ids.specs.declared.Request.{Request}
-use Rattle.ids.specs.declared.Timestamp.{Timestamp}
 use Rattle.ids.specs.declared.Owner.{Owner}
 use Rattle.ids.specs.declared.Owner.the-variants.{Nobody, Of}
-use Rattle.wire.specs.Step.{Step, stay, tell, _then_}
+use Rattle.rows.specs.Rows.{requestsIn, queueOf, Padded}
+use Rattle.rows.specs.Queue.{timestampIn, insert, without}
+use Rattle.rows.specs.Queues.{isClient as at-client, first, Holds}
+use Rattle.rows.proofs.QueueLaws.{length-queue, holds-still, holds-then, holds-fits}
+use Rattle.rows.proofs.ListLaws.{length-insert}
+use Rattle.wire.specs.Step.{Step, stay, tell}
 use Rattle.wire.specs.declared.Message.{Message}
 use Rattle.wire.specs.declared.Message.the-variants.{Response}
-use Rattle.votes.specs.declared.Queue.{Queue}
 use Rattle.votes.specs.declared.Votes.{Votes}
-use Rattle.votes.specs.declared.Moved.{Moved}
 use Rattle.votes.specs.declared.Mail.{Mail}
 use Rattle.votes.specs.declared.Mail.the-variants.{Nothing, One}
-use Rattle.votes.specs.Figure1.{State, idle, insert, without, promote, delete, inform}
-use Rattle.votes.specs.Queues.{maxQueue, listOf, queueOf, view, store}
-use Rattle.votes.specs.Places.{Padded, Moves, MovesTwo, MovesOne, still, telling, leading, mails, informed}
-use Rattle.votes.proofs.QueueLaws.{length-list, queue-again, queue-padded, list-again}
-use Rattle.votes.proofs.ListLaws.{length-insert, length-without}
+use Rattle.votes.specs.declared.Moved.{Moved}
+use Rattle.votes.specs.Figure1.{State, idle, enqueue, promote, delete}
+use Rattle.votes.specs.Queues.{view}
+use Rattle.votes.specs.Places.{mails, MovesOne, still, telling, overflowing, leading, joining, informed}
+use Rattle.votes.proofs.ListLaws.{timestamp-first, timestamp-none}
 
 -- nothing sent, and one message sent
-module _ (m : Moved) (v : Votes) (s : Step State) (fits : length (s .state .queue) ≤ 16) (same-votes : v ≡ store (s .state)) where
-  pub moves-still : m ≡ still v → [] ≡ s .sent → MovesOne m s
-  moves-still e p =
+module _ (row after : List ℕ) (m : Moved) (v : Votes) (s : Step State) (H : Holds row after (v .len) (s .state .queue)) (o : v .owner ≡ s .state .owner) where
+  sends : (x : Mail) → m ≡ record { votes = v; full = false; first = x; second = Nothing; third = Nothing } → mails x ++ [] ++ [] ≡ s .sent → MovesOne row after m s
+  sends x e p =
       record {
-        moves = record { full = rw (e, le-ltb _ _ fits); votes = λ n. rw e same-votes; sent = rw e p };
+        moves = record {
+          full = rw (e, le-ltb _ _ (holds-fits _ _ _ _ H));
+          kept = λ f. absurd (false≢true (rw e at f));
+          owner = λ f. rw e o;
+          queue = λ f. rw e H;
+          sent = rw e p;
+        };
         second = rw e;
         third = rw e;
       }
 
-  pub moves-telling : (x : Message) → m ≡ telling v x → x ∷ [] ≡ s .sent → MovesOne m s
-  moves-telling x e p =
-      record {
-        moves = record { full = rw (e, le-ltb _ _ fits); votes = λ n. rw e same-votes; sent = rw e p };
-        second = rw e;
-        third = rw e;
-      }
+  pub moves-still : m ≡ still v → [] ≡ s .sent → MovesOne row after m s
+  moves-still e p = sends Nothing e p
 
-pub moves-leading : (j : ServerId) (h : Request) (l : List Request) (m : Moved) (x : Queue) → length l ≤ 16 → x ≡ queueOf l → m ≡ leading j h x → MovesOne m (promote j (h ∷ l))
+  pub moves-telling : (x : Message) → m ≡ telling v x → x ∷ [] ≡ s .sent → MovesOne row after m s
+  moves-telling x e p = sends (One x) e p
+
+-- the row is too short, and stays
+pub moves-overflowing : (row : List ℕ) (m : Moved) (v : Votes) (s : Step State) (x : Message) → length row < 2 * length (s .state .queue) → m ≡ overflowing v x → x ∷ [] ≡ s .sent → MovesOne row row m s
+moves-overflowing row m v s x h e p =
+    let not-so : m .full ≡ false → ⊥ = λ f. false≢true (sym (rw e at f)) in
+    record {
+      moves = record { full = rw (e, lt-ltb _ _ h); kept = λ f. refl; owner = λ f. absurd (not-so f); queue = λ f. absurd (not-so f); sent = rw e p };
+      second = rw e;
+      third = rw e;
+    }
+
+pub moves-leading : (row after : List ℕ) (j : ServerId) (h : Request) (l : List Request) (m : Moved) (n : ℕ) → Holds row after n l → m ≡ leading j h n → MovesOne row after m (promote j (h ∷ l))
 unfolding promote
-moves-leading j h l m x f p e =
-    moves-telling m (record { owner = Of h; queue = x }) (promote j (h ∷ l)) f (ap (λ (q : Queue). record { owner = Of h; queue = q }) p) (Response (h .client) j (Of h)) e refl
+moves-leading row after j h l m n H e = moves-telling row after m (record { owner = Of h; len = n }) (promote j (h ∷ l)) H refl (Response (h .client) j (Of h)) e refl
 
-module _ (q : Queue) (good : Padded q) where
-  pub list-empty : q .len ≡ 0 → listOf q ≡ []
-  list-empty e = rw e
+module _ (row : List ℕ) (len : ℕ) (good : Padded row len) where
+  empty : len ≡ 0 → Holds row row 0 []
+  empty e = rw e at (holds-still row len good)
 
-  queue-empty : q .len ≡ 0 → q ≡ queueOf []
-  queue-empty e = sym (queue-again q good) ∙ ap queueOf (list-empty e)
+  head-first : (len ≡ 0 → ⊥) → queueOf row len ≡ getD (requestsIn row) 0 noRequest ∷ drop 1 (queueOf row len)
+  head-first n =
+      let l = length-queue row len good in
+      let z : 0 < length (queueOf row len) = omega arith in
+      let o : 0 < len = omega arith in
+      drop-cons (queueOf row len) 0 noRequest z ∙ rw (getD-take len (requestsIn row) 0 noRequest o)
 
-  pub list-head : (q .len ≡ 0 → ⊥) → listOf q ≡ getD (q .places) 0 noRequest ∷ drop 1 (listOf q)
-  list-head n =
-      let l = length-list q good in
-      let z : 0 < length (listOf q) = omega arith in
-      let o : 0 < q .len = omega arith in
-      drop-cons (listOf q) 0 noRequest z ∙ rw (getD-take (q .len) (q .places) 0 noRequest o)
-
-  short-tail : length (drop 1 (listOf q)) ≤ 15
-  short-tail = let w = good .within in simp length-drop (omega (arith, length-list q good))
-
-  module _ (j : ServerId) where
-    pub promoted-none : (m : Moved) → q .len ≡ 0 → m ≡ still (record { owner = Nobody; queue = q }) → MovesOne m (promote j (listOf q))
+  module _ (j : ServerId) (m : Moved) where
+    pub promoted-none : len ≡ 0 → m ≡ still (record { owner = Nobody; len = 0 }) → MovesOne row row m (promote j (queueOf row len))
     unfolding promote
-    promoted-none m e p =
-        rw (list-empty e) (moves-still m (record { owner = Nobody; queue = q }) (stay idle) (omega arith) (ap (λ (x : Queue). record { owner = Nobody; queue = x }) (queue-empty e)) p refl)
+    promoted-none e p = rw e (moves-still row row m (record { owner = Nobody; len = 0 }) (stay idle) (empty e) refl p refl)
 
-    pub promoted-head : (m : Moved) (h : Request) (x : Queue) → (q .len ≡ 0 → ⊥) → h ≡ getD (q .places) 0 noRequest → x ≡ queueOf (take 0 (listOf q) ++ drop 1 (listOf q)) → m ≡ leading j h x → MovesOne m (promote j (listOf q))
-    promoted-head m h x n e p r =
-        let whole : h ∷ drop 1 (listOf q) ≡ listOf q = rw e (sym (list-head n)) in
-        subst (λ (t : List Request). MovesOne m (promote j t)) whole (moves-leading j h (drop 1 (listOf q)) m x (omega (arith, short-tail)) p r)
-
-    -- r joins, and the head of the longer queue leads
-    pub rotated-alone : (r : Request) (m : Moved) → q .len ≡ 0 → m ≡ leading j r q → MovesOne m (promote j (insert r (listOf q)))
+    -- r joins an empty queue, and leads
+    pub rotated-alone : (r : Request) → len ≡ 0 → m ≡ leading j r 0 → MovesOne row row m (promote j (insert r (queueOf row len)))
     unfolding insert
-    rotated-alone r m e p = rw (list-empty e) (moves-leading j r [] m q (omega arith) (queue-empty e) p)
+    rotated-alone r e p = rw e (moves-leading row row j r [] m 0 (empty e) p)
 
-    module _ (r h : Request) (n : q .len ≡ 0 → ⊥) (e : h ≡ getD (q .places) 0 noRequest) where
-      inserted-list : (b : Bool) → before r h ≡ b → insert r (listOf q) ≡ (if b then r ∷ listOf q else h ∷ insert r (drop 1 (listOf q)))
-      unfolding insert
-      inserted-list b p =
-          let whole : listOf q ≡ h ∷ drop 1 (listOf q) = rw e (list-head n) in
-          ap (insert r) whole ∙ rw p (ap (λ (t : List Request). if b then r ∷ t else h ∷ insert r (drop 1 (listOf q))) (sym whole))
+    module _ (h : Request) (n : len ≡ 0 → ⊥) (e : h ≡ getD (requestsIn row) 0 noRequest) where
+      whole : queueOf row len ≡ h ∷ drop 1 (queueOf row len)
+      whole = rw e (head-first n)
 
-      pub rotated-first : (m : Moved) (b : Bool) → b ≡ before r h → b ≡ true → m ≡ leading j r q → MovesOne m (promote j (insert r (listOf q)))
-      rotated-first m b p t l =
-          let f = good .within in
-          rw (inserted-list true (sym p ∙ t)) (moves-leading j r (listOf q) m q (omega (arith, length-list q good)) (sym (queue-again q good)) l)
+      pub promoted-head : (after : List ℕ) → Holds row after (len - 1) (drop 1 (queueOf row len)) → m ≡ leading j h (len - 1) → MovesOne row after m (promote j (queueOf row len))
+      promoted-head after H p = subst (λ (t : List Request). MovesOne row after m (promote j t)) (sym whole) (moves-leading row after j h (drop 1 (queueOf row len)) m (len - 1) H p)
 
-      pub rotated-behind : (m : Moved) (b : Bool) (x y : Queue) → b ≡ before r h → b ≡ false → x ≡ queueOf (drop 1 (listOf q)) → y ≡ queueOf (insert r (listOf x)) → m ≡ leading j h y
-          → MovesOne m (promote j (insert r (listOf q)))
-      rotated-behind m b x y p t k z l =
-          let tail : listOf x ≡ drop 1 (listOf q) = rw k (list-again (drop 1 (listOf q)) (omega (arith, short-tail))) in
-          let f : length (insert r (drop 1 (listOf q))) ≤ 16 = omega (arith, length-insert r (drop 1 (listOf q)), short-tail) in
-          rw (inserted-list false (sym p ∙ t)) (moves-leading j h (insert r (drop 1 (listOf q))) m y f (rw tail at z) l)
+      module _ (r : Request) (b : Bool) (o : b ≡ before r h) where
+        inserted-list : (x : Bool) → before r h ≡ x → insert r (queueOf row len) ≡ (if x then r ∷ queueOf row len else h ∷ insert r (drop 1 (queueOf row len)))
+        unfolding insert
+        inserted-list x p = ap (insert r) whole ∙ rw p (ap (λ (t : List Request). if x then r ∷ t else h ∷ insert r (drop 1 (queueOf row len))) (sym whole))
 
-  pub tail-padded : (x : Queue) → x ≡ queueOf (drop 1 (listOf q)) → (x .len < 16) × Padded x
-  unfolding queueOf
-  tail-padded x e =
-      let f : length (drop 1 (listOf q)) ≤ 16 = omega (arith, short-tail) in
-      (rw e (omega (arith, short-tail)), rw e (queue-padded (drop 1 (listOf q)) f))
+        pub rotated-first : b ≡ true → m ≡ leading j r len → MovesOne row row m (promote j (insert r (queueOf row len)))
+        rotated-first t p = rw (inserted-list true (sym o ∙ t)) (moves-leading row row j r (queueOf row len) m len (holds-still row len good) p)
+
+        pub rotated-behind : (mid after : List ℕ) (k : ℕ) → b ≡ false → Holds row mid (len - 1) (drop 1 (queueOf row len)) → k ≡ len - 1 + 1 → Holds mid after (len - 1 + 1) (insert r (queueOf mid (len - 1)))
+            → m ≡ leading j h k → MovesOne row after m (promote j (insert r (queueOf row len)))
+        rotated-behind mid after k f H q G p =
+            rw (inserted-list false (sym o ∙ f)) (moves-leading row after j h (insert r (drop 1 (queueOf row len))) m k (rw q (holds-then row mid after (len - 1) (len - 1 + 1) _ (insert r) H G)) p)
 
 -- Delete: the owner's place goes to the head of the queue, any other's is closed
-module _ (j : ServerId) (r : Request) (v : Votes) (good : Padded (v .queue)) (b : Bool) (o : b ≡ isRequest r (v .owner)) where
-  pub deleted-owner : (m : Moved) → b ≡ true → MovesOne m (promote j (listOf (v .queue))) → MovesOne m (delete j r (view v))
+module _ (j : ServerId) (r : Request) (v : Votes) (row after : List ℕ) (b : Bool) (o : b ≡ isRequest r (v .owner)) (m : Moved) where
+  pub deleted-owner : b ≡ true → MovesOne row after m (promote j (queueOf row (v .len))) → MovesOne row after m (delete j r (view v row))
   unfolding delete
-  deleted-owner m t p = let e : isRequest r (v .owner) ≡ true = cc in rw e p
+  deleted-owner t p = let e : isRequest r (v .owner) ≡ true = cc in rw e p
 
-  pub deleted-waiting : (m : Moved) (q : Queue) → b ≡ false → q ≡ queueOf (without r (listOf (v .queue))) → m ≡ still (record { owner = v .owner; queue = q }) → MovesOne m (delete j r (view v))
+  pub deleted-waiting : (n : ℕ) → b ≡ false → Holds row after n (without r (queueOf row (v .len))) → m ≡ still (record { owner = v .owner; len = n }) → MovesOne row after m (delete j r (view v row))
   unfolding delete
-  deleted-waiting m q t p e =
-      let n : isRequest r (v .owner) ≡ false = cc in
-      let l = length-list (v .queue) good in
-      let w = good .within in
-      let f : length (without r (listOf (v .queue))) ≤ 16 = omega (arith, length-without r (listOf (v .queue))) in
-      rw n (moves-still m (record { owner = v .owner; queue = q }) _ f (ap (λ (x : Queue). record { owner = v .owner; queue = x }) p) e refl)
+  deleted-waiting n f H p =
+      let e : isRequest r (v .owner) ≡ false = cc in
+      rw e (moves-still row after m (record { owner = v .owner; len = n }) (stay (record { owner = v .owner; queue = without r (queueOf row (v .len)) })) H refl p refl)
+
+-- r waits, unless its client does already, or the row is too short
+module _ (j : ServerId) (r : Request) (v : Votes) (row : List ℕ) (good : Padded row (v .len)) (at : ℕ) (e : at ≡ first (at-client (r .client)) (queueOf row (v .len))) (m : Moved) where
+  pub joined-again : at < v .len → m ≡ telling v (Response (r .client) j (v .owner)) → MovesOne row row m (joining j r (view v row))
+  unfolding enqueue
+  joined-again l p =
+      let n = length-queue row (v .len) good in
+      rw (timestamp-first (r .client) (queueOf row (v .len)) (omega arith)) (moves-telling row row m v (tell (view v row) (Response (r .client) j (v .owner))) (holds-still row (v .len) good) refl _ p refl)
+
+  module _ (g : v .len ≤ at) where
+    new : timestampIn (r .client) (queueOf row (v .len)) ≡ none
+    new = let n = length-queue row (v .len) good in timestamp-none (r .client) (queueOf row (v .len)) (omega arith)
+
+    pub joined-full : length row < 2 * v .len + 2 → m ≡ overflowing v (Response (r .client) j (v .owner)) → MovesOne row row m (joining j r (view v row))
+    unfolding enqueue
+    joined-full l p =
+        let n = length-queue row (v .len) good in
+        let i = length-insert r (queueOf row (v .len)) in
+        let over : length row < 2 * length (insert r (queueOf row (v .len))) = omega arith in
+        rw new (moves-overflowing row m v (tell (record { owner = v .owner; queue = insert r (queueOf row (v .len)) }) (Response (r .client) j (v .owner))) _ over p refl)
+
+    pub joined-new : (after : List ℕ) (n : ℕ) → n ≡ v .len + 1 → Holds row after (v .len + 1) (insert r (queueOf row (v .len))) → m ≡ telling (record { owner = v .owner; len = n }) (Response (r .client) j (v .owner)) → MovesOne row after m (joining j r (view v row))
+    unfolding enqueue
+    joined-new after n q H p =
+        rw new
+        (moves-telling row after m (record { owner = v .owner; len = n }) (tell (record { owner = v .owner; queue = insert r (queueOf row (v .len)) }) (Response (r .client) j (v .owner))) (rw q H) refl _ p refl)
 
 -- RESPONSE to a client that is not the owner
 module _ (j : ServerId) (k : ClientId) (o : Owner) (b : Bool) (e : b ≡ isClient k o) where

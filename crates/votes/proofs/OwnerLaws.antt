@@ -11,10 +11,11 @@ use Rattle.ids.specs.declared.Request.{Request}
 use Rattle.ids.specs.declared.Timestamp.{Timestamp}
 use Rattle.ids.specs.declared.Owner.the-variants.{Of}
 use Rattle.ids.proofs.Choice.{decided}
+use Rattle.rows.specs.Queue.{timestampIn}
 use Rattle.votes.specs.declared.Tag.{Tag}
 use Rattle.votes.specs.declared.Tag.the-variants.{Request as REQUEST, Yield as YIELD, Release as RELEASE, Inquiry as INQUIRY}
-use Rattle.votes.specs.Figure1.{State, timestampIn, candidates, delete, act, compare, receive}
-use Rattle.votes.proofs.ActLaws.{informed-state}
+use Rattle.votes.specs.Figure1.{State, candidates, delete, act, compare, receive}
+use Rattle.votes.proofs.RoomLaws.{informed-state}
 
 module _ (j : ServerId) (r o : Request) (other : eqb (o .client .0) (r .client .0) ≡ false) where
   not-its-pair : (t : Timestamp) → same o (record { client = r .client; timestamp = t }) ≡ false

@@ -1,17 +1,16 @@
 -- The server: Figure 1 of the report, lines 26 to 56, on an owner and a request queue.
 -- Document 01 says keeper for server, line for queue, missing for suspected.
-use mathlib.Core.Option.{Option, none, some}
 use mathlib.Core.List.{List, [], _∷_}
-use lib.Dec.{eqb, ltb}
+use lib.Dec.{ltb}
 use Rattle.ids.specs.Choice.{if_then_else_, maybe}
-use Rattle.ids.specs.Order.{before}
-use Rattle.ids.specs.Requests.{same, isRequest, isClient, byOwner}
+use Rattle.ids.specs.Requests.{isRequest, isClient, byOwner}
 use Rattle.ids.specs.declared.ClientId.{ClientId}
 use Rattle.ids.specs.declared.ServerId.{ServerId}
 use Rattle.ids.specs.declared.Timestamp.{Timestamp}
 use Rattle.ids.specs.declared.Request.{Request}
 use Rattle.ids.specs.declared.Owner.{Owner}
 use Rattle.ids.specs.declared.Owner.the-variants.{Nobody, Of}
+use Rattle.rows.specs.Queue.{timestampIn, insert, without}
 use Rattle.wire.specs.Step.{Step, stay, tell, _then_}
 use Rattle.wire.specs.declared.Message.the-variants.{Response as RESPONSE, Check as CHECK}
 use Rattle.votes.specs.declared.Tag.{Tag}
@@ -26,28 +25,13 @@ pub record State : Type 0 where
 abbrev pub idle : State
 idle = record { owner = Nobody; queue = [] }
 
--- the timestamp with which client k stands in a list of requests
-unfoldable pub timestampIn : ClientId → List Request → Option Timestamp
-timestampIn k [] = none
-timestampIn k (r ∷ l) = if eqb (r .client .0) (k .0) then some (r .timestamp) else timestampIn k l
-
 -- line 27: the same of a server's owner and queue
 abbrev pub candidates : State → List Request
 candidates q = byOwner (q .owner) (q .queue) (λ o. o ∷ q .queue)
 
--- insertion by predetermined order
-unfoldable pub insert : Request → List Request → List Request
-insert r [] = r ∷ []
-insert r (x ∷ l) = if before r x then r ∷ (x ∷ l) else x ∷ insert r l
-
 -- lines 33 and 34: r waits in the queue, unless its client does already
 unfoldable pub enqueue : Request → List Request → List Request
 enqueue r l = maybe (timestampIn (r .client) l) (insert r l) (λ t. l)
-
--- line 56: the queue without r
-unfoldable pub without : Request → List Request → List Request
-without r [] = []
-without r (x ∷ l) = if same x r then l else x ∷ without r l
 
 -- lines 39 and 40, 52 to 55: server j's owner is the head of the queue, and is told so; with an empty queue there is none
 unfoldable pub promote : ServerId → List Request → Step State

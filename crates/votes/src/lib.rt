@@ -1,13 +1,13 @@
-// A server's owner and request queue, and the steps of Figure 1, lines 26 to 45 and 50 to 56, on them. The public functions with a
-// `requires` are for the layers above, which have tested the record.
+// A server's owner, and its request queue in a lent row of words; the steps of Figure 1, lines 26 to 45 and 50 to 56, on them. The public
+// functions with a `requires` are for the layers above, which have tested the record.
 ghost use mathlib.Core.Path.{_≡_};
-ghost use mathlib.Core.List.{_∷_, _++_};
-ghost use Prim.Native.Nat.{suc, _+_, _<_, _≤_};
-ghost use lib.ListN.{length, take, drop};
-ghost use Rattle.ids.specs.Requests.{noRequest, isRequest, isClient};
-ghost use Rattle.votes.specs.Figure1.{timestampIn, candidates, insert, without, promote as promoteOf, delete as deleteOf, act as actOf, compare as compareOf, receive as receiveOf};
-ghost use Rattle.votes.specs.Queues.{listOf, queueOf, view};
-ghost use Rattle.votes.specs.Places.{matching, first, Padded, Moves, MovesTwo, MovesOne, still as stillOf, telling as tellingOf, mails, standingOf, informed, leading, overflowing as overflowingOf, joining, Followed, joined as joinedOf};
+ghost use mathlib.Core.Option.{some};
+ghost use Rattle.ids.specs.Requests.{isRequest, isClient};
+ghost use Rattle.rows.specs.Rows.{queueOf, Padded};
+ghost use Rattle.rows.specs.Queue.{timestampIn, insert};
+ghost use Rattle.votes.specs.Figure1.{candidates, promote as promoteOf, delete as deleteOf, act as actOf, compare as compareOf, receive as receiveOf};
+ghost use Rattle.votes.specs.Queues.{view};
+ghost use Rattle.votes.specs.Places.{Moves, MovesTwo, MovesOne, still as stillOf, telling as tellingOf, mails, standingOf, informed, leading, overflowing as overflowingOf, joining, Followed, joined as joinedOf};
 use ids::ClientId;
 use ids::Owner;
 use ids::Request;
@@ -22,16 +22,10 @@ pub enum Tag {
     Inquiry,
 }
 
-// Requests in order, in the first `len` places.
-pub struct Queue {
-    pub len: usize,
-    pub places: [Request; 16],
-}
-
-// A server's owner, and who waits behind it.
+// A server's owner, and how many wait behind it: the first `len` places of its row.
 pub struct Votes {
     pub owner: Owner,
-    pub queue: Queue,
+    pub len: usize,
 }
 
 // A message to send, or none.
@@ -40,7 +34,7 @@ pub enum Mail {
     One(Message),
 }
 
-// What a part of a step leaves: the votes, unless the queue is too small for them, and the messages to send, in order.
+// What a part of a step leaves beside the row: the votes, unless the row is too short for them, and the messages to send, in order.
 pub struct Moved {
     pub votes: Votes,
     pub full: bool,
@@ -49,134 +43,20 @@ pub struct Moved {
     pub third: Mail,
 }
 
-// What a search through a queue looks for: a request's client, the request itself, or a request behind it.
-pub enum Wanted {
-    Client,
-    Pair,
-    Later,
-}
-
 // Whether a client is owner or waits, and with which timestamp.
 pub enum Standing {
     Absent,
     With(Timestamp),
 }
 
-pub fn sized(q: Queue)
-    ensures { λ _. ⌜ length (q .places) ≡ 16 ⌝ }
-{}
-
-pub fn nobody() -> Request
-    ensures { λ r. ⌜ r ≡ noRequest ⌝ }
-{
-    Request {
-        client: ClientId(0),
-        timestamp: Timestamp(0),
-    }
-}
-
-fn matches(wanted: Wanted, r: Request, x: Request) -> bool
-    ensures { λ b. ⌜ b ≡ matching wanted r x ⌝ }
-{
-    match wanted {
-        Wanted::Client => x.client.0 == r.client.0,
-        Wanted::Pair => ids::same_request(x, r),
-        Wanted::Later => ids::precedes(r, x),
-    }
-}
-
-// The first place from `from` on whose request is wanted, or the length. For this crate, and for the server's test of its record,
-// which knows the length.
-pub fn search(q: Queue, wanted: Wanted, r: Request, from: usize) -> usize
-    requires { ⌜ (from ≤ q .len) × (q .len ≤ 16) ⌝ }
-    ensures { λ i. ⌜ i ≡ from + first (matching wanted r) (drop from (listOf q)) ⌝ }
-{
-    sized(q);
-    let places = q.places;
-    let len = q.len;
-    let mut i = from;
-    while i < len {
-        if matches(wanted, r, places[i]) {
-            return i;
-        }
-        i += 1;
-    }
-    i
-}
-
-// The queue without the request at place `at`: those behind it move up.
-fn remove_at(q: Queue, at: usize) -> Queue
-    requires { ⌜ (at < q .len) × Padded q ⌝ }
-    ensures { λ r. ⌜ r ≡ queueOf (take at (listOf q) ++ drop (suc at) (listOf q)) ⌝ }
-{
-    let mut places = q.places;
-    let mut i = at;
-    while i < 15 {
-        let next = places[i + 1];
-        places[i] = next;
-        i += 1;
-    }
-    let none = nobody();
-    places[15] = none;
-    Queue {
-        len: q.len - 1,
-        places,
-    }
-}
-
-// The queue with `r` at place `at`: those from there on move back.
-fn insert_at(q: Queue, at: usize, r: Request) -> Queue
-    requires { ⌜ (at ≤ q .len) × (q .len < 16) × Padded q ⌝ }
-    ensures { λ s. ⌜ s ≡ queueOf (take at (listOf q) ++ r ∷ drop at (listOf q)) ⌝ }
-{
-    let mut places = q.places;
-    let mut i: usize = 15;
-    while at < i {
-        let last = places[i - 1];
-        places[i] = last;
-        i -= 1;
-    }
-    places[at] = r;
-    Queue {
-        len: q.len + 1,
-        places,
-    }
-}
-
-// The queue with `r` in its order.
-fn insert_request(q: Queue, r: Request) -> Queue
-    requires { ⌜ (q .len < 16) × Padded q ⌝ }
-    ensures { λ s. ⌜ s ≡ queueOf (insert r (listOf q)) ⌝ }
-{
-    let at = search(q, Wanted::Later, r, 0);
-    insert_at(q, at, r)
-}
-
-// The queue without `r`, if it is there.
-fn remove_request(q: Queue, r: Request) -> Queue
-    requires { ⌜ Padded q ⌝ }
-    ensures { λ s. ⌜ s ≡ queueOf (without r (listOf q)) ⌝ }
-{
-    let at = search(q, Wanted::Pair, r, 0);
-    if at < q.len {
-        return remove_at(q, at);
-    }
-    q
-}
-
 // Whether client `k` waits in the queue, and with which timestamp.
-fn waiting(k: ClientId, q: Queue) -> Standing
-    requires { ⌜ Padded q ⌝ }
-    ensures { λ s. ⌜ s ≡ standingOf (timestampIn k (listOf q)) ⌝ }
+fn waiting(k: ClientId, row: &[u32], len: usize) -> Standing
+    requires { ⌜ Padded (now row) len ⌝ }
+    ensures { λ s. ⌜ s ≡ standingOf (timestampIn k (queueOf (now (row .entry)) len)) ⌝ }
 {
-    let r = Request {
-        client: k,
-        timestamp: Timestamp(0),
-    };
-    let at = search(q, Wanted::Client, r, 0);
-    if at < q.len {
-        let places = q.places;
-        let x = places[at];
+    let at = rows::search(row, len, k);
+    if at < len {
+        let x = rows::request_at(row, at);
         let t = x.timestamp;
         return Standing::With(t);
     }
@@ -184,19 +64,19 @@ fn waiting(k: ClientId, q: Queue) -> Standing
 }
 
 // Line 27: whether client `k` is owner or waits, and with which timestamp.
-fn standing_of(k: ClientId, v: Votes) -> Standing
-    requires { ⌜ Padded (v .queue) ⌝ }
-    ensures { λ s. ⌜ s ≡ standingOf (timestampIn k (candidates (view v))) ⌝ }
+fn standing_of(k: ClientId, v: Votes, row: &[u32]) -> Standing
+    requires { ⌜ Padded (now row) (v .len) ⌝ }
+    ensures { λ s. ⌜ s ≡ standingOf (timestampIn k (candidates (view v (now (row .entry))))) ⌝ }
 {
     let o = v.owner;
     match o {
-        Owner::Nobody => waiting(k, v.queue),
+        Owner::Nobody => waiting(k, row, v.len),
         Owner::Of(q) => {
             if q.client.0 == k.0 {
                 let t = q.timestamp;
                 return Standing::With(t);
             }
-            waiting(k, v.queue)
+            waiting(k, row, v.len)
         }
     }
 }
@@ -244,56 +124,59 @@ pub fn telling(votes: Votes, message: Message) -> Moved
     }
 }
 
-// `h` is owner before the queue, and is told so.
-fn lead(j: ServerId, h: Request, queue: Queue) -> Moved
-    ensures { λ m. ⌜ m ≡ leading j h queue ⌝ }
+// `h` is owner before a queue of `len`, and is told so.
+fn lead(j: ServerId, h: Request, len: usize) -> Moved
+    ensures { λ m. ⌜ m ≡ leading j h len ⌝ }
 {
     let client = h.client;
     let owner = Owner::Of(h);
     let message = Message::Response(client, j, owner);
-    telling(Votes { owner, queue }, message)
+    telling(Votes { owner, len }, message)
 }
 
 // Lines 52 to 55: the head of the queue becomes owner; with an empty queue there is no owner.
-fn promote(j: ServerId, q: Queue) -> Moved
-    requires { ⌜ Padded q ⌝ }
-    ensures { λ m. ⌜ MovesOne m (promoteOf j (listOf q)) ⌝ }
+fn promote(j: ServerId, row: &mut [u32], len: usize) -> Moved
+    requires { ⌜ Padded (now row) len ⌝ }
+    ensures { λ m. ⌜ MovesOne (now (row .entry)) (now (row .exit)) m (promoteOf j (queueOf (now (row .entry)) len)) ⌝ }
 {
-    if q.len == 0 {
+    if len == 0 {
         let owner = Owner::Nobody;
-        return still(Votes { owner, queue: q });
+        return still(Votes { owner, len: 0 });
     }
-    let places = q.places;
-    lead(j, places[0], remove_at(q, 0))
+    let head = rows::request_at(row, 0);
+    rows::remove(row, len, 0);
+    lead(j, head, len - 1)
 }
 
-// Lines 38 to 40: `r` joins the queue, and the head of it becomes owner. A full queue has room, since the head leaves it.
-fn rotate(j: ServerId, r: Request, q: Queue) -> Moved
-    requires { ⌜ Padded q ⌝ }
-    ensures { λ m. ⌜ MovesOne m (promoteOf j (insert r (listOf q))) ⌝ }
+// Lines 38 to 40: `r` joins the queue, and the head of it becomes owner. A full row has room, since the head leaves it.
+fn rotate(j: ServerId, r: Request, row: &mut [u32], len: usize) -> Moved
+    requires { ⌜ Padded (now row) len ⌝ }
+    ensures { λ m. ⌜ MovesOne (now (row .entry)) (now (row .exit)) m (promoteOf j (insert r (queueOf (now (row .entry)) len))) ⌝ }
 {
-    if q.len == 0 {
-        return lead(j, r, q);
+    if len == 0 {
+        return lead(j, r, 0);
     }
-    let places = q.places;
-    let head = places[0];
+    let head = rows::request_at(row, 0);
     if ids::precedes(r, head) {
-        return lead(j, r, q);
+        return lead(j, r, len);
     }
-    lead(j, head, insert_request(remove_at(q, 0), r))
+    rows::remove(row, len, 0);
+    let n = rows::insert(row, len - 1, r);
+    lead(j, head, n)
 }
 
 // Lines 50 to 56. For the server's calls, which have tested the record.
-pub fn delete(j: ServerId, r: Request, v: Votes) -> Moved
-    requires { ⌜ Padded (v .queue) ⌝ }
-    ensures { λ m. ⌜ MovesOne m (deleteOf j r (view v)) ⌝ }
+pub fn delete(j: ServerId, r: Request, v: Votes, row: &mut [u32]) -> Moved
+    requires { ⌜ Padded (now row) (v .len) ⌝ }
+    ensures { λ m. ⌜ MovesOne (now (row .entry)) (now (row .exit)) m (deleteOf j r (view v (now (row .entry)))) ⌝ }
 {
     let owner = v.owner;
+    let len = v.len;
     if owns(owner, r) {
-        return promote(j, v.queue);
+        return promote(j, row, len);
     }
-    let queue = remove_request(v.queue, r);
-    still(Votes { owner, queue })
+    let n = rows::remove_request(row, len, r);
+    still(Votes { owner, len: n })
 }
 
 // Lines 35, 41 and 45: RESPONSE with the owner to client `k`, unless `k` is the owner.
@@ -321,31 +204,29 @@ fn overflowing(votes: Votes, message: Message) -> Moved
 }
 
 // Lines 33 to 35 behind an owner: `r` waits, unless its client does already, and is told the owner.
-fn join(j: ServerId, r: Request, v: Votes) -> Moved
-    requires { ⌜ Padded (v .queue) ⌝ }
-    ensures { λ m. ⌜ MovesOne m (joining j r (view v)) ⌝ }
+fn join(j: ServerId, r: Request, v: Votes, row: &mut [u32]) -> Moved
+    requires { ⌜ Padded (now row) (v .len) ⌝ }
+    ensures { λ m. ⌜ MovesOne (now (row .entry)) (now (row .exit)) m (joining j r (view v (now (row .entry)))) ⌝ }
 {
     let owner = v.owner;
+    let len = v.len;
     let client = r.client;
     let message = Message::Response(client, j, owner);
-    let w = waiting(client, v.queue);
-    match w {
-        Standing::With(_) => telling(v, message),
-        Standing::Absent => {
-            let q = v.queue;
-            if q.len == 16 {
-                return overflowing(v, message);
-            }
-            let queue = insert_request(q, r);
-            telling(Votes { owner, queue }, message)
-        }
+    let at = rows::search(row, len, client);
+    if at < len {
+        return telling(v, message);
     }
+    if row.len() < 2 * len + 2 {
+        return overflowing(v, message);
+    }
+    let n = rows::insert(row, len, r);
+    telling(Votes { owner, len: n }, message)
 }
 
 // Lines 31 to 35.
-fn act_request(j: ServerId, r: Request, v: Votes) -> Moved
-    requires { ⌜ Padded (v .queue) ⌝ }
-    ensures { λ m. ⌜ MovesOne m (actOf j Tag.Request r (view v)) ⌝ }
+fn act_request(j: ServerId, r: Request, v: Votes, row: &mut [u32]) -> Moved
+    requires { ⌜ Padded (now row) (v .len) ⌝ }
+    ensures { λ m. ⌜ MovesOne (now (row .entry)) (now (row .exit)) m (actOf j Tag.Request r (view v (now (row .entry)))) ⌝ }
 {
     let owner = v.owner;
     let client = r.client;
@@ -353,8 +234,8 @@ fn act_request(j: ServerId, r: Request, v: Votes) -> Moved
         return still(v);
     }
     match owner {
-        Owner::Nobody => lead(j, r, v.queue),
-        Owner::Of(_) => join(j, r, v),
+        Owner::Nobody => lead(j, r, v.len),
+        Owner::Of(_) => join(j, r, v, row),
     }
 }
 
@@ -376,22 +257,23 @@ fn followed(j: ServerId, k: ClientId, before: Moved) -> Moved
 }
 
 // Lines 37 to 41.
-fn act_yield(j: ServerId, r: Request, v: Votes) -> Moved
-    requires { ⌜ Padded (v .queue) ⌝ }
-    ensures { λ m. ⌜ MovesTwo m (actOf j Tag.Yield r (view v)) ⌝ }
+fn act_yield(j: ServerId, r: Request, v: Votes, row: &mut [u32]) -> Moved
+    requires { ⌜ Padded (now row) (v .len) ⌝ }
+    ensures { λ m. ⌜ MovesTwo (now (row .entry)) (now (row .exit)) m (actOf j Tag.Yield r (view v (now (row .entry)))) ⌝ }
 {
     let owner = v.owner;
     let client = r.client;
     if owns(owner, r) {
-        return followed(j, client, rotate(j, r, v.queue));
+        let before = rotate(j, r, row, v.len);
+        return followed(j, client, before);
     }
     followed(j, client, still(v))
 }
 
 // Line 45.
-fn act_inquiry(j: ServerId, r: Request, v: Votes) -> Moved
-    requires { ⌜ Padded (v .queue) ⌝ }
-    ensures { λ m. ⌜ MovesTwo m (actOf j Tag.Inquiry r (view v)) ⌝ }
+fn act_inquiry(j: ServerId, r: Request, v: Votes, row: &[u32]) -> Moved
+    requires { ⌜ Padded (now row) (v .len) ⌝ }
+    ensures { λ m. ⌜ MovesTwo (now (row .entry)) (now (row .entry)) m (actOf j Tag.Inquiry r (view v (now (row .entry)))) ⌝ }
 {
     let owner = v.owner;
     let client = r.client;
@@ -402,15 +284,15 @@ fn act_inquiry(j: ServerId, r: Request, v: Votes) -> Moved
 }
 
 // Lines 30 to 45.
-fn act(j: ServerId, tag: Tag, r: Request, v: Votes) -> Moved
-    requires { ⌜ Padded (v .queue) ⌝ }
-    ensures { λ m. ⌜ MovesTwo m (actOf j tag r (view v)) ⌝ }
+fn act(j: ServerId, tag: Tag, r: Request, v: Votes, row: &mut [u32]) -> Moved
+    requires { ⌜ Padded (now row) (v .len) ⌝ }
+    ensures { λ m. ⌜ MovesTwo (now (row .entry)) (now (row .exit)) m (actOf j tag r (view v (now (row .entry)))) ⌝ }
 {
     match tag {
-        Tag::Request => act_request(j, r, v),
-        Tag::Yield => act_yield(j, r, v),
-        Tag::Release => delete(j, r, v),
-        Tag::Inquiry => act_inquiry(j, r, v),
+        Tag::Request => act_request(j, r, v, row),
+        Tag::Yield => act_yield(j, r, v, row),
+        Tag::Release => delete(j, r, v, row),
+        Tag::Inquiry => act_inquiry(j, r, v, row),
     }
 }
 
@@ -432,9 +314,9 @@ fn joined(before: Moved, after: Moved) -> Moved
 }
 
 // Lines 28 to 45, where the sender stands with timestamp `t`.
-fn compare(j: ServerId, tag: Tag, r: Request, v: Votes, t: Timestamp) -> Moved
-    requires { ⌜ Padded (v .queue) ⌝ }
-    ensures { λ m. ⌜ Moves m (compareOf j tag r (view v) t) ⌝ }
+fn compare(j: ServerId, tag: Tag, r: Request, v: Votes, row: &mut [u32], t: Timestamp) -> Moved
+    requires { ⌜ Padded (now row) (v .len) × (timestampIn (r .client) (candidates (view v (now row))) ≡ some t) ⌝ }
+    ensures { λ m. ⌜ Moves (now (row .entry)) (now (row .exit)) m (compareOf j tag r (view v (now (row .entry))) t) ⌝ }
 {
     let now = r.timestamp;
     if now.0 < t.0 {
@@ -446,21 +328,22 @@ fn compare(j: ServerId, tag: Tag, r: Request, v: Votes, t: Timestamp) -> Moved
             client,
             timestamp: t,
         };
-        let before = delete(j, old, v);
-        return joined(before, act(j, tag, r, before.votes));
+        let before = delete(j, old, v, row);
+        let after = act(j, tag, r, before.votes, row);
+        return joined(before, after);
     }
-    act(j, tag, r, v)
+    act(j, tag, r, v, row)
 }
 
 // Lines 26 to 45. For the server's calls, which have tested the record.
-pub fn receive(j: ServerId, tag: Tag, r: Request, v: Votes) -> Moved
-    requires { ⌜ Padded (v .queue) ⌝ }
-    ensures { λ m. ⌜ Moves m (receiveOf j tag r (view v)) ⌝ }
+pub fn receive(j: ServerId, tag: Tag, r: Request, v: Votes, row: &mut [u32]) -> Moved
+    requires { ⌜ Padded (now row) (v .len) ⌝ }
+    ensures { λ m. ⌜ Moves (now (row .entry)) (now (row .exit)) m (receiveOf j tag r (view v (now (row .entry)))) ⌝ }
 {
     let client = r.client;
-    let s = standing_of(client, v);
+    let s = standing_of(client, v, row);
     match s {
-        Standing::Absent => act(j, tag, r, v),
-        Standing::With(t) => compare(j, tag, r, v, t),
+        Standing::Absent => act(j, tag, r, v, row),
+        Standing::With(t) => compare(j, tag, r, v, row, t),
     }
 }

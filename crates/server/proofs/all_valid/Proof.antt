@@ -1,7 +1,13 @@
 -- `server::all_valid` meets its contract. The invariant: what stands before place i is valid. The measure is what is left of the queue.
-use Prim.Native.Nat.{_≤_, _-_, _+_}
-use mathlib.Core.Path.{_≡_}
-use lib.ListN.{length, take}
+use denote.Ref.{now}
+use Prim.Native.Nat.{_+_, _*_, _-_, _≤_}
+use native.Mathlib.Omega.{arith}
+use mathlib.Core.Path.{_≡_, ap, _∙_}
+use mathlib.Core.List.{List}
+use lib.ListN.{length, getD}
+use Rattle.ids.specs.Requests.{noRequest}
+use Rattle.ids.specs.declared.Request.{Request}
+use Rattle.rows.specs.Rows.{requestsIn, queueOf}
 use Rattle.ids.specs.Limits.{validRequest}
 use Rattle.ids.specs.Lists.{every}
 use Rattle.server.proofs.ValidLaws.{Passing, places-start, valid-on, valid-stops, valid-ends}
@@ -10,28 +16,49 @@ use Rattle.server.proofs.all_valid.Statement.{statement}
 use Rattle.server.proofs.all_valid.Tie as tie
 
 abbrev Inv-loop : tie.InvT-loop
-Inv-loop places len i₀ i = (length places ≡ 16) × ((len ≤ 16) × Passing (every validRequest) (take len places) 0 i)
+Inv-loop row len i₀ i = Passing (every validRequest) (queueOf row len) 0 i
 
 abbrev μ-loop : tie.MeasureT-loop
-μ-loop places len i₀ i = len - i
+μ-loop row len i₀ i = len - i
+
+-- at entry
+module _ (c : tie.Start Inv-loop μ-loop) where
+  abbrev places : List Request
+  places = requestsIn (now (c .args .row))
+
+  within : c .args .len ≤ length places
+  within = c .pre .within
+
+-- in a turn
+module _ (c : tie.In-loop Inv-loop μ-loop) where
+  abbrev entry : tie.Start Inv-loop μ-loop
+  entry = c .before .before .before
+
+  inside : 2 * c .before .loop .i + 2 ≤ length (now (entry .args .row))
+  inside = omega (arith, entry .pre .within, entry .pre .places .even, c .loop-test .taken)
+
+-- the place is tested
+module _ (c : tie.After-valid-request Inv-loop μ-loop) where
+  abbrev turn : tie.In-loop Inv-loop μ-loop
+  turn = c .before .before
+
+  tested : c .valid-request .result ≡ validRequest (getD (places (entry turn)) (turn .before .loop .i) noRequest)
+  tested = c .valid-request .ensures ∙ ap validRequest (c .before .request-at .ensures)
 
 loop-holds : tie.Need-loop-holds Inv-loop μ-loop
-loop-holds c = (c .before .sized .ensures, (c .before .before .pre, places-start _ _ (c .before .sized .ensures) (c .before .before .pre) (every validRequest)))
+loop-holds c = places-start _ _ (within (c .before)) (every validRequest)
+
+request-at-requires : tie.Need-request-at-requires Inv-loop μ-loop
+request-at-requires c κs = (entry c .pre .places, inside c)
 
 returns : tie.Need-returns Inv-loop μ-loop
-returns c =
-    let v = c .before .before .before .before .loop .inv in
-    valid-stops _ _ (v .0) (v .1 .0) _ (c .before .before .before .loop-test .taken) _ _ (c .before .valid-request .ensures) (v .1 .1) (c .if1 .taken)
+returns c = let t = turn (c .before) in valid-stops _ _ (within (entry t)) _ (t .loop-test .taken) _ _ (tested (c .before)) (t .before .loop .inv) (c .if1 .taken)
 
 loop-again : tie.Need-loop-again Inv-loop μ-loop
-loop-again c =
-    let v = c .before .before .before .before .loop .inv in
-    (v .0, (v .1 .0, valid-on _ _ (v .0) (v .1 .0) _ (c .before .before .before .loop-test .taken) _ _ (c .before .valid-request .ensures) (v .1 .1) (c .if1 .left)))
+loop-again c = let t = turn (c .before) in valid-on _ _ (within (entry t)) _ (t .loop-test .taken) _ _ (tested (c .before)) (t .before .loop .inv) (c .if1 .left)
 
 returns-2 : tie.Need-returns-2 Inv-loop μ-loop
-returns-2 c =
-    let v = c .before .loop .inv in
-    valid-ends _ _ (v .0) (v .1 .0) _ _ (c .loop-test .left) (v .1 .1)
+returns-2 c = valid-ends _ _ (within (c .before .before .before)) _ _ (c .loop-test .left) (c .before .loop .inv)
 
 pub all-valid-spec : {M : Type 1} → statement M
 all-valid-spec =
@@ -39,10 +66,8 @@ all-valid-spec =
     (tie.spec
     Inv-loop
     μ-loop
-    (λ c κs. search needs)
     loop-holds
-    (λ c. search needs)
-    (λ c. search needs)
+    request-at-requires
     (λ c κs. search needs)
     returns
     (λ c. search needs)

@@ -1,40 +1,73 @@
 -- `server::in_order` meets its contract. The invariant: up to place i each stands before the next. The measure is what is left of the queue.
+use denote.Ref.{now}
+use Prim.Native.Nat.{_+_, _*_, _-_, _≤_}
 use native.Mathlib.Omega.{arith}
-use Prim.Native.Nat.{_≤_, _-_, _+_}
-use mathlib.Core.Path.{_≡_}
-use lib.ListN.{length, take}
+use mathlib.Core.Path.{_≡_, _∙_}
+use mathlib.Core.List.{List}
+use lib.ListN.{length, getD}
+use Rattle.ids.specs.Requests.{noRequest}
+use Rattle.ids.specs.declared.Request.{Request}
+use Rattle.rows.specs.Rows.{requestsIn, queueOf}
+use Rattle.ids.specs.Order.{before}
 use Rattle.server.specs.Record.{ordered}
-use Rattle.server.proofs.ValidLaws.{Passing, places-start, order-on, order-stops, order-ends}
+use Rattle.server.proofs.ValidLaws.{Passing, places-start, passing-within, order-on, order-stops, order-ends}
 use borrow.Author.Needs.{needs}
 use Rattle.server.proofs.in_order.Statement.{statement}
 use Rattle.server.proofs.in_order.Tie as tie
 
 abbrev Inv-loop : tie.InvT-loop
-Inv-loop places len i₀ i = (length places ≡ 16) × ((len ≤ 16) × ((i ≤ 16) × Passing ordered (take len places) 0 i))
+Inv-loop row len i₀ i = Passing ordered (queueOf row len) 0 i
 
 abbrev μ-loop : tie.MeasureT-loop
-μ-loop places len i₀ i = len - i
+μ-loop row len i₀ i = len - i
+
+-- at entry
+module _ (c : tie.Start Inv-loop μ-loop) where
+  abbrev places : List Request
+  places = requestsIn (now (c .args .row))
+
+  within : c .args .len ≤ length places
+  within = c .pre .within
+
+-- in a turn
+module _ (c : tie.In-loop Inv-loop μ-loop) where
+  abbrev entry : tie.Start Inv-loop μ-loop
+  entry = c .before .before .before
+
+  inside : 2 * (c .before .loop .i + 1) + 2 ≤ length (now (entry .args .row))
+  inside = omega (arith, entry .pre .within, entry .pre .places .even, c .loop-test .taken)
+
+-- the two are compared
+module _ (c : tie.After-precedes Inv-loop μ-loop) where
+  abbrev turn : tie.In-loop Inv-loop μ-loop
+  turn = c .before .before .before
+
+  tested : c .precedes .result ≡ before (getD (places (entry turn)) (turn .before .loop .i) noRequest) (getD (places (entry turn)) (turn .before .loop .i + 1) noRequest)
+  tested =
+      let a = c .before .before .request-at .ensures in
+      let b = c .before .request-at2 .ensures in
+      c .precedes .ensures ∙ (λ i. before (a i) (b i))
 
 loop-holds : tie.Need-loop-holds Inv-loop μ-loop
-loop-holds c = (c .before .sized .ensures, (c .before .before .pre, (omega arith, places-start _ _ (c .before .sized .ensures) (c .before .before .pre) ordered)))
+loop-holds c = places-start _ _ (within (c .before)) ordered
 
 add-loop : tie.Need-add-loop Inv-loop μ-loop
-add-loop c = omega arith
+add-loop c = let e = c .before .before in omega (arith, passing-within _ _ (within e) ordered _ (c .loop .inv))
+
+request-at-requires : tie.Need-request-at-requires Inv-loop μ-loop
+request-at-requires c κs = (entry c .pre .places, omega (arith, inside c))
+
+request-at-requires-2 : tie.Need-request-at-requires-2 Inv-loop μ-loop
+request-at-requires-2 c κs = (entry (c .before) .pre .places, inside (c .before))
 
 returns : tie.Need-returns Inv-loop μ-loop
-returns c =
-    let v = c .before .before .before .before .before .loop .inv in
-    order-stops _ _ (v .0) (v .1 .0) _ (c .before .before .before .before .loop-test .taken) _ (c .before .precedes .ensures) (v .1 .1 .1) (c .if1 .taken)
+returns c = let t = turn (c .before) in order-stops _ _ (within (entry t)) _ (t .loop-test .taken) _ (tested (c .before)) (t .before .loop .inv) (c .if1 .taken)
 
 loop-again : tie.Need-loop-again Inv-loop μ-loop
-loop-again c =
-    let v = c .before .before .before .before .before .loop .inv in
-    (v .0, (v .1 .0, (omega (arith, v .1 .0), order-on _ _ (v .0) (v .1 .0) _ (c .before .before .before .before .loop-test .taken) _ (c .before .precedes .ensures) (v .1 .1 .1) (c .if1 .left))))
+loop-again c = let t = turn (c .before) in order-on _ _ (within (entry t)) _ (t .loop-test .taken) _ (tested (c .before)) (t .before .loop .inv) (c .if1 .left)
 
 returns-2 : tie.Need-returns-2 Inv-loop μ-loop
-returns-2 c =
-    let v = c .before .loop .inv in
-    order-ends _ _ (v .0) (v .1 .0) _ (c .loop-test .left) (v .1 .1 .1)
+returns-2 c = order-ends _ _ (within (c .before .before .before)) _ (c .loop-test .left) (c .before .loop .inv)
 
 pub in-order-spec : {M : Type 1} → statement M
 in-order-spec =
@@ -42,14 +75,11 @@ in-order-spec =
     (tie.spec
     Inv-loop
     μ-loop
-    (λ c κs. search needs)
     loop-holds
     add-loop
+    request-at-requires
     (λ c. search needs)
-    (λ c. search needs)
-    (λ c. search needs)
-    (λ c. search needs)
-    (λ c. search needs)
+    request-at-requires-2
     (λ c κs. search needs)
     returns
     (λ c. search needs)

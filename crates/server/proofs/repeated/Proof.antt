@@ -1,28 +1,21 @@
 -- `server::repeated` meets its contract: the client is looked for further on.
+use native.Mathlib.Omega.{arith}
 use Rattle.server.proofs.ValidLaws.{repeats-by-search}
 use borrow.Author.Needs.{needs}
 use Rattle.server.proofs.repeated.Statement.{statement}
 use Rattle.server.proofs.repeated.Tie as tie
 
-sized-requires : tie.Need-sized-requires
-sized-requires c κs = search needs
-
-mul-search : tie.Need-mul-search
-mul-search c = search needs
-
-array-copy-out-search : tie.Need-array-copy-out-search
-array-copy-out-search c = search needs
-
-add-search : tie.Need-add-search
-add-search c = search needs
-
-search-requires : tie.Need-search-requires
-search-requires c κs = search needs
+request-at-requires : tie.Need-request-at-requires
+request-at-requires c κs = let e = c .before in (e .pre .1 .places, omega (arith, e .pre .1 .within, e .pre .1 .places .even))
 
 returns : tie.Need-returns
-returns c = repeats-by-search _ _ _ _ (c .before .before .before .before .sized .ensures) (c .before .before .before .before .before .pre .1) (c .before .before .before .before .before .pre .0) (c .before .search .ensures)
+returns c = let e = c .before .before .before in repeats-by-search _ _ _ _ (e .pre .1 .within) (e .pre .0) _ (c .before .request-at .ensures) (c .find .ensures)
 
 pub repeated-spec : {M : Type 1} → statement M
 repeated-spec =
     tie.close
-    (tie.spec sized-requires mul-search array-copy-out-search add-search search-requires returns)
+    (tie.spec
+    request-at-requires
+    (λ c. search needs)
+    (λ c κs. search needs)
+    returns)

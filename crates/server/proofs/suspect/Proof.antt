@@ -1,41 +1,23 @@
--- `server::suspect` meets its contract: the record decides, then the owner.
-use Rattle.server.proofs.RecordLaws.{server-padded}
-use Rattle.server.proofs.CallLaws.{suspect-broken, suspect-nobody, suspect-done}
+-- `server::suspect` meets its contract: the call on the record's row, and then what was to be sent.
+use Rattle.server.proofs.TurnLaws.{turns-by-value}
 use borrow.Author.Needs.{needs}
 use Rattle.server.proofs.suspect.Statement.{statement}
 use Rattle.server.proofs.suspect.Tie as tie
 
+-- the call on the row is made
+module _ (c : tie.After-suspect-row) where
+  abbrev entry : tie.Start
+  entry = c .before .before .before .before .before
+
 returns : tie.Need-returns
-returns c =
-    let e = suspect-broken (c .before .before .before .before .before .before .args .s) _ _ _ (c .before .before .valid-server .ensures) (c .before .if1 .taken) (c .refuse .ensures) in
-    (e .answered, e .buffered)
-
-delete-requires : tie.Need-delete-requires
-delete-requires c κs = (server-padded (c .before .before .before .before .before .before .before .before .before .args .s) _ (c .before .before .before .before .before .before .sized .ensures) (c .before .before .before .before .before .valid-server .ensures) (c .before .before .before .before .if1 .left))
-
-returns-2 : tie.Need-returns-2
-returns-2 c =
-    let e = suspect-nobody (c .before .before .before .before .before .before .before .before .before .args .s) _ _ _ (c .before .before .before .before .before .valid-server .ensures) (c .before .before .before .before .if1 .left) (c .before .enum-told .given .1) (c .refuse2 .ensures) in
-    (e .answered, e .buffered)
-
-returns-3 : tie.Need-returns-3
-returns-3 c =
-    let e = suspect-done (c .before .before .before .before .before .before .before .before .before .before .before .before .before .before .args .s) _ _ _ (c .before .before .before .before .before .before .before .before .before .before .valid-server .ensures) (c .before .before .before .before .before .before .before .before .before .if1 .left) (server-padded (c .before .before .before .before .before .before .before .before .before .before .before .before .before .before .args .s) _ (c .before .before .before .before .before .before .before .before .before .before .before .sized .ensures) (c .before .before .before .before .before .before .before .before .before .before .valid-server .ensures) (c .before .before .before .before .before .before .before .before .before .if1 .left)) _ (c .before .before .before .before .before .before .owner .given .1) _ _ (c .before .before .before .before .delete .ensures) (c .before .before .finish .ensures .0) (c .before .before .finish .ensures .1) in
-    (e .answered, e .buffered)
+returns c = let made = c .before .before .before .before .before in turns-by-value (entry made .args .s) _ _ _ _ _ _ (made .suspect-row .ensures) (c .before .before .finish .ensures)
 
 pub suspect-spec : {M : Type 1} → statement M
 suspect-spec =
     tie.close
     (tie.spec
-    (λ c κs. search needs)
-    (λ c κs. search needs)
-    (λ c κs. search needs)
-    returns
     (λ c. search needs)
     (λ c κs. search needs)
-    (λ c. search needs)
-    delete-requires
     (λ c κs. search needs)
-    returns-2
     (λ c. search needs)
-    returns-3)
+    returns)

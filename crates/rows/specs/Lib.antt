@@ -1,0 +1,4 @@
+pub mod Rows
+pub mod Good
+pub mod Queue
+pub mod Queues
