@@ -5,3 +5,4 @@ pub mod ListLaws
 pub mod SearchLaws
 pub mod GoodLaws
 pub mod CopyLaws
+pub mod RowLaws

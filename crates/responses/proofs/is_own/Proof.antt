@@ -1,8 +1,8 @@
--- `client::is_own` meets its contract: an empty place shows no request, any other shows its own.
-use Rattle.client.proofs.Places.{own-shown, own-empty}
+-- `responses::is_own` meets its contract: an empty place shows no request, any other shows its own.
+use Rattle.responses.proofs.CountLaws.{own-shown, own-empty}
 use borrow.Author.Needs.{needs}
-use Rattle.client.proofs.is_own.Statement.{statement}
-use Rattle.client.proofs.is_own.Tie as tie
+use Rattle.responses.proofs.is_own.Statement.{statement}
+use Rattle.responses.proofs.is_own.Tie as tie
 
 is-empty-requires : tie.Need-is-empty-requires
 is-empty-requires c κs = search needs

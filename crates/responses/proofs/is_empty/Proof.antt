@@ -1,8 +1,8 @@
--- `client::is_empty` meets its contract: the client's test decides the definition's `&&`.
+-- `responses::is_empty` meets its contract: the client's test decides the definition's `&&`.
 use borrow.Author.Tests.{eq-eqb, ne-eqb}
 use Rattle.ids.specs.Requests.{same}
-use Rattle.client.proofs.is_empty.Statement.{statement}
-use Rattle.client.proofs.is_empty.Tie as tie
+use Rattle.responses.proofs.is_empty.Statement.{statement}
+use Rattle.responses.proofs.is_empty.Tie as tie
 
 returns : tie.Need-returns
 unfolding same

@@ -14,11 +14,12 @@ use Rattle.ids.specs.declared.Timestamp.{Timestamp}
 use Rattle.ids.specs.declared.Request.{Request}
 use Rattle.ids.specs.declared.Owner.{Owner}
 use Rattle.ids.specs.declared.Owner.the-variants.{Nobody, Of}
-use Rattle.wire.specs.Step.{Step, stay, tell}
+use Rattle.ids.specs.declared.Refusal.the-variants.{WrongSection, TimestampsSpent}
+use Rattle.wire.specs.Step.{Step, stay, tell, Outcome, refused}
 use Rattle.wire.specs.declared.Message.{Message}
 use Rattle.wire.specs.declared.Message.the-variants.{Request as REQUEST, Yield as YIELD, Release as RELEASE, Inquiry as INQUIRY}
-use Rattle.client.specs.declared.Section.{Section}
-use Rattle.client.specs.declared.Section.the-variants.{Remainder, Trying, Critical}
+use Rattle.responses.specs.declared.Section.{Section}
+use Rattle.responses.specs.declared.Section.the-variants.{Remainder, Trying, Critical}
 
 pub record State : Type 0 where
   pub section : Section
@@ -34,10 +35,40 @@ fresh n = record { section = Remainder; timestamp = record { 0 = 0 }; responses 
 unfoldable pub next : Timestamp → Timestamp
 next t = record { 0 = t .0 + 1 }
 
+-- the timestamp that a try takes, and an exit leaves behind
+abbrev pub taken : State → Timestamp
+taken c = next (c .timestamp)
+
+-- the last timestamp with which a client may still try: two are left, for the try and for its exit
+abbrev pub lastTry : ℕ
+lastTry = 4294967293
+
+abbrev pub mayTry : State → Bool
+mayTry c = leb (c .timestamp .0) lastTry
+
+abbrev pub isRemainder : Section → Bool
+isRemainder Remainder = true
+isRemainder Trying = false
+isRemainder Critical = false
+
 abbrev pub isTrying : Section → Bool
 isTrying Remainder = false
 isTrying Trying = true
 isTrying Critical = false
+
+abbrev pub isCritical : Section → Bool
+isCritical Remainder = false
+isCritical Trying = false
+isCritical Critical = true
+
+-- refusals 10 and 11 of a try, and 10 of an exit: of the call and of the event
+abbrev pub tryChecked : {A : Type 0} → State → Outcome A → Outcome A
+tryChecked c o =
+    if isRemainder (c .section) then (if mayTry c then o else refused TimestampsSpent)
+    else refused WrongSection
+
+abbrev pub exitChecked : {A : Type 0} → State → Outcome A → Outcome A
+exitChecked c o = if isCritical (c .section) then o else refused WrongSection
 
 abbrev pub filled : Owner → Bool
 filled Nobody = false
@@ -64,15 +95,15 @@ toAll f (suc n) = toAll f n ++ (f (record { 0 = suc n }) ∷ [])
 unfoldable pub tries : ℕ → ClientId → State → Step State
 tries n k c =
     record {
-      state = record { section = Trying; timestamp = next (c .timestamp); responses = replicate n Nobody };
-      sent = toAll (λ j. REQUEST k j (next (c .timestamp))) n;
+      state = record { section = Trying; timestamp = taken c; responses = replicate n Nobody };
+      sent = toAll (λ j. REQUEST k j (taken c)) n;
     }
 
 -- lines 19 to 23
 unfoldable pub exits : ℕ → ClientId → State → Step State
 exits n k c =
     record {
-      state = record { section = Remainder; timestamp = next (c .timestamp); responses = replicate n Nobody };
+      state = record { section = Remainder; timestamp = taken c; responses = replicate n Nobody };
       sent = toAll (λ j. RELEASE k j (c .timestamp)) n;
     }
 
@@ -109,14 +140,22 @@ unfoldable pub round : Request → ℕ → List Owner → List Message
 round r j [] = []
 round r j (o ∷ l) = replies r (record { 0 = j }) o ++ round r (suc j) l
 
--- lines 10 to 18: with enough responses of its own it enters, with enough it yields and forgets them, else it waits on
-unfoldable pub judge : Quorum → ℕ → Request → List Owner → Step State
-judge wins n r l =
+-- which responses are request r's own
+abbrev pub own : Request → List Owner → List Bool
+own r l = map (isRequest r) l
+
+-- lines 10 to 18, by the quorum's verdicts on the filled places and on the own ones: with enough responses of its own it enters, with
+-- enough it yields and forgets them, else it waits on
+abbrev pub decide : Bool → Bool → ℕ → Request → List Owner → Step State
+decide full mine n r l =
     let with : Section → List Owner → State = λ s a. record { section = s; timestamp = r .timestamp; responses = a } in
-    if wins (map filled l) then
-    (if wins (map (isRequest r) l) then stay (with Critical l)
+    if full then
+    (if mine then stay (with Critical l)
     else record { state = with Trying (replicate n Nobody); sent = round r 1 l })
     else stay (with Trying l)
+
+unfoldable pub judge : Quorum → ℕ → Request → List Owner → Step State
+judge wins n r l = decide (wins (map filled l)) (wins (own r l)) n r l
 
 -- lines 7 to 18: client k takes a RESPONSE of server j that names o; outside the trying section it changes nothing
 unfoldable pub responds : Quorum → ℕ → ClientId → ServerId → Owner → State → Step State

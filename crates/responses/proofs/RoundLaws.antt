@@ -21,10 +21,11 @@ use Rattle.wire.specs.declared.Message.{Message}
 use Rattle.wire.specs.declared.Message.the-variants.{Request as REQUEST, Yield as YIELD, Inquiry as INQUIRY}
 use Rattle.wire.proofs.BytesLaws.{stored-on}
 use Rattle.wire.proofs.Sequence.{length-bytesOfAll, bytesOfAll-append, sizeOfAll-append, bytesOfAll-one, sizeOfAll-one}
-use Rattle.client.specs.Figure1.{filled, count, reply, replies, round}
-use Rattle.client.specs.Record.{shown}
-use Rattle.client.proofs.Places.{showing, length-showing}
-use Rattle.client.proofs.SendLaws.{request-plain, yield-plain, inquiry-plain}
+use Rattle.responses.specs.Figure1.{filled, count, reply, replies, round}
+use Rattle.rows.specs.Rows.{requestsIn, Places}
+use Rattle.responses.specs.Row.{shown, responsesIn}
+use Rattle.responses.proofs.CountLaws.{length-responses}
+use Rattle.responses.proofs.SendLaws.{request-plain, yield-plain, inquiry-plain}
 
 -- one reply
 module _ (r : Request) (j : ServerId) (q : Request) where
@@ -99,41 +100,43 @@ count-take f (suc i) [] = omega arith
 count-take f (suc i) (x ∷ l) = omega (arith, count-take f i l)
 
 -- the replies to the first i places stand in b, which was o
-pub record Replying (r : Request) (l : List Request) (n : ℕ) (o b : List ℕ) (at i : ℕ) : Type 0 where
-  pub long : length l ≡ 31
+pub record Replying (r : Request) (ws : List ℕ) (n : ℕ) (o b : List ℕ) (at i : ℕ) : Type 0 where
+  pub places : Places ws
+  pub words : 2 * n ≤ length ws
   pub within : i ≤ n
-  pub room : 12 * count (map filled (showing n l)) ≤ length o
+  pub room : 12 * count (map filled (responsesIn ws n)) ≤ length o
   pub size : length b ≡ length o
-  pub behind : at ≡ sizeOfAll (round r 1 (take i (showing n l)))
-  pub done : b ≡ sets o 0 (bytesOfAll (round r 1 (take i (showing n l))))
+  pub behind : at ≡ sizeOfAll (round r 1 (take i (responsesIn ws n)))
+  pub done : b ≡ sets o 0 (bytesOfAll (round r 1 (take i (responsesIn ws n))))
 
-module _ (r : Request) (l : List Request) (n : ℕ) (o : List ℕ) where
-  pub replying-none : length l ≡ 31 → 12 * count (map filled (showing n l)) ≤ length o → Replying r l n o o 0 0
+module _ (r : Request) (ws : List ℕ) (n : ℕ) (o : List ℕ) where
+  pub replying-none : Places ws → 2 * n ≤ length ws → 12 * count (map filled (responsesIn ws n)) ≤ length o → Replying r ws n o o 0 0
   unfolding round sizeOfAll bytesOfAll
-  replying-none h g = record { long = h; within = omega arith; room = g; size = refl; behind = refl; done = refl }
+  replying-none p h g = record { places = p; words = h; within = omega arith; room = g; size = refl; behind = refl; done = refl }
 
-  module _ (b : List ℕ) (at i : ℕ) (few : n ≤ 31) (R : Replying r l n o b at i) where
+  module _ (b : List ℕ) (at i : ℕ) (R : Replying r ws n o b at i) where
     module _ (h : i < n) where
-      next : round r 1 (take (i + 1) (showing n l)) ≡ round r 1 (take i (showing n l)) ++ replies r (record { 0 = i + 1 }) (shown (getD l i noRequest))
+      next : round r 1 (take (i + 1) (responsesIn ws n)) ≡ round r 1 (take i (responsesIn ws n)) ++ replies r (record { 0 = i + 1 }) (shown (getD (requestsIn ws) i noRequest))
       next =
-          let z = length-showing l n (R .long) few in
-          let s : i < length (showing n l) = omega arith in
-          let s′ : i ≤ length (showing n l) = omega arith in
+          let z = length-responses ws n (R .words) in
+          let s : i < length (responsesIn ws n) = omega arith in
+          let s′ : i ≤ length (responsesIn ws n) = omega arith in
           let e : 1 + i ≡ suc i = omega arith in
-          rw (add-one, take-suc (showing n l) i (shown noRequest), round-more, length-take-le, List·getD-map shown (take n l) i noRequest, getD-take, e)
+          rw (add-one, take-suc (responsesIn ws n) i (shown noRequest), round-more, length-take-le, List·getD-map shown (take n (requestsIn ws)) i noRequest, getD-take, e)
 
-      pub replying-fits : at + sizeOfAll (replies r (record { 0 = i + 1 }) (shown (getD l i noRequest))) ≤ length b
+      pub replying-fits : at + sizeOfAll (replies r (record { 0 = i + 1 }) (shown (getD (requestsIn ws) i noRequest))) ≤ length b
       replying-fits =
-          let e : sizeOfAll (round r 1 (take (i + 1) (showing n l))) ≡ sizeOfAll (round r 1 (take i (showing n l))) + sizeOfAll (replies r (record { 0 = i + 1 }) (shown (getD l i noRequest))) = rw (next, sizeOfAll-append) in
-          omega (arith, e, R .room, R .size, R .behind, size-round r 1 (take (i + 1) (showing n l)), count-take filled (i + 1) (showing n l))
+          let e : sizeOfAll (round r 1 (take (i + 1) (responsesIn ws n))) ≡ sizeOfAll (round r 1 (take i (responsesIn ws n))) + sizeOfAll (replies r (record { 0 = i + 1 }) (shown (getD (requestsIn ws) i noRequest))) = rw (next, sizeOfAll-append) in
+          omega (arith, e, R .room, R .size, R .behind, size-round r 1 (take (i + 1) (responsesIn ws n)), count-take filled (i + 1) (responsesIn ws n))
 
-      pub replying-more : (b′ : List ℕ) (at′ : ℕ) → at′ ≡ at + sizeOfAll (replies r (record { 0 = i + 1 }) (shown (getD l i noRequest)))
-          → b′ ≡ sets b at (bytesOfAll (replies r (record { 0 = i + 1 }) (shown (getD l i noRequest)))) → Replying r l n o b′ at′ (i + 1)
+      pub replying-more : (b′ : List ℕ) (at′ : ℕ) → at′ ≡ at + sizeOfAll (replies r (record { 0 = i + 1 }) (shown (getD (requestsIn ws) i noRequest)))
+          → b′ ≡ sets b at (bytesOfAll (replies r (record { 0 = i + 1 }) (shown (getD (requestsIn ws) i noRequest)))) → Replying r ws n o b′ at′ (i + 1)
       replying-more b′ at′ e p =
-          let m = replies r (record { 0 = i + 1 }) (shown (getD l i noRequest)) in
-          let d = round r 1 (take i (showing n l)) in
+          let m = replies r (record { 0 = i + 1 }) (shown (getD (requestsIn ws) i noRequest)) in
+          let d = round r 1 (take i (responsesIn ws n)) in
           record {
-            long = R .long;
+            places = R .places;
+            words = R .words;
             within = omega arith;
             room = R .room;
             size = ap length p ∙ length-sets b at (bytesOfAll m) ∙ R .size;
@@ -141,7 +144,7 @@ module _ (r : Request) (l : List Request) (n : ℕ) (o : List ℕ) where
             done = rw (next, bytesOfAll-append) (stored-on o b b′ (bytesOfAll d) (bytesOfAll m) 0 at (R .done) p (omega (arith, R .behind, length-bytesOfAll d)));
           }
 
-    pub replying-all : n ≤ i → b ≡ sets o 0 (bytesOfAll (round r 1 (showing n l)))
+    pub replying-all : n ≤ i → b ≡ sets o 0 (bytesOfAll (round r 1 (responsesIn ws n)))
     replying-all h =
-        let s : length (showing n l) ≤ i = omega (arith, length-showing l n (R .long) few) in
-        rw (take-all i (showing n l) s) at (R .done)
+        let s : length (responsesIn ws n) ≤ i = omega (arith, length-responses ws n (R .words)) in
+        rw (take-all i (responsesIn ws n) s) at (R .done)

@@ -13,7 +13,7 @@ use Rattle.wire.specs.Format.{lengthOf, fieldsOf, bytesOf, sizeOf, bytesOfAll, 
 use Rattle.wire.specs.declared.Message.{Message}
 use Rattle.wire.specs.declared.Message.the-variants.{Request, Yield, Release, Inquiry}
 use Rattle.wire.proofs.Sequence.{sizeOfAll-append, sizeOfAll-one, put-next}
-use Rattle.client.specs.Figure1.{toAll}
+use Rattle.responses.specs.Figure1.{toAll}
 
 module _ (f : ServerId → Message) where
   pub length-toAll : (n : ℕ) → length (toAll f n) ≡ n

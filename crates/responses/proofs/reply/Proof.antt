@@ -1,8 +1,8 @@
--- `client::reply` meets its contract: each return is one case of the definition.
-use Rattle.client.proofs.RoundLaws.{reply-yield, reply-request, reply-inquiry}
+-- `responses::reply` meets its contract: each return is one case of the definition.
+use Rattle.responses.proofs.RoundLaws.{reply-yield, reply-request, reply-inquiry}
 use borrow.Author.Needs.{needs}
-use Rattle.client.proofs.reply.Statement.{statement}
-use Rattle.client.proofs.reply.Tie as tie
+use Rattle.responses.proofs.reply.Statement.{statement}
+use Rattle.responses.proofs.reply.Tie as tie
 
 returns : tie.Need-returns
 returns c = reply-yield _ _ _ (c .if1 .taken)

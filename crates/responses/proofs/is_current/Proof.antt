@@ -1,8 +1,8 @@
--- `client::is_current` meets its contract: nobody is, another client is, and its own request if it is the same one.
-use Rattle.client.proofs.HearLaws.{current-other, current-own}
+-- `responses::is_current` meets its contract: nobody is, another client is, and its own request if it is the same one.
+use Rattle.responses.proofs.HearLaws.{current-other, current-own}
 use borrow.Author.Needs.{needs}
-use Rattle.client.proofs.is_current.Statement.{statement}
-use Rattle.client.proofs.is_current.Tie as tie
+use Rattle.responses.proofs.is_current.Statement.{statement}
+use Rattle.responses.proofs.is_current.Tie as tie
 
 enum-told : tie.Need-enum-told
 enum-told c = search needs

@@ -1,8 +1,8 @@
--- `client::send_reply` meets its contract: nothing for an empty place, one message for any other.
-use Rattle.client.proofs.RoundLaws.{replies-none, replies-fit, replies-one}
+-- `responses::send_reply` meets its contract: nothing for an empty place, one message for any other.
+use Rattle.responses.proofs.RoundLaws.{replies-none, replies-fit, replies-one}
 use borrow.Author.Needs.{needs}
-use Rattle.client.proofs.send_reply.Statement.{statement}
-use Rattle.client.proofs.send_reply.Tie as tie
+use Rattle.responses.proofs.send_reply.Statement.{statement}
+use Rattle.responses.proofs.send_reply.Tie as tie
 
 is-empty-requires : tie.Need-is-empty-requires
 is-empty-requires c κs = search needs

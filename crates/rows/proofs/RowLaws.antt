@@ -1,0 +1,71 @@
+-- The row of so many words that holds a list of requests: it is a queue in good order, and every queue in good order is such a row.
+use Prim.Native.Nat.{ℕ, zero, suc, _+_, _*_, _-_, _≤_}
+use native.Mathlib.Omega.{arith}
+use mathlib.Core.Path.{_≡_, refl, sym, ap}
+use mathlib.Core.Bool.{true}
+use mathlib.Core.List.{List, [], _∷_, _++_}
+use lib.ListN.{length, replicate, length-append, length-replicate, replicate-append-replicate}
+use lib.Seq.{take-at}
+use Rattle.ids.specs.Lists.{every}
+use Rattle.ids.specs.Requests.{noRequest}
+use Rattle.ids.specs.declared.Request.{Request}
+use Rattle.ids.proofs.ListLaws.{every-append, every-same}
+use Rattle.rows.specs.Rows.{requestWords, requestsIn, rowOf, queueOf, fitsPlace, Padded}
+use Rattle.rows.specs.Queues.{Holds}
+use Rattle.rows.proofs.WordLaws.{words-empty}
+use Rattle.rows.proofs.QueueLaws.{holding, holds-still, holds-words, holds-length}
+
+-- what a change leaves is the row of its list
+pub holds-row : (row after : List ℕ) (len : ℕ) (l : List Request) → Holds row after len l → after ≡ rowOf (length row) l
+unfolding rowOf
+holds-row row after len l H = rw (holds-length row after len l H) (holds-words row after len l H)
+
+pub row-kept : (row : List ℕ) (len : ℕ) → Padded row len → rowOf (length row) (queueOf row len) ≡ row
+row-kept row len good = sym (holds-row row row len (queueOf row len) (holds-still row len good))
+
+length-words : (l : List Request) → length (requestWords l) ≡ 2 * length l
+unfolding requestWords
+length-words [] = refl
+length-words (q ∷ l) = let e = length-words l in omega arith
+
+pub length-rowOf : (size : ℕ) (l : List Request) → 2 * length l ≤ size → length (rowOf size l) ≡ size
+unfolding rowOf
+length-rowOf size l h = rw (length-append, length-words, length-replicate) (omega arith)
+
+next-place : (n : ℕ) → 2 * suc n ≡ suc (suc (2 * n))
+next-place n = omega arith
+
+requests-zeros : (n : ℕ) → requestsIn (replicate (2 * n) 0) ≡ replicate n noRequest
+unfolding requestsIn
+requests-zeros zero = refl
+requests-zeros (suc n) = rw (next-place n) (ap (λ (l : List Request). noRequest ∷ l) (requests-zeros n))
+
+requests-words : (l : List Request) (ws : List ℕ) → requestsIn (requestWords l ++ ws) ≡ l ++ requestsIn ws
+unfolding requestsIn requestWords
+requests-words [] ws = refl
+requests-words (q ∷ l) ws = ap (λ (x : List Request). q ∷ x) (requests-words l ws)
+
+-- a row of n places
+module _ (n : ℕ) (l : List Request) (room : length l ≤ n) where
+  pub rowOf-requests : requestsIn (rowOf (2 * n) l) ≡ l ++ replicate (n - length l) noRequest
+  unfolding rowOf
+  rowOf-requests =
+      let e : 2 * n - 2 * length l ≡ 2 * (n - length l) = omega arith in
+      rw (requests-words, e, requests-zeros)
+
+  pub rowOf-queue : queueOf (rowOf (2 * n) l) (length l) ≡ l
+  rowOf-queue = rw rowOf-requests (take-at l (replicate (n - length l) noRequest) (length l) refl)
+
+  pub rowOf-padded : every fitsPlace l ≡ true → Padded (rowOf (2 * n) l) (length l)
+  rowOf-padded small =
+      let k = length-rowOf (2 * n) l (omega arith) in
+      let m : length (requestsIn (rowOf (2 * n) l)) ≡ n = rw (rowOf-requests, length-append, length-replicate) (omega arith) in
+      holding (rowOf (2 * n) l) (rowOf (2 * n) l) (length l) (n - length l) l refl
+      (record { even = omega arith; small = rw rowOf-requests (every-append fitsPlace l (replicate (n - length l) noRequest) small (every-same fitsPlace (n - length l) noRequest refl)) })
+      rowOf-requests refl .good
+
+pub rowOf-none : (size n : ℕ) → 2 * n ≤ size → rowOf size (replicate n noRequest) ≡ replicate size 0
+unfolding rowOf
+rowOf-none size n h =
+    let e : 2 * n + (size - 2 * n) ≡ size = omega arith in
+    rw (words-empty, length-replicate, replicate-append-replicate, e)
