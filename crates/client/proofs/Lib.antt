@@ -1,2 +1,3 @@
 pub mod ValidLaws
 pub mod RecordLaws
+pub mod StepLaws
