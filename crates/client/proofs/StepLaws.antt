@@ -22,7 +22,7 @@ use Rattle.ids.proofs.Choice.{both, fails, holds}
 use Rattle.ids.proofs.LimitsLaws.{server-range}
 use Rattle.wire.specs.Format as format
 use Rattle.wire.specs.Format.{sizeOf, bytesOf, bytesOfAll, sizeOfAll, validResponse}
-use Rattle.wire.specs.Step.{Step, Outcome, refused, stepped, stay, tell, withRoom}
+use Rattle.wire.specs.Step.{Step, Outcome, refused, stepped, stay, tell, withRoom, sentInto}
 use Rattle.wire.specs.declared.Answer.the-variants.{Sent}
 use Rattle.wire.specs.declared.Message.{Message}
 use Rattle.wire.specs.declared.Message.the-variants.{Release, Response, Check}
@@ -42,7 +42,7 @@ use Rattle.client.specs.declared.Head.{Head}
 use Rattle.client.specs.declared.Stepped.{Stepped}
 use Rattle.client.specs.declared.Turned.{Turned}
 use Rattle.client.specs.Record.{rowWords, clientOf, headIn, validSizes, validUpTo, valid, view, store}
-use Rattle.client.specs.Calls.{newResult, beginOutcome, exitOutcome, messageOutcome, messageOutcomeUpTo, forClient, received, rowAfter, turned}
+use Rattle.client.specs.Calls.{newResult, beginOutcome, exitOutcome, messageOutcome, messageOutcomeUpTo, forClient, received, rowAfter, turned, result}
 use Rattle.client.specs.Steps.{request, headWith, without, requests, releases, refusedNew, yields, isRefused, Answers}
 use Rattle.client.proofs.ValidLaws.{Known, valid-known, valid-padded, padded-words, critical-below, sizes-range}
 use Rattle.client.proofs.RecordLaws.{row-without, row-again}
@@ -60,6 +60,11 @@ module _ (h : Head) (row : List ℕ) (x : Outcome State) (o : List ℕ) (r : Tur
     pub answers-done : (after l : List ℕ) → sizeOfAll (s .sent) ≤ length o → r ≡ turned h (stepped s) → after ≡ rowAfter row (stepped s) → l ≡ sets o 0 (bytesOfAll (s .sent)) → Answers h row x o r after l
     unfolding withRoom
     answers-done after l g p a e = rw (q, le-ltb _ _ g) (p, a, e)
+
+-- the same by value
+module _ (c : Client) (x : Outcome State) (o : List ℕ) (t : Turned) (after l : List ℕ) (A : Answers (c .head) (c .row) x o t after l) where
+  pub by-value : (r : Stepped) → r ≡ record { client = clientOf (t .head) after; answer = t .answer } → (r ≡ result c (withRoom (length o) x)) × (l ≡ sentInto o (withRoom (length o) x))
+  by-value r e = (rw (A .0, A .1) at e, A .2)
 
 -- a step that sends nothing needs no room
 pub answers-stay : (h : Head) (row : List ℕ) (x : Outcome State) (o : List ℕ) (r : Turned) (s : State) → x ≡ stepped (stay s) → rowOf (length row) (map place (s .responses)) ≡ row
@@ -193,18 +198,18 @@ module _ (h : Head) (row : List ℕ) (found : ℕ) (o : List ℕ) (r : Turned) (
       answers-done h row (stepped yielded) o r yielded refl after l (omega (arith, its-size)) (rw (its-length, its-size) p) (z ∙ sym (row-without (length row) (h .n) (padded-words row (h .n) good))) (rw e at w)
 
 -- what the verdicts decide
-module _ (full mine : Bool) (h : Head) (row : List ℕ) (o : List ℕ) (r : Turned) (good : Padded row (h .n)) where
+module _ (full mine : Bool) (h : Head) (row : List ℕ) (good : Padded row (h .n)) where
   abbrev decided : Step State
   decided = decide full mine (h .n) (request h) (responsesIn row (h .n))
 
-  pub decide-waits : not full ≡ true → r ≡ record { head = headWith h Trying (h .timestamp); answer = Sent 0 0 } → Answers h row (stepped decided) o r row o
-  decide-waits t p =
+  pub decide-waits : (o : List ℕ) (r : Turned) → not full ≡ true → r ≡ record { head = headWith h Trying (h .timestamp); answer = Sent 0 0 } → Answers h row (stepped decided) o r row o
+  decide-waits o r t p =
       let e : full ≡ false = fails full full refl t in
       answers-stay h row (stepped decided) o r (record { section = Trying; timestamp = h .timestamp; responses = responsesIn row (h .n) }) (rw e) (row-again row (h .n) good) p
 
   module _ (t : not full ≡ false) where
-    pub decide-enters : mine ≡ true → r ≡ record { head = headWith h Critical (h .timestamp); answer = Sent 0 0 } → Answers h row (stepped decided) o r row o
-    decide-enters u p =
+    pub decide-enters : (o : List ℕ) (r : Turned) → mine ≡ true → r ≡ record { head = headWith h Critical (h .timestamp); answer = Sent 0 0 } → Answers h row (stepped decided) o r row o
+    decide-enters o r u p =
         let e : full ≡ true = holds full full refl t in
         answers-stay h row (stepped decided) o r (record { section = Critical; timestamp = h .timestamp; responses = responsesIn row (h .n) }) (rw (e, u)) (row-again row (h .n) good) p
 

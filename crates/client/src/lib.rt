@@ -477,17 +477,22 @@ pub fn new(n: u16, m: u16, id: ClientId) -> Stepped
     Stepped { client, answer }
 }
 
+// The answer of a call on a lent row, with the row that it left.
+fn together(t: Turned, row: [u32; ROW_WORDS]) -> Stepped
+    ensures { λ s. ⌜ s ≡ record { client = clientOf (t .head) row; answer = t .answer } ⌝ }
+{
+    let head = t.head;
+    let answer = t.answer;
+    let client = Client { head, row };
+    Stepped { client, answer }
+}
+
 pub fn begin(c: Client, out: &mut [u8]) -> Stepped
     ensures { λ r. ⌜ (r ≡ result c (withRoom (length (now (out .entry))) (beginOutcome c))) × (now (out .exit) ≡ sentInto (now (out .entry)) (withRoom (length (now (out .entry))) (beginOutcome c))) ⌝ }
 {
     let mut row = c.row;
     let turned = begin_row(c.head, &mut row, out);
-    let head = turned.head;
-    let answer = turned.answer;
-    Stepped {
-        client: Client { head, row },
-        answer,
-    }
+    together(turned, row)
 }
 
 pub fn exit(c: Client, out: &mut [u8]) -> Stepped
@@ -495,12 +500,7 @@ pub fn exit(c: Client, out: &mut [u8]) -> Stepped
 {
     let mut row = c.row;
     let turned = exit_row(c.head, &mut row, out);
-    let head = turned.head;
-    let answer = turned.answer;
-    Stepped {
-        client: Client { head, row },
-        answer,
-    }
+    together(turned, row)
 }
 
 pub fn message(c: Client, m: Message, out: &mut [u8]) -> Stepped
@@ -508,10 +508,5 @@ pub fn message(c: Client, m: Message, out: &mut [u8]) -> Stepped
 {
     let mut row = c.row;
     let turned = message_row(c.head, &mut row, m, out);
-    let head = turned.head;
-    let answer = turned.answer;
-    Stepped {
-        client: Client { head, row },
-        answer,
-    }
+    together(turned, row)
 }
