@@ -1,3 +1,4 @@
 pub mod ValidLaws
 pub mod RecordLaws
 pub mod StepLaws
+pub mod KeepsValid
