@@ -5,7 +5,7 @@ use native.Mathlib.Omega.{arith}
 use mathlib.Core.Path.{_≡_, refl, _∙_, sym, ap}
 use mathlib.Core.Bool.{Bool, true, false, _&&_, _||_, not}
 use mathlib.Core.List.{List, [], _∷_, map}
-use lib.Dec.{eqb, leb, ltb}
+use lib.Dec.{eqb, leb}
 use lib.ListN.{length, getD, set, replicate, length-map, length-replicate, length-set}
 use borrow.Author.Tests.{not-true, not-false, le-leb, lt-leb, lt-ltb, eq-eqb, ne-eqb, leb-true, leb-false}
 use Rattle.ids.specs.Choice.{if_then_else_}
@@ -40,7 +40,7 @@ use Rattle.client.specs.declared.Client.{Client}
 use Rattle.client.specs.Record.{maxPlaces, rowWords, clientOf, headIn, view, store, validSizes, fitsSection, noMore, fitsTimestamp, validUpTo, valid}
 use Rattle.client.specs.Calls.{beginOutcome, exitOutcome, messageOutcomeUpTo, received, forClient, clientAfter}
 use Rattle.client.specs.Steps.{without}
-use Rattle.client.proofs.ValidLaws.{KnownUpTo, Known, known-up-to, valid-up-to, known-padded, known-words, valid-known, valid-padded, sizes-range}
+use Rattle.client.proofs.ValidLaws.{KnownUpTo, known-up-to, valid-up-to, known-padded, known-words, valid-known, valid-padded, sizes-range}
 use Rattle.client.proofs.RecordLaws.{store-view}
 use Rattle.client.proofs.StepLaws.{response-range, its-client}
 

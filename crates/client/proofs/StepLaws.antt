@@ -2,15 +2,14 @@
 use Prim.Native.Nat.{ℕ, _+_, _*_, _-_, _≤_, _<_}
 use native.Mathlib.Omega.{arith}
 use mathlib.Core.Path.{_≡_, refl, _∙_, ap, sym}
-use mathlib.Core.Bool.{Bool, true, false, true≢false, _&&_, not}
+use mathlib.Core.Bool.{Bool, true, false, true≢false, not}
 use mathlib.Core.List.{List, [], _∷_, map}
 use lib.Dec.{eqb, leb}
-use lib.ListN.{length, replicate, length-map}
+use lib.ListN.{length, replicate}
 use lib.Seq.{sets}
 use borrow.Author.Tests.{lt-ltb, le-ltb, le-leb, lt-leb, eq-eqb, ne-eqb, eqb-true, leb-true}
 use Rattle.ids.specs.Choice.{if_then_else_}
-use Rattle.ids.specs.Limits.{maxServers, maxTimestamp, validClient, validOwner, validParties, validServer}
-use Rattle.ids.specs.Requests.{isRequest}
+use Rattle.ids.specs.Limits.{maxTimestamp, validClient, validOwner, validParties, validServer}
 use Rattle.ids.specs.declared.ClientId.{ClientId}
 use Rattle.ids.specs.declared.ServerId.{ServerId}
 use Rattle.ids.specs.declared.Timestamp.{Timestamp}
@@ -28,7 +27,6 @@ use Rattle.wire.specs.declared.Message.{Message}
 use Rattle.wire.specs.declared.Message.the-variants.{Release, Response, Check}
 use Rattle.wire.proofs.Sequence.{sizeOfAll-one, bytesOfAll-one}
 use Rattle.rows.specs.Rows.{rowOf, Padded, Put}
-use Rattle.rows.proofs.WordLaws.{put-size}
 use Rattle.responses.specs.declared.Section.{Section}
 use Rattle.responses.specs.declared.Section.the-variants.{Remainder, Trying, Critical}
 use Rattle.responses.specs.Figure1.{State, fresh, next, filled, count, own, enough, isRemainder, isTrying, isCritical, lastTry, toAll, tries, exits, round, decide, judge, responds, checked}
@@ -41,10 +39,10 @@ use Rattle.client.specs.declared.Client.{Client}
 use Rattle.client.specs.declared.Head.{Head}
 use Rattle.client.specs.declared.Stepped.{Stepped}
 use Rattle.client.specs.declared.Turned.{Turned}
-use Rattle.client.specs.Record.{rowWords, clientOf, headIn, validSizes, validUpTo, valid, view, store}
+use Rattle.client.specs.Record.{rowWords, clientOf, headIn, validSizes, valid, view, store}
 use Rattle.client.specs.Calls.{newResult, beginOutcome, exitOutcome, messageOutcome, messageOutcomeUpTo, forClient, received, rowAfter, turned, result}
 use Rattle.client.specs.Steps.{request, headWith, without, requests, releases, refusedNew, yields, isRefused, Answers}
-use Rattle.client.proofs.ValidLaws.{Known, valid-known, valid-padded, padded-words, critical-below, sizes-range}
+use Rattle.client.proofs.ValidLaws.{valid-known, valid-padded, padded-words, critical-below, sizes-range}
 use Rattle.client.proofs.RecordLaws.{row-without, row-again}
 
 module _ (h : Head) (row : List ℕ) (x : Outcome State) (o : List ℕ) (r : Turned) where

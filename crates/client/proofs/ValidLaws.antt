@@ -7,10 +7,9 @@ use mathlib.Core.Bool.{Bool, true, false, true≢false, _&&_, not}
 use mathlib.Core.Logic.{⊎-elim}
 use lib.Dec.{eqb, leb, ltb}
 use lib.ListN.{length}
-use borrow.Author.Tests.{eq-eqb, ne-eqb, leb-true, leb-false, ltb-true, le-leb, lt-leb, le-ltb, lt-ltb}
+use borrow.Author.Tests.{eq-eqb, ne-eqb, leb-true, leb-false, ltb-true, le-leb, le-ltb, lt-ltb}
 use Rattle.ids.specs.Limits.{within, maxServers, maxTimestamp, validClient, validOwner}
 use Rattle.ids.specs.Lists.{every}
-use Rattle.ids.specs.Requests.{isRequest}
 use Rattle.ids.specs.declared.Timestamp.{Timestamp}
 use Rattle.ids.specs.declared.Request.{Request}
 use Rattle.ids.specs.declared.Owner.{Owner}

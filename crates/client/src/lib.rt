@@ -30,6 +30,7 @@ pub const LAST_TRY: u32 = 4_294_967_293;
 
 // The places of a record by value, one for each server that it can have, and the words of its row, two a place.
 pub const MAX_PLACES: usize = 31;
+
 pub const ROW_WORDS: usize = 2 * MAX_PLACES;
 
 // Client `id` with `n` servers and threshold `m`. Its responses stand in a row, a place for each server.
@@ -250,9 +251,9 @@ fn leave(h: Head, row: &mut [u32], out: &mut [u8]) -> Turned
     if out.len() < 12 * n {
         return refuse(h, Refusal::RoomShort);
     }
+    let t = Timestamp(h.timestamp.0 + 1);
     release_all(h.id, h.timestamp, h.n, out);
     rows::clear(row);
-    let t = Timestamp(h.timestamp.0 + 1);
     moved(h, Section::Remainder, t, n, 12 * n)
 }
 
@@ -382,7 +383,14 @@ fn for_client(h: Head, k: ClientId, j: ServerId) -> bool
     k.0 == h.id.0 && j.0 <= h.n
 }
 
-fn take_response(h: Head, row: &mut [u32], k: ClientId, j: ServerId, o: Owner, out: &mut [u8]) -> Turned
+fn take_response(
+    h: Head,
+    row: &mut [u32],
+    k: ClientId,
+    j: ServerId,
+    o: Owner,
+    out: &mut [u8],
+) -> Turned
     requires { ⌜ (valid (clientOf h (now row)) ≡ true) × (format.valid (Message.Response k j o) ≡ true) ⌝ }
     ensures { λ r. ⌜ Answers h (now (row .entry)) (received (clientOf h (now (row .entry))) (Message.Response k j o)) (now (out .entry)) r (now (row .exit)) (now (out .exit)) ⌝ }
 {
@@ -392,7 +400,14 @@ fn take_response(h: Head, row: &mut [u32], k: ClientId, j: ServerId, o: Owner, o
     respond_row(h, row, j, o, out)
 }
 
-fn take_check(h: Head, row: &[u32], k: ClientId, j: ServerId, t: Timestamp, out: &mut [u8]) -> Turned
+fn take_check(
+    h: Head,
+    row: &[u32],
+    k: ClientId,
+    j: ServerId,
+    t: Timestamp,
+    out: &mut [u8],
+) -> Turned
     requires { ⌜ valid (clientOf h (now row)) ≡ true ⌝ }
     ensures { λ r. ⌜ Answers h (now (row .entry)) (received (clientOf h (now (row .entry))) (Message.Check k j t)) (now (out .entry)) r (now (row .entry)) (now (out .exit)) ⌝ }
 {

@@ -7,12 +7,12 @@ use Rattle.client.proofs.leave.Tie as tie
 -- the messages are written
 module _ (c : tie.After-release-all) where
   abbrev roomy : tie.Else1
-  roomy = c .before .before
+  roomy = c .before .before .before
 
 -- the head is moved
 module _ (c : tie.After-moved) where
   abbrev cleared : tie.After-clear
-  cleared = c .before .before .before .before
+  cleared = c .before .before .before
 
 returns : tie.Need-returns
 returns c = exits-short _ _ _ _ (c .before .if1 .taken) (c .refuse .ensures)
@@ -32,9 +32,9 @@ leave-spec =
     (λ c. search needs)
     (λ c κs. search needs)
     returns
-    (λ c κs. search needs)
-    (λ c κs. search needs)
     (λ c. search needs)
+    (λ c κs. search needs)
+    (λ c κs. search needs)
     (λ c. search needs)
     (λ c κs. search needs)
     (λ c. search needs)

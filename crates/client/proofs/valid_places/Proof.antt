@@ -1,5 +1,4 @@
 -- `client::valid_places` meets its contract: no misfit, and what goes with the section.
-use native.Mathlib.Omega.{arith}
 use Rattle.client.proofs.ValidLaws.{padded-words, places-fail, section-decides}
 use borrow.Author.Needs.{needs}
 use Rattle.client.proofs.valid_places.Statement.{statement}

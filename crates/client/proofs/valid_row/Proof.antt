@@ -1,7 +1,4 @@
 -- `client::valid_row` meets its contract: the tests in the definition's order.
-use mathlib.Core.Path.{_≡_}
-use mathlib.Core.Bool.{Bool, not, false}
-use denote.Ref.{now}
 use Rattle.ids.proofs.Choice.{holds}
 use Rattle.rows.proofs.GoodLaws.{good-padded}
 use Rattle.client.proofs.ValidLaws.{sizes-fail, id-fails, timestamp-fails, row-fails, places-decide}
