@@ -1,17 +1,17 @@
 -- Every accepted step of a valid record gives a valid record. A state that fits n, m and the client is stored as a valid record,
 -- and each step leaves such a state: of m or more responses there are exactly m, since one RESPONSE fills at most one place.
-use Prim.Native.Nat.{ℕ, zero, suc, _+_, _-_, _≤_}
+use Prim.Native.Nat.{ℕ, zero, suc, _+_, _*_, _-_, _≤_}
 use native.Mathlib.Omega.{arith}
-use mathlib.Core.Path.{_≡_, refl, _∙_, sym}
+use mathlib.Core.Path.{_≡_, refl, _∙_, sym, ap}
 use mathlib.Core.Bool.{Bool, true, false, _&&_, _||_, not}
-use mathlib.Core.List.{List, [], _∷_, _++_, map}
-use lib.Dec.{eqb, leb, ltb}
-use lib.ListN.{length, getD, take, drop, set, replicate, length-map, length-replicate, length-set}
-use lib.Seq.{take-at, drop-at}
-use borrow.Author.Tests.{not-false, le-leb, lt-ltb, eq-eqb, leb-true, leb-false, ltb-true, ltb-false}
+use mathlib.Core.List.{List, [], _∷_, map}
+use lib.Dec.{eqb, leb}
+use lib.ListN.{length, getD, set, replicate, length-map, length-replicate, length-set}
+use borrow.Author.Tests.{not-true, not-false, le-leb, lt-leb, lt-ltb, eq-eqb, ne-eqb, leb-true, leb-false}
 use Rattle.ids.specs.Choice.{if_then_else_}
 use Rattle.ids.specs.Limits.{maxServers, maxTimestamp, validClient, validOwner}
-use Rattle.ids.specs.Requests.{same, isRequest, noRequest}
+use Rattle.ids.specs.Lists.{every}
+use Rattle.ids.specs.Requests.{same, isRequest}
 use Rattle.ids.specs.declared.ClientId.{ClientId}
 use Rattle.ids.specs.declared.ServerId.{ServerId}
 use Rattle.ids.specs.declared.Timestamp.{Timestamp}
@@ -26,101 +26,128 @@ use Rattle.wire.specs.Format as format
 use Rattle.wire.specs.Step.{Step, refused, stepped, stay}
 use Rattle.wire.specs.declared.Message.{Message}
 use Rattle.wire.specs.declared.Message.the-variants.{Request as REQUEST, Yield, Release, Inquiry, Response, Check}
+use Rattle.rows.specs.Rows.{requestsIn, rowOf, queueOf, fitsPlace}
+use Rattle.rows.specs.Good.{goodRow}
+use Rattle.rows.proofs.GoodLaws.{padded-good}
+use Rattle.rows.proofs.RowLaws.{row-of-queue, row-of-padded}
+use Rattle.responses.specs.declared.Section.{Section}
+use Rattle.responses.specs.declared.Section.the-variants.{Remainder, Trying, Critical}
+use Rattle.responses.specs.Figure1.{State, fresh, next, filled, count, own, enough, isRemainder, isCritical, mayTry, lastTry, tries, exits, current, heard, judge, responds, checked}
+use Rattle.responses.specs.Row.{shown, place, responsesIn, ownIsCurrent}
+use Rattle.responses.proofs.CountLaws.{length-responses}
+use Rattle.responses.proofs.HearLaws.{shown-place, place-fits}
 use Rattle.client.specs.declared.Client.{Client}
-use Rattle.client.specs.declared.Section.{Section}
-use Rattle.client.specs.declared.Section.the-variants.{Remainder, Trying, Critical}
-use Rattle.client.specs.Figure1.{State, fresh, next, filled, count, enough, tries, exits, current, heard, judge, responds, checked}
-use Rattle.ids.specs.Lists.{every}
-use Rattle.client.specs.Record.{shown, place, view, store, validSizes, ownIsCurrent, fitsSection, fitsTimestamp, valid}
-use Rattle.client.specs.Calls.{isRemainder, isCritical, lastTry, beginOutcome, exitOutcome, messageOutcome, received, forClient}
-use Rattle.client.specs.Steps.{validPlaces, without}
-use Rattle.client.proofs.Places.{length-showing}
-use Rattle.client.proofs.ValidLaws.{Known, valid-known, valid-split, sizes-range}
+use Rattle.client.specs.Record.{maxPlaces, rowWords, clientOf, headIn, view, store, validSizes, fitsSection, noMore, fitsTimestamp, validUpTo, valid}
+use Rattle.client.specs.Calls.{beginOutcome, exitOutcome, messageOutcomeUpTo, received, forClient, clientAfter}
+use Rattle.client.specs.Steps.{without}
+use Rattle.client.proofs.ValidLaws.{KnownUpTo, known-up-to, valid-up-to, known-padded, known-words, valid-known, valid-padded, sizes-range}
 use Rattle.client.proofs.RecordLaws.{store-view}
-use Rattle.client.proofs.HearLaws.{shown-place}
 use Rattle.client.proofs.StepLaws.{response-range, its-client}
 
 -- n servers, threshold m and client k in their ranges
-pub record InRange (n m : ℕ) (k : ClientId) : Type 0 where
+pub record InRangeUpTo (limit n m : ℕ) (k : ClientId) : Type 0 where
   pub some : 1 ≤ n
-  pub few : n ≤ 31
+  pub few : n ≤ limit
   pub threshold : 1 ≤ m
   pub reached : m ≤ n
   pub client : validClient k ≡ true
 
+abbrev pub InRange : ℕ → ℕ → ClientId → Type 0
+InRange = InRangeUpTo maxServers
+
 -- a state that fits them
-pub record Fits (n m : ℕ) (k : ClientId) (s : State) : Type 0 where
-  pub ranges : InRange n m k
+pub record FitsUpTo (limit n m : ℕ) (k : ClientId) (s : State) : Type 0 where
+  pub ranges : InRangeUpTo limit n m k
   pub long : length (s .responses) ≡ n
   pub timestamp : fitsTimestamp (s .section) (s .timestamp) ≡ true
   pub owners : every validOwner (s .responses) ≡ true
   pub own : every (ownIsCurrent (record { client = k; timestamp = s .timestamp })) (s .responses) ≡ true
-  pub section : fitsSection (s .section) m (record { client = k; timestamp = s .timestamp }) (s .responses) ≡ true
+  pub section : fitsSection (enough m) (s .section) (record { client = k; timestamp = s .timestamp }) (s .responses) ≡ true
+  pub more : noMore (s .section) m (s .responses) ≡ true
 
+abbrev pub Fits : ℕ → ℕ → ClientId → State → Type 0
+Fits = FitsUpTo maxServers
+
+-- the places of responses, and the responses again
 responses-again : (l : List Owner) → every validOwner l ≡ true → map shown (map place l) ≡ l
 responses-again [] h = refl
 responses-again (o ∷ l) h =
     let (a, b) = both (validOwner o) (every validOwner l) h in
     rw (shown-place o a, responses-again l b)
 
-empty-rest : (n : ℕ) → every (same noRequest) (replicate n noRequest) ≡ true
-unfolding same
-empty-rest zero = refl
-empty-rest (suc n) = empty-rest n
+places-fit : (l : List Owner) → every validOwner l ≡ true → every fitsPlace (map place l) ≡ true
+places-fit [] h = refl
+places-fit (o ∷ l) h =
+    let (a, b) = both (validOwner o) (every validOwner l) h in
+    rw (place-fits o a) (places-fit l b)
 
-module _ (n m : ℕ) (k : ClientId) (s : State) (F : Fits n m k s) where
+-- a state that fits, in a row of p places
+module _ (limit n m : ℕ) (k : ClientId) (s : State) (F : FitsUpTo limit n m k s) (p : ℕ) (room : n ≤ p) where
+  abbrev row : List ℕ
+  row = rowOf (2 * p) (map place (s .responses))
+
+  abbrev kept : Client
+  kept = clientOf (headIn n m k s) row
+
   placed : length (map place (s .responses)) ≡ n
   placed = rw length-map (F .long)
 
+  shows : responsesIn row n ≡ s .responses
+  shows =
+      let q : queueOf row n ≡ map place (s .responses) = rw placed at (row-of-queue p (map place (s .responses)) (rw placed room)) in
+      ap (map shown) q ∙ responses-again (s .responses) (F .owners)
+
+  good : goodRow row n ≡ true
+  good = padded-good row n (rw placed at (row-of-padded p (map place (s .responses)) (rw placed room) (places-fit (s .responses) (F .owners))))
+
+  pub kept-view : view kept ≡ s
+  unfolding view
+  kept-view = λ i. record { section = s .section; timestamp = s .timestamp; responses = shows i }
+
+  pub kept-valid : validUpTo limit kept ≡ true
+  kept-valid =
+      let v = kept-view in
+      valid-up-to limit kept (
+      record {
+        some = F .ranges .some;
+        few = F .ranges .few;
+        threshold = F .ranges .threshold;
+        reached = F .ranges .reached;
+        client = F .ranges .client;
+        timestamp = F .timestamp;
+        row = good;
+        owners = rw v (F .owners);
+        own = rw v (F .own);
+        section = rw v (F .section);
+        more = rw v (F .more);
+      })
+
+-- by value
+module _ (n m : ℕ) (k : ClientId) (s : State) (F : Fits n m k s) where
   pub view-store : view (store n m k s) ≡ s
-  unfolding view store
-  view-store =
-      let e : map shown (take n (map place (s .responses) ++ replicate (maxServers - length (s .responses)) noRequest)) ≡ s .responses =
-      rw (take-at (map place (s .responses)) (replicate (maxServers - length (s .responses)) noRequest) n placed) (responses-again (s .responses) (F .owners)) in
-      λ i. record { section = s .section; timestamp = s .timestamp; responses = e i }
-
-  pub store-rest : every (same noRequest) (drop n (store n m k s .places)) ≡ true
   unfolding store
-  store-rest = rw (drop-at (map place (s .responses)) (replicate (maxServers - length (s .responses)) noRequest) n placed) (empty-rest (maxServers - length (s .responses)))
+  view-store = kept-view maxServers n m k s F maxPlaces (F .ranges .few)
 
-known-valid : (c : Client) → Known c → valid c ≡ true
-unfolding validPlaces
-known-valid c K =
-    rw (valid-split c, le-leb 1 (c .n) (K .some), le-leb (c .n) 31 (K .few), le-leb 1 (c .m) (K .threshold), le-leb (c .m) (c .n) (K .reached), K .client, K .timestamp, K .owners, K .own, K .section) (K .rest)
+  pub store-valid : valid (store n m k s) ≡ true
+  unfolding store
+  store-valid = kept-valid maxServers n m k s F maxPlaces (F .ranges .few)
 
-pub store-valid : (n m : ℕ) (k : ClientId) (s : State) → Fits n m k s → valid (store n m k s) ≡ true
-unfolding store
-store-valid n m k s F =
-    let v = view-store n m k s F in
-    known-valid (store n m k s) (
-    record {
-      some = F .ranges .some;
-      few = F .ranges .few;
-      threshold = F .ranges .threshold;
-      reached = F .ranges .reached;
-      client = F .ranges .client;
-      timestamp = F .timestamp;
-      owners = rw v (F .owners);
-      own = rw v (F .own);
-      section = rw v (F .section);
-      rest = store-rest n m k s F;
-    })
-
-pub known-ranges : (c : Client) → Known c → InRange (c .n) (c .m) (c .id)
+pub known-ranges : {limit : ℕ} (c : Client) → KnownUpTo limit c → InRangeUpTo limit (c .head .n) (c .head .m) (c .head .id)
 known-ranges c K =
     record { some = K .some; few = K .few; threshold = K .threshold; reached = K .reached; client = K .client }
 
 -- a valid record shows a state that fits
-pub view-fits : (c : Client) → length (c .places) ≡ 31 → Known c → Fits (c .n) (c .m) (c .id) (view c)
+pub view-fits : {limit : ℕ} (c : Client) → KnownUpTo limit c → FitsUpTo limit (c .head .n) (c .head .m) (c .head .id) (view c)
 unfolding view
-view-fits c long K =
+view-fits {limit} c K =
     record {
       ranges = known-ranges c K;
-      long = length-showing (c .places) (c .n) long (K .few);
+      long = length-responses (c .row) (c .head .n) (known-words limit c K);
       timestamp = K .timestamp;
       owners = K .owners;
       own = K .own;
       section = K .section;
+      more = K .more;
     }
 
 -- a state without responses
@@ -128,10 +155,10 @@ none-filled : (n : ℕ) → count (map filled (replicate n Nobody)) ≡ 0
 none-filled zero = refl
 none-filled (suc n) = omega (arith, none-filled n)
 
-module _ (n m : ℕ) (k : ClientId) (R : InRange n m k) (t : Timestamp) where
-  without-fits : (a : Section) → fitsTimestamp a t ≡ true → fitsSection a m (record { client = k; timestamp = t }) (replicate n Nobody) ≡ true → Fits n m k (without n a t)
+module _ {limit : ℕ} (n m : ℕ) (k : ClientId) (R : InRangeUpTo limit n m k) (t : Timestamp) where
+  without-fits : (a : Section) → fitsTimestamp a t ≡ true → fitsSection (enough m) a (record { client = k; timestamp = t }) (replicate n Nobody) ≡ true → noMore a m (replicate n Nobody) ≡ true → FitsUpTo limit n m k (without n a t)
   unfolding validOwner
-  without-fits a h g =
+  without-fits a h g b =
       record {
         ranges = R;
         long = length-replicate n Nobody;
@@ -139,13 +166,15 @@ module _ (n m : ℕ) (k : ClientId) (R : InRange n m k) (t : Timestamp) where
         owners = every-same validOwner n Nobody refl;
         own = every-same (ownIsCurrent (record { client = k; timestamp = t })) n Nobody refl;
         section = g;
+        more = b;
       }
 
-  pub trying-fits : fitsTimestamp Trying t ≡ true → Fits n m k (without n Trying t)
-  trying-fits h = without-fits Trying h (rw none-filled (lt-ltb 0 m (R .threshold)))
+  pub trying-fits : fitsTimestamp Trying t ≡ true → FitsUpTo limit n m k (without n Trying t)
+  unfolding enough
+  trying-fits h = without-fits Trying h (rw (none-filled n, lt-leb m 0 (R .threshold))) refl
 
-  pub remainder-fits : Fits n m k (without n Remainder t)
-  remainder-fits = without-fits Remainder refl (rw none-filled refl)
+  pub remainder-fits : FitsUpTo limit n m k (without n Remainder t)
+  remainder-fits = without-fits Remainder refl (rw none-filled refl) refl
 
 -- one response more
 pub heard-length : (r : Request) (l : List Owner) (j : ServerId) (o : Owner) → length (heard r l j o) ≡ length l
@@ -199,8 +228,32 @@ module _ (r : Request) (l : List Owner) (j : ServerId) (o : Owner) (f : Owner �
   unfolding heard
   heard-count = count-chosen (not (isRequest r (getD l (j .0 - 1) Nobody)) && current r o)
 
+-- document 01's words on the critical section: exactly m responses, all its own
+module _ (m : ℕ) (r : Request) (l : List Owner) where
+  abbrev exactly : Bool
+  exactly = eqb (count (map filled l)) m && eqb (count (own r l)) m
+
+  and-false : (b : Bool) → b && false ≡ false
+  and-false true = refl
+  and-false false = refl
+
+  by-counts : (a b : Bool) → leb m (count (own r l)) ≡ a → leb (count (map filled l)) m ≡ b → a && b ≡ exactly
+  by-counts true true e g =
+      let f = leb-true m (count (own r l)) e in
+      let h = leb-true (count (map filled l)) m g in
+      let i = own-count r l in
+      sym (rw (eq-eqb (count (map filled l)) m (omega arith), eq-eqb (count (own r l)) m (omega arith)))
+  by-counts true false e g = let h = leb-false (count (map filled l)) m g in sym (rw (ne-eqb (count (map filled l)) m (λ z. omega arith)))
+  by-counts false b e g =
+      let f = leb-false m (count (own r l)) e in
+      sym (ap (λ (x : Bool). eqb (count (map filled l)) m && x) (ne-eqb (count (own r l)) m (λ z. omega arith)) ∙ and-false (eqb (count (map filled l)) m))
+
+  pub critical-exactly : fitsSection (enough m) Critical r l && noMore Critical m l ≡ exactly
+  unfolding enough
+  critical-exactly = by-counts (leb m (count (own r l))) (leb (count (map filled l)) m) refl refl
+
 -- what lines 10 to 18 leave
-module _ (n m : ℕ) (k : ClientId) (t : Timestamp) (l : List Owner) (B : Fits n m k (without n Trying t)) where
+module _ {limit : ℕ} (n m : ℕ) (k : ClientId) (t : Timestamp) (l : List Owner) (B : FitsUpTo limit n m k (without n Trying t)) where
   abbrev mine : Request
   mine = record { client = k; timestamp = t }
 
@@ -208,8 +261,8 @@ module _ (n m : ℕ) (k : ClientId) (t : Timestamp) (l : List Owner) (B : Fits n
   with s a = record { section = s; timestamp = t; responses = a }
 
   module _ (long : length l ≡ n) (owners : every validOwner l ≡ true) (own : every (ownIsCurrent mine) l ≡ true) (most : count (map filled l) ≤ m) where
-    left-fits : (s : Section) → fitsTimestamp s t ≡ true → fitsSection s m mine l ≡ true → Fits n m k (with s l)
-    left-fits s h g =
+    left-fits : (s : Section) → fitsTimestamp s t ≡ true → fitsSection (enough m) s mine l ≡ true → noMore s m l ≡ true → FitsUpTo limit n m k (with s l)
+    left-fits s h g b =
         record {
           ranges = B .ranges;
           long = long;
@@ -217,37 +270,42 @@ module _ (n m : ℕ) (k : ClientId) (t : Timestamp) (l : List Owner) (B : Fits n
           owners = owners;
           own = own;
           section = g;
+          more = b;
         }
 
     judged : (a b : Bool) → leb m (count (map filled l)) ≡ a → leb m (count (map (isRequest mine) l)) ≡ b
-        → Fits n m k (if a then (if b then with Critical l else with Trying (replicate n Nobody)) else with Trying l)
-    judged true true e g =
-        left-fits Critical (B .timestamp)
-        (rw (eq-eqb (count (map filled l)) m (omega (arith, leb-true m (count (map filled l)) e)), eq-eqb (count (map (isRequest mine) l)) m (omega (arith, leb-true m (count (map (isRequest mine) l)) g, own-count mine l))))
+        → FitsUpTo limit n m k (if a then (if b then with Critical l else with Trying (replicate n Nobody)) else with Trying l)
+    unfolding enough
+    judged true true e g = left-fits Critical (B .timestamp) g (le-leb (count (map filled l)) m most)
     judged true false e g = B
-    judged false b e g = left-fits Trying (B .timestamp) (lt-ltb (count (map filled l)) m (leb-false m (count (map filled l)) e))
+    judged false b e g = left-fits Trying (B .timestamp) (rw e) refl
 
     lifted : (a b : Bool) (x y z : Step State) → (if a then (if b then x else y) else z) .state ≡ (if a then (if b then x .state else y .state) else z .state)
     lifted true true x y z = refl
     lifted true false x y z = refl
     lifted false b x y z = refl
 
-    judge-fits : Fits n m k (judge (enough m) n mine l .state)
+    judge-fits : FitsUpTo limit n m k (judge (enough m) n mine l .state)
     unfolding judge enough
     judge-fits = rw lifted (judged (leb m (count (map filled l))) (leb m (count (map (isRequest mine) l))) refl refl)
 
+-- trying, fewer than m places are filled
+few-filled : (m : ℕ) (l : List Owner) → not (enough m (map filled l)) ≡ true → suc (count (map filled l)) ≤ m
+unfolding enough
+few-filled m l h = leb-false m (count (map filled l)) (not-true _ h)
+
 -- lines 7 to 18, by the section
-module _ (n m : ℕ) (k : ClientId) (j : ServerId) (o : Owner) (v : validOwner o ≡ true) where
-  responds-by : (a : Section) (t : Timestamp) (l : List Owner) → Fits n m k (record { section = a; timestamp = t; responses = l }) → Fits n m k (responds (enough m) n k j o (record { section = a; timestamp = t; responses = l }) .state)
+module _ {limit : ℕ} (n m : ℕ) (k : ClientId) (j : ServerId) (o : Owner) (v : validOwner o ≡ true) where
+  responds-by : (a : Section) (t : Timestamp) (l : List Owner) → FitsUpTo limit n m k (record { section = a; timestamp = t; responses = l }) → FitsUpTo limit n m k (responds (enough m) n k j o (record { section = a; timestamp = t; responses = l }) .state)
   unfolding responds
   responds-by Remainder t l F = F
   responds-by Critical t l F = F
   responds-by Trying t l F =
       let r : Request = record { client = k; timestamp = t } in
       judge-fits n m k t (heard r l j o) (trying-fits n m k (F .ranges) t (F .timestamp)) (heard-length r l j o ∙ F .long)
-      (heard-every r l j o validOwner (F .owners) (λ h. v)) (heard-every r l j o (ownIsCurrent r) (F .own) (current-own r o)) (omega (arith, heard-count r l j o filled, ltb-true (count (map filled l)) m (F .section)))
+      (heard-every r l j o validOwner (F .owners) (λ h. v)) (heard-every r l j o (ownIsCurrent r) (F .own) (current-own r o)) (omega (arith, heard-count r l j o filled, few-filled m l (F .section)))
 
-  pub responds-fits : (s : State) → Fits n m k s → Fits n m k (responds (enough m) n k j o s .state)
+  pub responds-fits : (s : State) → FitsUpTo limit n m k s → FitsUpTo limit n m k (responds (enough m) n k j o s .state)
   responds-fits s F = responds-by (s .section) (s .timestamp) (s .responses) F
 
 -- lines 24 and 25 change nothing
@@ -259,13 +317,13 @@ checked-state k j t s = by-test (eqb (t .0) (s .timestamp .0)) where
   by-test false = refl
 
 -- lines 1 to 5 and 19 to 23
-module _ (n m : ℕ) (k : ClientId) (s : State) (R : InRange n m k) where
-  pub tries-fits : s .timestamp .0 ≤ lastTry → Fits n m k (tries n k s .state)
+module _ {limit : ℕ} (n m : ℕ) (k : ClientId) (s : State) (R : InRangeUpTo limit n m k) where
+  pub tries-fits : s .timestamp .0 ≤ lastTry → FitsUpTo limit n m k (tries n k s .state)
   unfolding tries next
   tries-fits h =
       trying-fits n m k R (record { 0 = s .timestamp .0 + 1 }) (rw (le-leb 1 (s .timestamp .0 + 1) (omega arith)) (lt-ltb (s .timestamp .0 + 1) maxTimestamp (omega arith)))
 
-  pub exits-fits : Fits n m k (exits n k s .state)
+  pub exits-fits : FitsUpTo limit n m k (exits n k s .state)
   unfolding exits
   exits-fits = remainder-fits n m k R (next (s .timestamp))
 
@@ -278,56 +336,66 @@ taken true n h = (refl, h)
 taken false n h = absurd (n h)
 
 -- the theorems: a valid record is what its state is stored as
-pub stored-again : (c : Client) → valid c ≡ true → length (c .places) ≡ 31 → store (c .n) (c .m) (c .id) (view c) ≡ c
-stored-again c v long = let K = valid-known c v in store-view c long (K .few) (K .rest)
+pub stored-again : (c : Client) → valid c ≡ true → length (c .row) ≡ rowWords → store (c .head .n) (c .head .m) (c .head .id) (view c) ≡ c
+stored-again c v long = store-view c long (valid-padded c v)
+
+-- by value a step's record is the one that its state is stored as
+pub after-stored : (c : Client) (s : Step State) → length (c .row) ≡ rowWords → clientAfter c (stepped s) ≡ store (c .head .n) (c .head .m) (c .head .id) (s .state)
+unfolding store
+after-stored c s long = ap (λ (k : ℕ). clientOf (headIn (c .head .n) (c .head .m) (c .head .id) (s .state)) (rowOf k (map place (s .state .responses)))) long
 
 -- and every accepted step of one gives one
+module _ (limit : ℕ) (c : Client) (s : Step State) (v : validUpTo limit c ≡ true) where
+  known : KnownUpTo limit c
+  known = known-up-to limit c v
+
+  after : (x : Step State) → x ≡ s → FitsUpTo limit (c .head .n) (c .head .m) (c .head .id) (x .state) → validUpTo limit (clientAfter c (stepped s)) ≡ true
+  after x e F =
+      let g = known-padded limit c known in
+      rw (← e, g .places .even) (kept-valid limit (c .head .n) (c .head .m) (c .head .id) (x .state) F (length (requestsIn (c .row))) (g .within))
+
+  received-valid : (m : Message) → format.valid m ≡ true → received c m ≡ stepped s → validUpTo limit (clientAfter c (stepped s)) ≡ true
+  received-valid (REQUEST k j t) w h = absurd (never NotForClient s h)
+  received-valid (Yield k j t) w h = absurd (never NotForClient s h)
+  received-valid (Release k j t) w h = absurd (never NotForClient s h)
+  received-valid (Inquiry k j t) w h = absurd (never NotForClient s h)
+  received-valid (Response k j o) w h =
+      let (a, e) = taken (forClient (c .head) k j) (never NotForClient s) h in
+      let i = its-client (c .head) (c .row) k j true (sym a) refl in
+      let F = responds-fits (c .head .n) (c .head .m) (c .head .id) j o (response-range k j o w .1) (view c) (view-fits c known) in
+      after (responds (enough (c .head .m)) (c .head .n) k j o (view c)) (cc) (rw i F)
+  received-valid (Check k j t) w h =
+      let (a, e) = taken (forClient (c .head) k j) (never NotForClient s) h in
+      after (checked k j t (view c)) (cc) (rw checked-state (view-fits c known))
+
+  pub message-valid-up-to : (m : Message) → messageOutcomeUpTo limit c m ≡ stepped s → validUpTo limit (clientAfter c (stepped s)) ≡ true
+  unfolding messageOutcomeUpTo
+  message-valid-up-to m h =
+      let (a, h₁) = passed (not (validUpTo limit c)) (never InvalidRecord s) h in
+      let (b, h₂) = passed (not (format.valid m)) (never NumberOutOfRange s) h₁ in
+      received-valid m (not-false (format.valid m) b) h₂
+
 module _ (c : Client) (s : Step State) (v : valid c ≡ true) where
-  ranges : InRange (c .n) (c .m) (c .id)
+  ranges : InRange (c .head .n) (c .head .m) (c .head .id)
   ranges = known-ranges c (valid-known c v)
 
-  stored : (x : Step State) → x ≡ s → Fits (c .n) (c .m) (c .id) (x .state) → valid (store (c .n) (c .m) (c .id) (s .state)) ≡ true
-  stored x e F = rw (← e) (store-valid (c .n) (c .m) (c .id) (x .state) F)
-
-  pub begin-valid : beginOutcome c ≡ stepped s → valid (store (c .n) (c .m) (c .id) (s .state)) ≡ true
-  unfolding beginOutcome view
+  pub begin-valid : beginOutcome c ≡ stepped s → valid (clientAfter c (stepped s)) ≡ true
+  unfolding beginOutcome
   begin-valid h =
       let (a, h₁) = passed (not (valid c)) (never InvalidRecord s) h in
-      let (b, h₂) = passed (not (isRemainder (c .section))) (never WrongSection s) h₁ in
-      let (d, h₃) = passed (ltb lastTry (c .timestamp .0)) (never TimestampsSpent s) h₂ in
-      stored (tries (c .n) (c .id) (view c)) (cc) (tries-fits (c .n) (c .m) (c .id) (view c) ranges (ltb-false lastTry (c .timestamp .0) d))
+      let (b, h₂) = taken (isRemainder (view c .section)) (never WrongSection s) h₁ in
+      let (d, h₃) = taken (mayTry (view c)) (never TimestampsSpent s) h₂ in
+      after maxServers c s v (tries (c .head .n) (c .head .id) (view c)) (cc) (tries-fits (c .head .n) (c .head .m) (c .head .id) (view c) ranges (leb-true (view c .timestamp .0) lastTry d))
 
-  pub exit-valid : exitOutcome c ≡ stepped s → valid (store (c .n) (c .m) (c .id) (s .state)) ≡ true
+  pub exit-valid : exitOutcome c ≡ stepped s → valid (clientAfter c (stepped s)) ≡ true
   unfolding exitOutcome
   exit-valid h =
       let (a, h₁) = passed (not (valid c)) (never InvalidRecord s) h in
-      let (b, h₂) = passed (not (isCritical (c .section))) (never WrongSection s) h₁ in
-      stored (exits (c .n) (c .id) (view c)) (cc) (exits-fits (c .n) (c .m) (c .id) (view c) ranges)
+      let (b, h₂) = taken (isCritical (view c .section)) (never WrongSection s) h₁ in
+      after maxServers c s v (exits (c .head .n) (c .head .id) (view c)) (cc) (exits-fits (c .head .n) (c .head .m) (c .head .id) (view c) ranges)
 
-  module _ (long : length (c .places) ≡ 31) where
-    shows : Fits (c .n) (c .m) (c .id) (view c)
-    shows = view-fits c long (valid-known c v)
-
-    received-valid : (m : Message) → format.valid m ≡ true → received c m ≡ stepped s → valid (store (c .n) (c .m) (c .id) (s .state)) ≡ true
-    received-valid (REQUEST k j t) w h = absurd (never NotForClient s h)
-    received-valid (Yield k j t) w h = absurd (never NotForClient s h)
-    received-valid (Release k j t) w h = absurd (never NotForClient s h)
-    received-valid (Inquiry k j t) w h = absurd (never NotForClient s h)
-    received-valid (Response k j o) w h =
-        let (a, e) = taken (forClient c k j) (never NotForClient s) h in
-        let i = its-client c k j true (sym a) refl in
-        let F = responds-fits (c .n) (c .m) (c .id) j o (response-range k j o w .1) (view c) shows in
-        stored (responds (enough (c .m)) (c .n) k j o (view c)) (cc) (rw i F)
-    received-valid (Check k j t) w h =
-        let (a, e) = taken (forClient c k j) (never NotForClient s) h in
-        stored (checked k j t (view c)) (cc) (rw checked-state shows)
-
-    pub message-valid : (m : Message) → messageOutcome c m ≡ stepped s → valid (store (c .n) (c .m) (c .id) (s .state)) ≡ true
-    unfolding messageOutcome
-    message-valid m h =
-        let (a, h₁) = passed (not (valid c)) (never InvalidRecord s) h in
-        let (b, h₂) = passed (not (format.valid m)) (never NumberOutOfRange s) h₁ in
-        received-valid m (not-false (format.valid m) b) h₂
+  pub message-valid : (m : Message) → messageOutcomeUpTo maxServers c m ≡ stepped s → valid (clientAfter c (stepped s)) ≡ true
+  message-valid m h = message-valid-up-to maxServers c s v m h
 
 -- a new client's record is valid
 pub new-valid : (n m : ℕ) (k : ClientId) → validSizes n m ≡ true → validClient k ≡ true → valid (store n m k (fresh n)) ≡ true

@@ -1,15 +1,15 @@
--- What a call answers at each of its returns: a refusal, no room, or the step's record and messages.
-use Prim.Native.Nat.{ℕ, _+_, _*_, _≤_, _<_}
+-- What a call answers at each of its returns: a refusal, no room, or the step's head, row and messages.
+use Prim.Native.Nat.{ℕ, _+_, _*_, _-_, _≤_, _<_}
 use native.Mathlib.Omega.{arith}
-use mathlib.Core.Path.{_≡_, refl, _∙_}
-use mathlib.Core.Bool.{Bool, true, false, not}
+use mathlib.Core.Path.{_≡_, refl, _∙_, ap, sym}
+use mathlib.Core.Bool.{Bool, true, false, true≢false, not}
 use mathlib.Core.List.{List, [], _∷_, map}
 use lib.Dec.{eqb, leb}
-use lib.ListN.{length, drop, replicate}
+use lib.ListN.{length, replicate}
 use lib.Seq.{sets}
 use borrow.Author.Tests.{lt-ltb, le-ltb, le-leb, lt-leb, eq-eqb, ne-eqb, eqb-true, leb-true}
+use Rattle.ids.specs.Choice.{if_then_else_}
 use Rattle.ids.specs.Limits.{maxTimestamp, validClient, validOwner, validParties, validServer}
-use Rattle.ids.specs.Requests.{same, isRequest, noRequest}
 use Rattle.ids.specs.declared.ClientId.{ClientId}
 use Rattle.ids.specs.declared.ServerId.{ServerId}
 use Rattle.ids.specs.declared.Timestamp.{Timestamp}
@@ -21,40 +21,315 @@ use Rattle.ids.proofs.Choice.{both, fails, holds}
 use Rattle.ids.proofs.LimitsLaws.{server-range}
 use Rattle.wire.specs.Format as format
 use Rattle.wire.specs.Format.{sizeOf, bytesOf, bytesOfAll, sizeOfAll, validResponse}
-use Rattle.wire.specs.Step.{Step, Outcome, refused, stepped, stay, tell, withRoom}
+use Rattle.wire.specs.Step.{Step, Outcome, refused, stepped, stay, tell, withRoom, sentInto}
 use Rattle.wire.specs.declared.Answer.the-variants.{Sent}
 use Rattle.wire.specs.declared.Message.{Message}
 use Rattle.wire.specs.declared.Message.the-variants.{Release, Response, Check}
 use Rattle.wire.proofs.Sequence.{sizeOfAll-one, bytesOfAll-one}
+use Rattle.rows.specs.Rows.{rowOf, Padded, Put}
+use Rattle.responses.specs.declared.Section.{Section}
+use Rattle.responses.specs.declared.Section.the-variants.{Remainder, Trying, Critical}
+use Rattle.responses.specs.Figure1.{State, fresh, next, filled, count, own, enough, isRemainder, isTrying, isCritical, lastTry, toAll, tries, exits, round, decide, judge, responds, checked}
+use Rattle.responses.specs.Row.{place, responsesIn, placeOf, heardRow}
+use Rattle.responses.proofs.CountLaws.{length-responses}
+use Rattle.responses.proofs.SendLaws.{request-plain, release-plain, length-toAll, size-toAll}
+use Rattle.responses.proofs.RoundLaws.{size-round, length-round}
+use Rattle.responses.proofs.HearLaws.{heardRow-size, heardRow-padded, heardRow-shown, heardRow-undone}
 use Rattle.client.specs.declared.Client.{Client}
+use Rattle.client.specs.declared.Head.{Head}
 use Rattle.client.specs.declared.Stepped.{Stepped}
-use Rattle.client.specs.declared.Section.{Section}
-use Rattle.client.specs.declared.Section.the-variants.{Remainder, Trying, Critical}
-use Rattle.client.specs.Figure1.{State, fresh, next, filled, count, enough, isTrying, toAll, tries, exits, round, judge, responds, checked}
-use Rattle.ids.specs.Lists.{every}
-use Rattle.client.specs.Record.{validSizes, valid, view, store}
-use Rattle.client.specs.Calls.{isRemainder, isCritical, lastTry, newResult, beginOutcome, exitOutcome, messageOutcome, forClient, received, result}
-use Rattle.client.specs.Steps.{request, without, requests, releases, refusedNew, heardPlaces, yields, Answers}
-use Rattle.client.proofs.Places.{showing}
-use Rattle.client.proofs.ValidLaws.{Known, valid-known, critical-below}
-use Rattle.client.proofs.RecordLaws.{stored-without, places-again, store-view}
-use Rattle.client.proofs.SendLaws.{request-plain, release-plain, length-toAll, size-toAll}
-use Rattle.client.proofs.RoundLaws.{size-round, length-round}
-use Rattle.client.proofs.HearLaws.{heard-shown, heard-rest}
+use Rattle.client.specs.declared.Turned.{Turned}
+use Rattle.client.specs.Record.{rowWords, clientOf, headIn, validSizes, valid, view, store}
+use Rattle.client.specs.Calls.{newResult, beginOutcome, exitOutcome, messageOutcome, messageOutcomeUpTo, forClient, received, rowAfter, turned, result}
+use Rattle.client.specs.Steps.{request, headWith, without, requests, releases, refusedNew, yields, isRefused, Answers}
+use Rattle.client.proofs.ValidLaws.{valid-known, valid-padded, padded-words, critical-below, sizes-range}
+use Rattle.client.proofs.RecordLaws.{row-without, row-again}
 
-module _ (c : Client) (x : Outcome State) (o : List ℕ) (r : Stepped) where
-  pub answers-refused : (e : Refusal) → x ≡ refused e → r ≡ result c (refused e) → Answers c x o r o
+module _ (h : Head) (row : List ℕ) (x : Outcome State) (o : List ℕ) (r : Turned) where
+  pub answers-refused : (e : Refusal) → x ≡ refused e → r ≡ turned h (refused e) → Answers h row x o r row o
   unfolding withRoom
-  answers-refused e q p = rw q (p, refl)
+  answers-refused e q p = rw q (p, refl, refl)
 
   module _ (s : Step State) (q : x ≡ stepped s) where
-    pub answers-short : length o < sizeOfAll (s .sent) → r ≡ result c (refused RoomShort) → Answers c x o r o
+    pub answers-short : length o < sizeOfAll (s .sent) → r ≡ turned h (refused RoomShort) → Answers h row x o r row o
     unfolding withRoom
-    answers-short h p = rw (q, lt-ltb _ _ h) (p, refl)
+    answers-short g p = rw (q, lt-ltb _ _ g) (p, refl, refl)
 
-    pub answers-done : (l : List ℕ) → sizeOfAll (s .sent) ≤ length o → r ≡ result c (stepped s) → l ≡ sets o 0 (bytesOfAll (s .sent)) → Answers c x o r l
+    pub answers-done : (after l : List ℕ) → sizeOfAll (s .sent) ≤ length o → r ≡ turned h (stepped s) → after ≡ rowAfter row (stepped s) → l ≡ sets o 0 (bytesOfAll (s .sent)) → Answers h row x o r after l
     unfolding withRoom
-    answers-done l h p e = rw (q, le-ltb _ _ h) (p, e)
+    answers-done after l g p a e = rw (q, le-ltb _ _ g) (p, a, e)
+
+-- the same by value
+module _ (c : Client) (x : Outcome State) (o : List ℕ) (t : Turned) (after l : List ℕ) (A : Answers (c .head) (c .row) x o t after l) where
+  pub by-value : (r : Stepped) → r ≡ record { client = clientOf (t .head) after; answer = t .answer } → (r ≡ result c (withRoom (length o) x)) × (l ≡ sentInto o (withRoom (length o) x))
+  by-value r e = (rw (A .0, A .1) at e, A .2)
+
+-- a step that sends nothing needs no room
+pub answers-stay : (h : Head) (row : List ℕ) (x : Outcome State) (o : List ℕ) (r : Turned) (s : State) → x ≡ stepped (stay s) → rowOf (length row) (map place (s .responses)) ≡ row
+    → r ≡ record { head = headIn (h .n) (h .m) (h .id) s; answer = Sent 0 0 } → Answers h row x o r row o
+unfolding sizeOfAll bytesOfAll
+answers-stay h row x o r s q e p = answers-done h row x o r (stay s) q row o (omega arith) p (sym e) refl
+
+-- a message of 12 bytes to each server, and the row emptied
+module _ (h : Head) (row : List ℕ) (f : ServerId → Message) (plain : (j : ServerId) → sizeOf (f j) ≡ 12) (x : Outcome State) (a : Section) (t : Timestamp) (o : List ℕ) (r : Turned) (q : x ≡ stepped (record { state = without (h .n) a t; sent = toAll f (h .n) })) where
+  all-short : length o < 12 * h .n → r ≡ turned h (refused RoomShort) → Answers h row x o r row o
+  all-short g p = answers-short h row x o r _ q (omega (arith, size-toAll f plain (h .n))) p
+
+  all-done : (after l : List ℕ) → 2 * h .n ≤ length row → 12 * h .n ≤ length o → r ≡ record { head = headWith h a t; answer = Sent (h .n) (12 * h .n) } → after ≡ replicate (length row) 0 → l ≡ sets o 0 (bytesOfAll (toAll f (h .n))) → Answers h row x o r after l
+  all-done after l k g p z e =
+      answers-done h row x o r _ q after l (omega (arith, size-toAll f plain (h .n))) (rw (length-toAll f (h .n), size-toAll f plain (h .n)) p) (z ∙ sym (row-without (length row) (h .n) k)) e
+
+-- `attempt` and `leave`
+module _ (h : Head) (row : List ℕ) (o : List ℕ) (r : Turned) where
+  abbrev taken : Timestamp
+  taken = record { 0 = h .timestamp .0 + 1 }
+
+  abbrev tried : Outcome State
+  tried = stepped (tries (h .n) (h .id) (view (clientOf h row)))
+
+  abbrev exited : Outcome State
+  exited = stepped (exits (h .n) (h .id) (view (clientOf h row)))
+
+  its-try : tried ≡ stepped (record { state = without (h .n) Trying taken; sent = toAll (requests (h .id) taken) (h .n) })
+  unfolding tries view next
+  its-try = refl
+
+  its-exit : exited ≡ stepped (record { state = without (h .n) Remainder taken; sent = toAll (releases (h .id) (h .timestamp)) (h .n) })
+  unfolding exits view next
+  its-exit = refl
+
+  module _ (g : length o < 12 * h .n) (p : r ≡ turned h (refused RoomShort)) where
+    pub tries-short : Answers h row tried o r row o
+    tries-short = all-short h row (requests (h .id) taken) (request-plain (h .id) taken) _ _ _ o r its-try g p
+
+    pub exits-short : Answers h row exited o r row o
+    exits-short = all-short h row (releases (h .id) (h .timestamp)) (release-plain (h .id) (h .timestamp)) _ _ _ o r its-exit g p
+
+  module _ (after l : List ℕ) (k : 2 * h .n ≤ length row) (g : 12 * h .n ≤ length o) (z : after ≡ replicate (length row) 0) where
+    pub tries-done : r ≡ record { head = headWith h Trying taken; answer = Sent (h .n) (12 * h .n) } → l ≡ sets o 0 (bytesOfAll (toAll (requests (h .id) taken) (h .n))) → Answers h row tried o r after l
+    tries-done p e = all-done h row (requests (h .id) taken) (request-plain (h .id) taken) _ _ _ o r its-try after l k g p z e
+
+    pub exits-done : r ≡ record { head = headWith h Remainder taken; answer = Sent (h .n) (12 * h .n) } → l ≡ sets o 0 (bytesOfAll (toAll (releases (h .id) (h .timestamp)) (h .n))) → Answers h row exited o r after l
+    exits-done p e = all-done h row (releases (h .id) (h .timestamp)) (release-plain (h .id) (h .timestamp)) _ _ _ o r its-exit after l k g p z e
+
+-- `begin_row`, `exit_row` and `message_row`: which test decides the outcome
+module _ (h : Head) (row : List ℕ) (x : Bool) (p : x ≡ valid (clientOf h row)) where
+  pub begin-invalid : not x ≡ true → beginOutcome (clientOf h row) ≡ refused InvalidRecord
+  unfolding beginOutcome
+  begin-invalid t = rw (fails x (valid (clientOf h row)) p t)
+
+  pub exit-invalid : not x ≡ true → exitOutcome (clientOf h row) ≡ refused InvalidRecord
+  unfolding exitOutcome
+  exit-invalid t = rw (fails x (valid (clientOf h row)) p t)
+
+  module _ (y : Bool) (t : not x ≡ false) where
+    module _ (q : y ≡ isRemainder (h .section)) where
+      pub begin-elsewhere : not y ≡ true → beginOutcome (clientOf h row) ≡ refused WrongSection
+      unfolding beginOutcome view
+      begin-elsewhere u = rw (holds x (valid (clientOf h row)) p t, fails y (isRemainder (h .section)) q u)
+
+      pub begin-spent : not y ≡ false → lastTry < h .timestamp .0 → beginOutcome (clientOf h row) ≡ refused TimestampsSpent
+      unfolding beginOutcome view
+      begin-spent u g = rw (holds x (valid (clientOf h row)) p t, holds y (isRemainder (h .section)) q u, lt-leb (h .timestamp .0) lastTry g)
+
+      pub begin-tries : not y ≡ false → h .timestamp .0 ≤ lastTry → beginOutcome (clientOf h row) ≡ stepped (tries (h .n) (h .id) (view (clientOf h row)))
+      unfolding beginOutcome view
+      begin-tries u g = rw (holds x (valid (clientOf h row)) p t, holds y (isRemainder (h .section)) q u, le-leb (h .timestamp .0) lastTry g)
+
+    module _ (q : y ≡ isCritical (h .section)) where
+      pub exit-elsewhere : not y ≡ true → exitOutcome (clientOf h row) ≡ refused WrongSection
+      unfolding exitOutcome view
+      exit-elsewhere u = rw (holds x (valid (clientOf h row)) p t, fails y (isCritical (h .section)) q u)
+
+      pub exit-leaves : not y ≡ false → exitOutcome (clientOf h row) ≡ stepped (exits (h .n) (h .id) (view (clientOf h row)))
+      unfolding exitOutcome view
+      exit-leaves u = rw (holds x (valid (clientOf h row)) p t, holds y (isCritical (h .section)) q u)
+
+      pub critical-timestamp : not y ≡ false → h .timestamp .0 < maxTimestamp
+      critical-timestamp u = critical-below (h .section) (h .timestamp) (holds y (isCritical (h .section)) q u) (valid-known (clientOf h row) (holds x (valid (clientOf h row)) p t) .timestamp)
+
+  -- what the inner steps ask
+  pub tested-words : not x ≡ false → 2 * h .n ≤ length row
+  tested-words t = padded-words row (h .n) (valid-padded (clientOf h row) (holds x (valid (clientOf h row)) p t))
+
+  module _ (m : Message) where
+    pub message-invalid : not x ≡ true → messageOutcome (clientOf h row) m ≡ refused InvalidRecord
+    unfolding messageOutcomeUpTo
+    message-invalid t = rw (fails x (valid (clientOf h row)) p t)
+
+    module _ (y : Bool) (t : not x ≡ false) (q : y ≡ format.valid m) where
+      pub message-bad : not y ≡ true → messageOutcome (clientOf h row) m ≡ refused NumberOutOfRange
+      unfolding messageOutcomeUpTo
+      message-bad u = rw (holds x (valid (clientOf h row)) p t, fails y (format.valid m) q u)
+
+      pub message-received : not y ≡ false → messageOutcome (clientOf h row) m ≡ received (clientOf h row) m
+      unfolding messageOutcomeUpTo
+      message-received u = rw (holds x (valid (clientOf h row)) p t, holds y (format.valid m) q u)
+
+-- the round of yields
+count-within : {A : Type 0} (f : A → Bool) (l : List A) → count (map f l) ≤ length l
+count-within f [] = omega arith
+count-within f (x ∷ l) = let e = count-within f l in omega (arith, at-most-one (f x)) where
+  at-most-one : (b : Bool) → (if b then 1 else 0) ≤ 1
+  at-most-one true = omega arith
+  at-most-one false = omega arith
+
+pub filled-few : (row : List ℕ) (n found : ℕ) → Padded row n → found ≡ count (map filled (responsesIn row n)) → found ≤ n
+filled-few row n found good f = omega (arith, count-within filled (responsesIn row n), length-responses row n (padded-words row n good))
+
+module _ (h : Head) (row : List ℕ) (found : ℕ) (o : List ℕ) (r : Turned) (f : found ≡ count (map filled (responsesIn row (h .n)))) where
+  abbrev yielded : Step State
+  yielded = yields (h .n) (request h) (responsesIn row (h .n))
+
+  its-size : sizeOfAll (round (request h) 1 (responsesIn row (h .n))) ≡ 12 * found
+  its-size = rw f (size-round (request h) 1 (responsesIn row (h .n)))
+
+  its-length : length (round (request h) 1 (responsesIn row (h .n))) ≡ found
+  its-length = rw f (length-round (request h) 1 (responsesIn row (h .n)))
+
+  pub yields-short : length o < 12 * found → r ≡ turned h (refused RoomShort) → Answers h row (stepped yielded) o r row o
+  yields-short g p = answers-short h row (stepped yielded) o r yielded refl (omega (arith, its-size)) p
+
+  pub yields-done : (q : Request) (after l : List ℕ) → Padded row (h .n) → 12 * found ≤ length o → q ≡ request h → l ≡ sets o 0 (bytesOfAll (round q 1 (responsesIn row (h .n)))) → after ≡ replicate (length row) 0
+      → r ≡ record { head = headWith h Trying (h .timestamp); answer = Sent found (12 * found) } → Answers h row (stepped yielded) o r after l
+  yields-done q after l good g e w z p =
+      answers-done h row (stepped yielded) o r yielded refl after l (omega (arith, its-size)) (rw (its-length, its-size) p) (z ∙ sym (row-without (length row) (h .n) (padded-words row (h .n) good))) (rw e at w)
+
+-- what the verdicts decide
+module _ (full mine : Bool) (h : Head) (row : List ℕ) (good : Padded row (h .n)) where
+  abbrev decided : Step State
+  decided = decide full mine (h .n) (request h) (responsesIn row (h .n))
+
+  pub decide-waits : (o : List ℕ) (r : Turned) → not full ≡ true → r ≡ record { head = headWith h Trying (h .timestamp); answer = Sent 0 0 } → Answers h row (stepped decided) o r row o
+  decide-waits o r t p =
+      let e : full ≡ false = fails full full refl t in
+      answers-stay h row (stepped decided) o r (record { section = Trying; timestamp = h .timestamp; responses = responsesIn row (h .n) }) (rw e) (row-again row (h .n) good) p
+
+  module _ (t : not full ≡ false) where
+    pub decide-enters : (o : List ℕ) (r : Turned) → mine ≡ true → r ≡ record { head = headWith h Critical (h .timestamp); answer = Sent 0 0 } → Answers h row (stepped decided) o r row o
+    decide-enters o r u p =
+        let e : full ≡ true = holds full full refl t in
+        answers-stay h row (stepped decided) o r (record { section = Critical; timestamp = h .timestamp; responses = responsesIn row (h .n) }) (rw (e, u)) (row-again row (h .n) good) p
+
+    pub decide-yields : mine ≡ false → stepped decided ≡ stepped (yields (h .n) (request h) (responsesIn row (h .n)))
+    decide-yields u = let e : full ≡ true = holds full full refl t in rw (e, u)
+
+pub verdicts : (m n : ℕ) (r q : Request) (l : List Owner) (found mine : ℕ) → found ≡ count (map filled l) → q ≡ r → mine ≡ count (own q l) → stepped (judge (enough m) n r l) ≡ stepped (decide (leb m found) (leb m mine) n r l)
+unfolding judge enough
+verdicts m n r q l found mine f e g = rw (f, g, e)
+
+-- `respond_row`
+module _ (h : Head) (row : List ℕ) (v : valid (clientOf h row) ≡ true) (j : ServerId) (o : Owner) (x : Bool) (p : x ≡ isTrying (h .section)) where
+  abbrev responded : Outcome State
+  responded = stepped (responds (enough (h .m)) (h .n) (h .id) j o (view (clientOf h row)))
+
+  good : Padded row (h .n)
+  good = valid-padded (clientOf h row) v
+
+  -- outside the trying section nothing changes
+  elsewhere : not x ≡ true → responded ≡ stepped (stay (view (clientOf h row)))
+  unfolding responds view
+  elsewhere t = rw (fails x (isTrying (h .section)) p t)
+
+  pub respond-elsewhere : (b : List ℕ) (r : Turned) → not x ≡ true → r ≡ record { head = headWith h (h .section) (h .timestamp); answer = Sent 0 0 } → Answers h row responded b r row b
+  unfolding view
+  respond-elsewhere b r t e = answers-stay h row responded b r (view (clientOf h row)) (elsewhere t) (row-again row (h .n) good) e
+
+  -- else it is heard and judged
+  module _ (low : 1 ≤ j .0) (high : j .0 ≤ h .n) (w : validOwner o ≡ true) (q : Request) (e : q ≡ request h) (mid : List ℕ) (g : mid ≡ heardRow q row j o) where
+    heard : mid ≡ heardRow (request h) row j o
+    heard = rw e at g
+
+    pub heard-padded : Padded mid (h .n)
+    heard-padded = rw heard (heardRow-padded (request h) row j o w (h .n) low high good)
+
+    pub heard-size : length mid ≡ length row
+    heard-size = rw heard (heardRow-size (request h) row j o w)
+
+    pub respond-judges : not x ≡ false → responded ≡ stepped (judge (enough (h .m)) (h .n) (request h) (responsesIn mid (h .n)))
+    unfolding responds view
+    respond-judges t = rw (holds x (isTrying (h .section)) p t, heard, heardRow-shown (request h) row j o w (h .n) low high)
+
+    pub heard-undone : (after : List ℕ) (old : Request) → old ≡ placeOf row j → Put mid after (j .0 - 1) old → after ≡ row
+    heard-undone after old s P = heardRow-undone (request h) row j o w after old s (good .places) (rw heard at P)
+
+-- what was done to the heard row is done to the row, unless it was refused: then the place is put back
+module _ (h : Head) (row mid : List ℕ) (size : length mid ≡ length row) (r : Turned) (left : List ℕ) where
+  stays-by : (w : Outcome State) → r ≡ turned h w → left ≡ rowAfter mid w → isRefused (r .answer) ≡ false → left ≡ rowAfter row w
+  stays-by (refused e) p a n = let z : true ≡ false = ap (λ (x : Turned). isRefused (x .answer)) (sym p) ∙ n in absurd (true≢false z)
+  stays-by (stepped s) p a n = a ∙ ap (λ (k : ℕ). rowOf k (map place (s .state .responses))) size
+
+  undone-by : (w : Outcome State) → r ≡ turned h w → left ≡ rowAfter mid w → isRefused (r .answer) ≡ true → (after : List ℕ) → (left ≡ mid → after ≡ row) → after ≡ rowAfter row w
+  undone-by (refused e) p a n after f = f a
+  undone-by (stepped s) p a n after f = let z : true ≡ false = sym n ∙ ap (λ (x : Turned). isRefused (x .answer)) p in absurd (true≢false z)
+
+  module _ (x y : Outcome State) (q : x ≡ y) (o l : List ℕ) (A : Answers h mid y o r left l) (b : Bool) (d : b ≡ isRefused (r .answer)) where
+    pub respond-kept : b ≡ false → Answers h row x o r left l
+    respond-kept f = rw q (A .0, stays-by (withRoom (length o) y) (A .0) (A .1) (sym d ∙ f), A .2)
+
+    pub respond-undone : (after : List ℕ) (i : ℕ) (old : Request) → b ≡ true → Put left after i old → (Put mid after i old → after ≡ row) → Answers h row x o r after l
+    respond-undone after i old t P f = rw q (A .0, undone-by (withRoom (length o) y) (A .0) (A .1) (sym d ∙ t) after (λ e. f (rw e at P)), A .2)
+
+-- `check_row`
+module _ (h : Head) (row : List ℕ) (v : valid (clientOf h row) ≡ true) (j : ServerId) (t : Timestamp) (o : List ℕ) (r : Turned) where
+  abbrev told : Outcome State
+  told = stepped (checked (h .id) j t (view (clientOf h row)))
+
+  kept : rowOf (length row) (map place (view (clientOf h row) .responses)) ≡ row
+  unfolding view
+  kept = row-again row (h .n) (valid-padded (clientOf h row) v)
+
+  pub check-same : t .0 ≡ h .timestamp .0 → r ≡ record { head = headWith h (h .section) (h .timestamp); answer = Sent 0 0 } → Answers h row told o r row o
+  unfolding checked view
+  check-same g e = answers-stay h row told o r (view (clientOf h row)) (rw (eq-eqb (t .0) (h .timestamp .0) g)) kept e
+
+  module _ (g : t .0 ≡ h .timestamp .0 → ⊥) where
+    its-release : told ≡ stepped (tell (view (clientOf h row)) (Release (h .id) j t))
+    unfolding checked view
+    its-release = rw (ne-eqb (t .0) (h .timestamp .0) g)
+
+    one-size : sizeOfAll (Release (h .id) j t ∷ []) ≡ 12
+    one-size = sizeOfAll-one (Release (h .id) j t) ∙ release-plain (h .id) t j
+
+    pub check-short : length o < 12 → r ≡ turned h (refused RoomShort) → Answers h row told o r row o
+    check-short s e = answers-short h row told o r _ its-release (omega (arith, one-size)) e
+
+    pub check-done : (b : List ℕ) (n : ℕ) → 12 ≤ length o → n ≡ 0 + sizeOf (Release (h .id) j t) → b ≡ sets o 0 (bytesOf (Release (h .id) j t)) → r ≡ record { head = headWith h (h .section) (h .timestamp); answer = Sent 1 n } → Answers h row told o r row b
+    unfolding view
+    check-done b n s z e p =
+        let k : n ≡ sizeOfAll (Release (h .id) j t ∷ []) = omega (arith, one-size, release-plain (h .id) t j) in
+        answers-done h row told o r _ its-release row b (omega (arith, one-size)) (rw (← k) p) (sym kept) (rw (bytesOfAll-one (Release (h .id) j t)) e)
+
+-- `receive`: whom the message is for
+module _ (h : Head) (row : List ℕ) (k : ClientId) (j : ServerId) (x : Bool) (p : x ≡ forClient h k j) where
+  pub response-elsewhere : (o : Owner) → not x ≡ true → received (clientOf h row) (Response k j o) ≡ refused NotForClient
+  response-elsewhere o t = rw (fails x (forClient h k j) p t)
+
+  pub check-elsewhere : (s : Timestamp) → not x ≡ true → received (clientOf h row) (Check k j s) ≡ refused NotForClient
+  check-elsewhere s t = rw (fails x (forClient h k j) p t)
+
+  module _ (t : not x ≡ false) where
+    its-parts : (eqb (k .0) (h .id .0) ≡ true) × (leb (j .0) (h .n) ≡ true)
+    its-parts = both (eqb (k .0) (h .id .0)) (leb (j .0) (h .n)) (holds x (forClient h k j) p t)
+
+    pub its-client : k ≡ h .id
+    its-client = let e : k .0 ≡ h .id .0 = eqb-true (k .0) (h .id .0) (its-parts .0) in λ i. record { 0 = e i }
+
+    pub its-server : j .0 ≤ h .n
+    its-server = leb-true (j .0) (h .n) (its-parts .1)
+
+    pub response-taken : (o : Owner) → received (clientOf h row) (Response k j o) ≡ stepped (responds (enough (h .m)) (h .n) (h .id) j o (view (clientOf h row)))
+    response-taken o = rw (holds x (forClient h k j) p t, its-client)
+
+    pub check-taken : (s : Timestamp) → received (clientOf h row) (Check k j s) ≡ stepped (checked (h .id) j s (view (clientOf h row)))
+    check-taken s = rw (holds x (forClient h k j) p t, its-client)
+
+pub response-range : (k : ClientId) (j : ServerId) (o : Owner) → format.valid (Response k j o) ≡ true → (1 ≤ j .0) × (validOwner o ≡ true)
+unfolding format.valid validResponse validParties
+response-range k j o h =
+    let (a, b) = both (validParties k j) (validOwner o) h in
+    let (d, e) = both (validClient k) (validServer j) a in
+    (server-range j e .0, b)
 
 -- `new`
 module _ (n m : ℕ) (k : ClientId) (x : Bool) (p : x ≡ validSizes n m) where
@@ -67,224 +342,10 @@ module _ (n m : ℕ) (k : ClientId) (x : Bool) (p : x ≡ validSizes n m) where
     unfolding newResult
     new-id r u e = rw (holds x (validSizes n m) p t, fails y (validClient k) q u) e
 
-    pub new-done : (c : Client) → not y ≡ false → c ≡ store n m k (fresh n) → _≡_ {A = Stepped} (record { client = c; answer = Sent 0 0 }) (newResult n m k)
+    stored-fresh : store n m k (fresh n) ≡ clientOf (headIn n m k (fresh n)) (replicate rowWords 0)
+    unfolding store
+    stored-fresh = let s = sizes-range n m (holds x (validSizes n m) p t) in ap (clientOf (headIn n m k (fresh n))) (row-without rowWords n (omega (arith, s .1)))
+
+    pub new-done : (c : Client) → not y ≡ false → c ≡ clientOf (headIn n m k (fresh n)) (replicate rowWords 0) → _≡_ {A = Stepped} (record { client = c; answer = Sent 0 0 }) (newResult n m k)
     unfolding newResult
-    new-done c u e = rw (holds x (validSizes n m) p t, holds y (validClient k) q u, e)
-
--- a message of 12 bytes to each server, and the record emptied
-module _ (c : Client) (f : ServerId → Message) (plain : (j : ServerId) → sizeOf (f j) ≡ 12) (x : Outcome State) (s : State) (o : List ℕ) (r : Stepped) (q : x ≡ stepped (record { state = s; sent = toAll f (c .n) })) where
-  pub all-short : length o < 12 * c .n → r ≡ result c (refused RoomShort) → Answers c x o r o
-  all-short h p = answers-short c x o r _ q (omega (arith, size-toAll f plain (c .n))) p
-
-  pub all-done : (l : List ℕ) → 12 * c .n ≤ length o → r ≡ record { client = store (c .n) (c .m) (c .id) s; answer = Sent (c .n) (12 * c .n) } → l ≡ sets o 0 (bytesOfAll (toAll f (c .n))) → Answers c x o r l
-  all-done l h p e = answers-done c x o r _ q l (omega (arith, size-toAll f plain (c .n))) (rw (length-toAll f (c .n), size-toAll f plain (c .n)) p) e
-
--- `attempt` and `leave`
-module _ (c : Client) (o : List ℕ) (r : Stepped) where
-  abbrev taken : Timestamp
-  taken = record { 0 = c .timestamp .0 + 1 }
-
-  tried : stepped (tries (c .n) (c .id) (view c)) ≡ stepped (record { state = without (c .n) Trying taken; sent = toAll (requests (c .id) taken) (c .n) })
-  unfolding tries view next
-  tried = refl
-
-  exited : stepped (exits (c .n) (c .id) (view c)) ≡ stepped (record { state = without (c .n) Remainder taken; sent = toAll (releases (c .id) (c .timestamp)) (c .n) })
-  unfolding exits view next
-  exited = refl
-
-  module _ (h : length o < 12 * c .n) (p : r ≡ result c (refused RoomShort)) where
-    pub tries-short : Answers c (stepped (tries (c .n) (c .id) (view c))) o r o
-    tries-short = all-short c (requests (c .id) taken) (request-plain (c .id) taken) _ _ o r tried h p
-
-    pub exits-short : Answers c (stepped (exits (c .n) (c .id) (view c))) o r o
-    exits-short = all-short c (releases (c .id) (c .timestamp)) (release-plain (c .id) (c .timestamp)) _ _ o r exited h p
-
-  module _ (l : List ℕ) (h : 12 * c .n ≤ length o) where
-    pub tries-done : r ≡ record { client = store (c .n) (c .m) (c .id) (without (c .n) Trying taken); answer = Sent (c .n) (12 * c .n) } → l ≡ sets o 0 (bytesOfAll (toAll (requests (c .id) taken) (c .n)))
-        → Answers c (stepped (tries (c .n) (c .id) (view c))) o r l
-    tries-done p e = all-done c (requests (c .id) taken) (request-plain (c .id) taken) _ _ o r tried l h p e
-
-    pub exits-done : r ≡ record { client = store (c .n) (c .m) (c .id) (without (c .n) Remainder taken); answer = Sent (c .n) (12 * c .n) } → l ≡ sets o 0 (bytesOfAll (toAll (releases (c .id) (c .timestamp)) (c .n)))
-        → Answers c (stepped (exits (c .n) (c .id) (view c))) o r l
-    exits-done p e = all-done c (releases (c .id) (c .timestamp)) (release-plain (c .id) (c .timestamp)) _ _ o r exited l h p e
-
--- `begin`, `exit` and `message`: which test decides the outcome
-module _ (c : Client) (x : Bool) (p : x ≡ valid c) where
-  pub begin-invalid : not x ≡ true → beginOutcome c ≡ refused InvalidRecord
-  unfolding beginOutcome
-  begin-invalid t = rw (fails x (valid c) p t)
-
-  pub exit-invalid : not x ≡ true → exitOutcome c ≡ refused InvalidRecord
-  unfolding exitOutcome
-  exit-invalid t = rw (fails x (valid c) p t)
-
-  module _ (y : Bool) (t : not x ≡ false) where
-    module _ (q : y ≡ isRemainder (c .section)) where
-      pub begin-elsewhere : not y ≡ true → beginOutcome c ≡ refused WrongSection
-      unfolding beginOutcome
-      begin-elsewhere u = rw (holds x (valid c) p t, fails y (isRemainder (c .section)) q u)
-
-      pub begin-spent : not y ≡ false → lastTry < c .timestamp .0 → beginOutcome c ≡ refused TimestampsSpent
-      unfolding beginOutcome
-      begin-spent u h = rw (holds x (valid c) p t, holds y (isRemainder (c .section)) q u, lt-ltb lastTry (c .timestamp .0) h)
-
-      pub begin-tries : not y ≡ false → c .timestamp .0 ≤ lastTry → beginOutcome c ≡ stepped (tries (c .n) (c .id) (view c))
-      unfolding beginOutcome
-      begin-tries u h = rw (holds x (valid c) p t, holds y (isRemainder (c .section)) q u, le-ltb lastTry (c .timestamp .0) h)
-
-    module _ (q : y ≡ isCritical (c .section)) where
-      pub exit-elsewhere : not y ≡ true → exitOutcome c ≡ refused WrongSection
-      unfolding exitOutcome
-      exit-elsewhere u = rw (holds x (valid c) p t, fails y (isCritical (c .section)) q u)
-
-      pub exit-leaves : not y ≡ false → exitOutcome c ≡ stepped (exits (c .n) (c .id) (view c))
-      unfolding exitOutcome
-      exit-leaves u = rw (holds x (valid c) p t, holds y (isCritical (c .section)) q u)
-
-  -- what the inner steps ask
-  pub valid-few : not x ≡ false → c .n ≤ 31
-  valid-few t = valid-known c (holds x (valid c) p t) .few
-
-  pub critical-timestamp : (y : Bool) → not x ≡ false → y ≡ isCritical (c .section) → not y ≡ false → c .timestamp .0 < maxTimestamp
-  critical-timestamp y t q u = critical-below (c .section) (c .timestamp) (holds y (isCritical (c .section)) q u) (valid-known c (holds x (valid c) p t) .timestamp)
-
--- a step that sends nothing needs no room
-pub answers-stay : (c : Client) (x : Outcome State) (o : List ℕ) (r : Stepped) (s : State) → x ≡ stepped (stay s) → r ≡ result c (stepped (stay s)) → Answers c x o r o
-unfolding sizeOfAll bytesOfAll
-answers-stay c x o r s q p = answers-done c x o r (stay s) q o (omega arith) p refl
-
-pub kept-answer : (c : Client) (s : Section) (l : List Request) → length l ≡ 31 → c .n ≤ 31 → every (same noRequest) (drop (c .n) l) ≡ true
-    → _≡_ {A = Stepped} (record { client = record { n = c .n; m = c .m; id = c .id; section = s; timestamp = c .timestamp; places = l }; answer = Sent 0 0 })
-    (result c (stepped (stay (record { section = s; timestamp = c .timestamp; responses = showing (c .n) l }))))
-unfolding store sizeOfAll
-kept-answer c s l long few rest = rw (places-again l (c .n) long few rest)
-
--- the round of yields
-module _ (c : Client) (l : List Request) (found : ℕ) (o : List ℕ) (f : found ≡ count (map filled (showing (c .n) l))) where
-  abbrev yielded : Step State
-  yielded = yields (c .n) (request c) (showing (c .n) l)
-
-  its-size : sizeOfAll (round (request c) 1 (showing (c .n) l)) ≡ 12 * found
-  its-size = rw f (size-round (request c) 1 (showing (c .n) l))
-
-  its-length : length (round (request c) 1 (showing (c .n) l)) ≡ found
-  its-length = rw f (length-round (request c) 1 (showing (c .n) l))
-
-  pub yields-short : (r : Stepped) → length o < 12 * found → r ≡ result c (refused RoomShort) → Answers c (stepped yielded) o r o
-  yields-short r h p = answers-short c (stepped yielded) o r yielded refl (omega (arith, its-size)) p
-
-  pub yields-done : (d : Client) (none : List Request) (b : List ℕ) (q : Request) → c .n ≤ 31 → 12 * found ≤ length o → d ≡ record { n = c .n; m = c .m; id = c .id; section = Trying; timestamp = c .timestamp; places = none } → none ≡ replicate 31 noRequest
-      → q ≡ request c → b ≡ sets o 0 (bytesOfAll (round q 1 (showing (c .n) l))) → Answers c (stepped yielded) o (record { client = d; answer = Sent found (12 * found) }) b
-  yields-done d none b q few h p e g w =
-      answers-done c (stepped yielded) o _ yielded refl b (omega (arith, its-size)) (rw (its-length, its-size, p, stored-without (c .n) (c .m) (c .id) Trying (c .timestamp) none few e)) (rw g at w)
-
--- what the counts decide
-module _ (m n : ℕ) (r : Request) (l : List Owner) (found : ℕ) (f : found ≡ count (map filled l)) where
-  pub judge-waits : found < m → stepped (judge (enough m) n r l) ≡ stepped (stay (record { section = Trying; timestamp = r .timestamp; responses = l }))
-  unfolding judge enough
-  judge-waits h = rw (← f, lt-leb m found h)
-
-  module _ (own : ℕ) (h : m ≤ found) (g : own ≡ count (map (isRequest r) l)) where
-    pub judge-yields : own < m → stepped (judge (enough m) n r l) ≡ stepped (yields n r l)
-    unfolding judge enough
-    judge-yields k = rw (← f, le-leb m found h, ← g, lt-leb m own k)
-
-    pub judge-enters : m ≤ own → stepped (judge (enough m) n r l) ≡ stepped (stay (record { section = Critical; timestamp = r .timestamp; responses = l }))
-    unfolding judge enough
-    judge-enters k = rw (← f, le-leb m found h, ← g, le-leb m own k)
-
--- `respond` and `check`, for a valid record
-module _ (c : Client) (long : length (c .places) ≡ 31) (v : valid c ≡ true) where
-  abbrev known : Known c
-  known = valid-known c v
-
-  -- nothing changes: the record is stored as it was
-  pub unchanged-answer : _≡_ {A = Stepped} (record { client = c; answer = Sent 0 0 }) (result c (stepped (stay (view c))))
-  unfolding sizeOfAll
-  unchanged-answer = rw (store-view c long (known .few) (known .rest))
-
-  module _ (j : ServerId) (o : Owner) (x : Bool) (p : x ≡ isTrying (c .section)) where
-    elsewhere : not x ≡ true → stepped (responds (enough (c .m)) (c .n) (c .id) j o (view c)) ≡ stepped (stay (view c))
-    unfolding responds view
-    elsewhere t = rw (fails x (isTrying (c .section)) p t)
-
-    pub respond-elsewhere : (b : List ℕ) (r : Stepped) → not x ≡ true → r ≡ record { client = c; answer = Sent 0 0 } → Answers c (stepped (responds (enough (c .m)) (c .n) (c .id) j o (view c))) b r b
-    respond-elsewhere b r t e = answers-stay c _ b r (view c) (elsewhere t) (e ∙ unchanged-answer)
-
-    module _ (low : 1 ≤ j .0) (high : j .0 ≤ c .n) (w : validOwner o ≡ true) (q : Request) (l : List Request) (t : not x ≡ false) (e : q ≡ request c) (g : l ≡ heardPlaces q (c .places) j o) where
-      pub respond-judges : stepped (responds (enough (c .m)) (c .n) (c .id) j o (view c)) ≡ stepped (judge (enough (c .m)) (c .n) (request c) (showing (c .n) l))
-      unfolding responds view
-      respond-judges = rw (holds x (isTrying (c .section)) p t, g, e, heard-shown (request c) (c .places) (c .n) j o low high w)
-
-      pub respond-rest : every (same noRequest) (drop (c .n) l) ≡ true
-      respond-rest = rw (g, heard-rest q (c .places) (c .n) j o low high) (known .rest)
-
-  module _ (j : ServerId) (t : Timestamp) (o : List ℕ) (r : Stepped) where
-    quiet : t .0 ≡ c .timestamp .0 → stepped (checked (c .id) j t (view c)) ≡ stepped (stay (view c))
-    unfolding checked view
-    quiet h = rw (eq-eqb (t .0) (c .timestamp .0) h)
-
-    pub check-same : t .0 ≡ c .timestamp .0 → r ≡ record { client = c; answer = Sent 0 0 } → Answers c (stepped (checked (c .id) j t (view c))) o r o
-    check-same h e = answers-stay c _ o r (view c) (quiet h) (e ∙ unchanged-answer)
-
-    module _ (h : t .0 ≡ c .timestamp .0 → ⊥) where
-      told : stepped (checked (c .id) j t (view c)) ≡ stepped (tell (view c) (Release (c .id) j t))
-      unfolding checked view
-      told = rw (ne-eqb (t .0) (c .timestamp .0) h)
-
-      one-size : sizeOfAll (Release (c .id) j t ∷ []) ≡ 12
-      one-size = sizeOfAll-one (Release (c .id) j t) ∙ release-plain (c .id) t j
-
-      pub check-short : length o < 12 → r ≡ result c (refused RoomShort) → Answers c (stepped (checked (c .id) j t (view c))) o r o
-      check-short s e = answers-short c _ o r _ told (omega (arith, one-size)) e
-
-      pub check-done : (b : List ℕ) (n : ℕ) → 12 ≤ length o → n ≡ 0 + sizeOf (Release (c .id) j t) → b ≡ sets o 0 (bytesOf (Release (c .id) j t)) → r ≡ record { client = c; answer = Sent 1 n } → Answers c (stepped (checked (c .id) j t (view c))) o r b
-      check-done b n s z e g =
-          let k : n ≡ sizeOfAll (Release (c .id) j t ∷ []) = omega (arith, one-size, release-plain (c .id) t j) in
-          answers-done c _ o r _ told b (omega (arith, one-size)) (rw (store-view c long (known .few) (known .rest), ← k) g) (rw (bytesOfAll-one (Release (c .id) j t)) e)
-
--- `receive`: whom the message is for
-module _ (c : Client) (k : ClientId) (j : ServerId) (x : Bool) (p : x ≡ forClient c k j) where
-  pub response-elsewhere : (o : Owner) → not x ≡ true → received c (Response k j o) ≡ refused NotForClient
-  response-elsewhere o t = rw (fails x (forClient c k j) p t)
-
-  pub check-elsewhere : (s : Timestamp) → not x ≡ true → received c (Check k j s) ≡ refused NotForClient
-  check-elsewhere s t = rw (fails x (forClient c k j) p t)
-
-  module _ (t : not x ≡ false) where
-    its-parts : (eqb (k .0) (c .id .0) ≡ true) × (leb (j .0) (c .n) ≡ true)
-    its-parts = both (eqb (k .0) (c .id .0)) (leb (j .0) (c .n)) (holds x (forClient c k j) p t)
-
-    pub its-client : k ≡ c .id
-    its-client = let e : k .0 ≡ c .id .0 = eqb-true (k .0) (c .id .0) (its-parts .0) in λ i. record { 0 = e i }
-
-    pub its-server : j .0 ≤ c .n
-    its-server = leb-true (j .0) (c .n) (its-parts .1)
-
-    pub response-taken : (o : Owner) → received c (Response k j o) ≡ stepped (responds (enough (c .m)) (c .n) (c .id) j o (view c))
-    response-taken o = rw (holds x (forClient c k j) p t, its-client)
-
-    pub check-taken : (s : Timestamp) → received c (Check k j s) ≡ stepped (checked (c .id) j s (view c))
-    check-taken s = rw (holds x (forClient c k j) p t, its-client)
-
-pub response-range : (k : ClientId) (j : ServerId) (o : Owner) → format.valid (Response k j o) ≡ true → (1 ≤ j .0) × (validOwner o ≡ true)
-unfolding format.valid validResponse validParties
-response-range k j o h =
-    let (a, b) = both (validParties k j) (validOwner o) h in
-    let (d, e) = both (validClient k) (validServer j) a in
-    (server-range j e .0, b)
-
--- `message`
-module _ (c : Client) (m : Message) (x : Bool) (p : x ≡ valid c) where
-  pub message-invalid : not x ≡ true → messageOutcome c m ≡ refused InvalidRecord
-  unfolding messageOutcome
-  message-invalid t = rw (fails x (valid c) p t)
-
-  module _ (y : Bool) (t : not x ≡ false) (q : y ≡ format.valid m) where
-    pub message-bad : not y ≡ true → messageOutcome c m ≡ refused NumberOutOfRange
-    unfolding messageOutcome
-    message-bad u = rw (holds x (valid c) p t, fails y (format.valid m) q u)
-
-    pub message-received : not y ≡ false → messageOutcome c m ≡ received c m
-    unfolding messageOutcome
-    message-received u = rw (holds x (valid c) p t, holds y (format.valid m) q u)
+    new-done c u e = rw (holds x (validSizes n m) p t, holds y (validClient k) q u, e, stored-fresh)

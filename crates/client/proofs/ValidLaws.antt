@@ -1,132 +1,176 @@
 -- Validity, test by test: what the code's tests decide of it, and what a valid record is known to be.
-use Prim.Native.Nat.{ℕ, _≤_, _<_}
-use mathlib.Core.Path.{_≡_, refl}
+use Prim.Native.Nat.{ℕ, _*_, _≤_, _<_}
+use native.Mathlib.Omega.{arith}
+use mathlib.Core.Path.{_≡_, refl, sym, _∙_, ap}
 use mathlib.Core.List.{List, map}
 use mathlib.Core.Bool.{Bool, true, false, true≢false, _&&_, not}
+use mathlib.Core.Logic.{⊎-elim}
 use lib.Dec.{eqb, leb, ltb}
-use lib.ListN.{drop}
-use borrow.Author.Tests.{eq-eqb, ne-eqb, leb-true, ltb-true, not-true, not-false}
+use lib.ListN.{length}
+use borrow.Author.Tests.{eq-eqb, ne-eqb, leb-true, leb-false, ltb-true, le-leb, le-ltb, lt-ltb}
 use Rattle.ids.specs.Limits.{within, maxServers, maxTimestamp, validClient, validOwner}
-use Rattle.ids.specs.Requests.{same, isRequest, noRequest}
+use Rattle.ids.specs.Lists.{every}
 use Rattle.ids.specs.declared.Timestamp.{Timestamp}
 use Rattle.ids.specs.declared.Request.{Request}
 use Rattle.ids.specs.declared.Owner.{Owner}
-use Rattle.ids.proofs.Choice.{fails, holds, both}
+use Rattle.ids.proofs.Choice.{fails, holds, both, and-true, and-goes-on, and-stops, decided}
 use Rattle.ids.proofs.LimitsLaws.{within-range}
+use Rattle.rows.specs.Rows.{Padded}
+use Rattle.rows.specs.Good.{goodRow}
+use Rattle.rows.proofs.GoodLaws.{good-padded}
+use Rattle.responses.specs.declared.Section.{Section}
+use Rattle.responses.specs.declared.Section.the-variants.{Remainder, Trying, Critical}
+use Rattle.responses.specs.Figure1.{isCritical, filled, count, own, enough}
+use Rattle.responses.specs.Row.{responsesIn, ownIsCurrent, misfit}
+use Rattle.responses.proofs.CountLaws.{no-misfit}
 use Rattle.client.specs.declared.Client.{Client}
-use Rattle.client.specs.declared.Section.{Section}
-use Rattle.client.specs.declared.Section.the-variants.{Remainder, Trying, Critical}
-use Rattle.client.specs.Calls.{isCritical}
-use Rattle.client.specs.Figure1.{filled, count}
-use Rattle.ids.specs.Lists.{every}
-use Rattle.client.specs.Record.{view, ownIsCurrent, validSizes, fitsSection, fitsTimestamp, valid}
+use Rattle.client.specs.declared.Head.{Head}
+use Rattle.client.specs.Record.{clientOf, view, validSizesUpTo, validSizes, fitsSection, noMore, fitsTimestamp, validUpTo, valid}
 use Rattle.client.specs.Steps.{request, validPlaces}
-use Rattle.client.proofs.Places.{showing}
 
--- in the critical section
+-- the tests of a section, by the count of the filled places
+below : (a b : ℕ) → ltb a b ≡ not (leb b a)
+below a b =
+    ⊎-elim (λ t. le-ltb a b (leb-true b a t) ∙ sym (ap not t)) (λ f. lt-ltb a b (leb-false b a f) ∙ sym (ap not f)) (decided (leb b a))
+
 module _ (m : ℕ) (r : Request) (l : List Owner) (found : ℕ) (f : found ≡ count (map filled l)) where
-  pub count-fails : (found ≡ m → ⊥) → eqb found m ≡ fitsSection Critical m r l
-  count-fails n = rw (← f, ne-eqb found m n)
+  pub section-remainder : eqb found 0 ≡ fitsSection (enough m) Remainder r l && noMore Remainder m l
+  section-remainder = rw (← f) (sym (and-true (eqb found 0)))
 
-  pub own-decide : (own : ℕ) → found ≡ m → own ≡ count (map (isRequest r) l) → eqb own m ≡ fitsSection Critical m r l
-  own-decide own e g = rw (← f, ← g, eq-eqb found m e)
+  pub section-trying : ltb found m ≡ fitsSection (enough m) Trying r l && noMore Trying m l
+  unfolding enough
+  section-trying = rw (← f) (below found m ∙ sym (and-true (not (leb m found))))
 
-module _ (c : Client) (r : Request) (x : Bool) (e : r ≡ request c) (p : x ≡ every validOwner (showing (c .n) (c .places)) && every (ownIsCurrent r) (showing (c .n) (c .places))) where
-  abbrev fit : Bool
-  fit = every validOwner (view c .responses) && every (ownIsCurrent (request c)) (view c .responses)
+  module _ (x : Bool) (p : x ≡ fitsSection (enough m) Critical r l) where
+    pub section-critical : x ≡ true → leb found m ≡ fitsSection (enough m) Critical r l && noMore Critical m l
+    section-critical t = and-goes-on t p (ap (λ (k : ℕ). leb k m) f)
 
-  its-fit : x ≡ fit
-  unfolding view
-  its-fit = rw e at p
+    pub section-few : x ≡ false → x ≡ fitsSection (enough m) Critical r l && noMore Critical m l
+    section-few t = and-stops (noMore Critical m l) t p
 
-  pub places-fail : not x ≡ true → false ≡ validPlaces c
+-- those of the places
+module _ (h : Head) (row : List ℕ) (r : Request) (e : r ≡ request h) (k : ℕ) (p : k ≡ count (map (misfit r) (responsesIn row (h .n)))) where
+  fit : eqb k 0 ≡ every validOwner (responsesIn row (h .n)) && every (ownIsCurrent (request h)) (responsesIn row (h .n))
+  fit = rw (p, e) (no-misfit (request h) (responsesIn row (h .n)))
+
+  pub places-fail : (k ≡ 0 → ⊥) → false ≡ validPlaces h row
   unfolding validPlaces
-  places-fail t = rw (fails x fit its-fit t)
+  places-fail n = rw (← fit, ne-eqb k 0 n)
 
-  module _ (y : Bool) (t : not x ≡ false) (q : y ≡ fitsSection (c .section) (c .m) r (showing (c .n) (c .places))) where
-    abbrev fits : Bool
-    fits = fitsSection (c .section) (c .m) (request c) (view c .responses)
+  pub section-decides : (b : Bool) → k ≡ 0 → b ≡ fitsSection (enough (h .m)) (h .section) r (responsesIn row (h .n)) && noMore (h .section) (h .m) (responsesIn row (h .n)) → b ≡ validPlaces h row
+  unfolding validPlaces
+  section-decides b z q = rw (← fit, eq-eqb k 0 z) (rw e at q)
 
-    its-section : y ≡ fits
-    unfolding view
-    its-section = rw e at q
-
-    pub section-fails : not y ≡ true → false ≡ validPlaces c
-    unfolding validPlaces
-    section-fails u = rw (holds x fit its-fit t, fails y fits its-section u)
-
-    pub rest-decides : (z : Bool) → not y ≡ false → z ≡ every (same noRequest) (drop (c .n) (c .places)) → z ≡ validPlaces c
-    unfolding validPlaces
-    rest-decides z u w = rw (holds x fit its-fit t, holds y fits its-section u) w
-
-further : (x a b d e : Bool) → x && a && b && d && e ≡ x && (a && b && d && e)
-further true a b d e = refl
+-- and all of them, in their order
+further : (x a b d e : Bool) → x && a && b && d && e ≡ x && ((a && b) && (d && e))
+further true true true d e = refl
+further true true false d e = refl
+further true false b d e = refl
 further false a b d e = refl
 
-pub valid-split : (c : Client) → valid c ≡ validSizes (c .n) (c .m) && validClient (c .id) && fitsTimestamp (c .section) (c .timestamp) && validPlaces c
-unfolding valid validPlaces
-valid-split c =
-    further (validSizes (c .n) (c .m) && validClient (c .id) && fitsTimestamp (c .section) (c .timestamp)) (every validOwner (view c .responses)) (every (ownIsCurrent (request c)) (view c .responses))
-    (fitsSection (c .section) (c .m) (request c) (view c .responses)) (every (same noRequest) (drop (c .n) (c .places)))
+pub valid-split : (limit : ℕ) (c : Client)
+    → validUpTo limit c ≡ validSizesUpTo limit (c .head .n) (c .head .m) && validClient (c .head .id) && fitsTimestamp (c .head .section) (c .head .timestamp) && goodRow (c .row) (c .head .n) && validPlaces (c .head) (c .row)
+unfolding validUpTo validPlaces view
+valid-split limit c =
+    further (validSizesUpTo limit (c .head .n) (c .head .m) && validClient (c .head .id) && fitsTimestamp (c .head .section) (c .head .timestamp) && goodRow (c .row) (c .head .n))
+    (every validOwner (responsesIn (c .row) (c .head .n))) (every (ownIsCurrent (request (c .head))) (responsesIn (c .row) (c .head .n)))
+    (fitsSection (enough (c .head .m)) (c .head .section) (request (c .head)) (responsesIn (c .row) (c .head .n))) (noMore (c .head .section) (c .head .m) (responsesIn (c .row) (c .head .n)))
 
-module _ (c : Client) (x : Bool) (p : x ≡ validSizes (c .n) (c .m)) where
-  pub sizes-fail : not x ≡ true → false ≡ valid c
-  sizes-fail t = rw (valid-split c, fails x (validSizes (c .n) (c .m)) p t)
+module _ (h : Head) (row : List ℕ) (x : Bool) (p : x ≡ validSizes (h .n) (h .m)) where
+  pub sizes-fail : not x ≡ true → false ≡ valid (clientOf h row)
+  sizes-fail t = rw (valid-split, fails x (validSizes (h .n) (h .m)) p t)
 
-  module _ (y : Bool) (t : not x ≡ false) (q : y ≡ validClient (c .id)) where
-    pub id-fails : not y ≡ true → false ≡ valid c
-    id-fails u = rw (valid-split c, holds x (validSizes (c .n) (c .m)) p t, fails y (validClient (c .id)) q u)
+  module _ (y : Bool) (t : not x ≡ false) (q : y ≡ validClient (h .id)) where
+    pub id-fails : not y ≡ true → false ≡ valid (clientOf h row)
+    id-fails u = rw (valid-split, holds x (validSizes (h .n) (h .m)) p t, fails y (validClient (h .id)) q u)
 
-    module _ (z : Bool) (u : not y ≡ false) (w : z ≡ fitsTimestamp (c .section) (c .timestamp)) where
-      pub timestamp-fails : not z ≡ true → false ≡ valid c
-      timestamp-fails v = rw (valid-split c, holds x (validSizes (c .n) (c .m)) p t, holds y (validClient (c .id)) q u, fails z (fitsTimestamp (c .section) (c .timestamp)) w v)
+    module _ (z : Bool) (u : not y ≡ false) (w : z ≡ fitsTimestamp (h .section) (h .timestamp)) where
+      pub timestamp-fails : not z ≡ true → false ≡ valid (clientOf h row)
+      timestamp-fails v = rw (valid-split, holds x (validSizes (h .n) (h .m)) p t, holds y (validClient (h .id)) q u, fails z (fitsTimestamp (h .section) (h .timestamp)) w v)
 
-      pub places-decide : (b : Bool) → not z ≡ false → b ≡ validPlaces c → b ≡ valid c
-      places-decide b v d =
-          rw (valid-split c, holds x (validSizes (c .n) (c .m)) p t, holds y (validClient (c .id)) q u, holds z (fitsTimestamp (c .section) (c .timestamp)) w v) d
+      module _ (g : Bool) (v : not z ≡ false) (d : g ≡ goodRow row (h .n)) where
+        pub row-fails : not g ≡ true → false ≡ valid (clientOf h row)
+        row-fails s = rw (valid-split, holds x (validSizes (h .n) (h .m)) p t, holds y (validClient (h .id)) q u, holds z (fitsTimestamp (h .section) (h .timestamp)) w v, fails g (goodRow row (h .n)) d s)
 
-pub sizes-range : (n m : ℕ) → validSizes n m ≡ true → (1 ≤ n) × (n ≤ maxServers) × (1 ≤ m) × (m ≤ n)
-sizes-range n m h =
-    let (a, b) = both (within n maxServers) (within m n) h in
-    let (a₁, a₂) = within-range n maxServers a in
+        pub places-decide : (b : Bool) → not g ≡ false → b ≡ validPlaces h row → b ≡ valid (clientOf h row)
+        places-decide b s f =
+            rw (valid-split, holds x (validSizes (h .n) (h .m)) p t, holds y (validClient (h .id)) q u, holds z (fitsTimestamp (h .section) (h .timestamp)) w v, holds g (goodRow row (h .n)) d s) f
+
+pub sizes-up-to : (limit n m : ℕ) → validSizesUpTo limit n m ≡ true → (1 ≤ n) × (n ≤ limit) × (1 ≤ m) × (m ≤ n)
+sizes-up-to limit n m h =
+    let (a, b) = both (within n limit) (within m n) h in
+    let (a₁, a₂) = within-range n limit a in
     let (b₁, b₂) = within-range m n b in
     (a₁, a₂, b₁, b₂)
 
+pub sizes-range : (n m : ℕ) → validSizes n m ≡ true → (1 ≤ n) × (n ≤ maxServers) × (1 ≤ m) × (m ≤ n)
+sizes-range n m h = sizes-up-to maxServers n m h
+
 -- what is known of a valid record
-pub record Known (c : Client) : Type 0 where
-  pub some : 1 ≤ c .n
-  pub few : c .n ≤ 31
-  pub threshold : 1 ≤ c .m
-  pub reached : c .m ≤ c .n
-  pub client : validClient (c .id) ≡ true
-  pub timestamp : fitsTimestamp (c .section) (c .timestamp) ≡ true
+pub record KnownUpTo (limit : ℕ) (c : Client) : Type 0 where
+  pub some : 1 ≤ c .head .n
+  pub few : c .head .n ≤ limit
+  pub threshold : 1 ≤ c .head .m
+  pub reached : c .head .m ≤ c .head .n
+  pub client : validClient (c .head .id) ≡ true
+  pub timestamp : fitsTimestamp (c .head .section) (c .head .timestamp) ≡ true
+  pub row : goodRow (c .row) (c .head .n) ≡ true
   pub owners : every validOwner (view c .responses) ≡ true
-  pub own : every (ownIsCurrent (request c)) (view c .responses) ≡ true
-  pub section : fitsSection (c .section) (c .m) (request c) (view c .responses) ≡ true
-  pub rest : every (same noRequest) (drop (c .n) (c .places)) ≡ true
+  pub own : every (ownIsCurrent (request (c .head))) (view c .responses) ≡ true
+  pub section : fitsSection (enough (c .head .m)) (c .head .section) (request (c .head)) (view c .responses) ≡ true
+  pub more : noMore (c .head .section) (c .head .m) (view c .responses) ≡ true
+
+abbrev pub Known : Client → Type 0
+Known = KnownUpTo maxServers
+
+module _ (limit : ℕ) (c : Client) where
+  pub known-up-to : validUpTo limit c ≡ true → KnownUpTo limit c
+  unfolding validPlaces view
+  known-up-to h =
+      let l = responsesIn (c .row) (c .head .n) in
+      let (h₁, h₂) = both (validSizesUpTo limit (c .head .n) (c .head .m) && validClient (c .head .id) && fitsTimestamp (c .head .section) (c .head .timestamp) && goodRow (c .row) (c .head .n)) (validPlaces (c .head) (c .row)) (rw valid-split at h) in
+      let (h₃, g) = both (validSizesUpTo limit (c .head .n) (c .head .m) && validClient (c .head .id) && fitsTimestamp (c .head .section) (c .head .timestamp)) (goodRow (c .row) (c .head .n)) h₁ in
+      let (h₄, t) = both (validSizesUpTo limit (c .head .n) (c .head .m) && validClient (c .head .id)) (fitsTimestamp (c .head .section) (c .head .timestamp)) h₃ in
+      let (z, k) = both (validSizesUpTo limit (c .head .n) (c .head .m)) (validClient (c .head .id)) h₄ in
+      let (n₁, n₂, m₁, m₂) = sizes-up-to limit (c .head .n) (c .head .m) z in
+      let (h₅, h₆) = both (every validOwner l && every (ownIsCurrent (request (c .head))) l) (fitsSection (enough (c .head .m)) (c .head .section) (request (c .head)) l && noMore (c .head .section) (c .head .m) l) h₂ in
+      let (v, o) = both (every validOwner l) (every (ownIsCurrent (request (c .head))) l) h₅ in
+      let (s, b) = both (fitsSection (enough (c .head .m)) (c .head .section) (request (c .head)) l) (noMore (c .head .section) (c .head .m) l) h₆ in
+      record {
+        some = n₁;
+        few = n₂;
+        threshold = m₁;
+        reached = m₂;
+        client = k;
+        timestamp = t;
+        row = g;
+        owners = v;
+        own = o;
+        section = s;
+        more = b;
+      }
+
+  pub valid-up-to : KnownUpTo limit c → validUpTo limit c ≡ true
+  unfolding validPlaces view
+  valid-up-to K =
+      rw (valid-split limit c, le-leb 1 (c .head .n) (K .some), le-leb (c .head .n) limit (K .few), le-leb 1 (c .head .m) (K .threshold), le-leb (c .head .m) (c .head .n) (K .reached), K .client, K .timestamp, K .row, K .owners, K .own, K .section) (K .more)
 
 pub valid-known : (c : Client) → valid c ≡ true → Known c
-unfolding validPlaces
-valid-known c h =
-    let (h₁, h₂) = both (validSizes (c .n) (c .m) && validClient (c .id) && fitsTimestamp (c .section) (c .timestamp)) (validPlaces c) (rw valid-split at h) in
-    let (h₃, t) = both (validSizes (c .n) (c .m) && validClient (c .id)) (fitsTimestamp (c .section) (c .timestamp)) h₁ in
-    let (z, k) = both (validSizes (c .n) (c .m)) (validClient (c .id)) h₃ in
-    let (n₁, n₂, m₁, m₂) = sizes-range (c .n) (c .m) z in
-    let (h₄, e) = both (every validOwner (view c .responses) && every (ownIsCurrent (request c)) (view c .responses) && fitsSection (c .section) (c .m) (request c) (view c .responses)) (every (same noRequest) (drop (c .n) (c .places))) h₂ in
-    let (h₅, s) = both (every validOwner (view c .responses) && every (ownIsCurrent (request c)) (view c .responses)) (fitsSection (c .section) (c .m) (request c) (view c .responses)) h₄ in
-    let (v, o) = both (every validOwner (view c .responses)) (every (ownIsCurrent (request c)) (view c .responses)) h₅ in
-    record {
-      some = n₁;
-      few = n₂;
-      threshold = m₁;
-      reached = m₂;
-      client = k;
-      timestamp = t;
-      owners = v;
-      own = o;
-      section = s;
-      rest = e;
-    }
+valid-known c h = known-up-to maxServers c h
+
+-- its row is in good order, and has a place for each server
+module _ (limit : ℕ) (c : Client) (K : KnownUpTo limit c) where
+  pub known-padded : Padded (c .row) (c .head .n)
+  known-padded = good-padded (c .row) (c .head .n) (K .row)
+
+  pub known-words : 2 * c .head .n ≤ length (c .row)
+  known-words = let g = known-padded in omega (arith, g .within, g .places .even)
+
+pub valid-padded : (c : Client) → valid c ≡ true → Padded (c .row) (c .head .n)
+valid-padded c v = known-padded maxServers c (valid-known c v)
+
+pub padded-words : (row : List ℕ) (n : ℕ) → Padded row n → 2 * n ≤ length row
+padded-words row n g = omega (arith, g .within, g .places .even)
 
 pub trying-range : (t : Timestamp) → fitsTimestamp Trying t ≡ true → (1 ≤ t .0) × (t .0 < maxTimestamp)
 trying-range t h =

@@ -1,4 +1,3 @@
-pub mod Figure1
 pub mod Record
 pub mod Calls
 pub mod Steps

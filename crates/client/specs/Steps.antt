@@ -1,12 +1,11 @@
 -- Names for what the inner steps' contracts say.
-use Prim.Native.Nat.{ℕ, _-_}
+use Prim.Native.Nat.{ℕ}
 use mathlib.Core.Path.{_≡_}
-use mathlib.Core.Bool.{Bool, _&&_, not}
+use mathlib.Core.Bool.{Bool, true, false, _&&_}
 use mathlib.Core.List.{List}
-use lib.ListN.{length, getD, set, drop, replicate}
-use Rattle.ids.specs.Choice.{if_then_else_}
+use lib.ListN.{length, replicate}
 use Rattle.ids.specs.Limits.{validOwner}
-use Rattle.ids.specs.Requests.{same, isRequest, noRequest}
+use Rattle.ids.specs.Lists.{every}
 use Rattle.ids.specs.declared.ClientId.{ClientId}
 use Rattle.ids.specs.declared.ServerId.{ServerId}
 use Rattle.ids.specs.declared.Timestamp.{Timestamp}
@@ -15,27 +14,34 @@ use Rattle.ids.specs.declared.Owner.{Owner}
 use Rattle.ids.specs.declared.Owner.the-variants.{Nobody}
 use Rattle.ids.specs.declared.Refusal.the-variants.{ParameterOutOfRange}
 use Rattle.wire.specs.Step.{Step, Outcome, withRoom, sentInto}
-use Rattle.wire.specs.declared.Answer.the-variants.{Refused}
+use Rattle.wire.specs.declared.Answer.{Answer}
+use Rattle.wire.specs.declared.Answer.the-variants.{Sent, Refused}
 use Rattle.wire.specs.declared.Message.{Message}
 use Rattle.wire.specs.declared.Message.the-variants.{Request as REQUEST, Release as RELEASE}
-use Rattle.client.specs.declared.Client.{Client}
+use Rattle.responses.specs.declared.Section.{Section}
+use Rattle.responses.specs.declared.Section.the-variants.{Trying}
+use Rattle.responses.specs.Figure1.{State, enough, round}
+use Rattle.responses.specs.Row.{responsesIn, ownIsCurrent}
+use Rattle.client.specs.declared.Head.{Head}
 use Rattle.client.specs.declared.Stepped.{Stepped}
-use Rattle.client.specs.declared.Section.{Section}
-use Rattle.client.specs.declared.Section.the-variants.{Trying}
-use Rattle.client.specs.Figure1.{State, current, round}
-use Rattle.ids.specs.Lists.{every}
-use Rattle.client.specs.Record.{shown, place, view, ownIsCurrent, fitsSection}
-use Rattle.client.specs.Calls.{blank, result}
+use Rattle.client.specs.declared.Turned.{Turned}
+use Rattle.client.specs.Record.{fitsSection, noMore}
+use Rattle.client.specs.Calls.{blank, rowAfter, turned}
 
 -- the client with its timestamp
-abbrev pub request : Client → Request
-request c = record { client = c .id; timestamp = c .timestamp }
+abbrev pub request : Head → Request
+request h = record { client = h .id; timestamp = h .timestamp }
+
+-- the head in another section, and with another timestamp
+abbrev pub headWith : Head → Section → Timestamp → Head
+headWith h s t = record { n = h .n; m = h .m; id = h .id; section = s; timestamp = t }
 
 -- the tests of a valid record's places
-unfoldable pub validPlaces : Client → Bool
-validPlaces c =
-    every validOwner (view c .responses) && every (ownIsCurrent (request c)) (view c .responses)
-    && fitsSection (c .section) (c .m) (request c) (view c .responses) && every (same noRequest) (drop (c .n) (c .places))
+unfoldable pub validPlaces : Head → List ℕ → Bool
+validPlaces h row =
+    let l : List Owner = responsesIn row (h .n) in
+    (every validOwner l && every (ownIsCurrent (request h)) l)
+    && (fitsSection (enough (h .m)) (h .section) (request h) l && noMore (h .section) (h .m) l)
 
 -- the state of n servers without a response
 abbrev pub without : ℕ → Section → Timestamp → State
@@ -51,15 +57,15 @@ requests k t j = REQUEST k j t
 abbrev pub releases : ClientId → Timestamp → ServerId → Message
 releases k t j = RELEASE k j t
 
--- lines 8 and 9 on the places of a record
-unfoldable pub heardPlaces : Request → List Request → ServerId → Owner → List Request
-heardPlaces r l j o =
-    if not (isRequest r (shown (getD l (j .0 - 1) noRequest))) && current r o then set l (j .0 - 1) (place o) else l
-
 -- lines 14 to 18: the replies are sent, and the responses forgotten
 abbrev pub yields : ℕ → Request → List Owner → Step State
 yields n r l = record { state = without n Trying (r .timestamp); sent = round r 1 l }
 
--- what a call hands back of record c and buffer o, by its outcome before the room is known: the answer r, and the buffer l
-abbrev pub Answers : Client → Outcome State → List ℕ → Stepped → List ℕ → Type 0
-Answers c x o r l = (r ≡ result c (withRoom (length o) x)) × (l ≡ sentInto o (withRoom (length o) x))
+abbrev pub isRefused : Answer → Bool
+isRefused (Sent n size) = false
+isRefused (Refused e) = true
+
+-- what a call on head h, the row and buffer o hands back, by its outcome x before the room is known: the answer r, the row and the buffer
+abbrev pub Answers : Head → List ℕ → Outcome State → List ℕ → Turned → List ℕ → List ℕ → Type 0
+Answers h row x o r after l =
+    (r ≡ turned h (withRoom (length o) x)) × (after ≡ rowAfter row (withRoom (length o) x)) × (l ≡ sentInto o (withRoom (length o) x))

@@ -1,48 +1,71 @@
--- The row of a list: it holds the list, if the list fits it.
-use Prim.Native.Nat.{ℕ, zero, suc, _*_, _-_, _≤_}
+-- The row of so many words that holds a list of requests: it is a queue in good order, and every queue in good order is such a row.
+use Prim.Native.Nat.{ℕ, zero, suc, _+_, _*_, _-_, _≤_}
 use native.Mathlib.Omega.{arith}
-use mathlib.Core.Path.{_≡_, refl, ap, _∙_}
+use mathlib.Core.Path.{_≡_, refl, sym, ap, _∙_}
 use mathlib.Core.Bool.{true}
 use mathlib.Core.List.{List, [], _∷_, _++_}
-use lib.ListN.{length, replicate, length-append, length-replicate}
+use lib.ListN.{length, replicate, length-append, length-replicate, replicate-append-replicate}
+use lib.Seq.{take-at}
 use Rattle.ids.specs.Lists.{every}
 use Rattle.ids.specs.Requests.{noRequest}
 use Rattle.ids.specs.declared.Request.{Request}
 use Rattle.ids.proofs.ListLaws.{every-append, every-same}
-use Rattle.rows.specs.Rows.{requestWords, requestsIn, rowOf, fitsPlace, Places}
+use Rattle.rows.specs.Rows.{requestWords, requestsIn, rowOf, queueOf, fitsPlace, Padded}
 use Rattle.rows.specs.Queues.{Holds}
-use Rattle.rows.proofs.QueueLaws.{holding}
+use Rattle.rows.proofs.WordLaws.{words-empty}
+use Rattle.rows.proofs.QueueLaws.{holding, holds-row, holds-still}
 
-next-two : (n : ℕ) → 2 * suc n ≡ suc (suc (2 * n))
-next-two n = omega arith
-
-requests-empty : (n : ℕ) → requestsIn (replicate (2 * n) 0) ≡ replicate n noRequest
-unfolding requestsIn
-requests-empty zero = refl
-requests-empty (suc n) = rw (next-two n) (ap (λ (l : List Request). noRequest ∷ l) (requests-empty n))
-
-requests-words : (l : List Request) (n : ℕ) → requestsIn (requestWords l ++ replicate (2 * n) 0) ≡ l ++ replicate n noRequest
-unfolding requestsIn requestWords
-requests-words [] n = requests-empty n
-requests-words (q ∷ l) n = ap (λ (t : List Request). q ∷ t) (requests-words l n)
+pub row-kept : (row : List ℕ) (len : ℕ) → Padded row len → rowOf (length row) (queueOf row len) ≡ row
+row-kept row len good = sym (holds-row row row len (queueOf row len) (holds-still row len good))
 
 pub length-words : (l : List Request) → length (requestWords l) ≡ 2 * length l
 unfolding requestWords
 length-words [] = refl
-length-words (q ∷ l) = omega (arith, length-words l)
+length-words (q ∷ l) = let e = length-words l in omega arith
 
 pub length-row-of : (size : ℕ) (l : List Request) → 2 * length l ≤ size → length (rowOf size l) ≡ size
 unfolding rowOf
-length-row-of size l h = simp (length-append, length-replicate) (omega (arith, length-words l))
+length-row-of size l h = rw (length-append, length-words, length-replicate) (omega arith)
+
+next-place : (n : ℕ) → 2 * suc n ≡ suc (suc (2 * n))
+next-place n = omega arith
+
+requests-zeros : (n : ℕ) → requestsIn (replicate (2 * n) 0) ≡ replicate n noRequest
+unfolding requestsIn
+requests-zeros zero = refl
+requests-zeros (suc n) = rw (next-place n) (ap (λ (l : List Request). noRequest ∷ l) (requests-zeros n))
+
+requests-words : (l : List Request) (ws : List ℕ) → requestsIn (requestWords l ++ ws) ≡ l ++ requestsIn ws
+unfolding requestsIn requestWords
+requests-words [] ws = refl
+requests-words (q ∷ l) ws = ap (λ (x : List Request). q ∷ x) (requests-words l ws)
+
+-- a row of n places
+module _ (n : ℕ) (l : List Request) (room : length l ≤ n) where
+  pub row-of-requests : requestsIn (rowOf (2 * n) l) ≡ l ++ replicate (n - length l) noRequest
+  unfolding rowOf
+  row-of-requests =
+      let e : 2 * n - 2 * length l ≡ 2 * (n - length l) = omega arith in
+      rw (requests-words, e, requests-zeros)
+
+  pub row-of-queue : queueOf (rowOf (2 * n) l) (length l) ≡ l
+  row-of-queue = rw row-of-requests (take-at l (replicate (n - length l) noRequest) (length l) refl)
+
+  pub row-of-padded : every fitsPlace l ≡ true → Padded (rowOf (2 * n) l) (length l)
+  row-of-padded small =
+      let k = length-row-of (2 * n) l (omega arith) in
+      let m : length (requestsIn (rowOf (2 * n) l)) ≡ n = rw (row-of-requests, length-append, length-replicate) (omega arith) in
+      holding (rowOf (2 * n) l) (rowOf (2 * n) l) (length l) (n - length l) l refl
+      (record { even = omega arith; small = rw row-of-requests (every-append fitsPlace l (replicate (n - length l) noRequest) small (every-same fitsPlace (n - length l) noRequest refl)) })
+      row-of-requests refl .good
 
 -- a list in a row of so many words
 pub row-of-holds : (row : List ℕ) (n : ℕ) (l : List Request) → length row ≡ 2 * n → length l ≤ n → every fitsPlace l ≡ true → Holds row (rowOf (length row) l) (length l) l
-unfolding rowOf
 row-of-holds row n l e h f =
-    let k : length row - 2 * length l ≡ 2 * (n - length l) = omega arith in
-    let size : length (requestWords l ++ replicate (2 * (n - length l)) 0) ≡ length row = simp (length-append, length-replicate) (omega (arith, length-words l)) in
-    let q : requestsIn (requestWords l ++ replicate (2 * (n - length l)) 0) ≡ l ++ replicate (n - length l) noRequest = requests-words l (n - length l) in
-    let m : length (l ++ replicate (n - length l) noRequest) ≡ n = simp (length-append, length-replicate) (omega arith) in
-    let s : every fitsPlace (l ++ replicate (n - length l) noRequest) ≡ true = every-append fitsPlace l (replicate (n - length l) noRequest) f (every-same fitsPlace (n - length l) noRequest refl) in
-    let p : Places (requestWords l ++ replicate (2 * (n - length l)) 0) = record { even = size ∙ rw (q, m) e; small = rw q s } in
-    rw k (holding row (requestWords l ++ replicate (2 * (n - length l)) 0) (length l) (n - length l) l size p q refl)
+    rw e (record { size = length-row-of (2 * n) l (omega arith) ∙ sym e; good = row-of-padded n l h f; list = row-of-queue n l h })
+
+pub row-of-none : (size n : ℕ) → 2 * n ≤ size → rowOf size (replicate n noRequest) ≡ replicate size 0
+unfolding rowOf
+row-of-none size n h =
+    let e : 2 * n + (size - 2 * n) ≡ size = omega arith in
+    rw (words-empty, length-replicate, replicate-append-replicate, e)

@@ -7,26 +7,34 @@ use Rattle.client.proofs.receive.Tie as tie
 
 take-response-requires : tie.Need-take-response-requires
 take-response-requires c κs =
-    let s = c .before .before .before .before .before in
-    (s .pre .0, rw (c .before .before .m .given .1) at (s .pre .1))
+    let m = c .before .before .before in
+    let s = m .before .before .before .before in
+    (s .pre .0, rw (m .m .given .1) at (s .pre .1))
+
+take-check-requires : tie.Need-take-check-requires
+take-check-requires c κs = c .before .before .before .before .before .before .before .pre .0
 
 returns : tie.Need-returns
-returns c = rw (c .before .enum-told .given .1) (answers-refused _ _ _ _ _ refl (c .refuse .ensures))
+returns c = rw (c .before .enum-told .given .1) (answers-refused _ _ _ _ _ _ refl (c .refuse .ensures))
 
 returns-2 : tie.Need-returns-2
-returns-2 c = rw (c .before .enum-told2 .given .1) (answers-refused _ _ _ _ _ refl (c .refuse2 .ensures))
+returns-2 c = rw (c .before .enum-told2 .given .1) (answers-refused _ _ _ _ _ _ refl (c .refuse2 .ensures))
 
 returns-3 : tie.Need-returns-3
-returns-3 c = rw (c .before .enum-told3 .given .1) (answers-refused _ _ _ _ _ refl (c .refuse3 .ensures))
+returns-3 c = rw (c .before .enum-told3 .given .1) (answers-refused _ _ _ _ _ _ refl (c .refuse3 .ensures))
 
 returns-4 : tie.Need-returns-4
-returns-4 c = rw (c .before .enum-told4 .given .1) (answers-refused _ _ _ _ _ refl (c .refuse4 .ensures))
+returns-4 c = rw (c .before .enum-told4 .given .1) (answers-refused _ _ _ _ _ _ refl (c .refuse4 .ensures))
 
 returns-5 : tie.Need-returns-5
-returns-5 c = rw (c .before .before .before .before .before .m .given .1) (c .before .before .take-response .ensures)
+returns-5 c =
+    let t = c .before .before .before .before in
+    rw (t .before .before .before .before .m .given .1) (t .take-response .ensures)
 
 returns-6 : tie.Need-returns-6
-returns-6 c = rw (c .before .before .before .before .before .m2 .given .1) (c .before .before .take-check .ensures)
+returns-6 c =
+    let t = c .before .before in
+    rw (t .before .before .before .before .m2 .given .1) (t .take-check .ensures)
 
 pub receive-spec : {M : Type 1} → statement M
 receive-spec =
@@ -43,12 +51,14 @@ receive-spec =
     (λ c. search needs)
     take-response-requires
     (λ c. search needs)
-    (λ c κs. search needs)
+    take-check-requires
     returns
     returns-2
     returns-3
     returns-4
     (λ c. search needs)
+    (λ c. search needs)
     returns-5
+    (λ c. search needs)
     (λ c. search needs)
     returns-6)

@@ -4,31 +4,31 @@ use borrow.Author.Needs.{needs}
 use Rattle.client.proofs.take_check.Statement.{statement}
 use Rattle.client.proofs.take_check.Tie as tie
 
-for-client-requires : tie.Need-for-client-requires
-for-client-requires c κs = search needs
-
-refuse-requires : tie.Need-refuse-requires
-refuse-requires c κs = search needs
+-- whom the message is for is tested
+module _ (c : tie.After-for-client) where
+  abbrev entry : tie.Start
+  entry = c .before .before .before
 
 returns : tie.Need-returns
 returns c =
-    let a = c .before .before .before .before .args in
-    answers-refused _ _ _ _ _ (check-elsewhere (a .c) (a .k) (a .j) _ (c .before .before .for-client .ensures) (a .t) (c .before .if1 .taken)) (c .refuse .ensures)
-
-check-requires : tie.Need-check-requires
-check-requires c κs = search needs
-
-same-length : tie.Need-same-length
-same-length c = search needs
+    let f = c .before .before in
+    let a = entry f .args in
+    answers-refused _ _ _ _ _ _ (check-elsewhere (a .h) _ (a .k) (a .j) _ (f .for-client .ensures) (a .t) (c .before .if1 .taken)) (c .refuse .ensures)
 
 returns-2 : tie.Need-returns-2
 returns-2 c =
     let r = c .before .before in
-    let f = r .before .before in
-    let a = f .before .before .before .args in
-    rw (check-taken (a .c) (a .k) (a .j) _ (f .before .for-client .ensures) (f .if1 .left) (a .t)) (r .check .ensures)
+    let e = r .before .before in
+    let a = entry (e .before) .args in
+    rw (check-taken (a .h) _ (a .k) (a .j) _ (e .before .for-client .ensures) (e .if1 .left) (a .t)) (r .check-row .ensures)
 
 pub take-check-spec : {M : Type 1} → statement M
 take-check-spec =
     tie.close
-    (tie.spec for-client-requires refuse-requires returns check-requires same-length returns-2)
+    (tie.spec
+    (λ c κs. search needs)
+    (λ c κs. search needs)
+    returns
+    (λ c κs. search needs)
+    (λ c. search needs)
+    returns-2)

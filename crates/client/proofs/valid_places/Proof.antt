@@ -1,17 +1,28 @@
--- `client::valid_places` meets its contract: the three tests in the definition's order.
-use Rattle.client.proofs.ValidLaws.{places-fail, section-fails, rest-decides}
+-- `client::valid_places` meets its contract: no misfit, and what goes with the section.
+use Rattle.client.proofs.ValidLaws.{padded-words, places-fail, section-decides}
 use borrow.Author.Needs.{needs}
 use Rattle.client.proofs.valid_places.Statement.{statement}
 use Rattle.client.proofs.valid_places.Tie as tie
 
+-- the misfits are counted
+module _ (c : tie.After-misfit-count) where
+  abbrev counted : tie.Start
+  counted = c .before .before .before .before
+
+misfit-count-requires : tie.Need-misfit-count-requires
+misfit-count-requires c κs = let s = c .before .before .before in (s .pre .places, padded-words _ _ (s .pre))
+
 returns : tie.Need-returns
-returns c = places-fail _ _ _ (c .before .before .before .before .request-of .ensures) (c .before .places-fit .ensures) (c .if1 .taken)
+returns c = let m = c .before in places-fail _ _ _ (m .before .before .request-of .ensures) _ (m .misfit-count .ensures) (c .if1 .taken)
+
+fits-section-requires : tie.Need-fits-section-requires
+fits-section-requires c κs = padded-words _ _ (counted (c .before .before) .pre)
 
 returns-2 : tie.Need-returns-2
-returns-2 c = section-fails _ _ _ (c .before .before .before .before .before .before .request-of .ensures) (c .before .before .before .places-fit .ensures) _ (c .before .before .if1 .left) (c .before .fits-section .ensures) (c .if2 .taken)
-
-returns-3 : tie.Need-returns-3
-returns-3 c = rest-decides _ _ _ (c .before .before .before .before .before .before .before .request-of .ensures) (c .before .before .before .before .places-fit .ensures) _ (c .before .before .before .if1 .left) (c .before .before .fits-section .ensures) _ (c .before .if2 .left) (c .rest-empty .ensures)
+returns-2 c =
+    let e = c .before .before in
+    let m = e .before in
+    section-decides _ _ _ (m .before .before .request-of .ensures) _ (m .misfit-count .ensures) _ (e .if1 .left) (c .fits-section .ensures)
 
 pub valid-places-spec : {M : Type 1} → statement M
 valid-places-spec =
@@ -19,9 +30,8 @@ valid-places-spec =
     (tie.spec
     (λ c κs. search needs)
     (λ c. search needs)
-    (λ c κs. search needs)
+    misfit-count-requires
     returns
-    (λ c κs. search needs)
-    returns-2
-    (λ c κs. search needs)
-    returns-3)
+    (λ c. search needs)
+    fits-section-requires
+    returns-2)

@@ -1,0 +1,16 @@
+-- `client::enough_own` meets its contract by that of `own_count`.
+use Rattle.responses.specs.Figure1.{enough}
+use borrow.Author.Needs.{needs}
+use Rattle.client.proofs.enough_own.Statement.{statement}
+use Rattle.client.proofs.enough_own.Tie as tie
+
+returns : tie.Need-returns
+unfolding enough
+returns c = rw (c .own-count .ensures)
+
+pub enough-own-spec : {M : Type 1} → statement M
+enough-own-spec =
+    tie.close
+    (tie.spec
+    (λ c κs. search needs)
+    returns)

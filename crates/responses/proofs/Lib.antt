@@ -1,0 +1,4 @@
+pub mod CountLaws
+pub mod SendLaws
+pub mod RoundLaws
+pub mod HearLaws

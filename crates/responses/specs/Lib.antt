@@ -1,0 +1,2 @@
+pub mod Figure1
+pub mod Row
