@@ -9,7 +9,7 @@ use Rattle.ids.specs.declared.ClientId.{ClientId}
 use Rattle.ids.specs.declared.ServerId.{ServerId}
 use Rattle.ids.specs.declared.Refusal.the-variants.{NoSuchParty, PartyDown}
 use Rattle.ids.proofs.Choice.{holds, fails}
-use Rattle.client.specs.Figure1.{enough}
+use Rattle.responses.specs.Figure1.{enough}
 use Rattle.system.specs.declared.Event.the-variants.{Try, Exit, Miss, Check}
 use Rattle.system.specs.Places.{clientAt, serverAt}
 use Rattle.places.specs.Blocks.{clientPlace, serverPlace}

@@ -16,7 +16,7 @@ use Rattle.ids.specs.declared.ClientId.{ClientId}
 use Rattle.ids.specs.declared.ServerId.{ServerId}
 use Rattle.words.specs.Records.{serverFrom, serverWords, holdsServer}
 use Rattle.wire.specs.Step.{stepped}
-use Rattle.client.specs.Figure1.{enough}
+use Rattle.responses.specs.Figure1.{enough}
 use Rattle.votes.specs.Figure1.{idle}
 use Rattle.system.specs.declared.Event.the-variants.{Fall, Down, Up, Drop}
 use Rattle.system.specs.declared.MessageNumber.{MessageNumber}

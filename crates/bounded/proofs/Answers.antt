@@ -11,8 +11,7 @@ use Rattle.ids.specs.declared.Owner.the-variants.{Nobody, Of}
 use Rattle.ids.specs.declared.Refusal.the-variants.{NoSuchParty, PartyDown, NoOwner, OwnerLives, WrongSection, TimestampsSpent}
 use Rattle.wire.specs.Step.{refused, stepped}
 use Rattle.wire.specs.declared.Message.{Message}
-use Rattle.client.specs.Figure1.{Quorum}
-use Rattle.client.specs.Calls.{isRemainder, isCritical, lastTry}
+use Rattle.responses.specs.Figure1.{Quorum, isRemainder, isCritical, lastTry}
 use Rattle.system.specs.declared.MessageNumber.{MessageNumber}
 use Rattle.system.specs.declared.Event.the-variants.{Try, Exit, Fall, Down, Up, Take, Drop, Miss, Check}
 use Rattle.system.specs.Numbered.{has}

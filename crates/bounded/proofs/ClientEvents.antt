@@ -16,10 +16,10 @@ use Rattle.ids.proofs.Choice.{decided}
 use Rattle.wire.specs.Step.{Step, Outcome, refused, stepped, withRoom, answerOf, sentInto}
 use Rattle.wire.specs.declared.Answer.{Answer}
 use Rattle.wire.specs.declared.Answer.the-variants as answer
-use Rattle.client.specs.Figure1 as client
-use Rattle.client.specs.Figure1.{enough}
+use Rattle.responses.specs.Figure1 as client
+use Rattle.responses.specs.Figure1.{enough, isRemainder, isCritical, lastTry}
 use Rattle.client.specs.Record.{store, view as shown}
-use Rattle.client.specs.Calls.{clientAfter, result, isRemainder, isCritical, lastTry, beginOutcome, exitOutcome}
+use Rattle.client.specs.Calls.{clientAfter, result, beginOutcome, exitOutcome}
 use Rattle.client.specs.declared.Client.{Client}
 use Rattle.client.specs.declared.Stepped.{Stepped}
 use Rattle.words.specs.Records.{holdsClient, clientFrom, clientWords}

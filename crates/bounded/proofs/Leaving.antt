@@ -7,7 +7,7 @@ use mathlib.Core.List.{List, []}
 use Rattle.ids.specs.declared.Refusal.{Refusal}
 use Rattle.ids.proofs.Choice.{clash}
 use Rattle.wire.specs.Step.{Step, refused, stepped}
-use Rattle.client.specs.Figure1.{enough}
+use Rattle.responses.specs.Figure1.{enough}
 use Rattle.system.specs.declared.Event.{Event}
 use Rattle.system.specs.Places.{System, worst}
 use Rattle.system.specs.Events.{event, withPlaces}

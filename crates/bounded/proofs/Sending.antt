@@ -17,7 +17,7 @@ use Rattle.wire.specs.Step.{Step, Outcome, refused, stepped, withRoom, answerOf
 use Rattle.wire.specs.declared.Answer.{Answer}
 use Rattle.wire.specs.declared.Answer.the-variants as answer
 use Rattle.wire.specs.declared.Message.{Message}
-use Rattle.client.specs.Figure1.{enough}
+use Rattle.responses.specs.Figure1.{enough}
 use Rattle.system.specs.Limits.{lastNumber, systemMessages, systemServers}
 use Rattle.system.specs.declared.Event.{Event}
 use Rattle.system.specs.Transit.{InTransit, numbered}

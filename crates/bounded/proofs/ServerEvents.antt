@@ -24,7 +24,7 @@ use Rattle.server.specs.Record as server
 use Rattle.server.specs.Calls.{serverAfter, result, suspectOutcome, checkOutcome}
 use Rattle.server.specs.declared.Server.{Server}
 use Rattle.server.specs.declared.Stepped.{Stepped}
-use Rattle.client.specs.Figure1.{enough}
+use Rattle.responses.specs.Figure1.{enough}
 use Rattle.words.specs.Records.{serverFrom, serverWords}
 use Rattle.system.specs.declared.Event.{Event}
 use Rattle.system.specs.declared.Event.the-variants.{Check, Miss}

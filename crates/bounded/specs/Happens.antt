@@ -7,7 +7,7 @@ use lib.ListN.{length}
 use Rattle.ids.specs.Choice.{if_then_else_}
 use Rattle.ids.specs.declared.Refusal.the-variants.{InvalidRecord}
 use Rattle.wire.specs.Step.{refused, stepped}
-use Rattle.client.specs.Figure1.{enough}
+use Rattle.responses.specs.Figure1.{enough}
 use Rattle.system.specs.Limits.{systemMessages, lastNumber}
 use Rattle.system.specs.declared.Event.{Event}
 use Rattle.system.specs.Places.{System, holders}

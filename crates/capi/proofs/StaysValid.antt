@@ -17,7 +17,7 @@ use Rattle.votes.specs.Queues.{queueOf}
 use Rattle.server.specs.Record as server
 use Rattle.server.specs.Calls as server-calls
 use Rattle.server.specs.declared.Server.{Server}
-use Rattle.client.specs.Figure1 as client-state
+use Rattle.responses.specs.Figure1 as client-state
 use Rattle.client.specs.Record as client
 use Rattle.client.specs.declared.Client.{Client}
 use Rattle.client.proofs.KeepsValid.{begin-valid, exit-valid, message-valid}

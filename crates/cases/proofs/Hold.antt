@@ -2,8 +2,9 @@
 use mathlib.Core.Path.{refl}
 use Rattle.ids.specs.Order.{before}
 use Rattle.ids.specs.Requests.{same}
-use Rattle.votes.specs.Figure1.{timestampIn, insert, enqueue, without, promote, delete, inform, act, receive}
-use Rattle.client.specs.Figure1.{enough, heard, reply, round, judge, responds}
+use Rattle.rows.specs.Queue.{timestampIn, insert, without}
+use Rattle.votes.specs.Figure1.{enqueue, promote, delete, inform, act, receive}
+use Rattle.responses.specs.Figure1.{enough, heard, reply, round, judge, responds}
 use Rattle.quorum.specs.Check.{inRangeUpTo, inRange, margin, isUnsafe, judged, verdict}
 use Rattle.cases.specs.Starred.{starred, All}
 

@@ -14,8 +14,8 @@ use Rattle.wire.specs.declared.Message.the-variants.{Request as REQUEST, Yield 
 use Rattle.votes.specs.declared.Tag.{Tag}
 use Rattle.votes.specs.declared.Tag.the-variants.{Request as Asks, Yield as Yields, Release as Releases}
 use Rattle.votes.specs.Figure1.{State as ServerState, receive}
-use Rattle.client.specs.declared.Section.the-variants.{Trying}
-use Rattle.client.specs.Figure1.{State as ClientState, enough, responds}
+use Rattle.responses.specs.declared.Section.the-variants.{Trying}
+use Rattle.responses.specs.Figure1.{State as ClientState, enough, responds}
 use Rattle.quorum.specs.declared.Verdict.{Verdict}
 use Rattle.quorum.specs.declared.Verdict.the-variants.{Accepted, Unsafe, Stalls}
 use Rattle.quorum.specs.Check.{verdict}

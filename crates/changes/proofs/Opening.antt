@@ -19,7 +19,7 @@ use Rattle.votes.specs.Queues as votes
 use Rattle.votes.specs.Figure1.{idle}
 use Rattle.client.specs.Calls as client
 use Rattle.client.specs.declared.Stepped.{Stepped as ClientStepped}
-use Rattle.client.specs.Figure1.{fresh, enough}
+use Rattle.responses.specs.Figure1.{fresh, enough}
 use Rattle.server.specs.Calls as server
 use Rattle.server.specs.Record.{validSizes as server-sizes}
 use Rattle.server.specs.declared.Stepped.{Stepped as ServerStepped}

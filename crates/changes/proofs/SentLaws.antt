@@ -25,8 +25,8 @@ use Rattle.wire.specs.declared.Message.the-variants.{Response, Check}
 use Rattle.votes.specs.declared.Tag.{Tag}
 use Rattle.votes.specs.Figure1 as votes
 use Rattle.server.specs.Record as server
-use Rattle.client.specs.Figure1 as client
-use Rattle.client.specs.Calls.{isCritical, lastTry}
+use Rattle.responses.specs.Figure1 as client
+use Rattle.responses.specs.Figure1.{isCritical, lastTry}
 use Rattle.client.proofs.KeepsValid.{Fits}
 use Rattle.places.specs.Blocks.{clientPlace, serverPlace, namedPair, validClientBlock, validServerBlock}
 use Rattle.places.proofs.Facts.{client-facts, client-fits, ServerBlock, server-facts, server-sizes, server-good}

@@ -19,9 +19,9 @@ use Rattle.ids.proofs.Choice.{decided}
 use Rattle.votes.specs.declared.Tag.{Tag}
 use Rattle.votes.specs.Figure1 as votes
 use Rattle.server.specs.declared.Server.{Server}
-use Rattle.client.specs.Figure1 as client
+use Rattle.responses.specs.Figure1 as client
 use Rattle.client.specs.Record.{store}
-use Rattle.client.specs.Calls.{isRemainder, lastTry}
+use Rattle.responses.specs.Figure1.{isRemainder, lastTry}
 use Rattle.client.specs.declared.Client.{Client}
 use Rattle.words.specs.Records.{serverWords, clientWords, serverFrom, holdsServer}
 use Rattle.system.specs.Places.{clientAt, serverAt, worst}

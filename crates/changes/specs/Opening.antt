@@ -10,7 +10,7 @@ use Rattle.ids.specs.declared.ServerId.{ServerId}
 use Rattle.client.specs.Calls as client
 use Rattle.server.specs.Calls as server
 use Rattle.words.specs.Records.{clientWords, serverWords}
-use Rattle.client.specs.Figure1.{enough}
+use Rattle.responses.specs.Figure1.{enough}
 use Rattle.system.specs.Runs.{start}
 use Rattle.layout.specs.Layout.{blank, settingOf, view, valid, serversFrom}
 use Rattle.layout.specs.Parts.{clientBlockOf, serverBlockOf, withClientBlock, withServerBlock}

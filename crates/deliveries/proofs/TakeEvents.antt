@@ -33,8 +33,8 @@ use Rattle.server.specs.Calls as server-calls
 use Rattle.server.specs.declared.Server.{Server}
 use Rattle.server.specs.declared.Stepped.{Stepped as ServerStepped}
 use Rattle.server.proofs.RecordLaws.{server-padded}
-use Rattle.client.specs.Figure1 as client
-use Rattle.client.specs.Figure1.{enough, Quorum}
+use Rattle.responses.specs.Figure1 as client
+use Rattle.responses.specs.Figure1.{enough, Quorum}
 use Rattle.client.specs.Record as client-record
 use Rattle.client.specs.Calls as client-calls
 use Rattle.client.specs.declared.Client.{Client}

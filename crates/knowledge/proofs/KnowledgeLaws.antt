@@ -14,10 +14,10 @@ use Rattle.ids.specs.declared.Request.{Request}
 use Rattle.language.specs.Decimals.{decimal}
 use Rattle.language.specs.Words.{text}
 use Rattle.client.specs.Record as client
-use Rattle.client.specs.Record.{shown}
+use Rattle.responses.specs.Row.{shown}
 use Rattle.client.specs.declared.Client.{Client}
-use Rattle.client.specs.declared.Section.{Section}
-use Rattle.client.specs.declared.Section.the-variants.{Remainder, Trying, Critical}
+use Rattle.responses.specs.declared.Section.{Section}
+use Rattle.responses.specs.declared.Section.the-variants.{Remainder, Trying, Critical}
 use Rattle.server.specs.declared.Server.{Server}
 use Rattle.sends.proofs.ServerSends.{valid-length}
 use Rattle.words.specs.Records.{serverFrom, clientFrom, holdsServer, holdsClient}

@@ -16,9 +16,9 @@ use Rattle.language.specs.Decimals.{decimal}
 use Rattle.sheet.specs.Sheet.{ends}
 use Rattle.language.specs.Words.{text}
 use Rattle.votes.specs.Figure1 as votes
-use Rattle.client.specs.Figure1 as client
-use Rattle.client.specs.declared.Section.{Section}
-use Rattle.client.specs.declared.Section.the-variants.{Remainder, Trying, Critical}
+use Rattle.responses.specs.Figure1 as client
+use Rattle.responses.specs.declared.Section.{Section}
+use Rattle.responses.specs.declared.Section.the-variants.{Remainder, Trying, Critical}
 use Rattle.system.specs.Places.{System, ClientPlace, ServerPlace, clientAt, serverAt}
 use Rattle.system.specs.Numbered.{clientNo, serverNo}
 

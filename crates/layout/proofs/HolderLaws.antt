@@ -7,7 +7,7 @@ use mathlib.Core.List.{List, map}
 use lib.ListN.{take, drop}
 use lib.Seq.{drop-drop}
 use Rattle.ids.specs.Choice.{if_then_else_}
-use Rattle.client.specs.Figure1.{count}
+use Rattle.responses.specs.Figure1.{count}
 use Rattle.regions.specs.Blocks.{blocks}
 use Rattle.system.specs.Places.{ClientPlace, isInside}
 use Rattle.places.specs.Blocks.{clientBlock}

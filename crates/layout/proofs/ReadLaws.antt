@@ -6,7 +6,7 @@ use mathlib.Core.Bool.{true}
 use mathlib.Core.List.{List, map}
 use lib.ListN.{length, getD, take, drop}
 use Rattle.ids.proofs.LimitsLaws.{within-range}
-use Rattle.client.specs.Figure1.{count}
+use Rattle.responses.specs.Figure1.{count}
 use Rattle.wire.specs.declared.Message.{Message}
 use Rattle.system.specs.Limits.{systemClients, systemServers, systemMessages}
 use Rattle.system.specs.Places.{isInside, holders}

@@ -8,7 +8,7 @@ ghost use lib.Seq.{sets};
 ghost use mathlib.Core.List.{map};
 ghost use Rattle.ids.specs.Choice.{if_then_else_};
 ghost use Rattle.ids.specs.Limits.{within};
-ghost use Rattle.client.specs.Figure1.{count};
+ghost use Rattle.responses.specs.Figure1.{count};
 ghost use Rattle.system.specs.Places.{isInside, holders as holdersOf, inEpoch, worst};
 ghost use Rattle.words.specs.Records.{holdsClient, clientFrom, clientWords, holdsServer, serverFrom, serverWords, clientSize};
 ghost use Rattle.places.specs.Blocks.{clientPlace, serverPlace, clientRecord, serverRecord, cleared, emptied, validClientBlock, validServerBlock, clientBlock, serverBlock};

@@ -8,7 +8,7 @@ use Rattle.ids.specs.Choice.{if_then_else_, maybe}
 use Rattle.ids.specs.Limits.{within}
 use Rattle.ids.specs.declared.Refusal.the-variants.{BadLine, ParameterOutOfRange}
 use Rattle.wire.specs.Step.{refused, stepped}
-use Rattle.client.specs.Figure1.{enough}
+use Rattle.responses.specs.Figure1.{enough}
 use Rattle.quorum.specs.Check.{inRangeUpTo}
 use Rattle.system.specs.Limits.{systemClients, systemServers}
 use Rattle.system.specs.declared.Event.{Event}

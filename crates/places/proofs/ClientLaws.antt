@@ -11,9 +11,8 @@ use lib.Seq.{sets, length-sets}
 use Rattle.ids.specs.Lists.{every}
 use Rattle.ids.specs.declared.ClientId.{ClientId}
 use Rattle.client.specs.declared.Client.{Client}
-use Rattle.client.specs.Figure1.{State}
+use Rattle.responses.specs.Figure1.{State, isRemainder}
 use Rattle.client.specs.Record as client
-use Rattle.client.specs.Calls.{isRemainder}
 use Rattle.client.proofs.KeepsValid.{Fits, view-store, store-valid}
 use Rattle.words.specs.Records.{holdsClient, clientFrom, clientWords, clientSize}
 use Rattle.words.proofs.RoundTrip.{client-read-back}

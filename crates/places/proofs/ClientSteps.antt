@@ -21,11 +21,11 @@ use Rattle.wire.specs.Step.{Step, stepped}
 use Rattle.wire.specs.Format as format
 use Rattle.wire.specs.declared.Message.the-variants.{Response, Check}
 use Rattle.client.specs.declared.Client.{Client}
-use Rattle.client.specs.declared.Section.{Section}
-use Rattle.client.specs.declared.Section.the-variants.{Remainder, Trying, Critical}
-use Rattle.client.specs.Figure1.{State, fresh, Quorum, filled, enough, tries, exits, heard, judge, responds, checked}
+use Rattle.responses.specs.declared.Section.{Section}
+use Rattle.responses.specs.declared.Section.the-variants.{Remainder, Trying, Critical}
+use Rattle.responses.specs.Figure1.{State, fresh, Quorum, filled, enough, tries, exits, heard, judge, responds, checked, isRemainder, isCritical, lastTry}
 use Rattle.client.specs.Record as client
-use Rattle.client.specs.Calls.{clientAfter, isRemainder, isCritical, lastTry, beginOutcome, exitOutcome, messageOutcome, forClient}
+use Rattle.client.specs.Calls.{clientAfter, beginOutcome, exitOutcome, messageOutcome, forClient}
 use Rattle.client.proofs.KeepsValid.{InRange, remainder-fits, Fits, tries-fits, exits-fits, responds-fits, checked-state, heard-every}
 use Rattle.words.specs.Records.{clientFrom, clientWords}
 use Rattle.system.specs.Places.{ClientPlace}

@@ -15,9 +15,8 @@ use Rattle.ids.specs.Lists.{every}
 use Rattle.ids.specs.declared.ServerId.{ServerId}
 use Rattle.ids.proofs.Choice.{both, decided}
 use Rattle.wire.proofs.BytesLaws.{stored-on}
-use Rattle.client.specs.Figure1.{tries, exits}
+use Rattle.responses.specs.Figure1.{tries, exits, isRemainder, lastTry}
 use Rattle.client.specs.Record as client
-use Rattle.client.specs.Calls.{isRemainder, lastTry}
 use Rattle.words.specs.Records.{clientFrom, clientSize}
 use Rattle.regions.proofs.SetsLaws.{region-inside, region-behind}
 use Rattle.system.specs.Numbered.{added, clientNo}

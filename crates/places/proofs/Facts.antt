@@ -17,7 +17,7 @@ use Rattle.server.specs.Record as server
 use Rattle.server.specs.declared.Server.{Server}
 use Rattle.server.proofs.KeepsValid.{Good, view-good}
 use Rattle.client.specs.Record as client
-use Rattle.client.specs.Figure1.{State}
+use Rattle.responses.specs.Figure1.{State}
 use Rattle.client.specs.declared.Client.{Client}
 use Rattle.client.proofs.KeepsValid.{Fits, view-fits, stored-again}
 use Rattle.client.proofs.ValidLaws.{valid-known}

@@ -18,7 +18,8 @@ use Rattle.ids.specs.declared.Owner.{Owner}
 use Rattle.ids.specs.declared.Owner.the-variants.{Nobody, Of}
 use Rattle.ids.proofs.Choice.{both, decided}
 use Rattle.ids.proofs.LimitsLaws.{request-range, client-range}
-use Rattle.votes.specs.Figure1.{State, candidates, timestampIn}
+use Rattle.rows.specs.Queue.{timestampIn}
+use Rattle.votes.specs.Figure1.{State, candidates}
 use Rattle.server.proofs.KeepsValid.{Good, Single}
 use Rattle.places.specs.Blocks.{namedPair}
 

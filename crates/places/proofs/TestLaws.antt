@@ -21,9 +21,9 @@ use Rattle.votes.specs.Figure1.{candidates}
 use Rattle.votes.specs.Queues as votes
 use Rattle.server.specs.Record as server
 use Rattle.server.specs.declared.Server.{Server}
-use Rattle.client.specs.Calls.{isRemainder, isCritical}
+use Rattle.responses.specs.Figure1.{isRemainder, isCritical}
 use Rattle.client.specs.Record as client
-use Rattle.client.specs.Record.{shown}
+use Rattle.responses.specs.Row.{shown}
 use Rattle.client.specs.declared.Client.{Client}
 use Rattle.client.proofs.ValidLaws.{valid-known}
 use Rattle.words.specs.Records.{requestsIn, holdsServer, serverFrom, holdsClient, clientFrom, sectionOf, clientSize}

@@ -18,7 +18,7 @@ use Rattle.ids.specs.declared.Refusal.{Refusal}
 use Rattle.ids.specs.declared.Refusal.the-variants.{BadLine, ParameterOutOfRange, NoSuchParty}
 use Rattle.ids.proofs.Choice.{both, decided, Test}
 use Rattle.ids.proofs.LimitsLaws.{within-range}
-use Rattle.client.specs.Figure1.{enough, count, fresh as freshClient}
+use Rattle.responses.specs.Figure1.{enough, count, fresh as freshClient}
 use Rattle.quorum.proofs.CheckLaws.{range}
 use Rattle.system.specs.declared.Event.{Event}
 use Rattle.system.specs.declared.Event.the-variants.{Try, Exit, Fall, Down, Up, Take, Drop, Miss, Check}

@@ -9,7 +9,7 @@ use lib.ListN.{length, getD, take, drop}
 use borrow.Author.Tests.{le-leb, lt-leb, eq-eqb, ne-eqb, leb-true, not-true, not-false}
 use Rattle.ids.specs.Lists.{every}
 use Rattle.ids.proofs.LimitsLaws.{within-range}
-use Rattle.client.specs.Figure1.{count}
+use Rattle.responses.specs.Figure1.{count}
 use Rattle.system.specs.Places.{isInside, holders}
 use Rattle.regions.specs.Blocks.{blocks}
 use Rattle.places.specs.Blocks.{clientPlace, clientBlock}

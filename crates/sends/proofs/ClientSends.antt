@@ -28,12 +28,12 @@ use Rattle.wire.specs.Step.{Step, stepped}
 use Rattle.wire.specs.declared.Message.{Message}
 use Rattle.wire.proofs.Sequence.{sizeOfAll-one}
 use Rattle.wire.specs.declared.Message.the-variants.{Request, Yield, Release, Inquiry, Response, Check}
-use Rattle.client.specs.Figure1.{State, Quorum, filled, count, isTrying, enough, next, toAll, tries, exits, reply, round, heard, judge, responds, checked}
+use Rattle.responses.specs.Figure1.{State, Quorum, filled, count, isTrying, enough, next, toAll, tries, exits, reply, round, heard, judge, responds, checked, isRemainder, isCritical, lastTry}
 use Rattle.client.specs.Record.{fitsTimestamp, valid, view}
-use Rattle.client.specs.Calls.{isRemainder, isCritical, lastTry, forClient, received, messageOutcome, beginOutcome, exitOutcome}
+use Rattle.client.specs.Calls.{forClient, received, messageOutcome, beginOutcome, exitOutcome}
 use Rattle.client.specs.declared.Client.{Client}
-use Rattle.client.specs.declared.Section.{Section}
-use Rattle.client.specs.declared.Section.the-variants.{Remainder, Trying, Critical}
+use Rattle.responses.specs.declared.Section.{Section}
+use Rattle.responses.specs.declared.Section.the-variants.{Remainder, Trying, Critical}
 use Rattle.client.proofs.KeepsValid.{Fits, heard-length}
 use Rattle.client.proofs.RoundLaws.{length-round, size-round}
 use Rattle.client.proofs.SendLaws.{length-toAll, size-toAll, request-plain, release-plain}

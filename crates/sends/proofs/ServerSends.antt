@@ -31,7 +31,8 @@ use Rattle.wire.specs.Format as format
 use Rattle.wire.specs.Step.{Step, Outcome, refused, stepped, stay, tell}
 use Rattle.wire.specs.declared.Message.{Message}
 use Rattle.wire.specs.declared.Message.the-variants.{Request, Yield, Release, Inquiry, Response, Check}
-use Rattle.votes.specs.Figure1.{State, promote, delete, inform, act, compare, receive, suspect, check, insert, without, admit, candidates, timestampIn}
+use Rattle.rows.specs.Queue.{insert, without, timestampIn}
+use Rattle.votes.specs.Figure1.{State, promote, delete, inform, act, compare, receive, suspect, check, admit, candidates}
 use Rattle.votes.specs.Queues.{maxQueue, view}
 use Rattle.votes.specs.declared.Tag.{Tag}
 use Rattle.votes.specs.declared.Tag.the-variants.{Request as REQUEST, Yield as YIELD, Release as RELEASE, Inquiry as INQUIRY}

@@ -18,8 +18,7 @@ use Rattle.ids.specs.declared.Owner.the-variants.{Nobody, Of}
 use Rattle.wire.specs.Step.{Step, refused, stepped}
 use Rattle.wire.specs.declared.Message.{Message}
 use Rattle.wire.specs.declared.Message.the-variants.{Request, Yield, Release, Inquiry, Response, Check as CHECK}
-use Rattle.client.specs.Figure1.{Quorum, enough}
-use Rattle.client.specs.Calls.{isRemainder, isCritical, lastTry}
+use Rattle.responses.specs.Figure1.{Quorum, enough, isRemainder, isCritical, lastTry}
 use Rattle.votes.specs.declared.Tag.the-variants as tag
 use Rattle.system.specs.Limits.{lastNumber, systemMessages}
 use Rattle.system.specs.declared.Event.{Event}

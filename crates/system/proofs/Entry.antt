@@ -19,10 +19,10 @@ use Rattle.ids.proofs.RequestLaws.{same-refl}
 use Rattle.wire.specs.Step.{Step, stay, tell, stepped}
 use Rattle.wire.specs.declared.Message.{Message}
 use Rattle.wire.specs.declared.Message.the-variants.{Request as REQUEST, Response as RESPONSE}
-use Rattle.votes.specs.Figure1.{State as ServerState, idle, timestampIn, act, receive}
-use Rattle.client.specs.declared.Section.the-variants.{Trying, Critical}
-use Rattle.client.specs.Figure1.{State as ClientState, next as newer, Quorum, filled, heard, judge, withResponse, responseOf, count, enough, tries, responds}
-use Rattle.client.specs.Calls.{isRemainder, lastTry}
+use Rattle.rows.specs.Queue.{timestampIn}
+use Rattle.votes.specs.Figure1.{State as ServerState, idle, act, receive}
+use Rattle.responses.specs.declared.Section.the-variants.{Trying, Critical}
+use Rattle.responses.specs.Figure1.{State as ClientState, next as newer, Quorum, filled, heard, judge, withResponse, responseOf, count, enough, tries, responds, isRemainder, lastTry}
 use Rattle.system.specs.declared.Event.the-variants.{Try}
 use Rattle.system.specs.Numbered.{at, put, member, span, clientNo, serverNo}
 use Rattle.system.specs.Transit.{replaced, gone, keeping}

@@ -20,8 +20,7 @@ use Rattle.wire.specs.declared.Message.the-variants.{Request as REQUEST, Releas
 use Rattle.votes.specs.declared.Tag.{Tag}
 use Rattle.votes.specs.declared.Tag.the-variants.{Request as Asks, Yield as Yields, Release as Releases, Inquiry as Inquires}
 use Rattle.votes.specs.Figure1.{receive, suspect, check}
-use Rattle.client.specs.Figure1.{State as ClientState, Quorum, next as newer, tries, exits}
-use Rattle.client.specs.Calls.{isRemainder, isCritical}
+use Rattle.responses.specs.Figure1.{State as ClientState, Quorum, next as newer, tries, exits, isRemainder, isCritical}
 use Rattle.system.specs.declared.Event.{Event}
 use Rattle.system.specs.Numbered.{at, put, has, clientNo, serverNo}
 use Rattle.system.specs.Transit.{pending, replaced, gone}

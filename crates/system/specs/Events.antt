@@ -19,9 +19,8 @@ use Rattle.wire.specs.declared.Message.the-variants.{Request as REQUEST, Yield 
 use Rattle.votes.specs.Figure1 as votes
 use Rattle.votes.specs.declared.Tag.{Tag}
 use Rattle.votes.specs.declared.Tag.the-variants as tag
-use Rattle.client.specs.Figure1 as client
-use Rattle.client.specs.Figure1.{Quorum}
-use Rattle.client.specs.Calls.{isRemainder, isCritical, lastTry}
+use Rattle.responses.specs.Figure1 as client
+use Rattle.responses.specs.Figure1.{Quorum, isRemainder, isCritical, lastTry}
 use Rattle.system.specs.declared.Event.{Event}
 use Rattle.system.specs.declared.Event.the-variants.{Try, Exit, Fall, Down, Up, Take, Drop, Miss, Check}
 use Rattle.system.specs.Numbered.{put, has}

@@ -19,7 +19,7 @@ use Rattle.wire.proofs.BytesLaws.{stored-on}
 use Rattle.ids.specs.Lists.{every}
 use Rattle.server.specs.declared.Server.{Server}
 use Rattle.client.specs.declared.Client.{Client}
-use Rattle.client.specs.declared.Section.{Section}
+use Rattle.responses.specs.declared.Section.{Section}
 use Rattle.words.specs.Messages.{maxShort}
 use Rattle.words.specs.Records.{requestWords, requestsIn, fitsPlace, fitsHead, fitsRecord, holdsServer, holdsClient, serverFrom, serverWords, clientFrom, clientWords, sectionOf, sectionWord}
 use Rattle.words.specs.Parts.{Fitting}

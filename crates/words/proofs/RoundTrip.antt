@@ -26,10 +26,10 @@ use Rattle.ids.specs.Lists.{every}
 use Rattle.server.specs.declared.Server.{Server}
 use Rattle.server.proofs.KeepsValid.{view-good}
 use Rattle.client.specs.Record as client
-use Rattle.client.specs.Record.{shown}
+use Rattle.responses.specs.Row.{shown}
 use Rattle.client.specs.declared.Client.{Client}
-use Rattle.client.specs.declared.Section.{Section}
-use Rattle.client.specs.declared.Section.the-variants.{Remainder, Trying, Critical}
+use Rattle.responses.specs.declared.Section.{Section}
+use Rattle.responses.specs.declared.Section.the-variants.{Remainder, Trying, Critical}
 use Rattle.client.proofs.ValidLaws.{valid-known}
 use Rattle.words.specs.Messages.{maxShort}
 use Rattle.words.specs.Records.{requestWords, requestsIn, fitsPlace, fitsHead, fitsRecord, holdsServer, holdsClient, serverFrom, serverWords, serverIn, clientFrom, clientWords, clientIn, sectionOf, sectionWord}

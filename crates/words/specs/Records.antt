@@ -13,8 +13,8 @@ use Rattle.ids.specs.Lists.{every}
 use Rattle.votes.specs.Queues.{maxQueue}
 use Rattle.server.specs.declared.Server.{Server}
 use Rattle.client.specs.declared.Client.{Client}
-use Rattle.client.specs.declared.Section.{Section}
-use Rattle.client.specs.declared.Section.the-variants.{Remainder, Trying, Critical}
+use Rattle.responses.specs.declared.Section.{Section}
+use Rattle.responses.specs.declared.Section.the-variants.{Remainder, Trying, Critical}
 use Rattle.words.specs.Messages.{maxShort}
 
 -- places, client and timestamp of each

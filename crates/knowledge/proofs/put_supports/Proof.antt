@@ -4,7 +4,8 @@ use mathlib.Core.Path.{_≡_, refl}
 use mathlib.Core.List.{map}
 use lib.ListN.{length, take}
 use Prim.Native.Nat.{_-_, _≤_}
-use Rattle.client.specs.Record.{shown, view}
+use Rattle.responses.specs.Row.{shown}
+use Rattle.client.specs.Record.{view}
 use Rattle.knowledge.specs.Knowledge.{supportText}
 use Rattle.knowledge.proofs.KnowledgeLaws.{support-none, support-more}
 use Rattle.sheet.specs.Sheet.{sheet, puts}
