@@ -218,57 +218,64 @@ pub verdicts : (m n : ℕ) (r q : Request) (l : List Owner) (found mine : ℕ) �
 unfolding judge enough
 verdicts m n r q l found mine f e g = rw (f, g, e)
 
--- `respond_row`
-module _ (h : Head) (row : List ℕ) (v : valid (clientOf h row) ≡ true) (j : ServerId) (o : Owner) (x : Bool) (p : x ≡ isTrying (h .section)) where
-  abbrev responded : Outcome State
-  responded = stepped (responds (enough (h .m)) (h .n) (h .id) j o (view (clientOf h row)))
+-- `respond_row`: what is known of the row in which o was heard, and of the request that stood in its place
+abbrev pub responded : Head → List ℕ → ServerId → Owner → Outcome State
+responded h row j o = stepped (responds (enough (h .m)) (h .n) (h .id) j o (view (clientOf h row)))
 
+pub record Heard (h : Head) (row : List ℕ) (j : ServerId) (o : Owner) (old : Request) (mid : List ℕ) : Type 0 where
+  pub padded : Padded mid (h .n)
+  pub size : length mid ≡ length row
+  pub judges : responded h row j o ≡ stepped (judge (enough (h .m)) (h .n) (request h) (responsesIn mid (h .n)))
+  pub undone : (after : List ℕ) → Put mid after (j .0 - 1) old → after ≡ row
+
+module _ (h : Head) (row : List ℕ) (v : valid (clientOf h row) ≡ true) (j : ServerId) (o : Owner) (x : Bool) (p : x ≡ isTrying (h .section)) where
   good : Padded row (h .n)
   good = valid-padded (clientOf h row) v
 
   -- outside the trying section nothing changes
-  elsewhere : not x ≡ true → responded ≡ stepped (stay (view (clientOf h row)))
+  elsewhere : not x ≡ true → responded h row j o ≡ stepped (stay (view (clientOf h row)))
   unfolding responds view
   elsewhere t = rw (fails x (isTrying (h .section)) p t)
 
-  pub respond-elsewhere : (b : List ℕ) (r : Turned) → not x ≡ true → r ≡ record { head = headWith h (h .section) (h .timestamp); answer = Sent 0 0 } → Answers h row responded b r row b
+  pub respond-elsewhere : (b : List ℕ) (r : Turned) → not x ≡ true → r ≡ record { head = headWith h (h .section) (h .timestamp); answer = Sent 0 0 } → Answers h row (responded h row j o) b r row b
   unfolding view
-  respond-elsewhere b r t e = answers-stay h row responded b r (view (clientOf h row)) (elsewhere t) (row-again row (h .n) good) e
+  respond-elsewhere b r t e = answers-stay h row (responded h row j o) b r (view (clientOf h row)) (elsewhere t) (row-again row (h .n) good) e
 
-  -- else it is heard and judged
-  module _ (low : 1 ≤ j .0) (high : j .0 ≤ h .n) (w : validOwner o ≡ true) (q : Request) (e : q ≡ request h) (mid : List ℕ) (g : mid ≡ heardRow q row j o) where
-    heard : mid ≡ heardRow (request h) row j o
-    heard = rw e at g
-
-    pub heard-padded : Padded mid (h .n)
-    heard-padded = rw heard (heardRow-padded (request h) row j o w (h .n) low high good)
-
-    pub heard-size : length mid ≡ length row
-    heard-size = rw heard (heardRow-size (request h) row j o w)
-
-    pub respond-judges : not x ≡ false → responded ≡ stepped (judge (enough (h .m)) (h .n) (request h) (responsesIn mid (h .n)))
+  -- else the response is heard
+  module _ (low : 1 ≤ j .0) (high : j .0 ≤ h .n) (w : validOwner o ≡ true) (t : not x ≡ false) where
+    its-judgement : responded h row j o ≡ stepped (judge (enough (h .m)) (h .n) (request h) (responsesIn (heardRow (request h) row j o) (h .n)))
     unfolding responds view
-    respond-judges t = rw (holds x (isTrying (h .section)) p t, heard, heardRow-shown (request h) row j o w (h .n) low high)
+    its-judgement = rw (holds x (isTrying (h .section)) p t, heardRow-shown (request h) row j o w (h .n) low high)
 
-    pub heard-undone : (after : List ℕ) (old : Request) → old ≡ placeOf row j → Put mid after (j .0 - 1) old → after ≡ row
-    heard-undone after old s P = heardRow-undone (request h) row j o w after old s (good .places) (rw heard at P)
+    pub respond-heard : (q : Request) (old : Request) (mid : List ℕ) → q ≡ request h → old ≡ placeOf row j → mid ≡ heardRow q row j o → Heard h row j o old mid
+    respond-heard q old mid e s g =
+        let m : mid ≡ heardRow (request h) row j o = rw e at g in
+        record {
+          padded = rw m (heardRow-padded (request h) row j o w (h .n) low high good);
+          size = rw m (heardRow-size (request h) row j o w);
+          judges = rw m its-judgement;
+          undone = λ after P. heardRow-undone (request h) row j o w after old s (good .places) (rw m at P);
+        }
 
 -- what was done to the heard row is done to the row, unless it was refused: then the place is put back
-module _ (h : Head) (row mid : List ℕ) (size : length mid ≡ length row) (r : Turned) (left : List ℕ) where
+module _ (h : Head) (row : List ℕ) (j : ServerId) (o : Owner) (old : Request) (mid : List ℕ) (H : Heard h row j o old mid) (r : Turned) (left : List ℕ) where
   stays-by : (w : Outcome State) → r ≡ turned h w → left ≡ rowAfter mid w → isRefused (r .answer) ≡ false → left ≡ rowAfter row w
   stays-by (refused e) p a n = let z : true ≡ false = ap (λ (x : Turned). isRefused (x .answer)) (sym p) ∙ n in absurd (true≢false z)
-  stays-by (stepped s) p a n = a ∙ ap (λ (k : ℕ). rowOf k (map place (s .state .responses))) size
+  stays-by (stepped s) p a n = a ∙ ap (λ (k : ℕ). rowOf k (map place (s .state .responses))) (H .size)
 
-  undone-by : (w : Outcome State) → r ≡ turned h w → left ≡ rowAfter mid w → isRefused (r .answer) ≡ true → (after : List ℕ) → (left ≡ mid → after ≡ row) → after ≡ rowAfter row w
-  undone-by (refused e) p a n after f = f a
-  undone-by (stepped s) p a n after f = let z : true ≡ false = sym n ∙ ap (λ (x : Turned). isRefused (x .answer)) p in absurd (true≢false z)
+  undone-by : (w : Outcome State) → r ≡ turned h w → left ≡ rowAfter mid w → isRefused (r .answer) ≡ true → (after : List ℕ) → Put left after (j .0 - 1) old → after ≡ rowAfter row w
+  undone-by (refused e) p a n after P = H .undone after (rw a at P)
+  undone-by (stepped s) p a n after P = let z : true ≡ false = sym n ∙ ap (λ (x : Turned). isRefused (x .answer)) p in absurd (true≢false z)
 
-  module _ (x y : Outcome State) (q : x ≡ y) (o l : List ℕ) (A : Answers h mid y o r left l) (b : Bool) (d : b ≡ isRefused (r .answer)) where
-    pub respond-kept : b ≡ false → Answers h row x o r left l
-    respond-kept f = rw q (A .0, stays-by (withRoom (length o) y) (A .0) (A .1) (sym d ∙ f), A .2)
+  abbrev judgement : Outcome State
+  judgement = stepped (judge (enough (h .m)) (h .n) (request h) (responsesIn mid (h .n)))
 
-    pub respond-undone : (after : List ℕ) (i : ℕ) (old : Request) → b ≡ true → Put left after i old → (Put mid after i old → after ≡ row) → Answers h row x o r after l
-    respond-undone after i old t P f = rw q (A .0, undone-by (withRoom (length o) y) (A .0) (A .1) (sym d ∙ t) after (λ e. f (rw e at P)), A .2)
+  module _ (b l : List ℕ) (A : Answers h mid judgement b r left l) (x : Bool) (d : x ≡ isRefused (r .answer)) where
+    pub respond-kept : x ≡ false → Answers h row (responded h row j o) b r left l
+    respond-kept f = rw (H .judges) (A .0, stays-by (withRoom (length b) judgement) (A .0) (A .1) (sym d ∙ f), A .2)
+
+    pub respond-undone : (after : List ℕ) → x ≡ true → Put left after (j .0 - 1) old → Answers h row (responded h row j o) b r after l
+    respond-undone after t P = rw (H .judges) (A .0, undone-by (withRoom (length b) judgement) (A .0) (A .1) (sym d ∙ t) after P, A .2)
 
 -- `check_row`
 module _ (h : Head) (row : List ℕ) (v : valid (clientOf h row) ≡ true) (j : ServerId) (t : Timestamp) (o : List ℕ) (r : Turned) where
