@@ -12,6 +12,7 @@ use ids::ClientId;
 use ids::Owner;
 use ids::Refusal;
 use ids::ServerId;
+use server::Ruling;
 use system::MessageNumber;
 use wire::Answer;
 
@@ -85,7 +86,9 @@ fn begin(w: &mut [u32], k: ClientId) -> Moved
     ensures { λ r. ⌜ Leaves (now (w .entry)) (Try k) (now (w .exit)) × (r ≡ movedOf (happens (now (w .entry)) (Try k))) ⌝ }
 {
     let mut bytes = [0u8; OUT_BYTES];
-    let s = client::begin(layout::client_record(w, k), &mut bytes);
+    let mut row = [0u32; client::ROW_WORDS];
+    layout::client_row(w, k, &mut row);
+    let s = client::begin_row(layout::client_head(w, k), &mut row, &mut bytes);
     let answer = s.answer;
     match answer {
         Answer::Refused(x) => Moved::Refused(x),
@@ -93,7 +96,7 @@ fn begin(w: &mut [u32], k: ClientId) -> Moved
             if !changes::has_room(w, 0, count) {
                 return Moved::Refused(Refusal::SystemFull);
             }
-            layout::put_client(w, k, s.client);
+            layout::put_client(w, k, s.head, &row);
             changes::begin_epoch(w, k);
             changes::send(w, &bytes, count);
             Moved::Sent(count as u32)
@@ -120,7 +123,9 @@ fn leave(w: &mut [u32], k: ClientId) -> Moved
     ensures { λ r. ⌜ Leaves (now (w .entry)) (Exit k) (now (w .exit)) × (r ≡ movedOf (happens (now (w .entry)) (Exit k))) ⌝ }
 {
     let mut bytes = [0u8; OUT_BYTES];
-    let s = client::exit(layout::client_record(w, k), &mut bytes);
+    let mut row = [0u32; client::ROW_WORDS];
+    layout::client_row(w, k, &mut row);
+    let s = client::exit_row(layout::client_head(w, k), &mut row, &mut bytes);
     let answer = s.answer;
     match answer {
         Answer::Refused(x) => Moved::Refused(x),
@@ -129,7 +134,7 @@ fn leave(w: &mut [u32], k: ClientId) -> Moved
                 return Moved::Refused(Refusal::SystemFull);
             }
             changes::end_epoch(w, k);
-            layout::put_client(w, k, s.client);
+            layout::put_client(w, k, s.head, &row);
             changes::send(w, &bytes, count);
             Moved::Sent(count as u32)
         }
@@ -154,17 +159,22 @@ fn suspect(w: &mut [u32], j: ServerId) -> Moved
     requires { ⌜ Missing (now w) j ⌝ }
     ensures { λ r. ⌜ Leaves (now (w .entry)) (Miss j) (now (w .exit)) × (r ≡ movedOf (happens (now (w .entry)) (Miss j))) ⌝ }
 {
-    let mut bytes = [0u8; OUT_BYTES];
-    let s = server::suspect(layout::server_record(w, j), &mut bytes);
-    let answer = s.answer;
-    match answer {
-        Answer::Refused(x) => Moved::Refused(x),
-        Answer::Sent(count, _) => {
+    let mut row = [0u32; server::ROW_WORDS];
+    layout::server_row(w, j, &mut row);
+    let t = server::suspect_row(layout::server_head(w, j), &mut row);
+    let ruling = t.ruling;
+    match ruling {
+        Ruling::Refused(x) => Moved::Refused(x),
+        Ruling::Done => {
+            let first = t.first;
+            let second = t.second;
+            let third = t.third;
+            let count = server::counts(first, second, third);
             if !changes::has_room(w, 0, count) {
                 return Moved::Refused(Refusal::SystemFull);
             }
-            layout::put_server(w, j, s.server);
-            changes::send(w, &bytes, count);
+            layout::put_server(w, j, t.head, &row);
+            changes::send_mails(w, first, second, third);
             Moved::Sent(count as u32)
         }
     }
@@ -198,17 +208,22 @@ fn ask(w: &mut [u32], j: ServerId) -> Moved
     requires { ⌜ HasServer (now w) j × (serverAt (view (now w)) j .up ≡ true) ⌝ }
     ensures { λ r. ⌜ Leaves (now (w .entry)) (Check j) (now (w .exit)) × (r ≡ movedOf (happens (now (w .entry)) (Check j))) ⌝ }
 {
-    let mut bytes = [0u8; OUT_BYTES];
-    let s = server::check(layout::server_record(w, j), &mut bytes);
-    let answer = s.answer;
-    match answer {
-        Answer::Refused(x) => Moved::Refused(x),
-        Answer::Sent(count, _) => {
+    let mut row = [0u32; server::ROW_WORDS];
+    layout::server_row(w, j, &mut row);
+    let t = server::check_row(layout::server_head(w, j), &row);
+    let ruling = t.ruling;
+    match ruling {
+        Ruling::Refused(x) => Moved::Refused(x),
+        Ruling::Done => {
+            let first = t.first;
+            let second = t.second;
+            let third = t.third;
+            let count = server::counts(first, second, third);
             if !changes::has_room(w, 0, count) {
                 return Moved::Refused(Refusal::SystemFull);
             }
-            layout::put_server(w, j, s.server);
-            changes::send(w, &bytes, count);
+            layout::put_server(w, j, t.head, &row);
+            changes::send_mails(w, first, second, third);
             Moved::Sent(count as u32)
         }
     }

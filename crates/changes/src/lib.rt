@@ -159,8 +159,8 @@ pub fn owner_of(w: &[u32], j: ServerId) -> Owner
     requires { ⌜ HasServer (now w) j ⌝ }
     ensures { λ r. ⌜ r ≡ serverAt (view (now (w .entry))) j .state .owner ⌝ }
 {
-    let s = layout::server_record(w, j);
-    let v = s.votes;
+    let h = layout::server_head(w, j);
+    let v = h.votes;
     v.owner
 }
 
@@ -182,7 +182,9 @@ fn new_client(w: &mut [u32], n: u16, m: u16, k: ClientId)
 {
     w[CLIENTS_FROM + CLIENT_BLOCK * (k.0 as usize - 1)] = 1;
     let s = client::new(n, m, k);
-    layout::put_client(w, k, s.client);
+    let c = s.client;
+    let row = c.row;
+    layout::put_client(w, k, c.head, &row);
 }
 
 fn new_clients(w: &mut [u32], n: u16, m: u16, clients: u16)
@@ -202,7 +204,9 @@ fn new_server(w: &mut [u32], n: u16, j: ServerId)
 {
     layout::rise_server(w, j);
     let s = server::new(n, j);
-    layout::put_server(w, j, s.server);
+    let v = s.server;
+    let row = v.row;
+    layout::put_server(w, j, v.head, &row);
 }
 
 fn new_servers(w: &mut [u32], n: u16)

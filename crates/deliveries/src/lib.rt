@@ -13,6 +13,7 @@ use ids::Owner;
 use ids::Refusal;
 use ids::ServerId;
 use ids::Timestamp;
+use server::Ruling;
 use system::MessageNumber;
 use votes::Tag;
 use wire::Answer;
@@ -26,18 +27,23 @@ fn to_server(w: &mut [u32], i: usize, tag: Tag, k: ClientId, j: ServerId, t: Tim
     if !layout::is_up(w, j) {
         return Moved::Refused(Refusal::PartyDown);
     }
-    let mut bytes = [0u8; OUT_BYTES];
-    let s = server::take(layout::server_record(w, j), tag, k, j, t, &mut bytes);
-    let answer = s.answer;
-    match answer {
-        Answer::Refused(x) => Moved::Refused(x),
-        Answer::Sent(count, _) => {
+    let mut row = [0u32; server::ROW_WORDS];
+    layout::server_row(w, j, &mut row);
+    let s = server::take_row(layout::server_head(w, j), &mut row, tag, k, j, t);
+    let ruling = s.ruling;
+    match ruling {
+        Ruling::Refused(x) => Moved::Refused(x),
+        Ruling::Done => {
+            let first = s.first;
+            let second = s.second;
+            let third = s.third;
+            let count = server::counts(first, second, third);
             if !changes::has_room(w, 0, count) {
                 return Moved::Refused(Refusal::SystemFull);
             }
             changes::mark_message(w, i);
-            layout::put_server(w, j, s.server);
-            changes::send(w, &bytes, count);
+            layout::put_server(w, j, s.head, &row);
+            changes::send_mails(w, first, second, third);
             Moved::Sent(count as u32)
         }
     }
@@ -52,7 +58,9 @@ fn to_client(w: &mut [u32], i: usize, k: ClientId, j: ServerId, o: Owner) -> Mov
         return Moved::Refused(Refusal::PartyDown);
     }
     let mut bytes = [0u8; OUT_BYTES];
-    let s = client::respond(layout::client_record(w, k), j, o, &mut bytes);
+    let mut row = [0u32; client::ROW_WORDS];
+    layout::client_row(w, k, &mut row);
+    let s = client::respond_row(layout::client_head(w, k), &mut row, j, o, &mut bytes);
     let answer = s.answer;
     match answer {
         Answer::Refused(x) => Moved::Refused(x),
@@ -61,7 +69,7 @@ fn to_client(w: &mut [u32], i: usize, k: ClientId, j: ServerId, o: Owner) -> Mov
                 return Moved::Refused(Refusal::SystemFull);
             }
             changes::remove_message(w, i);
-            layout::put_client(w, k, s.client);
+            layout::put_client(w, k, s.head, &row);
             changes::send(w, &bytes, count);
             Moved::Sent(count as u32)
         }
@@ -77,7 +85,9 @@ fn checks_client(w: &mut [u32], i: usize, k: ClientId, j: ServerId, t: Timestamp
         return Moved::Refused(Refusal::PartyDown);
     }
     let mut bytes = [0u8; OUT_BYTES];
-    let s = client::check(layout::client_record(w, k), j, t, &mut bytes);
+    let mut row = [0u32; client::ROW_WORDS];
+    layout::client_row(w, k, &mut row);
+    let s = client::check_row(layout::client_head(w, k), &row, j, t, &mut bytes);
     let answer = s.answer;
     match answer {
         Answer::Refused(x) => Moved::Refused(x),
@@ -86,7 +96,7 @@ fn checks_client(w: &mut [u32], i: usize, k: ClientId, j: ServerId, t: Timestamp
                 return Moved::Refused(Refusal::SystemFull);
             }
             changes::remove_message(w, i);
-            layout::put_client(w, k, s.client);
+            layout::put_client(w, k, s.head, &row);
             changes::send(w, &bytes, count);
             Moved::Sent(count as u32)
         }

@@ -20,12 +20,10 @@ ghost use Rattle.layout.specs.Parts.{clientBlockOf, serverBlockOf, withC
 ghost use Rattle.system.specs.Limits.{systemServers, systemClients};
 ghost use Rattle.votes.specs.Queues.{maxQueue};
 ghost use Rattle.system.specs.Numbered.{clientNo, serverNo};
-use client::Client;
 use ids::ClientId;
 use ids::ServerId;
 use places::CLIENT_BLOCK;
 use places::SERVER_BLOCK;
-use server::Server;
 use system::MessageNumber;
 use wire::Message;
 
@@ -71,22 +69,32 @@ fn is_inside(w: &[u32], k: ClientId) -> bool
     places::is_inside(&w[a..e])
 }
 
-pub fn client_record(w: &[u32], k: ClientId) -> Client
+// The head of the client's record, and the row of its responses, copied.
+pub fn client_head(w: &[u32], k: ClientId) -> client::Head
     requires { ⌜ ClientIn (now w) k × (holdsClient (clientRecord (clientBlockOf (now w) k)) ≡ true) ⌝ }
-    ensures { λ c. ⌜ c ≡ clientFrom (clientRecord (clientBlockOf (now (w .entry)) k)) ⌝ }
+    ensures { λ h. ⌜ h ≡ clientHeadFrom (clientRecord (clientBlockOf (now (w .entry)) k)) ⌝ }
 {
     let a = CLIENTS_FROM + CLIENT_BLOCK * (k.0 as usize - 1);
     let e = a + CLIENT_BLOCK;
-    places::client_record(&w[a..e])
+    places::client_head(&w[a..e])
 }
 
-pub fn put_client(w: &mut [u32], k: ClientId, c: Client)
-    requires { ⌜ ClientIn (now w) k ⌝ }
-    ensures { λ _. ⌜ now (w .exit) ≡ withClientBlock (now (w .entry)) k (sets (clientBlockOf (now (w .entry)) k) 1 (clientWords c)) ⌝ }
+pub fn client_row(w: &[u32], k: ClientId, row: &mut [u32])
+    requires { ⌜ ClientIn (now w) k × (length (now row) ≡ client.rowWords) ⌝ }
+    ensures { λ _. ⌜ now (row .exit) ≡ drop recordHead (clientRecord (clientBlockOf (now (w .entry)) k)) ⌝ }
 {
     let a = CLIENTS_FROM + CLIENT_BLOCK * (k.0 as usize - 1);
     let e = a + CLIENT_BLOCK;
-    places::put_client(&mut w[a..e], c);
+    places::client_row(&w[a..e], row);
+}
+
+pub fn put_client(w: &mut [u32], k: ClientId, h: client::Head, row: &[u32])
+    requires { ⌜ ClientIn (now w) k × (length (now row) ≡ client.rowWords) ⌝ }
+    ensures { λ _. ⌜ now (w .exit) ≡ withClientBlock (now (w .entry)) k (sets (clientBlockOf (now (w .entry)) k) 1 (clientWords (client.clientOf h (now (row .entry))))) ⌝ }
+{
+    let a = CLIENTS_FROM + CLIENT_BLOCK * (k.0 as usize - 1);
+    let e = a + CLIENT_BLOCK;
+    places::put_client(&mut w[a..e], h, row);
 }
 
 pub fn fall_client(w: &mut [u32], k: ClientId)
@@ -137,22 +145,32 @@ pub fn is_up(w: &[u32], j: ServerId) -> bool
     places::is_up(&w[a..e])
 }
 
-pub fn server_record(w: &[u32], j: ServerId) -> Server
+// The head of the server's record, and the row of its queue, copied.
+pub fn server_head(w: &[u32], j: ServerId) -> server::Head
     requires { ⌜ ServerIn (now w) j × (holdsServer (serverRecord (serverBlockOf (now w) j)) ≡ true) ⌝ }
-    ensures { λ s. ⌜ s ≡ serverFrom (serverRecord (serverBlockOf (now (w .entry)) j)) ⌝ }
+    ensures { λ h. ⌜ h ≡ serverHeadFrom (serverRecord (serverBlockOf (now (w .entry)) j)) ⌝ }
 {
     let a = SERVERS_FROM + SERVER_BLOCK * (j.0 as usize - 1);
     let e = a + SERVER_BLOCK;
-    places::server_record(&w[a..e])
+    places::server_head(&w[a..e])
 }
 
-pub fn put_server(w: &mut [u32], j: ServerId, s: Server)
-    requires { ⌜ ServerIn (now w) j × (s .votes .queue .len ≤ maxQueue) ⌝ }
-    ensures { λ _. ⌜ now (w .exit) ≡ withServerBlock (now (w .entry)) j (sets (serverBlockOf (now (w .entry)) j) 1 (serverWords s)) ⌝ }
+pub fn server_row(w: &[u32], j: ServerId, row: &mut [u32])
+    requires { ⌜ ServerIn (now w) j × (length (now row) ≡ server.rowWords) ⌝ }
+    ensures { λ _. ⌜ now (row .exit) ≡ drop recordHead (serverRecord (serverBlockOf (now (w .entry)) j)) ⌝ }
 {
     let a = SERVERS_FROM + SERVER_BLOCK * (j.0 as usize - 1);
     let e = a + SERVER_BLOCK;
-    places::put_server(&mut w[a..e], s);
+    places::server_row(&w[a..e], row);
+}
+
+pub fn put_server(w: &mut [u32], j: ServerId, h: server::Head, row: &[u32])
+    requires { ⌜ ServerIn (now w) j × (length (now row) ≡ server.rowWords) × (h .votes .len ≤ maxWord) ⌝ }
+    ensures { λ _. ⌜ now (w .exit) ≡ withServerBlock (now (w .entry)) j (sets (serverBlockOf (now (w .entry)) j) 1 (serverWords (server.serverOf h (now (row .entry))))) ⌝ }
+{
+    let a = SERVERS_FROM + SERVER_BLOCK * (j.0 as usize - 1);
+    let e = a + SERVER_BLOCK;
+    places::put_server(&mut w[a..e], h, row);
 }
 
 pub fn sink_server(w: &mut [u32], j: ServerId)

@@ -14,9 +14,9 @@ use Rattle.ids.specs.declared.ClientId.{ClientId}
 use Rattle.ids.specs.declared.ServerId.{ServerId}
 use Rattle.ids.specs.declared.Owner.{Owner}
 use Rattle.ids.specs.declared.Request.{Request}
-use Rattle.votes.specs.Queues as votes
-use Rattle.votes.specs.Figure1.{candidates, idle}
+use Rattle.votes.specs.Figure1.{candidates}
 use Rattle.server.specs.Record as server
+use Rattle.server.specs.Calls.{emptyServer}
 use Rattle.server.specs.declared.Server.{Server}
 use Rattle.client.specs.Record as client
 use Rattle.client.specs.declared.Client.{Client}
@@ -58,7 +58,7 @@ clientPlace b =
     record { living = eqb (getD b 0 0) 1; state = client.view (clientFrom (clientRecord b)); downs = flagged 1 (flags b) }
 
 unfoldable pub serverPlace : List ℕ → ServerPlace
-serverPlace b = record { up = eqb (getD b 0 0) 1; state = votes.view (serverFrom (serverRecord b) .votes) }
+serverPlace b = record { up = eqb (getD b 0 0) 1; state = server.view (serverFrom (serverRecord b)) }
 
 abbrev pub bitWord : ℕ → Bool
 bitWord x = leb x 1
@@ -77,7 +77,7 @@ namedPair clients r = leb (r .client .0) clients
 unfoldable pub fitsClient : ℕ → ℕ → ℕ → ClientId → Client → Bool
 fitsClient n m clients k c =
     client.valid c
-    && (eqb (c .n) n && (eqb (c .m) m && (eqb (c .id .0) (k .0) && every (named clients) (client.view c .responses))))
+    && (eqb (c .head .n) n && (eqb (c .head .m) m && (eqb (c .head .id .0) (k .0) && every (named clients) (client.view c .responses))))
 
 -- the flags of n servers; no server counts outside an epoch
 unfoldable pub fitsFlags : ℕ → Bool → List ℕ → Bool
@@ -94,7 +94,7 @@ validClientBlock n m clients k b =
 -- the record of server j
 unfoldable pub fitsServer : ℕ → ℕ → ServerId → Server → Bool
 fitsServer n clients j s =
-    server.valid s && (eqb (s .n) n && (eqb (s .id .0) (j .0) && every (namedPair clients) (candidates (votes.view (s .votes)))))
+    server.valid s && (eqb (s .head .n) n && (eqb (s .head .id .0) (j .0) && every (namedPair clients) (candidates (server.view s))))
 
 -- block number j
 unfoldable pub validServerBlock : ℕ → ℕ → ServerId → List ℕ → Bool
@@ -104,4 +104,4 @@ validServerBlock n clients j b =
 
 -- the record of a server that forgot everything
 abbrev pub emptied : Server → Server
-emptied s = record { n = s .n; id = s .id; votes = votes.store idle }
+emptied s = emptyServer (s .head .n) (s .head .id)

@@ -13,22 +13,24 @@ ghost use Rattle.system.specs.Places.{inEpoch, isInside};
 ghost use Rattle.places.specs.Blocks.{clientRecord, flags, flagged, cleared, serverRecord, clientPlace, serverPlace, namedPair, fitsClient, fitsFlags, validClientBlock, fitsServer, validServerBlock, emptied, clientBlock, serverBlock};
 ghost use Rattle.system.specs.Limits.{systemServers};
 ghost use Rattle.votes.specs.Queues.{maxQueue};
-use client::Client;
 use ids::ClientId;
 use ids::Owner;
 use ids::ServerId;
-use server::Server;
-use votes::Queue;
 use votes::Votes;
+use words::CLIENT_WORDS;
+use words::HEAD_WORDS;
+use words::SERVER_WORDS;
 
-// A flag for each server; where the flags begin; the words of a client's block and of a server's.
+// A flag for each server; where a record's row and the flags begin; the words of a client's block and of a server's.
 const FLAGS: usize = system::MAX_SERVERS as usize;
 
-const FLAGS_FROM: usize = 1 + words::CLIENT_WORDS;
+const ROW_FROM: usize = 1 + HEAD_WORDS;
+
+const FLAGS_FROM: usize = 1 + CLIENT_WORDS;
 
 pub const CLIENT_BLOCK: usize = FLAGS_FROM + FLAGS;
 
-pub const SERVER_BLOCK: usize = 1 + words::SERVER_WORDS;
+pub const SERVER_BLOCK: usize = 1 + SERVER_WORDS;
 
 // Whether no word is above `most`.
 fn at_most(words: &[u32], most: u32) -> bool
@@ -63,8 +65,8 @@ fn fits_client(words: &[u32], n: u32, m: u32, clients: u32, k: ClientId) -> bool
     requires { ⌜ holdsClient (now words) ≡ true ⌝ }
     ensures { λ r. ⌜ r ≡ fitsClient n m clients k (clientFrom (now (words .entry))) ⌝ }
 {
-    let c = words::load_client(words);
-    if !client::valid_client(c) {
+    let h = words::client_head(words);
+    if !client::valid_row(h, &words[HEAD_WORDS..CLIENT_WORDS]) {
         return false;
     }
     if words[0] != n {
@@ -154,21 +156,29 @@ pub fn valid_client_block(b: &[u32], n: u32, m: u32, clients: u32, k: ClientId) 
     fits_client_block(b, n, m, clients, k)
 }
 
-// The client's record.
-pub fn client_record(b: &[u32]) -> Client
+// The head of the client's record.
+pub fn client_head(b: &[u32]) -> client::Head
     requires { ⌜ (length (now b) ≡ clientBlock) × (holdsClient (clientRecord (now b)) ≡ true) ⌝ }
-    ensures { λ c. ⌜ c ≡ clientFrom (clientRecord (now (b .entry))) ⌝ }
+    ensures { λ h. ⌜ h ≡ clientHeadFrom (clientRecord (now (b .entry))) ⌝ }
 {
-    words::load_client(&b[1..FLAGS_FROM])
+    words::client_head(&b[1..FLAGS_FROM])
+}
+
+// The row of the client's responses, copied.
+pub fn client_row(b: &[u32], row: &mut [u32])
+    requires { ⌜ (length (now b) ≡ clientBlock) × (length (now row) ≡ client.rowWords) ⌝ }
+    ensures { λ _. ⌜ now (row .exit) ≡ drop recordHead (clientRecord (now (b .entry))) ⌝ }
+{
+    rows::copy(&b[ROW_FROM..FLAGS_FROM], row);
 }
 
 // Writes the client's record.
-pub fn put_client(b: &mut [u32], c: Client)
-    requires { ⌜ length (now b) ≡ clientBlock ⌝ }
-    ensures { λ _. ⌜ now (b .exit) ≡ sets (now (b .entry)) 1 (clientWords c) ⌝ }
+pub fn put_client(b: &mut [u32], h: client::Head, row: &[u32])
+    requires { ⌜ (length (now b) ≡ clientBlock) × (length (now row) ≡ client.rowWords) ⌝ }
+    ensures { λ _. ⌜ now (b .exit) ≡ sets (now (b .entry)) 1 (clientWords (client.clientOf h (now (row .entry)))) ⌝ }
 {
-    client::sized(c);
-    words::store_client(&mut b[1..FLAGS_FROM], c);
+    words::put_client_head(&mut b[1..FLAGS_FROM], h);
+    rows::copy(row, &mut b[ROW_FROM..FLAGS_FROM]);
 }
 
 // No server counts any more.
@@ -197,7 +207,7 @@ pub fn put_flag(b: &mut [u32], j: ServerId, x: u32)
     requires { ⌜ (length (now b) ≡ clientBlock) × (1 ≤ j .0) × (j .0 ≤ systemServers) ⌝ }
     ensures { λ _. ⌜ now (b .exit) ≡ set (now (b .entry)) (clientSize + j .0) x ⌝ }
 {
-    let at = words::CLIENT_WORDS + j.0 as usize;
+    let at = CLIENT_WORDS + j.0 as usize;
     b[at] = x;
 }
 
@@ -247,8 +257,8 @@ fn fits_server(words: &[u32], n: u32, clients: u32, j: ServerId) -> bool
     requires { ⌜ holdsServer (now words) ≡ true ⌝ }
     ensures { λ r. ⌜ r ≡ fitsServer n clients j (serverFrom (now (words .entry))) ⌝ }
 {
-    let s = words::load_server(words);
-    if !server::valid_server(s) {
+    let h = words::server_head(words);
+    if !server::valid_row(h, &words[HEAD_WORDS..SERVER_WORDS]) {
         return false;
     }
     if words[0] != n {
@@ -288,36 +298,29 @@ pub fn is_up(b: &[u32]) -> bool
     b[0] == 1
 }
 
-// The server's record.
-pub fn server_record(b: &[u32]) -> Server
+// The head of the server's record.
+pub fn server_head(b: &[u32]) -> server::Head
     requires { ⌜ (length (now b) ≡ serverBlock) × (holdsServer (serverRecord (now b)) ≡ true) ⌝ }
-    ensures { λ s. ⌜ s ≡ serverFrom (serverRecord (now (b .entry))) ⌝ }
+    ensures { λ h. ⌜ h ≡ serverHeadFrom (serverRecord (now (b .entry))) ⌝ }
 {
-    words::load_server(&b[1..SERVER_BLOCK])
+    words::server_head(&b[1..SERVER_BLOCK])
+}
+
+// The row of the server's queue, copied.
+pub fn server_row(b: &[u32], row: &mut [u32])
+    requires { ⌜ (length (now b) ≡ serverBlock) × (length (now row) ≡ server.rowWords) ⌝ }
+    ensures { λ _. ⌜ now (row .exit) ≡ drop recordHead (serverRecord (now (b .entry))) ⌝ }
+{
+    rows::copy(&b[ROW_FROM..SERVER_BLOCK], row);
 }
 
 // Writes the server's record.
-pub fn put_server(b: &mut [u32], s: Server)
-    requires { ⌜ (length (now b) ≡ serverBlock) × (s .votes .queue .len ≤ maxQueue) ⌝ }
-    ensures { λ _. ⌜ now (b .exit) ≡ sets (now (b .entry)) 1 (serverWords s) ⌝ }
+pub fn put_server(b: &mut [u32], h: server::Head, row: &[u32])
+    requires { ⌜ (length (now b) ≡ serverBlock) × (length (now row) ≡ server.rowWords) × (h .votes .len ≤ maxWord) ⌝ }
+    ensures { λ _. ⌜ now (b .exit) ≡ sets (now (b .entry)) 1 (serverWords (server.serverOf h (now (row .entry)))) ⌝ }
 {
-    let v = s.votes;
-    let q = v.queue;
-    votes::sized(q);
-    words::store_server(&mut b[1..SERVER_BLOCK], s);
-}
-
-fn forgetful(s: Server) -> Server
-    ensures { λ r. ⌜ r ≡ emptied s ⌝ }
-{
-    let none = votes::nobody();
-    let places = [none; 16];
-    let owner = Owner::Nobody;
-    let queue = Queue { len: 0, places };
-    let votes = Votes { owner, queue };
-    let n = s.n;
-    let id = s.id;
-    Server { n, id, votes }
+    words::put_server_head(&mut b[1..SERVER_BLOCK], h);
+    rows::copy(row, &mut b[ROW_FROM..SERVER_BLOCK]);
 }
 
 // The server goes down, and forgets everything.
@@ -325,10 +328,20 @@ pub fn sink(b: &mut [u32])
     requires { ⌜ (length (now b) ≡ serverBlock) × (holdsServer (serverRecord (now b)) ≡ true) ⌝ }
     ensures { λ _. ⌜ now (b .exit) ≡ set (sets (now (b .entry)) 1 (serverWords (emptied (serverFrom (serverRecord (now (b .entry))))))) 0 0 ⌝ }
 {
-    let s = server_record(b);
-    let e = forgetful(s);
-    put_server(b, e);
+    let h = server_head(b);
+    let row = [0u32; server::ROW_WORDS];
+    put_server(b, forgetful(h), &row);
     b[0] = 0;
+}
+
+fn forgetful(h: server::Head) -> server::Head
+    ensures { λ r. ⌜ r ≡ record { n = h .n; id = h .id; votes = record { owner = Owner.Nobody; len = 0 } } ⌝ }
+{
+    let n = h.n;
+    let id = h.id;
+    let owner = Owner::Nobody;
+    let votes = Votes { owner, len: 0 };
+    server::Head { n, id, votes }
 }
 
 // The server comes up, as it went down.
