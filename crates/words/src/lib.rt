@@ -1,24 +1,17 @@
 // How messages and records cross to C: as 32-bit words. For the C interface and the simulation, which test lengths and room first.
 ghost use mathlib.Core.Path.{_≡_};
-ghost use mathlib.Core.Bool.{true};
 ghost use mathlib.Core.List.{[], _∷_};
-ghost use Prim.Native.Nat.{_≤_, _+_, _*_};
-ghost use lib.ListN.{length, getD, drop};
+ghost use Prim.Native.Nat.{_≤_};
+ghost use lib.ListN.{length};
 ghost use lib.Seq.{sets};
-ghost use Rattle.ids.specs.Lists.{every};
 ghost use Rattle.wire.specs.Format.{ownerClient, ownerTimestamp};
 ghost use Rattle.words.specs.Messages.{fits, maxShort, crossing, messageIn, messageOr, noMessage};
-ghost use Rattle.words.specs.Records.{requestsIn, requestWords, fitsPlace, fitsHead, fitsRecord, sectionOf, sectionWord, holdsServer, serverFrom, serverWords, holdsClient, clientFrom, clientWords};
-ghost use Rattle.words.specs.Parts.{Fitting};
-use client::Client;
-use client::Section;
+ghost use Rattle.words.specs.Records.{recordHead, maxWord, fitsHead, Headed, sectionOf, sectionWord, holdsServer, serverHeadFrom, serverHeadWords, holdsClient, clientHeadFrom, clientHeadWords};
 use ids::ClientId;
 use ids::Owner;
-use ids::Request;
 use ids::ServerId;
 use ids::Timestamp;
-use server::Server;
-use votes::Queue;
+use responses::Section;
 use votes::Votes;
 use wire::Fields;
 use wire::Message;
@@ -26,16 +19,12 @@ use wire::Message;
 // The largest number of a field of two bytes.
 const MAX_SHORT: u32 = 65_535;
 
-// The numbers before the places of a record, its places, and its words.
+// The numbers before the places of either record, and the words of a record.
 pub const HEAD_WORDS: usize = 5;
 
-const QUEUE_PLACES: usize = 16;
+pub const SERVER_WORDS: usize = HEAD_WORDS + server::ROW_WORDS;
 
-const RESPONSE_PLACES: usize = 31;
-
-pub const SERVER_WORDS: usize = HEAD_WORDS + 2 * QUEUE_PLACES;
-
-pub const CLIENT_WORDS: usize = HEAD_WORDS + 2 * RESPONSE_PLACES;
+pub const CLIENT_WORDS: usize = HEAD_WORDS + client::ROW_WORDS;
 
 // What five words hold.
 pub enum Crossed {
@@ -127,42 +116,17 @@ pub fn fits_head(a: u32, b: u32, c: u32) -> bool
     c <= MAX_SHORT
 }
 
-// Whether the clients of so many places, which stand from word 5 on, fit their fields.
-fn clients_fit(words: &[u32], places: usize) -> bool
-    requires { ⌜ length (now words) ≡ 5 + 2 * places ⌝ }
-    ensures { λ r. ⌜ r ≡ every fitsPlace (requestsIn (drop 5 (now (words .entry)))) ⌝ }
-{
-    let mut i: usize = 0;
-    while i < places {
-        if MAX_SHORT < words[5 + 2 * i] {
-            return false;
-        }
-        i += 1;
-    }
-    true
-}
-
-fn fits_record(words: &[u32], places: usize) -> bool
-    requires { ⌜ length (now words) ≡ 5 + 2 * places ⌝ }
-    ensures { λ r. ⌜ r ≡ fitsRecord (now (words .entry)) ⌝ }
-{
-    if !fits_head(words[0], words[1], words[2]) {
-        return false;
-    }
-    clients_fit(words, places)
-}
-
-// Whether the words are a server's record: 37, none too large for its field.
+// Whether the words are a server's record: so many, no number before the places too large for its field.
 pub fn holds_server(words: &[u32]) -> bool
     ensures { λ r. ⌜ r ≡ holdsServer (now (words .entry)) ⌝ }
 {
     if words.len() != SERVER_WORDS {
         return false;
     }
-    fits_record(words, QUEUE_PLACES)
+    fits_head(words[0], words[1], words[2])
 }
 
-// Whether the words are a client's record: 67, none too large for its field.
+// Whether the words are a client's record: so many, no number before the places too large for its field.
 pub fn holds_client(words: &[u32]) -> bool
     ensures { λ r. ⌜ r ≡ holdsClient (now (words .entry)) ⌝ }
 {
@@ -172,64 +136,20 @@ pub fn holds_client(words: &[u32]) -> bool
     if 2 < words[3] {
         return false;
     }
-    fits_record(words, RESPONSE_PLACES)
+    fits_head(words[0], words[1], words[2])
 }
 
-fn request_of(client: u32, timestamp: u32) -> Request
-    requires { ⌜ client ≤ maxShort ⌝ }
-    ensures { λ q. ⌜ q ≡ record { client = record { 0 = client }; timestamp = record { 0 = timestamp } } ⌝ }
+// The head of the server's record whose first five words these are.
+pub fn server_head(words: &[u32]) -> server::Head
+    requires { ⌜ Headed (now words) ⌝ }
+    ensures { λ h. ⌜ h ≡ serverHeadFrom (now (words .entry)) ⌝ }
 {
-    Request {
-        client: ClientId(client as u16),
-        timestamp: Timestamp(timestamp),
-    }
-}
-
-// The 16 places that stand from word 5 on.
-fn queue_places(words: &[u32]) -> [Request; QUEUE_PLACES]
-    requires { ⌜ Fitting (now words) 16 ⌝ }
-    ensures { λ r. ⌜ r ≡ requestsIn (drop 5 (now (words .entry))) ⌝ }
-{
-    let none = votes::nobody();
-    let mut places = [none; QUEUE_PLACES];
-    let mut i: usize = 0;
-    while i < QUEUE_PLACES {
-        let q = request_of(words[5 + 2 * i], words[6 + 2 * i]);
-        places[i] = q;
-        i += 1;
-    }
-    places
-}
-
-// The 31 places that stand from word 5 on.
-fn response_places(words: &[u32]) -> [Request; RESPONSE_PLACES]
-    requires { ⌜ Fitting (now words) 31 ⌝ }
-    ensures { λ r. ⌜ r ≡ requestsIn (drop 5 (now (words .entry))) ⌝ }
-{
-    let none = votes::nobody();
-    let mut places = [none; RESPONSE_PLACES];
-    let mut i: usize = 0;
-    while i < RESPONSE_PLACES {
-        let q = request_of(words[5 + 2 * i], words[6 + 2 * i]);
-        places[i] = q;
-        i += 1;
-    }
-    places
-}
-
-// The server's record that the words are.
-pub fn load_server(words: &[u32]) -> Server
-    requires { ⌜ holdsServer (now words) ≡ true ⌝ }
-    ensures { λ s. ⌜ s ≡ serverFrom (now (words .entry)) ⌝ }
-{
-    let places = queue_places(words);
-    let len = words[4] as usize;
-    let queue = Queue { len, places };
     let owner = wire::owner_of(words[2] as u16, words[3]);
-    let votes = Votes { owner, queue };
+    let len = words[4] as usize;
+    let votes = Votes { owner, len };
     let id = ServerId(words[1] as u16);
     let n = words[0] as u16;
-    Server { n, id, votes }
+    server::Head { n, id, votes }
 }
 
 fn section_of(w: u32) -> Section
@@ -254,29 +174,27 @@ fn section_word(s: Section) -> u32
     }
 }
 
-// The client's record that the words are.
-pub fn load_client(words: &[u32]) -> Client
-    requires { ⌜ holdsClient (now words) ≡ true ⌝ }
-    ensures { λ c. ⌜ c ≡ clientFrom (now (words .entry)) ⌝ }
+// The head of the client's record whose first five words these are.
+pub fn client_head(words: &[u32]) -> client::Head
+    requires { ⌜ Headed (now words) ⌝ }
+    ensures { λ h. ⌜ h ≡ clientHeadFrom (now (words .entry)) ⌝ }
 {
-    let places = response_places(words);
     let section = section_of(words[3]);
     let timestamp = Timestamp(words[4]);
     let id = ClientId(words[2] as u16);
     let m = words[1] as u16;
     let n = words[0] as u16;
-    Client {
+    client::Head {
         n,
         m,
         id,
         section,
         timestamp,
-        places,
     }
 }
 
 fn put_five(words: &mut [u32], a: u32, b: u32, c: u32, d: u32, e: u32)
-    requires { ⌜ 5 ≤ length (now words) ⌝ }
+    requires { ⌜ recordHead ≤ length (now words) ⌝ }
     ensures { λ _. ⌜ now (words .exit) ≡ sets (now (words .entry)) 0 (a ∷ b ∷ c ∷ d ∷ e ∷ []) ⌝ }
 {
     words[0] = a;
@@ -284,36 +202,6 @@ fn put_five(words: &mut [u32], a: u32, b: u32, c: u32, d: u32, e: u32)
     words[2] = c;
     words[3] = d;
     words[4] = e;
-}
-
-fn put_request(words: &mut [u32], at: usize, q: Request)
-    requires { ⌜ at + 2 ≤ length (now words) ⌝ }
-    ensures { λ _. ⌜ now (words .exit) ≡ sets (now (words .entry)) at (q .client .0 ∷ q .timestamp .0 ∷ []) ⌝ }
-{
-    words[at] = q.client.0 as u32;
-    words[at + 1] = q.timestamp.0;
-}
-
-fn put_queue(words: &mut [u32], places: [Request; QUEUE_PLACES])
-    requires { ⌜ (37 ≤ length (now words)) × (length places ≡ 16) ⌝ }
-    ensures { λ _. ⌜ now (words .exit) ≡ sets (now (words .entry)) 5 (requestWords places) ⌝ }
-{
-    let mut i: usize = 0;
-    while i < QUEUE_PLACES {
-        put_request(words, 5 + 2 * i, places[i]);
-        i += 1;
-    }
-}
-
-fn put_responses(words: &mut [u32], places: [Request; RESPONSE_PLACES])
-    requires { ⌜ (67 ≤ length (now words)) × (length places ≡ 31) ⌝ }
-    ensures { λ _. ⌜ now (words .exit) ≡ sets (now (words .entry)) 5 (requestWords places) ⌝ }
-{
-    let mut i: usize = 0;
-    while i < RESPONSE_PLACES {
-        put_request(words, 5 + 2 * i, places[i]);
-        i += 1;
-    }
 }
 
 fn owner_client(o: Owner) -> u32
@@ -334,44 +222,37 @@ fn owner_timestamp(o: Owner) -> u32
     }
 }
 
-// Writes the record of server `s` in the first 37 words.
-pub fn store_server(words: &mut [u32], s: Server)
-    requires { ⌜ (37 ≤ length (now words)) × (s .votes .queue .len ≤ 16) ⌝ }
-    ensures { λ _. ⌜ now (words .exit) ≡ sets (now (words .entry)) 0 (serverWords s) ⌝ }
+// Writes the head of a server's record in the first five words.
+pub fn put_server_head(words: &mut [u32], h: server::Head)
+    requires { ⌜ (recordHead ≤ length (now words)) × (h .votes .len ≤ maxWord) ⌝ }
+    ensures { λ _. ⌜ now (words .exit) ≡ sets (now (words .entry)) 0 (serverHeadWords h) ⌝ }
 {
-    let v = s.votes;
-    let q = v.queue;
-    votes::sized(q);
+    let v = h.votes;
     let owner = v.owner;
     let holder = owner_client(owner);
     let since = owner_timestamp(owner);
     put_five(
         words,
-        s.n as u32,
-        s.id.0 as u32,
+        h.n as u32,
+        h.id.0 as u32,
         holder,
         since,
-        q.len as u32,
+        v.len as u32,
     );
-    let places = q.places;
-    put_queue(words, places);
 }
 
-// Writes the record of client `c` in the first 67 words.
-pub fn store_client(words: &mut [u32], c: Client)
-    requires { ⌜ 67 ≤ length (now words) ⌝ }
-    ensures { λ _. ⌜ now (words .exit) ≡ sets (now (words .entry)) 0 (clientWords c) ⌝ }
+// Writes the head of a client's record in the first five words.
+pub fn put_client_head(words: &mut [u32], h: client::Head)
+    requires { ⌜ recordHead ≤ length (now words) ⌝ }
+    ensures { λ _. ⌜ now (words .exit) ≡ sets (now (words .entry)) 0 (clientHeadWords h) ⌝ }
 {
-    client::sized(c);
-    let section = c.section;
+    let section = h.section;
     put_five(
         words,
-        c.n as u32,
-        c.m as u32,
-        c.id.0 as u32,
+        h.n as u32,
+        h.m as u32,
+        h.id.0 as u32,
         section_word(section),
-        c.timestamp.0,
+        h.timestamp.0,
     );
-    let places = c.places;
-    put_responses(words, places);
 }
