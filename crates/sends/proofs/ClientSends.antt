@@ -6,12 +6,12 @@ use mathlib.Core.Path.{_≡_, refl}
 use mathlib.Core.Bool.{Bool, true, false, false≢true, not}
 use mathlib.Core.List.{List, [], _∷_, map}
 use mathlib.Core.Logic.{⊎-elim}
-use lib.Dec.{eqb, ltb}
+use lib.Dec.{eqb}
 use lib.ListN.{length, length-map, length-take, length-replicate}
 use borrow.Author.Tests.{not-false, le-leb}
 use Rattle.ids.specs.Choice.{if_then_else_}
 use Rattle.ids.specs.Lists.{every}
-use Rattle.ids.specs.Limits.{maxTimestamp, validClient, validParties, validStamped}
+use Rattle.ids.specs.Limits.{maxServers, maxTimestamp, validClient, validParties, validStamped}
 use Rattle.ids.specs.Order.{before}
 use Rattle.ids.specs.Requests.{isRequest}
 use Rattle.ids.specs.declared.ClientId.{ClientId}
@@ -28,15 +28,15 @@ use Rattle.wire.specs.Step.{Step, stepped}
 use Rattle.wire.specs.declared.Message.{Message}
 use Rattle.wire.proofs.Sequence.{sizeOfAll-one}
 use Rattle.wire.specs.declared.Message.the-variants.{Request, Yield, Release, Inquiry, Response, Check}
-use Rattle.responses.specs.Figure1.{State, Quorum, filled, count, isTrying, enough, next, toAll, tries, exits, reply, round, heard, judge, responds, checked, isRemainder, isCritical, lastTry}
+use Rattle.responses.specs.Figure1.{State, Quorum, filled, count, isTrying, enough, next, toAll, tries, exits, reply, round, heard, judge, responds, checked, isRemainder, isCritical, lastTry, mayTry}
 use Rattle.client.specs.Record.{fitsTimestamp, valid, view}
-use Rattle.client.specs.Calls.{forClient, received, messageOutcome, beginOutcome, exitOutcome}
+use Rattle.client.specs.Calls.{forClient, received, messageOutcomeUpTo, messageOutcome, beginOutcome, exitOutcome}
 use Rattle.client.specs.declared.Client.{Client}
 use Rattle.responses.specs.declared.Section.{Section}
 use Rattle.responses.specs.declared.Section.the-variants.{Remainder, Trying, Critical}
-use Rattle.client.proofs.KeepsValid.{Fits, heard-length}
-use Rattle.client.proofs.RoundLaws.{length-round, size-round}
-use Rattle.client.proofs.SendLaws.{length-toAll, size-toAll, request-plain, release-plain}
+use Rattle.client.proofs.KeepsValid.{Fits, heard-length, checked-state}
+use Rattle.responses.proofs.RoundLaws.{length-round, size-round}
+use Rattle.responses.proofs.SendLaws.{length-toAll, size-toAll, request-plain, release-plain}
 use Rattle.client.proofs.ValidLaws.{valid-known, trying-range}
 use Rattle.ids.proofs.ListLaws.{every-append}
 use Rattle.sends.proofs.ServerSends.{never, entered}
@@ -101,21 +101,21 @@ pub exits-few : (n : ℕ) (k : ClientId) (c : State) → AtMost n (exits n k c .
 unfolding exits
 exits-few n k c = to-all _ (release-plain k (c .timestamp)) n
 
--- and it keeps at most 31 responses
-module _ (n : ℕ) (h : n ≤ 31) where
-  judge-long : (wins : Quorum) (r : Pair) (l : List Owner) → length l ≤ 31 → length (judge wins n r l .state .responses) ≤ 31
+-- and it keeps a response for each server at most
+module _ (n : ℕ) where
+  judge-long : (wins : Quorum) (r : Pair) (l : List Owner) → length l ≤ n → length (judge wins n r l .state .responses) ≤ n
   unfolding judge
   judge-long wins r l g =
       ⊎-elim
       (λ (a : wins (map filled l) ≡ true).
       ⊎-elim
       (λ (b : wins (map (isRequest r) l) ≡ true). rw (a, b) g)
-      (λ (b : wins (map (isRequest r) l) ≡ false). rw (a, b, length-replicate n Nobody) h)
+      (λ (b : wins (map (isRequest r) l) ≡ false). rw (a, b, length-replicate n Nobody) (omega arith))
       (decided (wins (map (isRequest r) l))))
       (λ (a : wins (map filled l) ≡ false). rw a g)
       (decided (wins (map filled l)))
 
-  responds-long : (wins : Quorum) (k : ClientId) (j : ServerId) (o : Owner) (c : State) → length (c .responses) ≤ 31 → length (responds wins n k j o c .state .responses) ≤ 31
+  responds-long : (wins : Quorum) (k : ClientId) (j : ServerId) (o : Owner) (c : State) → length (c .responses) ≤ n → length (responds wins n k j o c .state .responses) ≤ n
   unfolding responds
   responds-long wins k j o c g =
       let r : Pair = record { client = k; timestamp = c .timestamp } in
@@ -124,76 +124,71 @@ module _ (n : ℕ) (h : n ≤ 31) where
       (λ (t : isTrying (c .section) ≡ false). rw t g)
       (decided (isTrying (c .section)))
 
-checked-long : (k : ClientId) (j : ServerId) (t : Timestamp) (c : State) → length (c .responses) ≤ 31 → length (checked k j t c .state .responses) ≤ 31
-unfolding checked
-checked-long k j t c g =
-    ⊎-elim (λ (e : eqb (t .0) (c .timestamp .0) ≡ true). rw e g) (λ (e : eqb (t .0) (c .timestamp .0) ≡ false). rw e g) (decided (eqb (t .0) (c .timestamp .0)))
-
 module _ (c : Client) (p : Step State) where
-  responses-few : length (view c .responses) ≤ c .n
+  responses-few : length (view c .responses) ≤ c .head .n
   unfolding view
   responses-few = simp (length-map, length-take) (omega arith)
 
-  received-few : (m : Message) → 1 ≤ c .n → received c m ≡ stepped p → AtMost (c .n) (p .sent)
+  received-few : (m : Message) → 1 ≤ c .head .n → received c m ≡ stepped p → AtMost (c .head .n) (p .sent)
   received-few (Request k j t) h e = absurd (never NotForClient p e)
   received-few (Yield k j t) h e = absurd (never NotForClient p e)
   received-few (Release k j t) h e = absurd (never NotForClient p e)
   received-few (Inquiry k j t) h e = absurd (never NotForClient p e)
   received-few (Response k j o) h e =
-      let f = entered (forClient c k j) (never NotForClient p) e in
-      let g : responds (enough (c .m)) (c .n) k j o (view c) ≡ p = cc in
-      rw (← g) (more responses-few (responds-few (enough (c .m)) (c .n) k j o (view c)))
+      let f = entered (forClient (c .head) k j) (never NotForClient p) e in
+      let g : responds (enough (c .head .m)) (c .head .n) k j o (view c) ≡ p = cc in
+      rw (← g) (more responses-few (responds-few (enough (c .head .m)) (c .head .n) k j o (view c)))
   received-few (Check k j t) h e =
-      let f = entered (forClient c k j) (never NotForClient p) e in
+      let f = entered (forClient (c .head) k j) (never NotForClient p) e in
       let g : checked k j t (view c) ≡ p = cc in
       rw (← g) (more h (checked-few k j t (view c)))
 
-  received-long : (m : Message) → c .n ≤ 31 → received c m ≡ stepped p → length (p .state .responses) ≤ 31
-  received-long (Request k j t) h e = absurd (never NotForClient p e)
-  received-long (Yield k j t) h e = absurd (never NotForClient p e)
-  received-long (Release k j t) h e = absurd (never NotForClient p e)
-  received-long (Inquiry k j t) h e = absurd (never NotForClient p e)
-  received-long (Response k j o) h e =
-      let f = entered (forClient c k j) (never NotForClient p) e in
-      let g : responds (enough (c .m)) (c .n) k j o (view c) ≡ p = cc in
-      rw (← g) (responds-long (c .n) h (enough (c .m)) k j o (view c) (omega (arith, responses-few)))
-  received-long (Check k j t) h e =
-      let f = entered (forClient c k j) (never NotForClient p) e in
+  received-long : (m : Message) → received c m ≡ stepped p → length (p .state .responses) ≤ c .head .n
+  received-long (Request k j t) e = absurd (never NotForClient p e)
+  received-long (Yield k j t) e = absurd (never NotForClient p e)
+  received-long (Release k j t) e = absurd (never NotForClient p e)
+  received-long (Inquiry k j t) e = absurd (never NotForClient p e)
+  received-long (Response k j o) e =
+      let f = entered (forClient (c .head) k j) (never NotForClient p) e in
+      let g : responds (enough (c .head .m)) (c .head .n) k j o (view c) ≡ p = cc in
+      rw (← g) (responds-long (c .head .n) (enough (c .head .m)) k j o (view c) responses-few)
+  received-long (Check k j t) e =
+      let f = entered (forClient (c .head) k j) (never NotForClient p) e in
       let g : checked k j t (view c) ≡ p = cc in
-      rw (← g) (checked-long k j t (view c) (omega (arith, responses-few)))
+      rw (← g, checked-state) responses-few
 
-  -- what is known of an accepted step: the record was valid, at most n messages were sent and at most 31 responses kept
+  -- what is known of an accepted step: the record was valid, at most n messages were sent and at most n responses kept
   pub record Accepted : Type 0 where
     pub before : valid c ≡ true
-    pub most : AtMost (c .n) (p .sent)
-    pub long : length (p .state .responses) ≤ 31
+    pub most : AtMost (c .head .n) (p .sent)
+    pub long : length (p .state .responses) ≤ c .head .n
 
   pub message-accepted : (m : Message) → messageOutcome c m ≡ stepped p → Accepted
-  unfolding messageOutcome
+  unfolding messageOutcomeUpTo
   message-accepted m e =
       let (a, h₁) = passed (not (valid c)) (never InvalidRecord p) e in
       let (b, h₂) = passed (not (format.valid m)) (never NumberOutOfRange p) h₁ in
       let v : valid c ≡ true = not-false (valid c) a in
-      record { before = v; most = received-few m (valid-known c v .some) h₂; long = received-long m (valid-known c v .few) h₂ }
+      record { before = v; most = received-few m (valid-known c v .some) h₂; long = received-long m h₂ }
 
   pub begin-accepted : beginOutcome c ≡ stepped p → Accepted
   unfolding beginOutcome tries
   begin-accepted e =
       let (a, h₁) = passed (not (valid c)) (never InvalidRecord p) e in
-      let (b, h₂) = passed (not (isRemainder (c .section))) (never WrongSection p) h₁ in
-      let (d, h₃) = passed (ltb lastTry (c .timestamp .0)) (never TimestampsSpent p) h₂ in
-      let g : tries (c .n) (c .id) (view c) ≡ p = cc in
+      let h₂ = entered (isRemainder (view c .section)) (never WrongSection p) h₁ in
+      let h₃ = entered (mayTry (view c)) (never TimestampsSpent p) h₂ in
+      let g : tries (c .head .n) (c .head .id) (view c) ≡ p = cc in
       let v : valid c ≡ true = not-false (valid c) a in
-      record { before = v; most = rw (← g) (tries-few (c .n) (c .id) (view c)); long = rw (← g, length-replicate (c .n) Nobody) (valid-known c v .few) }
+      record { before = v; most = rw (← g) (tries-few (c .head .n) (c .head .id) (view c)); long = rw (← g, length-replicate (c .head .n) Nobody) (omega arith) }
 
   pub exit-accepted : exitOutcome c ≡ stepped p → Accepted
   unfolding exitOutcome exits
   exit-accepted e =
       let (a, h₁) = passed (not (valid c)) (never InvalidRecord p) e in
-      let (b, h₂) = passed (not (isCritical (c .section))) (never WrongSection p) h₁ in
-      let g : exits (c .n) (c .id) (view c) ≡ p = cc in
+      let h₂ = entered (isCritical (view c .section)) (never WrongSection p) h₁ in
+      let g : exits (c .head .n) (c .head .id) (view c) ≡ p = cc in
       let v : valid c ≡ true = not-false (valid c) a in
-      record { before = v; most = rw (← g) (exits-few (c .n) (c .id) (view c)); long = rw (← g, length-replicate (c .n) Nobody) (valid-known c v .few) }
+      record { before = v; most = rw (← g) (exits-few (c .head .n) (c .head .id) (view c)); long = rw (← g, length-replicate (c .head .n) Nobody) (omega arith) }
 
 -- what passes f: the messages with which request r replies to server j
 abbrev pub Replies : (Message → Bool) → Pair → ServerId → Type 0
@@ -258,9 +253,9 @@ module _ (f : Message → Bool) where
       ⊎-elim (λ (e : eqb (t .0) (c .timestamp .0) ≡ true). rw e refl) (λ (e : eqb (t .0) (c .timestamp .0) ≡ false). rw (e, h)) (decided (eqb (t .0) (c .timestamp .0)))
 
 -- every number that a client in a fitting state sends is in its range
-stamped : (k : ClientId) (j : ℕ) (t : Timestamp) → validClient k ≡ true → 1 ≤ j → j ≤ 31 → 1 ≤ t .0 → t .0 ≤ maxTimestamp → validStamped k (record { 0 = j }) t ≡ true
+stamped : (k : ClientId) (j : ℕ) (t : Timestamp) → validClient k ≡ true → 1 ≤ j → j ≤ maxServers → 1 ≤ t .0 → t .0 ≤ maxTimestamp → validStamped k (record { 0 = j }) t ≡ true
 unfolding validStamped validParties
-stamped k j t v a b c d = rw (v, le-leb 1 j a, le-leb j 31 b, le-leb 1 (t .0) c, le-leb (t .0) maxTimestamp d)
+stamped k j t v a b c d = rw (v, le-leb 1 j a, le-leb j maxServers b, le-leb 1 (t .0) c, le-leb (t .0) maxTimestamp d)
 
 in-critical : (s : Section) (t : Timestamp) → isCritical s ≡ true → fitsTimestamp s t ≡ true → (1 ≤ t .0) × (t .0 < maxTimestamp)
 in-critical Remainder t e h = absurd (false≢true e)

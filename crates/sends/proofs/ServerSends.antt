@@ -3,18 +3,18 @@
 use Prim.Native.Nat.{ℕ, _*_, _≤_}
 use native.Mathlib.Omega.{arith}
 use mathlib.Core.Path.{_≡_, refl}
-use mathlib.Core.Bool.{Bool, true, false, not, _&&_}
+use mathlib.Core.Bool.{Bool, true, false, not}
 use mathlib.Core.List.{List, [], _∷_, _++_}
 use mathlib.Core.Logic.{⊎-elim}
 use mathlib.Core.Option.{Option, none, some}
-use lib.Dec.{eqb, ltb, leb}
-use lib.ListN.{length, length-append, drop}
-use borrow.Author.Tests.{not-false, leb-true}
+use lib.Dec.{eqb, ltb}
+use lib.ListN.{length, length-append}
+use borrow.Author.Tests.{not-false}
 use Rattle.ids.specs.Lists.{every}
 use Rattle.ids.specs.Choice.{if_then_else_, maybe}
 use Rattle.ids.specs.Order.{before}
-use Rattle.ids.specs.Limits.{validServer, validRequest, validOwner, validParties, validStamped}
-use Rattle.ids.specs.Requests.{isRequest, isClient, byOwner, same, noRequest}
+use Rattle.ids.specs.Limits.{maxServers, validServer, validRequest, validOwner, validParties, validStamped}
+use Rattle.ids.specs.Requests.{isRequest, isClient, byOwner}
 use Rattle.ids.specs.declared.ClientId.{ClientId}
 use Rattle.ids.specs.declared.ServerId.{ServerId}
 use Rattle.ids.specs.declared.Timestamp.{Timestamp}
@@ -31,15 +31,15 @@ use Rattle.wire.specs.Format as format
 use Rattle.wire.specs.Step.{Step, Outcome, refused, stepped, stay, tell}
 use Rattle.wire.specs.declared.Message.{Message}
 use Rattle.wire.specs.declared.Message.the-variants.{Request, Yield, Release, Inquiry, Response, Check}
-use Rattle.rows.specs.Queue.{insert, without, timestampIn}
+use Rattle.rows.specs.Queue.{insert, timestampIn}
 use Rattle.votes.specs.Figure1.{State, promote, delete, inform, act, compare, receive, suspect, check, admit, candidates}
-use Rattle.votes.specs.Queues.{maxQueue, view}
 use Rattle.votes.specs.declared.Tag.{Tag}
 use Rattle.votes.specs.declared.Tag.the-variants.{Request as REQUEST, Yield as YIELD, Release as RELEASE, Inquiry as INQUIRY}
 use Rattle.votes.proofs.EveryLaws.{every-insert, every-without}
 use Rattle.server.specs.Record as server
 use Rattle.server.specs.Calls as server-calls
 use Rattle.server.specs.declared.Server.{Server}
+use Rattle.server.proofs.RecordLaws.{valid-padded}
 use Rattle.server.proofs.KeepsValid.{Good, message-keeps-valid, suspect-keeps-valid, check-keeps-valid}
 
 -- no message has more than 14 bytes
@@ -125,16 +125,16 @@ entered false n h = absurd (n h)
 
 -- an accepted step of a server
 module _ (s : Server) (p : Step State) where
-  held-few : (x : Step State) → length (x .sent) ≤ 3 → server-calls.held x ≡ stepped p → length (p .sent) ≤ 3
+  held-few : (x : Step State) → length (x .sent) ≤ 3 → server-calls.held (length (s .row)) x ≡ stepped p → length (p .sent) ≤ 3
   held-few x h e =
-      let (b, f) = passed (ltb maxQueue (length (x .state .queue))) (never QueueFull p) e in
+      let (b, f) = passed (ltb (length (s .row)) (2 * length (x .state .queue))) (never QueueFull p) e in
       let g : x ≡ p = cc in
       rw g at h
 
   taken-few : (tag : Tag) (k : ClientId) (j : ServerId) (t : Timestamp) → server-calls.taken s tag k j t ≡ stepped p → length (p .sent) ≤ 3
   taken-few tag k j t e =
-      held-few (receive (s .id) tag (record { client = k; timestamp = t }) (view (s .votes))) (receive-few (s .id) tag (record { client = k; timestamp = t }) (view (s .votes)))
-      (entered (eqb (j .0) (s .id .0)) (never NotForServer p) e)
+      held-few (receive (s .head .id) tag (record { client = k; timestamp = t }) (server.view s)) (receive-few (s .head .id) tag (record { client = k; timestamp = t }) (server.view s))
+      (entered (eqb (j .0) (s .head .id .0)) (never NotForServer p) e)
 
   received-at-most : (m : Message) → server-calls.received s m ≡ stepped p → length (p .sent) ≤ 3
   received-at-most (Request k j t) e = taken-few REQUEST k j t e
@@ -155,40 +155,37 @@ module _ (s : Server) (p : Step State) where
   at-most v w h = record { before = v; after = w; few = h; small = omega (arith, size-few (p .sent)) }
 
   pub message-accepted : (m : Message) → server-calls.messageOutcome s m ≡ stepped p → Accepted
-  unfolding server-calls.messageOutcome
+  unfolding server-calls.messageOutcomeUpTo
   message-accepted m e =
       let (a, h₁) = passed (not (server.valid s)) (never InvalidRecord p) e in
       let (b, h₂) = passed (not (format.valid m)) (never NumberOutOfRange p) h₁ in
       let v : server.valid s ≡ true = not-false (server.valid s) a in
       at-most v (message-keeps-valid s v m p e) (received-at-most m h₂)
 
-  suspected-few : (o : Owner) → byOwner {B = Outcome State} o (refused NoOwner) (λ x. stepped (suspect (s .id) (view (s .votes)))) ≡ stepped p → length (p .sent) ≤ 3
+  suspected-few : (o : Owner) → byOwner {B = Outcome State} o (refused NoOwner) (λ x. stepped (suspect (s .head .id) (server.view s))) ≡ stepped p → length (p .sent) ≤ 3
   suspected-few Nobody e = absurd (never NoOwner p e)
   suspected-few (Of x) e =
-      let g : suspect (s .id) (view (s .votes)) ≡ p = cc in
-      rw g at (suspect-few (s .id) (view (s .votes)))
+      let g : suspect (s .head .id) (server.view s) ≡ p = cc in
+      rw g at (suspect-few (s .head .id) (server.view s))
 
   pub suspect-accepted : server-calls.suspectOutcome s ≡ stepped p → Accepted
   unfolding server-calls.suspectOutcome
   suspect-accepted e =
       let (a, h) = passed (not (server.valid s)) (never InvalidRecord p) e in
       let v : server.valid s ≡ true = not-false (server.valid s) a in
-      at-most v (suspect-keeps-valid s v p e) (suspected-few (s .votes .owner) h)
+      at-most v (suspect-keeps-valid s v p e) (suspected-few (s .head .votes .owner) h)
 
   pub check-accepted : server-calls.checkOutcome s ≡ stepped p → Accepted
   unfolding server-calls.checkOutcome
   check-accepted e =
       let (a, h) = passed (not (server.valid s)) (never InvalidRecord p) e in
       let v : server.valid s ≡ true = not-false (server.valid s) a in
-      let g : check (s .id) (view (s .votes)) ≡ p = cc in
-      at-most v (check-keeps-valid s v p e) (rw g at (check-few (s .id) (view (s .votes))))
+      let g : check (s .head .id) (server.view s) ≡ p = cc in
+      at-most v (check-keeps-valid s v p e) (rw g at (check-few (s .head .id) (server.view s)))
 
-pub valid-length : (s : Server) → server.valid s ≡ true → s .votes .queue .len ≤ 16
-unfolding server.valid server.validQueue
-valid-length s v =
-    let (ab, c) = both (server.validSizes (s .n) (s .id) && server.validQueue (s .votes .queue)) (server.validState (view (s .votes))) v in
-    let q : server.validQueue (s .votes .queue) ≡ true = both (server.validSizes (s .n) (s .id)) (server.validQueue (s .votes .queue)) ab .1 in
-    leb-true _ _ (both (leb (s .votes .queue .len) maxQueue) (every (same noRequest) (drop (s .votes .queue .len) (s .votes .queue .places))) q .0)
+-- the queue of a valid record has a place for each of its requests
+pub valid-length : (s : Server) → server.valid s ≡ true → 2 * s .head .votes .len ≤ length (s .row)
+valid-length s v = let G = valid-padded maxServers s v in omega (arith, G .within, G .places .even)
 
 -- the owner and the queue pass g
 pub record Knows (g : Pair → Bool) (q : State) : Type 0 where

@@ -65,8 +65,8 @@ module _ (ws : List ℕ) where
   client-fits y l g h = rw (l, le-leb _ _ g) h
 
 -- what a passed test tells: so many words, and a head can be read from them
-pub record Held (ws : List ℕ) (size : ℕ) : Type 0 where
-  pub size : length ws ≡ size
+pub record Held (ws : List ℕ) (n : ℕ) : Type 0 where
+  pub size : length ws ≡ n
   pub head : Headed ws
 
 module _ (ws : List ℕ) where

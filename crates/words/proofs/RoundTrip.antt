@@ -34,15 +34,15 @@ owner-small (Of q) v = client-range (q .client) (request-range q v .0) .1
 module _ (s : Server) (v : server.valid s ≡ true) where
   server-head-fits : fitsHead (s .head .n) (s .head .id .0) (ownerClient (s .head .votes .owner)) ≡ true
   server-head-fits =
-      let (a, b) = both (within (s .head .n) maxServers) (within (s .head .id .0) (s .head .n)) (view-good s v .0) in
+      let (a, b) = both (within (s .head .n) maxServers) (within (s .head .id .0) (s .head .n)) (view-good maxServers s v .0) in
       let (l, h) = within-range (s .head .n) maxServers a in
       let (k, m) = within-range (s .head .id .0) (s .head .n) b in
-      head-fits (s .head .n) (s .head .id .0) (ownerClient (s .head .votes .owner)) (omega arith) (omega arith) (owner-small (s .head .votes .owner) (view-good s v .1 .owner))
+      head-fits (s .head .n) (s .head .id .0) (ownerClient (s .head .votes .owner)) (omega arith) (omega arith) (owner-small (s .head .votes .owner) (view-good maxServers s v .1 .owner))
 
   pub server-read-back : length (s .row) ≡ server.rowWords → serverIn (serverWords s) ≡ some s
   unfolding holdsServer serverHeadFrom serverHeadWords serverWords
   server-read-back long =
-      rw (long, server-head-fits, owner-again (s .head .votes .owner) (view-good s v .1 .owner))
+      rw (long, server-head-fits, owner-again (s .head .votes .owner) (view-good maxServers s v .1 .owner))
 
 -- a client's record
 sections : (s : Section) → sectionOf (sectionWord s) ≡ s

@@ -1,0 +1,34 @@
+-- `words::client_head` meets its contract: each of the first three words fits its field.
+use denote.Ref.{now}
+use native.Mathlib.Omega.{arith}
+use borrow.Author.Needs.{needs}
+use Rattle.words.proofs.RecordsLaws.{headed-small, client-headed}
+use Rattle.words.proofs.client_head.Statement.{statement}
+use Rattle.words.proofs.client_head.Tie as tie
+
+cast-t11 : tie.Need-cast-t11
+cast-t11 c = omega (arith, headed-small (now (c .before .before .before .before .before .args .words)) (c .before .before .before .before .before .pre))
+
+cast-m : tie.Need-cast-m
+cast-m c = omega (arith, headed-small (now (c .before .before .before .before .before .before .args .words)) (c .before .before .before .before .before .before .pre))
+
+cast-n : tie.Need-cast-n
+cast-n c = omega (arith, headed-small (now (c .before .before .before .before .before .before .before .args .words)) (c .before .before .before .before .before .before .before .pre))
+
+returns : tie.Need-returns
+returns c = search client-headed
+
+pub client-head-spec : {M : Type 1} → statement M
+client-head-spec =
+    tie.close
+    (tie.spec
+    (λ c. search needs)
+    (λ c κs. search needs)
+    (λ c. search needs)
+    (λ c. search needs)
+    cast-t11
+    (λ c. search needs)
+    cast-m
+    (λ c. search needs)
+    cast-n
+    returns)

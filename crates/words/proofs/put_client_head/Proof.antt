@@ -1,0 +1,20 @@
+-- `words::put_client_head` meets its contract: five words, the section's as its function says.
+use borrow.Author.Needs.{needs}
+use Rattle.words.proofs.RecordsLaws.{client-head-put}
+use Rattle.words.proofs.put_client_head.Statement.{statement}
+use Rattle.words.proofs.put_client_head.Tie as tie
+
+returns : tie.Need-returns
+returns c = search client-head-put
+
+pub put-client-head-spec : {M : Type 1} → statement M
+put-client-head-spec =
+    tie.close
+    (tie.spec
+    (λ c. search needs)
+    (λ c. search needs)
+    (λ c. search needs)
+    (λ c κs. search needs)
+    (λ c κs. search needs)
+    (λ c. search needs)
+    returns)

@@ -1,0 +1,38 @@
+-- `words::server_head` meets its contract: each of the first three words fits its field.
+use denote.Ref.{now}
+use native.Mathlib.Omega.{arith}
+use borrow.Author.Needs.{needs}
+use Rattle.words.proofs.RecordsLaws.{headed-small, server-headed}
+use Rattle.words.proofs.server_head.Statement.{statement}
+use Rattle.words.proofs.server_head.Tie as tie
+
+cast-owner-of : tie.Need-cast-owner-of
+cast-owner-of c = omega (arith, headed-small (now (c .before .before .args .words)) (c .before .before .pre))
+
+cast-len : tie.Need-cast-len
+cast-len c = omega (arith, c .shared-slice-known4 .given 4)
+
+cast-t9 : tie.Need-cast-t9
+cast-t9 c = omega (arith, headed-small (now (c .before .before .before .before .before .before .args .words)) (c .before .before .before .before .before .before .pre))
+
+cast-n : tie.Need-cast-n
+cast-n c = omega (arith, headed-small (now (c .before .before .before .before .before .before .before .args .words)) (c .before .before .before .before .before .before .before .pre))
+
+returns : tie.Need-returns
+returns c = search server-headed
+
+pub server-head-spec : {M : Type 1} → statement M
+server-head-spec =
+    tie.close
+    (tie.spec
+    (λ c. search needs)
+    cast-owner-of
+    (λ c. search needs)
+    (λ c κs. search needs)
+    (λ c. search needs)
+    cast-len
+    (λ c. search needs)
+    cast-t9
+    (λ c. search needs)
+    cast-n
+    returns)
