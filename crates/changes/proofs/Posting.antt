@@ -15,12 +15,15 @@ use Rattle.ids.proofs.Choice.{both, decided}
 use Rattle.ids.proofs.ListLaws.{every-parts}
 use Rattle.wire.specs.Format as format
 use Rattle.wire.specs.declared.Message.{Message}
+use Rattle.votes.specs.Places.{mails}
+use Rattle.votes.specs.declared.Mail.{Mail}
+use Rattle.votes.specs.declared.Mail.the-variants.{Nothing, One}
+use Rattle.server.specs.Parts.{threeMails}
 use Rattle.system.specs.Places.{System}
 use Rattle.system.specs.Transit.{numbered}
 use Rattle.transit.specs.Slots.{names, messagesIn, transitSize}
 use Rattle.transit.specs.Calls.{Sized, Valid, Posts}
-use Rattle.transit.proofs.Kept.{valid-sized}
-use Rattle.transit.proofs.RowsLaws.{length-slots}
+use Rattle.transit.proofs.Kept.{valid-sized, length-slots}
 use Rattle.layout.specs.Layout.{settingOf, lengthOf, sentOf, transitWords, view, valid, transitFrom, simulationSize}
 use Rattle.layout.proofs.ValidLaws.{facts}
 use Rattle.layout.proofs.LendLaws.{came-back}
@@ -127,7 +130,7 @@ room-less w a b h r =
     (λ (t : eqb a 0 ≡ false).
     let n : eqb (a + b) 0 ≡ false = ne-eqb (a + b) 0 (λ e. eqb-false a 0 t (omega arith)) in
     let (x, y) = both (leb (lengthOf w - 0 + (a + b)) systemMessages) (leb (sentOf w + (a + b)) lastNumber) (rw n at r) in
-    rw (t, le-leb (lengthOf w - 0 + a) systemMessages (omega (arith, leb-true _ _ x)), le-leb (sentOf w + a) lastNumber (omega (arith, leb-true _ _ y))))
+    rw (t, le-leb (lengthOf w - 0 + a) systemMessages (omega (arith, leb-true (lengthOf w - 0 + (a + b)) systemMessages x)), le-leb (sentOf w + a) lastNumber (omega (arith, leb-true (sentOf w + (a + b)) lastNumber y))))
     (decided (eqb a 0))
 
 room-then : (w w₁ : List ℕ) (a b : ℕ) → lengthOf w₁ ≡ lengthOf w + a → sentOf w₁ ≡ sentOf w + a → hasRoom w 0 (a + b) ≡ true → hasRoom w₁ 0 b ≡ true
@@ -138,7 +141,7 @@ room-then w w₁ a b l s r =
     (λ (t : eqb b 0 ≡ false).
     let n : eqb (a + b) 0 ≡ false = ne-eqb (a + b) 0 (λ e. eqb-false b 0 t (omega arith)) in
     let (x, y) = both (leb (lengthOf w - 0 + (a + b)) systemMessages) (leb (sentOf w + (a + b)) lastNumber) (rw n at r) in
-    rw (t, le-leb (lengthOf w₁ - 0 + b) systemMessages (omega (arith, leb-true _ _ x)), le-leb (sentOf w₁ + b) lastNumber (omega (arith, leb-true _ _ y))))
+    rw (t, le-leb (lengthOf w₁ - 0 + b) systemMessages (omega (arith, leb-true (lengthOf w - 0 + (a + b)) systemMessages x)), le-leb (sentOf w₁ + b) lastNumber (omega (arith, leb-true (sentOf w + (a + b)) lastNumber y))))
     (decided (eqb b 0))
 
 -- the counts in the words are the system's
@@ -187,3 +190,38 @@ module _ (w : List ℕ) (a b : List Message) (C : CanSend w (a ++ b)) where
           setting = D .setting ∙ B .setting;
           again = D .again;
         }
+
+-- one mail, or none
+module _ (w : List ℕ) (m : Mail) (C : CanSend w (mails m)) where
+  pub mail-asked : (x : Message) → m ≡ One x → CanSend w (x ∷ [])
+  mail-asked x e = rw e at C
+
+  pub mail-sent : (x : Message) → m ≡ One x → (w₁ : List ℕ) → Becomes w w₁ (sending (view w) (x ∷ [])) → Becomes w w₁ (sending (view w) (mails m))
+  mail-sent x e w₁ B = rw e B
+
+  pub mail-none : m ≡ Nothing → Becomes w w (sending (view w) (mails m))
+  mail-none e = rw e (sending-none w (C .valid))
+
+-- three mails, one after another
+module _ (w : List ℕ) (a b c : Mail) (C : CanSend w (threeMails a b c)) where
+  all-three : CanSend w (mails a ++ (mails b ++ mails c))
+  unfolding threeMails
+  all-three = rw (append-assoc (mails a) (mails b) (mails c)) at C
+
+  pub first-asked : CanSend w (mails a)
+  first-asked = can-first w (mails a) (mails b ++ mails c) all-three
+
+  module _ (w₁ : List ℕ) (A : Becomes w w₁ (sending (view w) (mails a))) where
+    rest : CanSend w₁ (mails b ++ mails c)
+    rest = can-rest w (mails a) (mails b ++ mails c) all-three w₁ A
+
+    pub second-asked : CanSend w₁ (mails b)
+    second-asked = can-first w₁ (mails b) (mails c) rest
+
+    module _ (w₂ : List ℕ) (B : Becomes w₁ w₂ (sending (view w₁) (mails b))) where
+      pub third-asked : CanSend w₂ (mails c)
+      third-asked = can-rest w₁ (mails b) (mails c) rest w₂ B
+
+      pub three-sent : (w₃ : List ℕ) → Becomes w₂ w₃ (sending (view w₂) (mails c)) → Becomes w w₃ (sending (view w) (threeMails a b c))
+      unfolding threeMails
+      three-sent w₃ D = rw (append-assoc (mails a) (mails b) (mails c)) (sent-both w (mails a) (mails b ++ mails c) all-three w₁ A w₃ (sent-both w₁ (mails b) (mails c) rest w₂ B w₃ D))
