@@ -12,6 +12,7 @@ use Rattle.ids.specs.declared.ServerId.{ServerId}
 use Rattle.ids.specs.declared.Timestamp.{Timestamp}
 use Rattle.ids.specs.declared.Request.{Request as Pair}
 use Rattle.ids.specs.declared.Owner.the-variants.{Of}
+use Rattle.wire.specs.Format as format
 use Rattle.wire.specs.declared.Message.{Message}
 use Rattle.wire.specs.declared.Message.the-variants.{Request, Yield, Release, Inquiry}
 use Rattle.votes.specs.declared.Tag.{Tag}
@@ -103,3 +104,10 @@ pub record Sendable (w : List ℕ) (count : ℕ) (bytes : List ℕ) : Type 0 whe
   pub whole : length (messagesIn count bytes) ≡ count
   pub room : hasRoom w 0 count ≡ true
   pub named : every (names (settingOf w .n) (settingOf w .clients)) (messagesIn count bytes) ≡ true
+
+-- these messages can be sent
+pub record CanSend (w : List ℕ) (l : List Message) : Type 0 where
+  pub valid : valid w ≡ true
+  pub room : hasRoom w 0 (length l) ≡ true
+  pub named : every (names (settingOf w .n) (settingOf w .clients)) l ≡ true
+  pub range : every format.valid l ≡ true

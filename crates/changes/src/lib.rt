@@ -1,7 +1,7 @@
 // One part of a simulation changed or tested, and the parts of a new one put. These functions are for the events (`acts`, `deliveries`) and for a new simulation, whose words are valid.
 ghost use mathlib.Core.Path.{_≡_};
 ghost use mathlib.Core.Bool.{true};
-ghost use mathlib.Core.List.{[], map};
+ghost use mathlib.Core.List.{[], _∷_, map};
 ghost use Prim.Native.Nat.{_≤_, _+_, max};
 ghost use lib.ListN.{length, set};
 ghost use Rattle.ids.specs.Choice.{if_then_else_};
@@ -10,12 +10,14 @@ ghost use Rattle.quorum.specs.Check.{inRangeUpTo};
 ghost use Rattle.system.specs.Numbered.{put, clientNo, serverNo};
 ghost use Rattle.system.specs.Transit.{replaced, keeping, gone, again};
 ghost use Rattle.system.specs.Places.{clientAt, serverAt, inEpoch, downFrom, downed, worst};
+ghost use Rattle.votes.specs.Places.{mails};
+ghost use Rattle.server.specs.Parts.{threeMails};
 ghost use Rattle.transit.specs.Slots.{messagesIn, slotAt};
 ghost use Rattle.places.specs.Blocks.{serverPlace};
 ghost use Rattle.layout.specs.Layout.{settingOf, lengthOf, mostOf, transitWords, view, valid, simulationSize};
 ghost use Rattle.layout.specs.Parts.{serverBlockOf, ClientIn, ServerIn};
 ghost use Rattle.changes.specs.Opening.{Cleared, newClient, newServer, inTurn, Starts};
-ghost use Rattle.changes.specs.Changes.{Becomes, HasClient, HasServer, HasSlot, withClient, withTransit, withClients, sending, hasRoom, Sendable};
+ghost use Rattle.changes.specs.Changes.{Becomes, HasClient, HasServer, HasSlot, withClient, withTransit, withClients, sending, hasRoom, Sendable, CanSend};
 ghost use Rattle.system.specs.Limits.{systemMessages, systemClients, systemServers};
 use ids::ClientId;
 use ids::Owner;
@@ -31,6 +33,8 @@ use layout::SIMULATION_WORDS;
 use layout::THRESHOLD;
 use layout::TRANSIT_FROM;
 use places::CLIENT_BLOCK;
+use votes::Mail;
+use wire::Message;
 
 // The bytes into which an event's step writes what it sends.
 pub const OUT_BYTES: usize = 512;
@@ -93,6 +97,38 @@ pub fn send(w: &mut [u32], bytes: &[u8], count: usize)
     );
     w[LENGTH] = (len + count) as u32;
     w[SENT] = sent + count as u32;
+}
+
+// The message is sent, if there is one.
+fn send_mail(w: &mut [u32], m: Mail)
+    requires { ⌜ CanSend (now w) (mails m) ⌝ }
+    ensures { λ _. ⌜ Becomes (now (w .entry)) (now (w .exit)) (sending (view (now (w .entry))) (mails m)) ⌝ }
+{
+    match m {
+        Mail::Nothing => {}
+        Mail::One(x) => send_message(w, x),
+    }
+}
+
+fn send_message(w: &mut [u32], m: Message)
+    requires { ⌜ CanSend (now w) (m ∷ []) ⌝ }
+    ensures { λ _. ⌜ Becomes (now (w .entry)) (now (w .exit)) (sending (view (now (w .entry))) (m ∷ [])) ⌝ }
+{
+    let len = w[LENGTH] as usize;
+    let sent = w[SENT];
+    transit::post_message(&mut w[TRANSIT_FROM..SIMULATION_WORDS], len, sent, m);
+    w[LENGTH] = (len + 1) as u32;
+    w[SENT] = sent + 1;
+}
+
+// The messages of a server's step are sent, in order: each goes to its slot as it is.
+pub fn send_mails(w: &mut [u32], first: Mail, second: Mail, third: Mail)
+    requires { ⌜ CanSend (now w) (threeMails first second third) ⌝ }
+    ensures { λ _. ⌜ Becomes (now (w .entry)) (now (w .exit)) (sending (view (now (w .entry))) (threeMails first second third)) ⌝ }
+{
+    send_mail(w, first);
+    send_mail(w, second);
+    send_mail(w, third);
 }
 
 // The most servers down within an epoch are noted.

@@ -168,6 +168,20 @@ numbered-more i (x ∷ l) m =
     let z : i + suc (length l) ≡ suc i + length l = omega arith in
     rw (z, numbered-more (suc i) l m)
 
+-- one message stored behind the others
+pub one-post : (len sent : ℕ) (m : Message) (t t′ : List ℕ) → Sized (len + 1) t → valid m ≡ true → t′ ≡ sets t (slotSize * len) ((sent + 1) ∷ (0 ∷ words (fieldsOf m))) → Posts len sent (m ∷ []) t t′
+unfolding slotWords numbered
+one-post len sent m t t′ S v e =
+    let z : sent + 1 ≡ suc sent = omega arith in
+    let y : len + 1 ≡ suc len = omega arith in
+    let x : InTransit = record { number = suc sent; delivered = false; message = m } in
+    let s : t′ ≡ sets t (slotSize * len) (suc sent ∷ (0 ∷ words (fieldsOf m))) = rw z at e in
+    record {
+      valid = λ n clients ok nm. rw (y, z)
+          (known-valid n clients (suc sent) (suc len) t′ (new-known t t′ len x (S .size) (omega (arith, S .few)) s v n clients sent (known n clients sent len t ok) (both (names n clients m) true nm .0) refl));
+      after = rw y (new-slots t t′ len x (S .size) (omega (arith, S .few)) s v);
+    }
+
 -- what `post` knows before message i of M: those before it stand in the slots, and the bytes from `from` on are the others
 pub record Posting (len sent count : ℕ) (bytes o t : List ℕ) (number from i : ℕ) : Type 0 where
   pub within : i ≤ count

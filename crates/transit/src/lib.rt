@@ -1,12 +1,13 @@
 // The messages in transit, kept in lent words: a slot of seven for each. For the simulation and what shows one, whose words are valid.
 ghost use mathlib.Core.Path.{_≡_};
+ghost use mathlib.Core.Bool.{true};
 ghost use mathlib.Core.List.{[], _∷_};
 ghost use Prim.Native.Nat.{_≤_, _<_, _+_, _*_};
 ghost use lib.ListN.{length, take, drop, getD, replicate};
 ghost use lib.Seq.{sets, paste};
 ghost use lib.Dec.{eqb};
 ghost use Rattle.ids.specs.Lists.{every};
-ghost use Rattle.wire.specs.Format.{words as wordsOf};
+ghost use Rattle.wire.specs.Format.{words as wordsOf, valid as validMessage};
 ghost use Rattle.transit.specs.Slots.{rows, slots, slotAt, validSlot, ascending, validSlots, messagesIn, transitSize, slotSize};
 ghost use Rattle.transit.specs.Calls.{Sized, FindsPending, FindsPresent, IsAt, Marks, Removes, Restarts, Posts};
 ghost use Rattle.transit.specs.Parts.{namedFields, againWord, Bound, PostsOne};
@@ -313,4 +314,13 @@ pub fn post(t: &mut [u32], len: usize, sent: u32, bytes: &[u8], count: usize)
         from = post_one(t, SLOT * (len + i), number, bytes, from);
         i += 1;
     }
+}
+
+// The message joins the `len` that are kept, as number `sent` + 1. For the simulation, which knows that it fits.
+pub fn post_message(t: &mut [u32], len: usize, sent: u32, m: Message)
+    requires { ⌜ Sized (len + 1) (now t) × (sent + 1 ≤ lastNumber) × (validMessage m ≡ true) ⌝ }
+    ensures { λ _. ⌜ Posts len sent (m ∷ []) (now (t .entry)) (now (t .exit)) ⌝ }
+{
+    let f = wire::fields_of(m);
+    put_slot(t, SLOT * len, sent + 1, f);
 }

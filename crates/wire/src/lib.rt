@@ -143,7 +143,7 @@ fn response_fields(k: ClientId, j: ServerId, o: Owner) -> Fields
 }
 
 // A message's numbers.
-fn fields_of(m: Message) -> Fields
+pub fn fields_of(m: Message) -> Fields
     ensures { λ r. ⌜ r ≡ fieldsOf m ⌝ }
 {
     match m {

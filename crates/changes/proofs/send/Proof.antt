@@ -4,6 +4,7 @@ use native.Mathlib.Omega.{arith}
 use Rattle.changes.proofs.Parties.{words-long}
 use Rattle.changes.proofs.Posting.{transit-few, room-left, posted-long, counted-long, send-becomes, sized-with}
 use Rattle.layout.specs.Layout.{lengthOf}
+use Rattle.transit.specs.Slots.{messagesIn}
 use Prim.Native.Nat.{_+_}
 use borrow.Author.Needs.{needs}
 use Rattle.changes.proofs.send.Statement.{statement}
@@ -32,47 +33,47 @@ part-post-end c =
 post-requires : tie.Need-post-requires
 post-requires c κs =
     let d = c .before .before .before .before .before in
-    let room = room-left (now (d .args .w)) (d .args .count) (now (d .args .bytes)) (d .pre) (omega (arith, c .before .before .before .before .slice-known .given 5)) in
-    (sized-with (now (d .args .w)) (d .args .count) (now (d .args .bytes)) (d .pre) (room .0), room .1, d .pre .whole)
+    let room = room-left (now (d .args .w)) (d .args .count) (messagesIn (d .args .count) (now (d .args .bytes))) (d .pre .valid) (d .pre .whole) (d .pre .room) (d .pre .named) (omega (arith, c .before .before .before .before .slice-known .given 5)) in
+    (sized-with (now (d .args .w)) (d .args .count) (messagesIn (d .args .count) (now (d .args .bytes))) (d .pre .valid) (d .pre .whole) (d .pre .room) (d .pre .named) (room .0), room .1, d .pre .whole)
 
 add-w : tie.Need-add-w
 add-w c =
     let d = c .before .before .before .before .before .before .before .before in
-    let room = room-left (now (d .args .w)) (d .args .count) (now (d .args .bytes)) (d .pre) (omega (arith, c .before .before .before .before .before .before .before .slice-known .given 5)) in
+    let room = room-left (now (d .args .w)) (d .args .count) (messagesIn (d .args .count) (now (d .args .bytes))) (d .pre .valid) (d .pre .whole) (d .pre .room) (d .pre .named) (omega (arith, c .before .before .before .before .before .before .before .slice-known .given 5)) in
     record { fits = omega (arith, room .0, room .1) }
 
 cast-w : tie.Need-cast-w
 cast-w c =
     let d = c .before .before .before .before .before .before .before .before in
-    let room = room-left (now (d .args .w)) (d .args .count) (now (d .args .bytes)) (d .pre) (omega (arith, c .before .before .before .before .before .before .before .slice-known .given 5)) in
+    let room = room-left (now (d .args .w)) (d .args .count) (messagesIn (d .args .count) (now (d .args .bytes))) (d .pre .valid) (d .pre .whole) (d .pre .room) (d .pre .named) (omega (arith, c .before .before .before .before .before .before .before .slice-known .given 5)) in
     record { fits = omega (arith, room .0, room .1) }
 
 slice-write-w : tie.Need-slice-write-w
 slice-write-w c =
     let d = c .before .before .before .before .before .before .before .before in
-    omega (arith, posted-long (now (d .args .w)) (d .args .count) (now (d .args .bytes)) (d .pre) _ (c .before .before .post .ensures))
+    omega (arith, posted-long (now (d .args .w)) (d .args .count) (messagesIn (d .args .count) (now (d .args .bytes))) (d .pre .valid) (d .pre .whole) (d .pre .room) (d .pre .named) _ (c .before .before .post .ensures))
 
 cast-w-2 : tie.Need-cast-w-2
 cast-w-2 c =
     let d = c .before .before .before .before .before .before .before .before in
-    let room = room-left (now (d .args .w)) (d .args .count) (now (d .args .bytes)) (d .pre) (omega (arith, c .before .before .before .before .before .before .before .slice-known .given 5)) in
+    let room = room-left (now (d .args .w)) (d .args .count) (messagesIn (d .args .count) (now (d .args .bytes))) (d .pre .valid) (d .pre .whole) (d .pre .room) (d .pre .named) (omega (arith, c .before .before .before .before .before .before .before .slice-known .given 5)) in
     record { fits = omega (arith, room .0, room .1) }
 
 add-w-2 : tie.Need-add-w-2
 add-w-2 c =
     let d = c .before .before .before .before .before .before .before .before in
-    let room = room-left (now (d .args .w)) (d .args .count) (now (d .args .bytes)) (d .pre) (omega (arith, c .before .before .before .before .before .before .before .slice-known .given 5)) in
+    let room = room-left (now (d .args .w)) (d .args .count) (messagesIn (d .args .count) (now (d .args .bytes))) (d .pre .valid) (d .pre .whole) (d .pre .room) (d .pre .named) (omega (arith, c .before .before .before .before .before .before .before .slice-known .given 5)) in
     record { fits = omega (arith, room .0, room .1) }
 
 slice-write-w-2 : tie.Need-slice-write-w-2
 slice-write-w-2 c =
     let d = c .before .before .before .before .before .before .before .before in
-    omega (arith, counted-long (now (d .args .w)) (d .args .count) (now (d .args .bytes)) (d .pre) _ (c .before .before .post .ensures) (lengthOf (now (d .args .w)) + d .args .count))
+    omega (arith, counted-long (now (d .args .w)) (d .args .count) (messagesIn (d .args .count) (now (d .args .bytes))) (d .pre .valid) (d .pre .whole) (d .pre .room) (d .pre .named) _ (c .before .before .post .ensures) (lengthOf (now (d .args .w)) + d .args .count))
 
 returns : tie.Need-returns
 returns c =
     let d = c .before .before .before .before .before .before .before .before in
-    send-becomes (now (d .args .w)) (d .args .count) (now (d .args .bytes)) (d .pre) _ (c .before .before .post .ensures)
+    send-becomes (now (d .args .w)) (d .args .count) (messagesIn (d .args .count) (now (d .args .bytes))) (d .pre .valid) (d .pre .whole) (d .pre .room) (d .pre .named) _ (c .before .before .post .ensures)
 
 pub send-spec : {M : Type 1} → statement M
 send-spec =
