@@ -9,7 +9,7 @@ use mathlib.Core.Logic.{⊎-elim}
 use mathlib.Core.Option.{Option, none, some}
 use lib.Dec.{eqb, ltb}
 use lib.ListN.{length, length-append}
-use borrow.Author.Tests.{not-false}
+use borrow.Author.Tests.{ltb-false, not-false}
 use Rattle.ids.specs.Lists.{every}
 use Rattle.ids.specs.Choice.{if_then_else_, maybe}
 use Rattle.ids.specs.Order.{before}
@@ -35,6 +35,8 @@ use Rattle.rows.specs.Queue.{insert, timestampIn}
 use Rattle.votes.specs.Figure1.{State, promote, delete, inform, act, compare, receive, suspect, check, admit, candidates}
 use Rattle.votes.specs.declared.Tag.{Tag}
 use Rattle.votes.specs.declared.Tag.the-variants.{Request as REQUEST, Yield as YIELD, Release as RELEASE, Inquiry as INQUIRY}
+use Rattle.rows.proofs.QueueLaws.{length-queue}
+use Rattle.votes.proofs.RoomLaws.{length-deleted}
 use Rattle.votes.proofs.EveryLaws.{every-insert, every-without}
 use Rattle.server.specs.Record as server
 use Rattle.server.specs.Calls as server-calls
@@ -123,36 +125,65 @@ pub entered : {A : Type 0} {x y z : A} (b : Bool) → (y ≡ z → ⊥) → (if 
 entered true n h = h
 entered false n h = absurd (n h)
 
+-- a suspicion and a check make no queue longer
+module _ (j : ServerId) where
+  suspected-shorter : (o : Owner) (q : State) → length (byOwner o (stay q) (λ x. delete j x q) .state .queue) ≤ length (q .queue)
+  suspected-shorter Nobody q = omega arith
+  suspected-shorter (Of x) q = length-deleted j x q
+
+  suspect-shorter : (q : State) → length (suspect j q .state .queue) ≤ length (q .queue)
+  unfolding suspect
+  suspect-shorter q = suspected-shorter (q .owner) q
+
+  checked-same : (o : Owner) (q : State) → byOwner o (stay q) (λ x. tell q (Check (x .client) j (x .timestamp))) .state ≡ q
+  checked-same Nobody q = refl
+  checked-same (Of x) q = refl
+
+  check-same : (q : State) → check j q .state ≡ q
+  unfolding check
+  check-same q = checked-same (q .owner) q
+
+-- the queue of a valid record has a place for each of its requests
+pub valid-length : (s : Server) → server.valid s ≡ true → 2 * s .head .votes .len ≤ length (s .row)
+valid-length s v = let G = valid-padded maxServers s v in omega (arith, G .within, G .places .even)
+
 -- an accepted step of a server
 module _ (s : Server) (p : Step State) where
-  held-few : (x : Step State) → length (x .sent) ≤ 3 → server-calls.held (length (s .row)) x ≡ stepped p → length (p .sent) ≤ 3
-  held-few x h e =
+  -- few messages, and a queue for which the row has places
+  record Short (x : Step State) : Type 0 where
+    few : length (x .sent) ≤ 3
+    room : 2 * length (x .state .queue) ≤ length (s .row)
+
+  held-short : (x : Step State) → length (x .sent) ≤ 3 → server-calls.held (length (s .row)) x ≡ stepped p → Short p
+  held-short x h e =
       let (b, f) = passed (ltb (length (s .row)) (2 * length (x .state .queue))) (never QueueFull p) e in
       let g : x ≡ p = cc in
-      rw g at h
+      rw (← g) (record { few = h; room = ltb-false _ _ b })
 
-  taken-few : (tag : Tag) (k : ClientId) (j : ServerId) (t : Timestamp) → server-calls.taken s tag k j t ≡ stepped p → length (p .sent) ≤ 3
-  taken-few tag k j t e =
-      held-few (receive (s .head .id) tag (record { client = k; timestamp = t }) (server.view s)) (receive-few (s .head .id) tag (record { client = k; timestamp = t }) (server.view s))
+  taken-short : (tag : Tag) (k : ClientId) (j : ServerId) (t : Timestamp) → server-calls.taken s tag k j t ≡ stepped p → Short p
+  taken-short tag k j t e =
+      held-short (receive (s .head .id) tag (record { client = k; timestamp = t }) (server.view s)) (receive-few (s .head .id) tag (record { client = k; timestamp = t }) (server.view s))
       (entered (eqb (j .0) (s .head .id .0)) (never NotForServer p) e)
 
-  received-at-most : (m : Message) → server-calls.received s m ≡ stepped p → length (p .sent) ≤ 3
-  received-at-most (Request k j t) e = taken-few REQUEST k j t e
-  received-at-most (Yield k j t) e = taken-few YIELD k j t e
-  received-at-most (Release k j t) e = taken-few RELEASE k j t e
-  received-at-most (Inquiry k j t) e = taken-few INQUIRY k j t e
-  received-at-most (Response k j o) e = absurd (never NotForServer p e)
-  received-at-most (Check k j t) e = absurd (never NotForServer p e)
+  received-short : (m : Message) → server-calls.received s m ≡ stepped p → Short p
+  received-short (Request k j t) e = taken-short REQUEST k j t e
+  received-short (Yield k j t) e = taken-short YIELD k j t e
+  received-short (Release k j t) e = taken-short RELEASE k j t e
+  received-short (Inquiry k j t) e = taken-short INQUIRY k j t e
+  received-short (Response k j o) e = absurd (never NotForServer p e)
+  received-short (Check k j t) e = absurd (never NotForServer p e)
 
-  -- what is known of the step: the record was valid and is again, and few messages were sent
+  -- what is known of the step: the record was valid and is again, few messages were sent, and the queue has its places
   pub record Accepted : Type 0 where
     pub before : server.valid s ≡ true
     pub after : server.valid (server-calls.serverAfter s (stepped p)) ≡ true
     pub few : length (p .sent) ≤ 3
     pub small : sizeOfAll (p .sent) ≤ 42
+    pub room : 2 * length (p .state .queue) ≤ length (s .row)
 
-  at-most : server.valid s ≡ true → server.valid (server-calls.serverAfter s (stepped p)) ≡ true → length (p .sent) ≤ 3 → Accepted
-  at-most v w h = record { before = v; after = w; few = h; small = omega (arith, size-few (p .sent)) }
+  accepted : server.valid s ≡ true → server.valid (server-calls.serverAfter s (stepped p)) ≡ true → Short p → Accepted
+  accepted v w h =
+      record { before = v; after = w; few = h .few; small = omega (arith, size-few (p .sent), h .few); room = h .room }
 
   pub message-accepted : (m : Message) → server-calls.messageOutcome s m ≡ stepped p → Accepted
   unfolding server-calls.messageOutcomeUpTo
@@ -160,20 +191,24 @@ module _ (s : Server) (p : Step State) where
       let (a, h₁) = passed (not (server.valid s)) (never InvalidRecord p) e in
       let (b, h₂) = passed (not (format.valid m)) (never NumberOutOfRange p) h₁ in
       let v : server.valid s ≡ true = not-false (server.valid s) a in
-      at-most v (message-keeps-valid s v m p e) (received-at-most m h₂)
+      accepted v (message-keeps-valid s v m p e) (received-short m h₂)
 
-  suspected-few : (o : Owner) → byOwner {B = Outcome State} o (refused NoOwner) (λ x. stepped (suspect (s .head .id) (server.view s))) ≡ stepped p → length (p .sent) ≤ 3
-  suspected-few Nobody e = absurd (never NoOwner p e)
-  suspected-few (Of x) e =
-      let g : suspect (s .head .id) (server.view s) ≡ p = cc in
-      rw g at (suspect-few (s .head .id) (server.view s))
+  module _ (v : server.valid s ≡ true) where
+    its-room : 2 * length (server.view s .queue) ≤ length (s .row)
+    its-room = omega (arith, valid-length s v, length-queue (s .row) (s .head .votes .len) (valid-padded maxServers s v))
+
+    suspected-short : (o : Owner) → byOwner {B = Outcome State} o (refused NoOwner) (λ x. stepped (suspect (s .head .id) (server.view s))) ≡ stepped p → Short p
+    suspected-short Nobody e = absurd (never NoOwner p e)
+    suspected-short (Of x) e =
+        let g : suspect (s .head .id) (server.view s) ≡ p = cc in
+        rw (← g) (record { few = suspect-few (s .head .id) (server.view s); room = omega (arith, its-room, suspect-shorter (s .head .id) (server.view s)) })
 
   pub suspect-accepted : server-calls.suspectOutcome s ≡ stepped p → Accepted
   unfolding server-calls.suspectOutcome
   suspect-accepted e =
       let (a, h) = passed (not (server.valid s)) (never InvalidRecord p) e in
       let v : server.valid s ≡ true = not-false (server.valid s) a in
-      at-most v (suspect-keeps-valid s v p e) (suspected-few (s .head .votes .owner) h)
+      accepted v (suspect-keeps-valid s v p e) (suspected-short v (s .head .votes .owner) h)
 
   pub check-accepted : server-calls.checkOutcome s ≡ stepped p → Accepted
   unfolding server-calls.checkOutcome
@@ -181,11 +216,7 @@ module _ (s : Server) (p : Step State) where
       let (a, h) = passed (not (server.valid s)) (never InvalidRecord p) e in
       let v : server.valid s ≡ true = not-false (server.valid s) a in
       let g : check (s .head .id) (server.view s) ≡ p = cc in
-      at-most v (check-keeps-valid s v p e) (rw g at (check-few (s .head .id) (server.view s)))
-
--- the queue of a valid record has a place for each of its requests
-pub valid-length : (s : Server) → server.valid s ≡ true → 2 * s .head .votes .len ≤ length (s .row)
-valid-length s v = let G = valid-padded maxServers s v in omega (arith, G .within, G .places .even)
+      accepted v (check-keeps-valid s v p e) (rw (← g) (record { few = check-few (s .head .id) (server.view s); room = rw (check-same (s .head .id) (server.view s)) (its-room v) }))
 
 -- the owner and the queue pass g
 pub record Knows (g : Pair → Bool) (q : State) : Type 0 where
