@@ -50,7 +50,6 @@ use Rattle.changes.proofs.Parties.{living-is}
 use Rattle.changes.proofs.SentLaws.{Sends, check-sends, suspect-sends}
 use Rattle.changes.proofs.Storing.{server-block, server-is, check-stored, suspect-stored}
 use Rattle.bounded.proofs.Sending.{Steps, Call, call-sendable, call-sent, steps-by, called, roomy, view-all}
-use Rattle.votes.specs.Queues.{maxQueue}
 
 -- Server j's call was accepted: its step p is event e, its messages join T.
 pub record ServerCalled (w : List ℕ) (e : Event) (j : ServerId) (T : List InTransit) (p : Step votes.State) (r : Stepped) (bytes : List ℕ) : Type 0 where

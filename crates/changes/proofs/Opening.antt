@@ -43,7 +43,6 @@ use Rattle.layout.proofs.PartLaws.{Is, itself-is, is-client-store, is-server-st
 use Rattle.layout.proofs.LendLaws.{client-block-long, server-block-long}
 use Rattle.changes.specs.Opening.{Cleared, newClient, newServer, inTurn, Starts}
 use Rattle.changes.proofs.Stores.{sets-over, client-block-from, server-block-stored}
-use Rattle.votes.specs.Queues.{maxQueue}
 use Rattle.system.specs.Limits.{systemClients, systemServers}
 use Rattle.transit.specs.Slots.{transitSize}
 use Rattle.system.specs.Numbered.{clientNo, serverNo}

@@ -41,7 +41,7 @@ use Rattle.client.specs.declared.Client.{Client}
 use Rattle.client.specs.declared.Stepped.{Stepped as ClientStepped}
 use Rattle.client.proofs.StepLaws.{response-range}
 use Rattle.words.specs.Records.{serverFrom, serverWords, clientFrom, clientWords}
-use Rattle.words.proofs.RecordsLaws.{server-held, length-requests}
+use Rattle.words.proofs.RecordsLaws.{server-held}
 use Rattle.system.specs.declared.MessageNumber.{MessageNumber}
 use Rattle.system.specs.declared.Event.the-variants.{Take}
 use Rattle.system.specs.Transit.{InTransit, pending, replaced, gone, keeping}
@@ -71,8 +71,8 @@ use Rattle.bounded.proofs.Sending.{and-then}
 use Rattle.changes.proofs.Taking.{slot-message, length-kept, length-gone}
 use Rattle.bounded.proofs.ServerEvents.{ServerCalled, server-called}
 use Rattle.bounded.proofs.ClientEvents.{ClientCalled, client-called, still-client, its-facts, its-state, place-state}
-use Rattle.votes.specs.Queues.{maxQueue}
 use Rattle.system.specs.Numbered.{serverNo}
+use Rattle.rows.proofs.GoodLaws.{length-requests}
 
 -- what is known of a pending message
 module _ (w : List ℕ) (i : ℕ) (m : Message) (P : Pends w i m) where

@@ -32,7 +32,6 @@ use Rattle.sheet.specs.Sheet.{Sheet, puts, ends}
 use Rattle.sheet.proofs.SheetLaws.{then as behind}
 use Rattle.votes.specs.Queues as votes
 use Rattle.knowledge.specs.Knowledge.{requestText, requestsText, queueText, votesText, serverText, supportText, supportersText, stateText, clientText, serversText, clientsText}
-use Rattle.votes.specs.Queues.{maxQueue}
 use Rattle.system.specs.Limits.{systemServers}
 use Rattle.system.specs.Numbered.{clientNo, serverNo}
 

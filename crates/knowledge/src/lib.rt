@@ -12,7 +12,7 @@ ghost use Rattle.language.specs.Decimals.{decimal};
 ghost use Rattle.language.specs.Words.{text};
 ghost use Rattle.layout.specs.Layout.{valid, view as systemOf, settingOf, lengthOf, transitWords};
 ghost use Rattle.sheet.specs.Sheet.{sheet as sheetOf, puts};
-ghost use Rattle.votes.specs.Queues.{listOf, view as votesView, maxQueue};
+ghost use Rattle.votes.specs.Queues.{listOf, view as votesView};
 ghost use Rattle.system.specs.Places.{clientAt, serverAt};
 ghost use Rattle.transit.specs.Slots.{slotAt};
 ghost use Rattle.wire.specs.declared.Message.the-variants.{Response, Check};

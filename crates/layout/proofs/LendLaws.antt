@@ -9,6 +9,7 @@ use Rattle.ids.specs.declared.ServerId.{ServerId}
 use Rattle.places.specs.Blocks.{cleared, clientBlock, serverBlock, flagsFrom}
 use lib.Seq.{sets, sets-eq, length-sets, drop-drop, take-take, length-take-le}
 use borrow.Rule.Slice.PartMut.{putMid, post-is}
+use Rattle.places.proofs.BlockParts.{drop-take}
 use Rattle.layout.specs.Layout.{clientWords, serverWords, clientsSize, serversFrom, serversSize, simulationSize, transitFrom, clientsFrom}
 use Rattle.layout.specs.Parts.{clientBlockOf, serverBlockOf, ClientIn, ServerIn}
 use Rattle.system.specs.Limits.{systemClients, systemServers}
@@ -18,16 +19,6 @@ pub came-back : (w : List ℕ) (a k : ℕ) (b : List ℕ) → length b ≡ k →
 came-back w a k b e h =
     ap (λ (l : List ℕ). take a w ++ (b ++ l)) (post-is a (a + k) w (omega arith)) ∙
     (ap (λ (i : ℕ). take a w ++ (b ++ drop (a + i) w)) (sym e) ∙ (sym (append-assoc (take a w) b (drop (a + length b) w)) ∙ sym (sets-eq b w a (omega arith))))
-
--- dropping in a part that is taken
-drop-take : (x y : ℕ) (l : List ℕ) → drop x (take (x + y) l) ≡ take y (drop x l)
-drop-take zero y l = let z : 0 + y ≡ y = omega arith in ap (λ (x : ℕ). take x l) z
-drop-take (suc x) y [] = let z : suc x + y ≡ suc (x + y) = omega arith in ap (λ (i : ℕ). drop (suc x) (take {A = ℕ} i [])) z ∙ sym (take-none y)
-  where
-    take-none : (n : ℕ) → _≡_ {A = List ℕ} (take n []) []
-    take-none zero = refl
-    take-none (suc n) = refl
-drop-take (suc x) y (a ∷ l) = let z : suc x + y ≡ suc (x + y) = omega arith in ap (λ (i : ℕ). drop (suc x) (take i (a ∷ l))) z ∙ drop-take x y l
 
 -- block i of a region of `count` blocks that begins at word `from`
 region-block : (from s i more : ℕ) (w : List ℕ) → take s (drop (i * s) (take (i * s + (s + more)) (drop from w))) ≡ take s (drop (from + i * s) w)

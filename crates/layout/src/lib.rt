@@ -18,7 +18,6 @@ ghost use Rattle.transit.specs.Calls.{FindsPending, FindsPresent};
 ghost use Rattle.transit.specs.Slots.{slotAt, validSlots};
 ghost use Rattle.layout.specs.Parts.{clientBlockOf, serverBlockOf, withClientBlock, withServerBlock, ClientIn, ServerIn, blocksValid, partsValid};
 ghost use Rattle.system.specs.Limits.{systemServers, systemClients};
-ghost use Rattle.votes.specs.Queues.{maxQueue};
 ghost use Rattle.system.specs.Numbered.{clientNo, serverNo};
 use ids::ClientId;
 use ids::ServerId;

@@ -4,7 +4,7 @@ use native.Mathlib.Omega.{arith}
 use mathlib.Core.Logic.{_⊎_, inl, inr}
 use mathlib.Core.Path.{_≡_, refl, sym, ap, _∙_}
 use mathlib.Core.Bool.{Bool, true, false, _&&_, _||_, not}
-use mathlib.Core.List.{List}
+use mathlib.Core.List.{List, map}
 use lib.Dec.{eqb}
 use lib.ListN.{length, getD, drop, length-append, length-map, length-replicate, length-take, length-drop}
 use lib.Seq.{sets, length-sets}
@@ -23,6 +23,8 @@ use Rattle.places.proofs.BlockParts.{read-in, covered, client-long, fir
 use Rattle.places.proofs.Facts.{ClientBlock, client-facts, client-block, outside-clear}
 use Rattle.system.specs.Limits.{systemServers}
 use Rattle.system.specs.Numbered.{clientNo}
+use Rattle.rows.proofs.RowLaws.{length-row-of}
+use Rattle.responses.specs.Row.{place}
 
 -- these words are a valid block, which is place p
 pub record ClientIs (n m clients k : ℕ) (b : List ℕ) (p : ClientPlace) : Type 0 where
@@ -58,21 +60,21 @@ module _ (n m clients k : ℕ) (b : List ℕ) (B : Frame n b) where
     abbrev kept : Client
     kept = client.store n m (record { 0 = k }) s
 
-    kept-places : length (kept .places) ≡ systemServers
+    kept-row : length (kept .row) ≡ client.rowWords
     unfolding client.store
-    kept-places = simp (length-append, length-map, length-replicate) (omega (arith, F .long, F .ranges .few))
+    kept-row = length-row-of client.rowWords (map place (s .responses)) (simp length-map (omega (arith, F .long, F .ranges .few)))
 
     kept-valid : client.valid kept ≡ true
     kept-valid = store-valid n m me s F
 
     words-held : (holdsClient (clientWords kept) ≡ true) × (clientFrom (clientWords kept) ≡ kept)
-    words-held = read-in (holdsClient (clientWords kept)) (clientFrom (clientWords kept)) kept (client-read-back kept kept-valid kept-places)
+    words-held = read-in (holdsClient (clientWords kept)) (clientFrom (clientWords kept)) kept (client-read-back kept kept-valid kept-row)
 
     its-record : clientRecord (with s) ≡ clientWords kept
-    its-record = record-stored b (clientWords kept) (B .size) (client-long kept kept-places)
+    its-record = record-stored b (clientWords kept) (B .size) (client-long kept kept-row)
 
     its-flags : flags (with s) ≡ flags b
-    its-flags = flags-kept b (clientWords kept) (B .size) (client-long kept kept-places)
+    its-flags = flags-kept b (clientWords kept) (B .size) (client-long kept kept-row)
 
     its-client : clientFrom (clientRecord (with s)) ≡ kept
     its-client = ap clientFrom its-record ∙ words-held .1
@@ -103,9 +105,9 @@ module _ (n m clients k : ℕ) (b : List ℕ) (B : Frame n b) where
           bit = rw (first-kept b 0 (clientWords kept)) (B .bit);
           held = rw its-record (words-held .0);
           valid = rw its-client kept-valid;
-          servers = rw its-client;
-          threshold = rw its-client;
-          number = rw its-client;
+          servers = ap (λ (c : Client). c .head .n) its-client;
+          threshold = ap (λ (c : Client). c .head .m) its-client;
+          number = ap (λ (c : Client). c .head .id) its-client;
           names = rw stored-place names;
           bits = rw its-flags (B .bits);
           behind = rw its-flags (B .behind);

@@ -1,10 +1,11 @@
 -- The four steps of a client, on a valid block: what its call does, and what the block is with the step's record.
 use Prim.Native.Nat.{ℕ, zero, suc, _≤_}
+use native.Mathlib.Omega.{arith}
 use mathlib.Core.Path.{_≡_, refl, sym, _∙_}
 use mathlib.Core.Bool.{Bool, true, false}
 use mathlib.Core.List.{List, map}
 use lib.Dec.{leb, ltb}
-use lib.ListN.{replicate}
+use lib.ListN.{replicate, length, length-drop}
 use lib.Seq.{sets}
 use borrow.Author.Tests.{leb-true, le-leb, le-ltb, eq-eqb}
 use Rattle.ids.specs.Choice.{if_then_else_}
@@ -25,9 +26,10 @@ use Rattle.responses.specs.declared.Section.{Section}
 use Rattle.responses.specs.declared.Section.the-variants.{Remainder, Trying, Critical}
 use Rattle.responses.specs.Figure1.{State, fresh, Quorum, filled, enough, tries, exits, heard, judge, responds, checked, isRemainder, isCritical, lastTry}
 use Rattle.client.specs.Record as client
-use Rattle.client.specs.Calls.{clientAfter, beginOutcome, exitOutcome, messageOutcome, forClient}
-use Rattle.client.proofs.KeepsValid.{InRange, remainder-fits, Fits, tries-fits, exits-fits, responds-fits, checked-state, heard-every}
+use Rattle.client.specs.Calls.{clientAfter, beginOutcome, exitOutcome, messageOutcome, forClient, messageOutcomeUpTo}
+use Rattle.client.proofs.KeepsValid.{InRange, remainder-fits, Fits, tries-fits, exits-fits, responds-fits, checked-state, heard-every, after-stored}
 use Rattle.words.specs.Records.{clientFrom, clientWords}
+use Rattle.words.proofs.RecordsLaws.{client-held}
 use Rattle.system.specs.Places.{ClientPlace}
 use Rattle.places.specs.Blocks.{clientRecord, flags, clientPlace, zeroWord, named, validClientBlock}
 use Rattle.places.proofs.Facts.{ClientBlock, client-facts, client-fits}
@@ -106,11 +108,14 @@ module _ (n m clients k : ℕ) (b : List ℕ) (ok : validClientBlock n m clients
   unfolding clientPlace
   shows = refl
 
-  sections : its .section ≡ at .state .section
+  row-long : length (its .row) ≡ client.rowWords
+  row-long = simp length-drop (omega (arith, client-held (clientRecord b) (B .held) .size))
+
+  sections : its .head .section ≡ at .state .section
   unfolding clientPlace client.view
   sections = refl
 
-  times : its .timestamp ≡ at .state .timestamp
+  times : its .head .timestamp ≡ at .state .timestamp
   unfolding clientPlace client.view
   times = refl
 
@@ -118,29 +123,28 @@ module _ (n m clients k : ℕ) (b : List ℕ) (ok : validClientBlock n m clients
   pub begin-outcome : isRemainder (clientPlace b .state .section) ≡ true → leb (clientPlace b .state .timestamp .0) lastTry ≡ true → beginOutcome (clientFrom (clientRecord b)) ≡ stepped (tries n (record { 0 = k }) (clientPlace b .state))
   unfolding beginOutcome
   begin-outcome h g =
-      let t : ltb lastTry (at .state .timestamp .0) ≡ false = le-ltb lastTry (at .state .timestamp .0) (leb-true (at .state .timestamp .0) lastTry g) in
-      rw (B .valid, shows, sections, h, times, t, B .servers, B .number)
+      rw (B .valid, shows, h, g, B .servers, B .number)
 
   pub exit-outcome : isCritical (clientPlace b .state .section) ≡ true → exitOutcome (clientFrom (clientRecord b)) ≡ stepped (exits n (record { 0 = k }) (clientPlace b .state))
   unfolding exitOutcome
-  exit-outcome h = rw (B .valid, shows, sections, h, B .servers, B .number)
+  exit-outcome h = rw (B .valid, shows, h, B .servers, B .number)
 
-  for-me : (j : ServerId) → j .0 ≤ n → forClient its (record { 0 = k }) j ≡ true
+  for-me : (j : ServerId) → j .0 ≤ n → forClient (its .head) (record { 0 = k }) j ≡ true
   for-me j h = rw (B .number, B .servers, eq-eqb k k refl, le-leb (j .0) n h)
 
   pub response-outcome : (j : ServerId) (o : Owner) → format.valid (Response (record { 0 = k }) j o) ≡ true → j .0 ≤ n
       → messageOutcome (clientFrom (clientRecord b)) (Response (record { 0 = k }) j o) ≡ stepped (responds (enough m) n (record { 0 = k }) j o (clientPlace b .state))
-  unfolding messageOutcome
+  unfolding messageOutcomeUpTo
   response-outcome j o w h = rw (B .valid, w, for-me j h, shows, B .servers, B .threshold)
 
   pub check-outcome : (j : ServerId) (t : Timestamp) → format.valid (Check (record { 0 = k }) j t) ≡ true → j .0 ≤ n
       → messageOutcome (clientFrom (clientRecord b)) (Check (record { 0 = k }) j t) ≡ stepped (checked (record { 0 = k }) j t (clientPlace b .state))
-  unfolding messageOutcome
+  unfolding messageOutcomeUpTo
   check-outcome j t w h = rw (B .valid, w, for-me j h, shows)
 
   -- the record that an accepted call gives back
   pub client-after : (p : Step State) → clientAfter (clientFrom (clientRecord b)) (stepped p) ≡ client.store n m (record { 0 = k }) (p .state)
-  client-after p = rw (B .servers, B .threshold, B .number)
+  client-after p = rw (← B .servers, ← B .threshold, ← B .number) (after-stored its p row-long)
 
   -- what they leave
   pub tries-block : isRemainder (clientPlace b .state .section) ≡ true → leb (clientPlace b .state .timestamp .0) lastTry ≡ true

@@ -22,11 +22,13 @@ use Rattle.client.specs.declared.Client.{Client}
 use Rattle.client.proofs.KeepsValid.{Fits, view-fits, stored-again}
 use Rattle.client.proofs.ValidLaws.{valid-known}
 use Rattle.words.specs.Records.{holdsServer, serverFrom, holdsClient, clientFrom}
-use Rattle.words.proofs.RecordsLaws.{client-held, length-requests}
+use Rattle.words.proofs.RecordsLaws.{client-held}
 use Rattle.system.specs.Places.{inEpoch}
 use Rattle.places.specs.Blocks.{clientRecord, flags, serverRecord, clientPlace, serverPlace, bitWord, zeroWord, named, namedPair, fitsClient, fitsFlags, validClientBlock, fitsServer, validServerBlock, clientBlock, serverBlock}
 use Rattle.system.specs.Limits.{systemServers}
 use Rattle.system.specs.Numbered.{clientNo, serverNo}
+use Rattle.rows.proofs.GoodLaws.{length-requests}
+use Rattle.ids.specs.Limits.{maxServers}
 
 -- block k of a client
 pub record ClientBlock (n m clients k : ℕ) (b : List ℕ) : Type 0 where
@@ -34,9 +36,9 @@ pub record ClientBlock (n m clients k : ℕ) (b : List ℕ) : Type 0 where
   pub bit : getD b 0 0 ≤ 1
   pub held : holdsClient (clientRecord b) ≡ true
   pub valid : client.valid (clientFrom (clientRecord b)) ≡ true
-  pub servers : clientFrom (clientRecord b) .n ≡ n
-  pub threshold : clientFrom (clientRecord b) .m ≡ m
-  pub number : clientFrom (clientRecord b) .id ≡ record { 0 = k }
+  pub servers : clientFrom (clientRecord b) .head .n ≡ n
+  pub threshold : clientFrom (clientRecord b) .head .m ≡ m
+  pub number : clientFrom (clientRecord b) .head .id ≡ record { 0 = k }
   pub names : every (named clients) (clientPlace b .state .responses) ≡ true
   pub bits : every bitWord (flags b) ≡ true
   pub behind : every zeroWord (drop n (flags b)) ≡ true
@@ -64,9 +66,9 @@ module _ (n m clients k : ℕ) (b : List ℕ) where
       let (w, h₃) = both _ _ h₂ in
       let (c, f) = both _ _ h₃ in
       let (v, c₁) = both (client.valid its) _ c in
-      let (p, c₂) = both (eqb (its .n) n) _ c₁ in
-      let (q, c₃) = both (eqb (its .m) m) _ c₂ in
-      let (r, s) = both (eqb (its .id .0) k) _ c₃ in
+      let (p, c₂) = both (eqb (its .head .n) n) _ c₁ in
+      let (q, c₃) = both (eqb (its .head .m) m) _ c₂ in
+      let (r, s) = both (eqb (its .head .id .0) k) _ c₃ in
       let (t, f₁) = both _ _ f in
       let (u, z) = both _ _ f₁ in
       record {
@@ -76,7 +78,7 @@ module _ (n m clients k : ℕ) (b : List ℕ) where
         valid = v;
         servers = eqb-true _ _ p;
         threshold = eqb-true _ _ q;
-        number = number-is (its .id) k r;
+        number = number-is (its .head .id) k r;
         names = s;
         bits = t;
         behind = u;
@@ -89,14 +91,10 @@ module _ (n m clients k : ℕ) (b : List ℕ) where
     client-block =
         rw (eq-eqb _ _ (B .size), le-leb _ _ (B .bit), B .held, B .valid, eq-eqb _ _ (B .servers), eq-eqb _ _ (B .threshold), eq-eqb _ _ (ap (λ (i : ClientId). i .0) (B .number)), B .names, B .bits, B .behind, B .outside)
 
-    client-places : length (its .places) ≡ systemServers
-    unfolding clientFrom
-    client-places = length-requests (drop 5 (clientRecord b)) systemServers (simp length-drop (omega (arith, client-held (clientRecord b) (B .held) .fitting .size)))
-
     -- its state fits its numbers
     pub client-fits : Fits n m (record { 0 = k }) (clientPlace b .state)
     unfolding clientPlace
-    client-fits = fits-as (B .servers) (B .threshold) (B .number) (view-fits its client-places (valid-known its (B .valid)))
+    client-fits = fits-as (B .servers) (B .threshold) (B .number) (view-fits its (valid-known its (B .valid)))
 
     pub client-few : n ≤ systemServers
     client-few = client-fits .ranges .few
@@ -110,8 +108,8 @@ pub record ServerBlock (n clients j : ℕ) (b : List ℕ) : Type 0 where
   pub bit : getD b 0 0 ≤ 1
   pub held : holdsServer (serverRecord b) ≡ true
   pub valid : server.valid (serverFrom (serverRecord b)) ≡ true
-  pub servers : serverFrom (serverRecord b) .n ≡ n
-  pub number : serverFrom (serverRecord b) .id ≡ record { 0 = j }
+  pub servers : serverFrom (serverRecord b) .head .n ≡ n
+  pub number : serverFrom (serverRecord b) .head .id ≡ record { 0 = j }
   pub names : every (namedPair clients) (candidates (serverPlace b .state)) ≡ true
 
 module _ (n clients j : ℕ) (b : List ℕ) where
@@ -125,15 +123,15 @@ module _ (n clients j : ℕ) (b : List ℕ) where
       let (x, h₂) = both _ _ h₁ in
       let (w, c) = both _ _ h₂ in
       let (v, c₁) = both (server.valid own) _ c in
-      let (p, c₂) = both (eqb (own .n) n) _ c₁ in
-      let (q, r) = both (eqb (own .id .0) j) _ c₂ in
+      let (p, c₂) = both (eqb (own .head .n) n) _ c₁ in
+      let (q, r) = both (eqb (own .head .id .0) j) _ c₂ in
       record {
         size = eqb-true _ _ a;
         bit = leb-true _ _ x;
         held = w;
         valid = v;
         servers = eqb-true _ _ p;
-        number = server-is (own .id) j q;
+        number = server-is (own .head .id) j q;
         names = r;
       }
 
@@ -145,8 +143,8 @@ module _ (n clients j : ℕ) (b : List ℕ) where
 
     -- its numbers are in range, and its state is good
     pub server-sizes : server.validSizes n (record { 0 = j }) ≡ true
-    server-sizes = rw (B .servers, B .number) at (view-good own (B .valid) .0)
+    server-sizes = rw (B .servers, B .number) at (view-good maxServers own (B .valid) .0)
 
     pub server-good : Good (serverPlace b .state)
     unfolding serverPlace
-    server-good = view-good own (B .valid) .1
+    server-good = view-good maxServers own (B .valid) .1

@@ -1,17 +1,18 @@
 -- What a server's block becomes where a record is written in it: the same place with the record's state, and valid again.
 use Prim.Native.Nat.{ℕ, _-_, _≤_}
 use native.Mathlib.Omega.{arith}
-use mathlib.Core.Path.{_≡_, refl, ap, _∙_}
+use mathlib.Core.Path.{_≡_, refl, ap, _∙_, sym}
 use mathlib.Core.Bool.{true, false}
 use mathlib.Core.List.{List, _++_}
 use lib.Dec.{eqb}
 use lib.ListN.{length, getD, take, set, replicate, length-append, length-replicate, length-take, length-drop, length-set}
 use lib.Seq.{sets, length-sets, take-at, drop-set-lt, getD-set-same}
 use Rattle.ids.specs.Lists.{every}
-use Rattle.ids.specs.Limits.{validOwner}
-use Rattle.ids.specs.Requests.{noRequest}
+use Rattle.ids.specs.Limits.{maxServers, validOwner}
+use Rattle.rows.specs.Rows.{rowOf}
+use Rattle.rows.proofs.RowLaws.{length-row-of, row-of-queue, row-of-none}
+use Rattle.wire.specs.Step.{stay}
 use Rattle.votes.specs.Figure1.{State, candidates, idle}
-use Rattle.votes.specs.Queues as votes
 use Rattle.server.specs.Record as server
 use Rattle.server.specs.declared.Server.{Server}
 use Rattle.server.proofs.KeepsValid.{Good, stored-valid}
@@ -22,8 +23,9 @@ use Rattle.system.specs.Places.{ServerPlace}
 use Rattle.places.specs.Blocks.{serverRecord, serverPlace, namedPair, validServerBlock, emptied, serverBlock}
 use Rattle.places.proofs.BlockParts.{read-in, covered, server-long, first-kept}
 use Rattle.places.proofs.Facts.{ServerBlock, server-facts, server-block, server-sizes}
-use Rattle.votes.specs.Queues.{maxQueue}
 use Rattle.system.specs.Numbered.{serverNo}
+use Rattle.server.specs.Calls.{emptyServer}
+use Rattle.ids.specs.declared.Owner.the-variants.{Nobody}
 
 -- these words are a valid block, which is place p
 pub record ServerIs (n clients j : ℕ) (b : List ℕ) (p : ServerPlace) : Type 0 where
@@ -32,40 +34,35 @@ pub record ServerIs (n clients j : ℕ) (b : List ℕ) (p : ServerPlace) : Type 
 
 -- the record of server j of n in state q, and the block with it
 abbrev pub server-of : ℕ → ℕ → State → Server
-server-of n j q = record { n = n; id = record { 0 = j }; votes = votes.store q }
+server-of n j q = server.serverOf (record { n = n; id = serverNo j; votes = record { owner = q .owner; len = length (q .queue) } }) (rowOf server.rowWords (q .queue))
 
 abbrev pub server-written : ℕ → ℕ → List ℕ → State → List ℕ
-server-written n j b q = sets b 1 (serverWords (record { n = n; id = record { 0 = j }; votes = votes.store q }))
+server-written n j b q = sets b 1 (serverWords (server-of n j q))
 
-view-again : (q : State) → votes.view (votes.store q) ≡ q
-unfolding votes.queueOf
-view-again q =
-    let e : take (length (q .queue)) (q .queue ++ replicate (maxQueue - length (q .queue)) noRequest) ≡ q .queue = take-at (q .queue) _ (length (q .queue)) refl in
-    λ i. record { owner = q .owner; queue = e i }
+-- the record of a new server, and of one that forgot
+pub empty-row : (n j : ℕ) → emptyServer n (serverNo j) ≡ server-of n j idle
+empty-row n j = let e = row-of-none server.rowWords 0 (omega arith) in λ i. server.serverOf (record { n = n; id = serverNo j; votes = record { owner = Nobody; len = 0 } }) (sym e i)
 
--- what `put_server` asks of a step's record
-pub stored-short : (q : State) → length (q .queue) ≤ maxQueue → votes.store q .queue .len ≤ maxQueue
-unfolding votes.queueOf
-stored-short q h = h
+view-again : (n j : ℕ) (q : State) → length (q .queue) ≤ server.queuePlaces → server.view (server-of n j q) ≡ q
+view-again n j q h = let e = row-of-queue server.queuePlaces (q .queue) h in λ i. record { owner = q .owner; queue = e i }
 
 module _ (n clients j : ℕ) (b : List ℕ) (size : length b ≡ serverBlock) (bit : getD b 0 0 ≤ 1) (sizes : server.validSizes n (record { 0 = j }) ≡ true) where
-  module _ (q : State) (g : Good q) (names : every (namedPair clients) (candidates q) ≡ true) (short : length (q .queue) ≤ maxQueue) where
+  module _ (q : State) (g : Good q) (names : every (namedPair clients) (candidates q) ≡ true) (short : length (q .queue) ≤ server.queuePlaces) where
     abbrev kept : Server
     kept = server-of n j q
 
-    kept-places : length (kept .votes .queue .places) ≡ maxQueue
-    unfolding votes.queueOf
-    kept-places = simp (length-append, length-replicate) (omega arith)
+    kept-row : length (kept .row) ≡ server.rowWords
+    kept-row = length-row-of server.rowWords (q .queue) (omega arith)
 
     kept-valid : server.valid kept ≡ true
-    kept-valid = stored-valid n (record { 0 = j }) q sizes short g
+    kept-valid = stored-valid maxServers (kept .head) (replicate server.rowWords 0) server.queuePlaces (stay q) sizes refl short g
 
     words-held : (holdsServer (serverWords kept) ≡ true) × (serverFrom (serverWords kept) ≡ kept)
-    words-held = read-in (holdsServer (serverWords kept)) (serverFrom (serverWords kept)) kept (server-read-back kept kept-valid kept-places)
+    words-held = read-in (holdsServer (serverWords kept)) (serverFrom (serverWords kept)) kept (server-read-back kept kept-valid kept-row)
 
     its-record : serverRecord (server-written n j b q) ≡ serverWords kept
     its-record =
-        let w = server-long kept kept-places in
+        let w = server-long kept kept-row in
         region-inside 1 serverSize b 0 (serverWords kept) (omega arith) ∙ covered (serverRecord b) (serverWords kept) (simp (length-take, length-drop) (omega arith))
 
     its-server : serverFrom (serverRecord (server-written n j b q)) ≡ kept
@@ -75,7 +72,7 @@ module _ (n clients j : ℕ) (b : List ℕ) (size : length b ≡ serverBlock) (b
     unfolding serverPlace
     stored-place =
         let a : getD (server-written n j b q) 0 0 ≡ getD b 0 0 = first-kept b 0 (serverWords kept) in
-        let v : votes.view (serverFrom (serverRecord (server-written n j b q)) .votes) ≡ q = ap (λ (s : Server). votes.view (s .votes)) its-server ∙ view-again q in
+        let v : server.view (serverFrom (serverRecord (server-written n j b q))) ≡ q = ap (λ (s : Server). server.view s) its-server ∙ view-again n j q short in
         λ i. record { up = eqb (a i) 1; state = v i }
 
     pub stored-record : ServerIs n clients j (server-written n j b q) (record { up = serverPlace b .up; state = q })
@@ -87,13 +84,13 @@ module _ (n clients j : ℕ) (b : List ℕ) (size : length b ≡ serverBlock) (b
             bit = rw (first-kept b 0 (serverWords kept)) bit;
             held = rw its-record (words-held .0);
             valid = rw its-server kept-valid;
-            servers = rw its-server;
-            number = rw its-server;
+            servers = ap (λ (s : Server). s .head .n) its-server;
+            number = ap (λ (s : Server). s .head .id) its-server;
             names = rw stored-place names;
           });
         }
 
-pub stored-server : (n clients j : ℕ) (b : List ℕ) → validServerBlock n clients (serverNo j) b ≡ true → (q : State) → Good q → every (namedPair clients) (candidates q) ≡ true → length (q .queue) ≤ maxQueue
+pub stored-server : (n clients j : ℕ) (b : List ℕ) → validServerBlock n clients (serverNo j) b ≡ true → (q : State) → Good q → every (namedPair clients) (candidates q) ≡ true → length (q .queue) ≤ server.queuePlaces
     → ServerIs n clients j (server-written n j b q) (record { up = serverPlace b .up; state = q })
 stored-server n clients j b ok q g names short =
     let B = server-facts n clients j b ok in
@@ -113,7 +110,7 @@ module _ (n clients j : ℕ) (b : List ℕ) (ok : validServerBlock n clients (se
   set-place : serverPlace (set b 0 x) ≡ record { up = eqb x 1; state = serverPlace b .state }
   unfolding serverPlace
   set-place =
-      let v : votes.view (serverFrom (serverRecord (set b 0 x)) .votes) ≡ votes.view (serverFrom (serverRecord b) .votes) = ap (λ (l : List ℕ). votes.view (serverFrom l .votes)) same-record in
+      let v : server.view (serverFrom (serverRecord (set b 0 x))) ≡ server.view (serverFrom (serverRecord b)) = ap (λ (l : List ℕ). server.view (serverFrom l)) same-record in
       λ i. record { up = eqb (first-set i) 1; state = v i }
 
   set-up : ServerIs n clients j (set b 0 x) (record { up = eqb x 1; state = serverPlace b .state })
@@ -150,4 +147,4 @@ module _ (n clients j : ℕ) (b : List ℕ) (ok : validServerBlock n clients (se
       let F = server-facts n clients j b ok in
       let S = stored-server n clients j b ok idle idle-good refl (omega arith) in
       let D = set-up n clients j (server-written n j b idle) (S .valid) 0 (omega arith) in
-      rw (F .servers, F .number) (record { place = D .place ∙ ap (λ (p : ServerPlace). record { up = false; state = p .state }) (S .place); valid = D .valid })
+      rw (F .servers, F .number, empty-row n j) (record { place = D .place ∙ ap (λ (p : ServerPlace). record { up = false; state = p .state }) (S .place); valid = D .valid })

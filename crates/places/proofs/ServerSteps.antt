@@ -1,11 +1,11 @@
 -- The three steps of a server, on a valid block: what its call does, what it sends, and what the block is with the step's record.
-use Prim.Native.Nat.{ℕ, _≤_}
+use Prim.Native.Nat.{ℕ, _*_, _≤_}
 use native.Mathlib.Omega.{arith}
 use mathlib.Core.Path.{_≡_, refl, ap, _∙_}
 use mathlib.Core.Bool.{true, false}
 use mathlib.Core.List.{List, [], _∷_}
 use lib.Dec.{leb, ltb}
-use lib.ListN.{length}
+use lib.ListN.{length, length-drop}
 use borrow.Author.Tests.{eq-eqb, le-ltb}
 use Rattle.ids.specs.Lists.{every}
 use Rattle.ids.specs.Limits.{validRequest, validStamped, validParties, validClient, validServer, validTimestamp}
@@ -21,11 +21,12 @@ use Rattle.wire.specs.Format as format
 use Rattle.votes.specs.declared.Tag.{Tag}
 use Rattle.votes.specs.declared.Tag.the-variants.{Request as Asks, Yield as Yields, Release as Releases, Inquiry as Inquires}
 use Rattle.votes.specs.Figure1.{State, candidates, receive, suspect, check}
-use Rattle.votes.specs.Queues as votes
+use Rattle.server.specs.Record as server
 use Rattle.server.specs.declared.Server.{Server}
-use Rattle.server.specs.Calls.{serverAfter, messageOutcome, received, suspectOutcome, checkOutcome, taken}
+use Rattle.server.specs.Calls.{serverAfter, messageOutcome, messageOutcomeUpTo, received, suspectOutcome, checkOutcome, taken}
 use Rattle.server.proofs.KeepsValid.{Good, receive-good, suspect-good, check-good}
 use Rattle.words.specs.Records.{serverFrom}
+use Rattle.words.proofs.RecordsLaws.{server-held}
 use Rattle.system.proofs.Tokens.{message, worth, All, empty, more}
 use Rattle.system.proofs.ServerSteps.{Holds, From, Fair, none-gained, fair-receive, fair-suspect, fair-check}
 use Rattle.places.specs.Blocks.{serverRecord, serverPlace, namedPair, validServerBlock}
@@ -33,7 +34,6 @@ use Rattle.places.proofs.Facts.{ServerBlock, server-facts, server-good}
 use Rattle.places.proofs.Pigeonhole.{queue-fits}
 use Rattle.places.proofs.ServerLaws.{ServerIs, server-of, server-written, stored-server}
 use Rattle.system.specs.Limits.{systemClients}
-use Rattle.votes.specs.Queues.{maxQueue}
 use Rattle.system.specs.Numbered.{serverNo}
 
 -- r is a request of one of so many clients
@@ -109,9 +109,12 @@ module _ (n clients j : ℕ) (b : List ℕ) (ok : validServerBlock n clients (se
   holds : Holds (OfClients clients) at
   holds = named-holds clients at (B .names)
 
-  shows : votes.view (its .votes) ≡ at
+  shows : server.view its ≡ at
   unfolding serverPlace
   shows = refl
+
+  row-long : length (its .row) ≡ server.rowWords
+  row-long = simp length-drop (omega (arith, server-held (serverRecord b) (B .held) .size))
 
   -- what a step sends names only the clients
   module _ (tag : Tag) (r : Request) (c : leb (r .client .0) clients ≡ true) where
@@ -160,22 +163,22 @@ module _ (n clients j : ℕ) (b : List ℕ) (ok : validServerBlock n clients (se
 
   -- the record that an accepted call gives back
   pub server-after : (p : Step State) → serverAfter (serverFrom (serverRecord b)) (stepped p) ≡ server-of n j (p .state)
-  server-after p = rw (B .servers, B .number)
+  server-after p = rw (B .servers, B .number, row-long)
 
   -- what the calls do
   pub receive-outcome : (tag : Tag) (k : ClientId) (t : Timestamp) → format.valid (message tag k (record { 0 = j }) t) ≡ true → leb (k .0) clients ≡ true → clients ≤ systemClients
       → messageOutcome (serverFrom (serverRecord b)) (message tag k (record { 0 = j }) t) ≡ stepped (receive (record { 0 = j }) tag (record { client = k; timestamp = t }) (serverPlace b .state))
-  unfolding messageOutcome
+  unfolding messageOutcomeUpTo
   receive-outcome tag k t w c few =
       let r : Request = record { client = k; timestamp = t } in
       let s = receive-short tag r c (message-request tag k me t w) in
-      let f : ltb maxQueue (length (receive me tag r at .state .queue)) ≡ false = le-ltb maxQueue (length (receive me tag r at .state .queue)) (omega arith) in
+      let f : ltb (length (its .row)) (2 * length (receive me tag r at .state .queue)) ≡ false = le-ltb (length (its .row)) (2 * length (receive me tag r at .state .queue)) (omega (arith, row-long)) in
       rw (B .valid, w, received-as its tag k me t, shows, B .number, eq-eqb j j refl, f)
 
   pub suspect-outcome : (o : Request) → serverPlace b .state .owner ≡ Of o → suspectOutcome (serverFrom (serverRecord b)) ≡ stepped (suspect (record { 0 = j }) (serverPlace b .state))
   unfolding suspectOutcome
   suspect-outcome o e =
-      let f : its .votes .owner ≡ Of o = ap (λ (q : State). q .owner) shows ∙ e in
+      let f : its .head .votes .owner ≡ Of o = ap (λ (q : State). q .owner) shows ∙ e in
       rw (B .valid, shows, f, B .number)
 
   pub check-outcome : checkOutcome (serverFrom (serverRecord b)) ≡ stepped (check (record { 0 = j }) (serverPlace b .state))

@@ -1,13 +1,13 @@
 -- What the code's tests of a block decide of its validity, one after another.
-use Prim.Native.Nat.{ℕ, zero, suc, _+_, _*_, _≤_, _<_}
+use Prim.Native.Nat.{ℕ, zero, suc, _+_, _-_, _*_, _≤_, _<_}
 use native.Mathlib.Omega.{arith}
 use mathlib.Core.Path.{_≡_, refl, ap, _∙_}
 use mathlib.Core.Bool.{Bool, true, false, _&&_, not}
 use mathlib.Core.List.{List, [], _∷_, map}
 use mathlib.Core.Logic.{⊎-elim}
 use lib.Dec.{eqb, leb}
-use lib.ListN.{length, getD, take, drop}
-use lib.Seq.{getD-take, getD-drop}
+use lib.ListN.{length, getD, take, drop, length-drop}
+use lib.Seq.{getD-take, getD-drop, take-all}
 use borrow.Author.Tests.{le-leb, lt-leb, leb-true, eq-eqb, ne-eqb, eqb-true}
 use Rattle.ids.specs.Lists.{every}
 use Rattle.ids.specs.Requests.{same, noRequest}
@@ -18,20 +18,23 @@ use Rattle.ids.proofs.Choice.{both, decided, holds, fails}
 use Rattle.ids.proofs.RequestLaws.{same-true}
 use Rattle.wire.specs.Format.{ownerOf}
 use Rattle.votes.specs.Figure1.{candidates}
-use Rattle.votes.specs.Queues as votes
 use Rattle.server.specs.Record as server
 use Rattle.server.specs.declared.Server.{Server}
 use Rattle.responses.specs.Figure1.{isRemainder, isCritical}
 use Rattle.client.specs.Record as client
 use Rattle.responses.specs.Row.{shown}
 use Rattle.client.specs.declared.Client.{Client}
+use Rattle.client.specs.declared.Head.{Head as ClientHead}
+use Rattle.server.specs.declared.Head.{Head as ServerHead}
 use Rattle.client.proofs.ValidLaws.{valid-known}
-use Rattle.words.specs.Records.{requestsIn, holdsServer, serverFrom, holdsClient, clientFrom, sectionOf, clientSize}
-use Rattle.words.proofs.RecordsLaws.{server-held}
+use Rattle.words.specs.Records.{holdsServer, serverFrom, holdsClient, clientFrom, sectionOf, clientSize, serverSize, recordHead, clientHeadFrom, serverHeadFrom}
+use Rattle.words.proofs.RecordsLaws.{server-held, client-held}
 use Rattle.system.specs.Places.{inEpoch, isInside}
 use Rattle.places.specs.Blocks.{clientRecord, flags, serverRecord, clientPlace, serverPlace, bitWord, zeroWord, named, namedPair, fitsClient, fitsFlags, validClientBlock, fitsServer, validServerBlock, clientBlock, serverBlock}
 use Rattle.system.specs.Limits.{systemServers}
-use Rattle.votes.specs.Queues.{maxQueue}
+use Rattle.rows.specs.Rows.{requestsIn}
+use Rattle.server.proofs.RecordLaws.{valid-padded}
+use Rattle.ids.specs.Limits.{maxServers}
 
 -- the living and the section
 critical-word : (w : ℕ) → isCritical (sectionOf w) ≡ leb 2 w
@@ -61,7 +64,7 @@ module _ (b : List ℕ) where
   fallen-outside h = rw (ne-eqb (getD b 0 0) 1 h)
 
   pub living-inside : getD b 0 0 ≡ 1 → leb 2 (getD b 4 0) ≡ isInside (clientPlace b)
-  unfolding clientPlace client.view clientFrom
+  unfolding clientPlace client.view clientHeadFrom
   living-inside h = rw (h, section-word, critical-word (getD b 4 0))
 
   pub fallen-out : (getD b 0 0 ≡ 1 → ⊥) → false ≡ inEpoch (clientPlace b)
@@ -69,7 +72,7 @@ module _ (b : List ℕ) where
   fallen-out h = rw (ne-eqb (getD b 0 0) 1 h)
 
   pub living-epoch : getD b 0 0 ≡ 1 → not (eqb (getD b 4 0) 0) ≡ inEpoch (clientPlace b)
-  unfolding clientPlace client.view clientFrom
+  unfolding clientPlace client.view clientHeadFrom
   living-epoch h = rw (h, section-word, remainder-word (getD b 4 0))
 
 -- the flags
@@ -123,27 +126,27 @@ module _ (n m clients : ℕ) (k : ClientId) (ws : List ℕ) (c : Client) (e : c 
     good = holds x (client.valid (clientFrom ws)) its-valid t
 
     pub servers-differ : (getD ws 0 0 ≡ n → ⊥) → false ≡ fitsClient n m clients k (clientFrom ws)
-    unfolding fitsClient clientFrom
+    unfolding fitsClient clientHeadFrom
     servers-differ h = rw (good, ne-eqb (getD ws 0 0) n h)
 
     module _ (f : getD ws 0 0 ≡ n) where
       pub servers-few : n ≤ systemServers
-      unfolding clientFrom
+      unfolding clientHeadFrom
       servers-few = let K = valid-known (clientFrom ws) good in omega (arith, K .few)
 
       pub threshold-differs : (getD ws 1 0 ≡ m → ⊥) → false ≡ fitsClient n m clients k (clientFrom ws)
-      unfolding fitsClient clientFrom
+      unfolding fitsClient clientHeadFrom
       threshold-differs h = rw (good, eq-eqb (getD ws 0 0) n f, ne-eqb (getD ws 1 0) m h)
 
       module _ (g : getD ws 1 0 ≡ m) where
         pub number-differs : (getD ws 2 0 ≡ k .0 → ⊥) → false ≡ fitsClient n m clients k (clientFrom ws)
-        unfolding fitsClient clientFrom
+        unfolding fitsClient clientHeadFrom
         number-differs h = rw (good, eq-eqb (getD ws 0 0) n f, eq-eqb (getD ws 1 0) m g, ne-eqb (getD ws 2 0) (k .0) h)
 
-        pub named-decides : getD ws 2 0 ≡ k .0 → (y : Bool) → y ≡ every (namedPair clients) (take n (requestsIn (drop 5 ws))) → y ≡ fitsClient n m clients k (clientFrom ws)
-        unfolding fitsClient clientFrom client.view
+        pub named-decides : getD ws 2 0 ≡ k .0 → (y : Bool) → y ≡ every (namedPair clients) (take n (requestsIn (drop recordHead ws))) → y ≡ fitsClient n m clients k (clientFrom ws)
+        unfolding fitsClient clientHeadFrom client.view
         named-decides h y q =
-            rw (good, eq-eqb (getD ws 0 0) n f, eq-eqb (getD ws 1 0) m g, eq-eqb (getD ws 2 0) (k .0) h, f, named-places clients (take n (requestsIn (drop 5 ws)))) q
+            rw (good, eq-eqb (getD ws 0 0) n f, eq-eqb (getD ws 1 0) m g, eq-eqb (getD ws 2 0) (k .0) h, f, named-places clients (take n (requestsIn (drop recordHead ws)))) q
 
 -- a server's record
 named-owner : (clients k t : ℕ) (l : List Request) → every (namedPair clients) (candidates (record { owner = ownerOf k t; queue = l })) ≡ leb k clients && every (namedPair clients) l
@@ -155,13 +158,6 @@ named-owner clients k t l =
     (λ (e : eqb k 0 && eqb t 0 ≡ false). rw e)
     (decided (eqb k 0 && eqb t 0))
 
-pub queue-short : (s : Server) → server.valid s ≡ true → s .votes .queue .len ≤ maxQueue
-unfolding server.valid server.validQueue
-queue-short s v =
-    let (ab, c) = both (server.validSizes (s .n) (s .id) && server.validQueue (s .votes .queue)) (server.validState (votes.view (s .votes))) v in
-    let q = both (server.validSizes (s .n) (s .id)) (server.validQueue (s .votes .queue)) ab .1 in
-    leb-true (s .votes .queue .len) maxQueue (both (leb (s .votes .queue .len) votes.maxQueue) (every (same noRequest) (drop (s .votes .queue .len) (s .votes .queue .places))) q .0)
-
 module _ (n clients : ℕ) (j : ServerId) (ws : List ℕ) (s : Server) (e : s ≡ serverFrom ws) (x : Bool) (p : x ≡ server.valid s) where
   pub server-broken : not x ≡ true → false ≡ fitsServer n clients j (serverFrom ws)
   unfolding fitsServer
@@ -171,30 +167,30 @@ module _ (n clients : ℕ) (j : ServerId) (ws : List ℕ) (s : Server) (e : s �
     sound : server.valid (serverFrom ws) ≡ true
     sound = holds x (server.valid (serverFrom ws)) (p ∙ ap server.valid e) t
 
-    pub length-fits : holdsServer ws ≡ true → 5 + 2 * getD ws 4 0 ≤ length ws
-    unfolding serverFrom
-    length-fits h = omega (arith, queue-short (serverFrom ws) sound, server-held ws h .fitting .size)
+    pub length-fits : holdsServer ws ≡ true → recordHead + 2 * getD ws 4 0 ≤ length ws
+    unfolding serverHeadFrom
+    length-fits h = let P = valid-padded maxServers (serverFrom ws) sound in omega (arith, P .within, P .places .even, length-drop recordHead ws, server-held ws h .size)
 
     pub server-count-differs : (getD ws 0 0 ≡ n → ⊥) → false ≡ fitsServer n clients j (serverFrom ws)
-    unfolding fitsServer serverFrom
+    unfolding fitsServer serverHeadFrom
     server-count-differs h = rw (sound, ne-eqb (getD ws 0 0) n h)
 
     module _ (f : getD ws 0 0 ≡ n) where
       pub server-number-differs : (getD ws 1 0 ≡ j .0 → ⊥) → false ≡ fitsServer n clients j (serverFrom ws)
-      unfolding fitsServer serverFrom
+      unfolding fitsServer serverHeadFrom
       server-number-differs h = rw (sound, eq-eqb (getD ws 0 0) n f, ne-eqb (getD ws 1 0) (j .0) h)
 
       module _ (g : getD ws 1 0 ≡ j .0) where
         abbrev queue : List Request
-        queue = take (getD ws 4 0) (requestsIn (drop 5 ws))
+        queue = take (getD ws 4 0) (requestsIn (drop recordHead ws))
 
         pub owner-unknown : clients < getD ws 2 0 → false ≡ fitsServer n clients j (serverFrom ws)
-        unfolding fitsServer serverFrom
+        unfolding fitsServer serverHeadFrom
         owner-unknown h =
             rw (sound, eq-eqb (getD ws 0 0) n f, eq-eqb (getD ws 1 0) (j .0) g, named-owner clients (getD ws 2 0) (getD ws 3 0) queue, lt-leb (getD ws 2 0) clients h)
 
-        pub queue-decides : getD ws 2 0 ≤ clients → (y : Bool) → y ≡ every (namedPair clients) (take (getD ws 4 0) (requestsIn (drop 5 ws))) → y ≡ fitsServer n clients j (serverFrom ws)
-        unfolding fitsServer serverFrom
+        pub queue-decides : getD ws 2 0 ≤ clients → (y : Bool) → y ≡ every (namedPair clients) (take (getD ws 4 0) (requestsIn (drop recordHead ws))) → y ≡ fitsServer n clients j (serverFrom ws)
+        unfolding fitsServer serverHeadFrom
         queue-decides h y q =
             rw (sound, eq-eqb (getD ws 0 0) n f, eq-eqb (getD ws 1 0) (j .0) g, named-owner clients (getD ws 2 0) (getD ws 3 0) queue, le-leb (getD ws 2 0) clients h) q
 
@@ -202,8 +198,8 @@ module _ (n clients : ℕ) (j : ServerId) (ws : List ℕ) (s : Server) (e : s �
 pub few-servers : (n m clients : ℕ) (k : ClientId) (c : Client) → fitsClient n m clients k c ≡ true → n ≤ systemServers
 unfolding fitsClient
 few-servers n m clients k c h =
-    let (v, r) = both (client.valid c) (eqb (c .n) n && (eqb (c .m) m && (eqb (c .id .0) (k .0) && every (named clients) (client.view c .responses)))) h in
-    let e : c .n ≡ n = eqb-true (c .n) n (both (eqb (c .n) n) (eqb (c .m) m && (eqb (c .id .0) (k .0) && every (named clients) (client.view c .responses))) r .0) in
+    let (v, r) = both (client.valid c) (eqb (c .head .n) n && (eqb (c .head .m) m && (eqb (c .head .id .0) (k .0) && every (named clients) (client.view c .responses)))) h in
+    let e : c .head .n ≡ n = eqb-true (c .head .n) n (both (eqb (c .head .n) n) (eqb (c .head .m) m && (eqb (c .head .id .0) (k .0) && every (named clients) (client.view c .responses))) r .0) in
     let K = valid-known c v in
     omega (arith, K .few)
 
@@ -257,3 +253,10 @@ module _ (n clients : ℕ) (j : ServerId) (b : List ℕ) where
       pub server-decided : not x ≡ false → (y : Bool) → y ≡ fitsServer n clients j (serverFrom (serverRecord b)) → y ≡ validServerBlock n clients j b
       unfolding validServerBlock
       server-decided t y q = rw (l, le-leb (getD b 0 0) 1 h, holds x (holdsServer (serverRecord b)) p t) q
+
+-- the record that was read and lent is the record in the words
+pub client-lent : (ws : List ℕ) (h : ClientHead) → holdsClient ws ≡ true → h ≡ clientHeadFrom ws → client.clientOf h (take (clientSize - recordHead) (drop recordHead ws)) ≡ clientFrom ws
+client-lent ws h held e = rw (e, take-all (clientSize - recordHead) (drop recordHead ws) (omega (arith, length-drop recordHead ws, client-held ws held .size)))
+
+pub server-lent : (ws : List ℕ) (h : ServerHead) → holdsServer ws ≡ true → h ≡ serverHeadFrom ws → server.serverOf h (take (serverSize - recordHead) (drop recordHead ws)) ≡ serverFrom ws
+server-lent ws h held e = rw (e, take-all (serverSize - recordHead) (drop recordHead ws) (omega (arith, length-drop recordHead ws, server-held ws held .size)))

@@ -8,11 +8,13 @@ ghost use lib.Seq.{sets};
 ghost use lib.Dec.{eqb, leb};
 ghost use Rattle.ids.specs.Choice.{if_then_else_};
 ghost use Rattle.ids.specs.Lists.{every};
-ghost use Rattle.words.specs.Records.{requestsIn, holdsServer, serverFrom, serverWords, holdsClient, clientFrom, clientWords, clientSize};
+ghost use Rattle.words.specs.Records.{recordHead, maxWord, clientHeadFrom, serverHeadFrom, holdsServer, serverFrom, serverWords, holdsClient, clientFrom, clientWords, clientSize};
+ghost use Rattle.client.specs.Record as client;
+ghost use Rattle.server.specs.Record as server;
 ghost use Rattle.system.specs.Places.{inEpoch, isInside};
 ghost use Rattle.places.specs.Blocks.{clientRecord, flags, flagged, cleared, serverRecord, clientPlace, serverPlace, namedPair, fitsClient, fitsFlags, validClientBlock, fitsServer, validServerBlock, emptied, clientBlock, serverBlock};
 ghost use Rattle.system.specs.Limits.{systemServers};
-ghost use Rattle.votes.specs.Queues.{maxQueue};
+ghost use Rattle.rows.specs.Rows.{requestsIn};
 use ids::ClientId;
 use ids::Owner;
 use ids::ServerId;
@@ -48,12 +50,12 @@ fn at_most(words: &[u32], most: u32) -> bool
 
 // Whether the first `count` requests of a record's words are of clients 0 to `clients`.
 fn requests_named(words: &[u32], count: usize, clients: u32) -> bool
-    requires { ⌜ 5 + 2 * count ≤ length (now words) ⌝ }
-    ensures { λ r. ⌜ r ≡ every (namedPair clients) (take count (requestsIn (drop 5 (now (words .entry))))) ⌝ }
+    requires { ⌜ recordHead + 2 * count ≤ length (now words) ⌝ }
+    ensures { λ r. ⌜ r ≡ every (namedPair clients) (take count (requestsIn (drop recordHead (now (words .entry))))) ⌝ }
 {
     let mut i: usize = 0;
     while i < count {
-        if clients < words[5 + 2 * i] {
+        if clients < words[HEAD_WORDS + 2 * i] {
             return false;
         }
         i += 1;

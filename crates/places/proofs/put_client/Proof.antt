@@ -1,19 +1,24 @@
--- `places::put_client` meets its contract: the record is a part of the block, written over whole.
-use Rattle.words.specs.Records.{clientWords, clientSize}
+-- `places::put_client` meets its contract: head and row are two parts of the block, written one after the other.
 use denote.Ref.{now}
-use native.Mathlib.Omega.{arith}
-use Rattle.places.proofs.BlockParts.{part-stored, client-long}
+use Rattle.places.proofs.BlockParts.{client-put-back}
 use borrow.Author.Needs.{needs}
 use Rattle.places.proofs.put_client.Statement.{statement}
 use Rattle.places.proofs.put_client.Tie as tie
 
 returns : tie.Need-returns
-returns c = part-stored (now (c .before .before .before .before .before .before .args .b)) _ (clientWords (c .before .before .before .before .before .before .args .c)) 1 clientSize (omega (arith, c .before .before .before .before .before .before .pre)) (client-long (c .before .before .before .before .before .before .args .c) (c .before .before .before .before .sized .ensures)) (c .before .before .store-client .ensures)
+returns c =
+    let two = c .before .before in
+    let one = two .before .before .before .before in
+    let d = one .before .before .before .before in
+    client-put-back (now (d .args .b)) _ (d .args .h) (now (d .args .row)) _ (d .pre .0) (d .pre .1) (one .put-client-head .ensures) (two .copy .ensures)
 
 pub put-client-spec : {M : Type 1} → statement M
 put-client-spec =
     tie.close
     (tie.spec
+    (λ c. search needs)
+    (λ c. search needs)
+    (λ c. search needs)
     (λ c κs. search needs)
     (λ c. search needs)
     (λ c. search needs)

@@ -1,19 +1,24 @@
--- `places::put_server` meets its contract: the record is a part of the block, written over whole.
-use Rattle.words.specs.Records.{serverWords, serverSize}
+-- `places::put_server` meets its contract: head and row are two parts of the block, written one after the other.
 use denote.Ref.{now}
-use native.Mathlib.Omega.{arith}
-use Rattle.places.proofs.BlockParts.{part-stored, server-long}
+use Rattle.places.proofs.BlockParts.{server-put-back}
 use borrow.Author.Needs.{needs}
 use Rattle.places.proofs.put_server.Statement.{statement}
 use Rattle.places.proofs.put_server.Tie as tie
 
 returns : tie.Need-returns
-returns c = part-stored (now (c .before .before .before .before .before .before .before .before .args .b)) _ (serverWords (c .before .before .before .before .before .before .before .before .args .s)) 1 serverSize (omega (arith, c .before .before .before .before .before .before .before .before .pre .0)) (server-long (c .before .before .before .before .before .before .before .before .args .s) (c .before .before .before .before .sized .ensures)) (c .before .before .store-server .ensures)
+returns c =
+    let two = c .before .before in
+    let one = two .before .before .before .before in
+    let d = one .before .before .before .before in
+    server-put-back (now (d .args .b)) _ (d .args .h) (now (d .args .row)) _ (d .pre .0) (d .pre .1) (one .put-server-head .ensures) (two .copy .ensures)
 
 pub put-server-spec : {M : Type 1} → statement M
 put-server-spec =
     tie.close
     (tie.spec
+    (λ c. search needs)
+    (λ c. search needs)
+    (λ c. search needs)
     (λ c κs. search needs)
     (λ c. search needs)
     (λ c. search needs)

@@ -1,27 +1,27 @@
 -- `places::sink` meets its contract: the record of a server that forgot everything, then the first word.
-use Rattle.places.proofs.BlockParts.{sunk, empty-queue}
+use denote.Ref.{now}
+use lib.ListN.{replicate}
+use Rattle.server.specs.Record.{rowWords}
+use Rattle.places.proofs.BlockParts.{sunk, forgotten-short}
 use borrow.Author.Needs.{needs}
 use Rattle.places.proofs.sink.Statement.{statement}
 use Rattle.places.proofs.sink.Tie as tie
 
-server-record-requires : tie.Need-server-record-requires
-server-record-requires c κs = c .before .before .pre
-
-forgetful-requires : tie.Need-forgetful-requires
-forgetful-requires c κs = tt
-
 put-server-requires : tie.Need-put-server-requires
-put-server-requires c κs = (c .before .before .before .before .before .pre .0, empty-queue (c .before .before .server-record .result) _ (c .before .forgetful .ensures))
+put-server-requires c κs = let h = c .before .before .before in (h .before .before .before .pre .0, search needs, forgotten-short _ _ (c .before .forgetful .ensures))
 
 returns : tie.Need-returns
-returns c = sunk _ _ _ _ (c .before .before .before .before .before .server-record .ensures) (c .before .before .before .before .forgetful .ensures) (c .before .before .put-server .ensures)
+returns c =
+    let p = c .before .before in
+    sunk _ _ _ _ (p .before .before .before .before .server-head .ensures) (p .before .before .forgetful .ensures) (p .put-server .ensures)
 
 pub sink-spec : {M : Type 1} → statement M
 sink-spec =
     tie.close
     (tie.spec
-    server-record-requires
-    forgetful-requires
+    (λ c κs. search needs)
+    (λ c κs. search needs)
+    (λ c. search needs)
     put-server-requires
     (λ c. search needs)
     (λ c. search needs)
