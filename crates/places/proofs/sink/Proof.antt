@@ -8,7 +8,7 @@ use Rattle.places.proofs.sink.Statement.{statement}
 use Rattle.places.proofs.sink.Tie as tie
 
 put-server-requires : tie.Need-put-server-requires
-put-server-requires c κs = let h = c .before .before .before in (h .before .before .before .pre .0, search needs, forgotten-short _ _ (c .before .forgetful .ensures))
+put-server-requires c κs = let h = c .before .before .before in (h .before .before .before .pre .0, search needs, forgotten-short (h .server-head .result) _ (c .before .forgetful .ensures))
 
 returns : tie.Need-returns
 returns c =
