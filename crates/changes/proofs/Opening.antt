@@ -11,7 +11,7 @@ use lib.ListN.{length, getD, set, take, drop, replicate, length-set, length-drop
 use lib.Seq.{sets, length-sets, drop-drop, getD-set-same, getD-set-other, length-take-le}
 use borrow.Author.Tests.{eq-eqb, eqb-true, ltb-true, ltb-false, le-leb}
 use Rattle.ids.specs.Choice.{if_then_else_}
-use Rattle.ids.specs.Limits.{within, validClient}
+use Rattle.ids.specs.Limits.{within, validClient, maxClient}
 use Rattle.ids.specs.Lists.{every}
 use Rattle.ids.proofs.Choice.{both, decided}
 use Rattle.ids.proofs.LimitsLaws.{within-range}
@@ -34,7 +34,7 @@ use Rattle.places.specs.Blocks.{clientPlace, serverPlace, validClientBlock, val
 use Rattle.places.proofs.BlockParts.{covered}
 use Rattle.places.proofs.ClientLaws.{ClientIs, Frame}
 use Rattle.places.proofs.ClientSteps.{fresh-block}
-use Rattle.places.proofs.ServerLaws.{ServerIs, idle-block}
+use Rattle.places.proofs.ServerLaws.{ServerIs, idle-block, empty-row}
 use Rattle.transit.proofs.Kept.{valid-none, slots-none}
 use Rattle.layout.specs.Layout.{settingOf, clientWords, serverWords, transitWords, view, valid, validFrom, itself, blank, serversFrom, simulationSize, clientsSize, serversSize, transitFrom, clientsFrom}
 use Rattle.layout.specs.Parts.{clientBlockOf, serverBlockOf, ClientIn, ServerIn}
@@ -46,6 +46,7 @@ use Rattle.changes.proofs.Stores.{sets-over, client-block-from, server-
 use Rattle.system.specs.Limits.{systemClients, systemServers}
 use Rattle.transit.specs.Slots.{transitSize}
 use Rattle.system.specs.Numbered.{clientNo, serverNo}
+use Rattle.words.specs.Records.{maxWord}
 
 -- words that are all 0
 blank-is : (l : List ℕ) → blank l ≡ true → l ≡ replicate (length l) 0
@@ -129,11 +130,11 @@ module _ (n j : ℕ) (w : List ℕ) (h : ServerIn w (serverNo j)) where
   risen-in w₁ f = record { long = ap length f ∙ (length-sets w (serversFrom + serverBlock * (j - 1)) (set (serverBlockOf w (serverNo j)) 0 1) ∙ h .long); first = h .first; last = h .last }
 
 -- what `put_server` asks
-pub new-short : (n : ℕ) (j : ℕ) (s : ServerStepped) → s ≡ server.newResult n (record { 0 = j }) → s .server .votes .queue .len ≤ maxQueue
-unfolding server.newResult votes.queueOf
+pub new-short : (n : ℕ) (j : ℕ) (s : ServerStepped) → s ≡ server.newResult n (record { 0 = j }) → s .server .head .votes .len ≤ maxWord
+unfolding server.newResult
 new-short n j s e = rw e (by-test (server-sizes n (record { 0 = j })) _ _ (omega arith) (omega arith))
   where
-    by-test : (b : Bool) (x y : ServerStepped) → x .server .votes .queue .len ≤ maxQueue → y .server .votes .queue .len ≤ maxQueue → (if b then x else y) .server .votes .queue .len ≤ maxQueue
+    by-test : (b : Bool) (x y : ServerStepped) → x .server .head .votes .len ≤ maxWord → y .server .head .votes .len ≤ maxWord → (if b then x else y) .server .head .votes .len ≤ maxWord
     by-test true x y p q = p
     by-test false x y p q = q
 
@@ -310,7 +311,7 @@ module _ (n m f clients : ℕ) (ok : inRangeUpTo systemServers n m f ≡ true) w
   unfolding client.newResult clientPlace flagged
   fresh-client i h =
       let r = range n m f ok in
-      let v : validClient (record { 0 = suc i }) ≡ true = rw (le-leb 1 (suc i) (omega arith), le-leb (suc i) 65535 (omega arith)) in
+      let v : validClient (record { 0 = suc i }) ≡ true = rw (le-leb 1 (suc i) (omega arith), le-leb (suc i) maxClient (omega arith)) in
       rw (le-leb 1 n (omega (arith, r .some)), le-leb n systemServers (r .servers), le-leb 1 m (omega (arith, r .positive)), le-leb m n (r .threshold), v)
       (fresh-block n m clients (suc i) clientBase client-frame refl (record { some = omega (arith, r .some); few = r .servers; threshold = omega (arith, r .positive); reached = r .threshold; client = v }))
 
@@ -319,7 +320,7 @@ module _ (n m f clients : ℕ) (ok : inRangeUpTo systemServers n m f ≡ true) w
   fresh-server i h =
       let r = range n m f ok in
       let v : server-sizes n (record { 0 = suc i }) ≡ true = rw (le-leb 1 n (omega (arith, r .some)), le-leb n systemServers (r .servers), le-leb 1 (suc i) (omega arith), le-leb (suc i) n h) in
-      rw v (idle-block n clients (suc i) serverBase refl (omega arith) v)
+      rw (v, empty-row n (suc i)) (idle-block n clients (suc i) serverBase refl (omega arith) v)
 
 worst-none : (c : ℕ) (p : ClientPlace) → p .downs ≡ [] → worst (replicate c p) ≡ 0
 unfolding worst

@@ -23,7 +23,7 @@ use Rattle.responses.specs.Figure1 as client
 use Rattle.client.specs.Record.{store}
 use Rattle.responses.specs.Figure1.{isRemainder, lastTry}
 use Rattle.client.specs.declared.Client.{Client}
-use Rattle.words.specs.Records.{serverWords, clientWords, serverFrom, holdsServer}
+use Rattle.words.specs.Records.{serverWords, clientWords, serverFrom, holdsServer, serverHeadFrom}
 use Rattle.system.specs.Places.{clientAt, serverAt, worst}
 use Rattle.system.proofs.PlaceLaws.{worst-at}
 use Rattle.places.specs.Blocks.{clientPlace, serverPlace, flags, flagged, zeroWord, named, validClientBlock, validServerBlock, serverRecord, serverBlock, clientBlock}
@@ -40,6 +40,7 @@ use Rattle.changes.specs.Changes.{Becomes, HasClient, HasServer, withCli
 use Rattle.changes.proofs.Becoming.{sound, few-clients, client-valid, server-valid, client-becomes, server-becomes}
 use Rattle.system.specs.Limits.{systemClients}
 use Rattle.system.specs.Numbered.{clientNo, serverNo}
+use Rattle.server.specs.declared.Head.{Head}
 
 -- server j's record
 module _ (w : List ℕ) (j : ℕ) (H : HasServer w (serverNo j)) where
@@ -85,9 +86,9 @@ module _ (w : List ℕ) (j : ServerId) (H : HasServer w j) where
   pub record-held : holdsServer (serverRecord (serverBlockOf w j)) ≡ true
   record-held = server-facts (settingOf w .n) (settingOf w .clients) (j .0) (serverBlockOf w j) (server-block w (j .0) H) .held
 
-  pub owner-is : (s : Server) → s ≡ serverFrom (serverRecord (serverBlockOf w j)) → s .votes .owner ≡ serverAt (view w) j .state .owner
+  pub owner-is : (h : Head) → h ≡ serverHeadFrom (serverRecord (serverBlockOf w j)) → h .votes .owner ≡ serverAt (view w) j .state .owner
   unfolding serverPlace
-  owner-is s k = rw (k, server-is w (j .0) H)
+  owner-is h k = rw (k, server-is w (j .0) H)
 
 -- no server counts: no flag is set
 unflagged : (j : ℕ) (l : List ℕ) → flagged j l ≡ [] → every zeroWord l ≡ true
