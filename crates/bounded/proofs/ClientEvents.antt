@@ -6,7 +6,7 @@ use mathlib.Core.Bool.{Bool, true, false, not}
 use mathlib.Core.List.{List, []}
 use mathlib.Core.Logic.{⊎-elim}
 use lib.Dec.{leb}
-use lib.ListN.{length}
+use lib.ListN.{length, drop}
 use lib.Seq.{sets, set-set}
 use borrow.Author.Tests.{le-leb, leb-false, lt-ltb}
 use Rattle.ids.specs.declared.ClientId.{ClientId}
@@ -18,11 +18,11 @@ use Rattle.wire.specs.declared.Answer.{Answer}
 use Rattle.wire.specs.declared.Answer.the-variants as answer
 use Rattle.responses.specs.Figure1 as client
 use Rattle.responses.specs.Figure1.{enough, isRemainder, isCritical, lastTry}
-use Rattle.client.specs.Record.{store, view as shown}
+use Rattle.client.specs.Record.{store, view as shown, clientOf}
 use Rattle.client.specs.Calls.{clientAfter, result, beginOutcome, exitOutcome}
 use Rattle.client.specs.declared.Client.{Client}
 use Rattle.client.specs.declared.Stepped.{Stepped}
-use Rattle.words.specs.Records.{holdsClient, clientFrom, clientWords}
+use Rattle.words.specs.Records.{holdsClient, clientFrom, clientWords, clientHeadFrom, recordHead}
 use Rattle.system.specs.declared.Event.{Event}
 use Rattle.system.specs.declared.Event.the-variants.{Try, Exit}
 use Rattle.system.specs.Numbered.{has, put, at, clientNo}
@@ -35,7 +35,7 @@ use Rattle.transit.specs.Slots.{messagesIn}
 use Rattle.places.specs.Blocks.{clientRecord, clientPlace, clientBlock}
 use Rattle.places.proofs.Facts.{ClientBlock, client-facts}
 use Rattle.places.proofs.ClientSteps.{begin-outcome, exit-outcome, client-after}
-use Rattle.layout.specs.Layout.{settingOf, lengthOf, view}
+use Rattle.layout.specs.Layout.{settingOf, lengthOf, view, clientsFrom}
 use Rattle.layout.specs.Parts.{clientBlockOf}
 use Rattle.layout.proofs.PlaceLaws.{client-there}
 use Rattle.bounded.specs.declared.Moved.the-variants.{Sent, Refused}
@@ -46,6 +46,9 @@ use Rattle.bounded.proofs.Leaving.{leaves-refused}
 use Rattle.changes.proofs.SentLaws.{Sends, tries-sends, exits-sends}
 use Rattle.changes.proofs.Storing.{client-block, client-is, tries-stored, exits-stored}
 use Rattle.bounded.proofs.Sending.{Call, call-refused, call-sendable, call-sent, call-noted, steps-by, called, roomy, view-all, and-then}
+use Rattle.client.specs.declared.Head.{Head}
+use Rattle.client.specs.declared.Turned.{Turned}
+use Rattle.client.specs.Steps.{Answers}
 
 -- Client k's call was accepted: its step p is event e, its messages join T, and d are the servers down in its epoch.
 pub record ClientCalled (w : List ℕ) (e : Event) (k : ClientId) (gone : ℕ) (T : List InTransit) (d : List ℕ) (p : Step client.State) (r : Stepped) (bytes : List ℕ) : Type 0 where
@@ -109,14 +112,6 @@ module _ (w : List ℕ) (k : ClientId) (H : HasClient w k) where
   pub place-state : clientPlace (clientBlockOf w k) .state ≡ clientAt (view w) k .state
   place-state = ap (λ (c : ClientPlace). c .state) (sym (client-is w (k .0) H))
 
-  its-section : its .section ≡ state .section
-  unfolding shown
-  its-section = ap (λ (s : client.State). s .section) its-state
-
-  its-timestamp : its .timestamp ≡ state .timestamp
-  unfolding shown
-  its-timestamp = ap (λ (s : client.State). s .timestamp) its-state
-
   -- after a store of client k's place
   at-put : (u : System) (p : ClientPlace) → has (u .clients) (k .0) ≡ true → clientAt (withClient u k p) k ≡ p
   at-put u p h = put-numbered noClient (u .clients) (k .0) p h .here
@@ -150,11 +145,11 @@ module _ (w : List ℕ) (k : ClientId) (H : HasClient w k) where
   -- a try
   begin-elsewhere : isRemainder (state .section) ≡ false → beginOutcome its ≡ refused WrongSection
   unfolding beginOutcome
-  begin-elsewhere h = rw (its-facts .valid, its-section, h)
+  begin-elsewhere h = rw (its-facts .valid, its-state, h)
 
   begin-spent : isRemainder (state .section) ≡ true → leb (state .timestamp .0) lastTry ≡ false → beginOutcome its ≡ refused TimestampsSpent
   unfolding beginOutcome
-  begin-spent h t = rw (its-facts .valid, its-section, h, its-timestamp, lt-ltb lastTry (state .timestamp .0) (leb-false (state .timestamp .0) lastTry t))
+  begin-spent h t = rw (its-facts .valid, its-state, h, t)
 
   module _ (lives : clientAt (view w) k .living ≡ true) (s : Client) (q : s ≡ clientFrom (clientRecord (clientBlockOf w k))) (r : Stepped) (bytes bytes′ : List ℕ) (long : length bytes ≡ outBytes)
       (f : r ≡ result s (withRoom (length bytes) (beginOutcome s))) (g : bytes′ ≡ sentInto bytes (withRoom (length bytes) (beginOutcome s))) where
@@ -210,7 +205,7 @@ module _ (w : List ℕ) (k : ClientId) (H : HasClient w k) where
       abbrev trying : ClientPlace
       trying = record { living = clientAt (view w) k .living; state = client.tries (settingOf w .n) k state .state; downs = clientAt (view w) k .downs }
 
-      module _ (w₁ : List ℕ) (z : w₁ ≡ sets w (7 + clientBlock * (k .0 - 1)) (sets (clientBlockOf w k) 1 (clientWords (r .client)))) where
+      module _ (w₁ : List ℕ) (z : w₁ ≡ sets w (clientsFrom + clientBlock * (k .0 - 1)) (sets (clientBlockOf w k) 1 (clientWords (r .client)))) where
         begin-stored : Becomes w w₁ (withClient (view w) k trying)
         begin-stored = tries-stored w (k .0) H (r .client) w₁ z remainder unspent (begin-accepted .client)
 
@@ -239,7 +234,7 @@ module _ (w : List ℕ) (k : ClientId) (H : HasClient w k) where
   -- an exit
   exit-outside : isCritical (state .section) ≡ false → exitOutcome its ≡ refused WrongSection
   unfolding exitOutcome
-  exit-outside h = rw (its-facts .valid, its-section, h)
+  exit-outside h = rw (its-facts .valid, its-state, h)
 
   module _ (lives : clientAt (view w) k .living ≡ true) (s : Client) (q : s ≡ clientFrom (clientRecord (clientBlockOf w k))) (r : Stepped) (bytes bytes′ : List ℕ) (long : length bytes ≡ outBytes)
       (f : r ≡ result s (withRoom (length bytes) (exitOutcome s))) (g : bytes′ ≡ sentInto bytes (withRoom (length bytes) (exitOutcome s))) where
@@ -280,9 +275,18 @@ module _ (w : List ℕ) (k : ClientId) (H : HasClient w k) where
       leaving = record { living = clientAt (view w) k .living; state = clientAt (view w) k .state; downs = [] }
 
       pub exit-stored : (w₁ : List ℕ) → Becomes w w₁ (withClient (view w) k (record { living = clientAt (view w) k .living; state = clientAt (view w) k .state; downs = [] }))
-          → (w₂ : List ℕ) → w₂ ≡ sets w₁ (7 + clientBlock * (k .0 - 1)) (sets (clientBlockOf w₁ k) 1 (clientWords (r .client)))
+          → (w₂ : List ℕ) → w₂ ≡ sets w₁ (clientsFrom + clientBlock * (k .0 - 1)) (sets (clientBlockOf w₁ k) 1 (clientWords (r .client)))
           → Becomes w w₂ (withClient (withTransit (view w) (view w .transit)) k (record { living = clientAt (view w) k .living; state = client.exits (settingOf w .n) k (clientAt (view w) k .state) .state; downs = [] }))
       exit-stored w₁ B w₂ z =
           let here = now-at w₁ leaving B in
           let D = exits-stored w₁ (k .0) (still-client B H) (r .client) w₂ z (rw here) (rw (B .setting, here) (exit-accepted .client)) in
           stored-twice leaving (λ c. record { living = c .living; state = client.exits (settingOf w .n) k (c .state) .state; downs = c .downs }) w₁ w₂ B (rw (B .setting) at D)
+
+-- what a call on head and row hands back, as a record by value
+module _ (h : Head) (row : List ℕ) (x : Outcome client.State) (o : List ℕ) (t : Turned) (after l : List ℕ) (A : Answers h row x o t after l) where
+  pub turned-record : _≡_ {A = Stepped} (record { client = clientOf (t .head) after; answer = t .answer }) (result (clientOf h row) (withRoom (length o) x))
+  turned-record = let p = A .0 in let q = A .1 in λ i. record { client = clientOf (p i .head) (q i); answer = p i .answer }
+
+-- the record whose head and row were read
+pub client-read : (h : Head) (row ws : List ℕ) → h ≡ clientHeadFrom ws → row ≡ drop recordHead ws → clientOf h row ≡ clientFrom ws
+client-read h row ws p q = λ i. clientOf (p i) (q i)

@@ -30,9 +30,12 @@ use Rattle.transit.proofs.PostLaws.{messages-read-buffer}
 use Rattle.layout.specs.Layout.{settingOf, lengthOf, sentOf, transitWords, view, valid}
 use Rattle.bounded.specs.declared.Moved.the-variants.{Sent, Refused}
 use Rattle.bounded.specs.Happens.{happens, Leaves, movedOf}
-use Rattle.changes.specs.Changes.{Becomes, Sendable, hasRoom, sending, outBytes}
+use Rattle.changes.specs.Changes.{Becomes, Sendable, hasRoom, sending, outBytes, CanSend}
 use Rattle.bounded.proofs.Leaving.{after-is}
 use Rattle.changes.proofs.SentLaws.{Sends}
+use Rattle.changes.proofs.Posting.{view-long, view-sent, length-numbered}
+use Rattle.server.specs.declared.Ruling.{Ruling}
+use Rattle.server.specs.declared.Ruling.the-variants.{Done, Refused as NotDone}
 
 -- an event's step s, accepted but for the room, sends l where `gone` messages are gone
 pub record Steps (w : List ℕ) (e : Event) (gone : ℕ) (l : List Message) (s : Step System) : Type 0 where
@@ -46,16 +49,8 @@ by-list : (l : List Message) (b : Bool) (x y : Result) → (if nothing l then x 
 by-list [] b x y = refl
 by-list (m ∷ l) b x y = rw (ne-eqb (length (m ∷ l)) 0 (λ h. omega arith))
 
-view-long : (w : List ℕ) → length (view w .transit) ≡ lengthOf w
-unfolding view
-view-long w = length-slots (lengthOf w) (transitWords w)
-
 pub view-all : (w : List ℕ) → length (view w .transit) ≡ lengthOf w - 0
 view-all w = omega (arith, view-long w)
-
-view-sent : (w : List ℕ) → view w .sent ≡ sentOf w
-unfolding view
-view-sent w = refl
 
 module _ (w : List ℕ) (e : Event) (gone : ℕ) (l : List Message) (s : Step System) (S : Steps w e gone l s) where
   its-room : eqb (length (s .sent)) 0 || (leb (length (s .state .transit)) systemMessages && leb (s .state .sent) lastNumber) ≡ hasRoom w gone (length l)
@@ -95,15 +90,23 @@ module _ (w : List ℕ) (e : Event) (gone : ℕ) (l : List Message) (s : Step Sy
         let b : sentOf w₂ ≡ sentOf w = sym (view-sent w₂) ∙ (ap (λ (x : System). x .sent) (B .system) ∙ (g ∙ view-sent w)) in
         record { valid = B .again; whole = ap length m; room = rw (a, b) h; named = rw (B .setting, m) (S .sends .named) }
 
+    -- the same of messages that are values
+    pub can-send : (w₂ : List ℕ) (u : System) → Becomes w w₂ u → length (u .transit) ≡ lengthOf w - gone → u .sent ≡ view w .sent → CanSend w₂ l
+    unfolding hasRoom
+    can-send w₂ u B f g =
+        let a : lengthOf w₂ - 0 ≡ lengthOf w - gone = omega (arith, view-long w₂, ap (λ (x : System). length (x .transit)) (B .system)) in
+        let b : sentOf w₂ ≡ sentOf w = sym (view-sent w₂) ∙ (ap (λ (x : System). x .sent) (B .system) ∙ (g ∙ view-sent w)) in
+        record { valid = B .again; room = rw (a, b) h; named = rw (B .setting) (S .sends .named); range = S .sends .range }
+
 -- one change after another
 pub and-then : {w w₁ w₂ : List ℕ} {u : System} (f : System → System) → Becomes w w₁ u → Becomes w₁ w₂ (f (view w₁)) → Becomes w w₂ (f u)
 and-then f a b = record { system = b .system ∙ ap f (a .system); setting = b .setting ∙ a .setting; again = b .again }
 
--- a call whose outcome is step p, in a buffer of 512 bytes
+-- a call whose outcome is step p, in a buffer of so many bytes as an event's step has
 module _ {A : Type 0} (n clients : ℕ) (o : Outcome A) (p : Step A) (is : o ≡ stepped p) (S : Sends n clients (p .sent)) (bytes : List ℕ) (long : length bytes ≡ outBytes) where
   pub roomy : withRoom (length bytes) o ≡ stepped p
   unfolding withRoom
-  roomy = rw (is, long, le-ltb systemMessages (sizeOfAll (p .sent)) (S .small))
+  roomy = rw (is, long, le-ltb outBytes (sizeOfAll (p .sent)) (S .small))
 
   sent-bytes : (bytes′ : List ℕ) → bytes′ ≡ sentInto bytes (withRoom (length bytes) o) → messagesIn (length (p .sent)) bytes′ ≡ p .sent
   sent-bytes bytes′ e =
@@ -158,12 +161,6 @@ module _ {w : List ℕ} {e : Event} {gone : ℕ} {l : List Message} {s : Step Sy
             → Leaves w e w₂ × (Sent count ≡ movedOf (happens w e))
         call-noted w₁ w₂ u B D q = rw call-count (leaves-sent w e gone l s (C .steps) has-room w₂ (rw (← q) at (sent-after w₁ w₂ u B D)))
 
--- as many messages are numbered as are sent
-length-numbered : (i : ℕ) (l : List Message) → length (numbered i l) ≡ length l
-unfolding numbered
-length-numbered i [] = refl
-length-numbered i (m ∷ l) = ap suc (length-numbered (suc i) l)
-
 -- a step of a party whose messages join T
 pub steps-by : (w : List ℕ) (e : Event) (gone : ℕ) (T : List InTransit) (l : List Message) (s : Step System) → event (settingOf w .n) (enough (settingOf w .m)) (view w) e ≡ stepped s
     → length T ≡ lengthOf w - gone → s .sent ≡ l → s .state .transit ≡ T ++ numbered (view w .sent) l → s .state .sent ≡ view w .sent + length l → Sends (settingOf w .n) (settingOf w .clients) l → Steps w e gone l s
@@ -186,3 +183,44 @@ called w e gone o p s ok S is a bytes bytes′ long f g =
       answered = f ∙ ap answerOf (roomy (settingOf w .n) (settingOf w .clients) o p is (S .sends) bytes long);
       written = sent-bytes (settingOf w .n) (settingOf w .clients) o p is (S .sends) bytes long bytes′ g;
     }
+
+-- A server's call on a row was accepted: it is done, and its messages ms are those of the event's step s.
+pub record Ruled (w : List ℕ) (e : Event) (l : List Message) (s : Step System) (x : Ruling) (ms : List Message) : Type 0 where
+  pub ok : valid w ≡ true
+  pub steps : Steps w e 0 l s
+  pub done : x ≡ Done
+  pub told : ms ≡ l
+
+module _ {w : List ℕ} {e : Event} {l : List Message} {s : Step System} {x : Ruling} {ms : List Message} (C : Ruled w e l s x ms) where
+  pub ruled-refused : {P : Type 0} (y : Refusal) → x ≡ NotDone y → P
+  ruled-refused y f =
+      let g = C .done in
+      let z : _≡_ {A = ℕ} 0 1 = cc in
+      absurd (omega arith)
+
+  module _ (count : ℕ) (f : count ≡ length ms) where
+    ruled-count : count ≡ length l
+    ruled-count = f ∙ ap length (C .told)
+
+    pub ruled-few : count ≤ systemServers
+    ruled-few = omega (arith, ruled-count, C .steps .sends .few)
+
+    module _ (r : Bool) (h : r ≡ hasRoom w 0 count) where
+      pub ruled-full : not r ≡ true → Leaves w e w × (Refused SystemFull ≡ movedOf (happens w e))
+      ruled-full t =
+          let g : hasRoom w 0 (length l) ≡ false = rw ruled-count at (sym h ∙ not-true r t) in
+          leaves-full w e 0 l s (C .steps) (C .ok) g
+
+      module _ (t : not r ≡ false) where
+        roomy-for : hasRoom w 0 (length l) ≡ true
+        roomy-for = rw ruled-count at (sym h ∙ not-false r t)
+
+        pub ruled-sendable : (w₁ : List ℕ) (u : System) → Becomes w w₁ u → length (u .transit) ≡ lengthOf w - 0 → u .sent ≡ view w .sent → CanSend w₁ ms
+        ruled-sendable w₁ u B p q = rw (C .told) (can-send w e 0 l s (C .steps) roomy-for w₁ u B p q)
+
+        -- the step's system is u with the messages sent
+        pub ruled-sent : (w₁ w₂ : List ℕ) (u : System) → Becomes w w₁ u → Becomes w₁ w₂ (sending (view w₁) ms) → s .state ≡ sending u l → u .most ≡ view w .most
+            → Leaves w e w₂ × (Sent count ≡ movedOf (happens w e))
+        ruled-sent w₁ w₂ u B D q m =
+            let E : Becomes w w₂ (sending u l) = and-then (λ y. sending y l) B (rw (C .told) at D) in
+            rw ruled-count (leaves-stepped w e 0 l s (C .steps) roomy-for (ap (λ (y : System). y .most) q ∙ m) w₂ (rw (← q) at E))

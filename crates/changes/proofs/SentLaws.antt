@@ -34,15 +34,16 @@ use Rattle.transit.specs.Slots.{names}
 use Rattle.sends.proofs.ClientSends as of-client
 use Rattle.sends.proofs.ServerSends as of-server
 use Rattle.sends.proofs.ServerSends.{Knows, good-knows}
-use Rattle.system.specs.Limits.{systemServers, systemMessages}
+use Rattle.system.specs.Limits.{systemServers}
 use Rattle.system.specs.Numbered.{clientNo, serverNo}
+use Rattle.changes.specs.Changes.{outBytes}
 
 -- messages that a simulation with n servers and so many clients can send
 pub record Sends (n clients : ℕ) (l : List Message) : Type 0 where
   pub range : every format.valid l ≡ true
   pub named : every (names n clients) l ≡ true
   pub few : length l ≤ systemServers
-  pub small : sizeOfAll l ≤ systemMessages
+  pub small : sizeOfAll l ≤ outBytes
 
 few-sends : (n clients : ℕ) (l : List Message) → n ≤ systemServers → every format.valid l ≡ true → every (names n clients) l ≡ true → of-client.AtMost n l → Sends n clients l
 few-sends n clients l h v d a = record { range = v; named = d; few = omega (arith, a .few); small = omega (arith, a .small) }
