@@ -1,83 +1,106 @@
 -- `acts::ask` meets its contract: the call is accepted, and what it sends has room or is refused 19.
+-- A section for each place on the way says what holds there; the needs below it cite these.
 use denote.Ref.{now}
 use native.Mathlib.Omega.{arith}
-use Prim.Native.Nat.{zero-le}
-use mathlib.Core.Path.{refl}
-use lib.ListN.{replicate}
+use Prim.Native.Nat.{ℕ, zero-le}
+use mathlib.Core.Path.{_≡_}
+use mathlib.Core.List.{List}
+use Rattle.votes.specs.Figure1 as votes
+use Rattle.server.specs.Record.{serverOf}
+use Rattle.words.specs.Records.{serverFrom}
+use Rattle.system.specs.Places.{serverAt}
+use Rattle.system.specs.declared.Event.the-variants.{Check}
+use Rattle.places.specs.Blocks.{serverRecord}
+use Rattle.layout.specs.Layout.{view}
+use Rattle.layout.specs.Parts.{serverBlockOf}
 use Rattle.changes.proofs.Parties.{server-in}
-use Rattle.bounded.proofs.Sending.{call-refused, call-few, call-full}
 use Rattle.changes.proofs.Storing.{record-held}
-use Rattle.bounded.proofs.ServerEvents.{ask-called, ask-stored, server-sendable, server-sent}
+use Rattle.bounded.proofs.Sending.{ruled-refused, ruled-few, ruled-full}
+use Rattle.bounded.proofs.ServerEvents.{ServerCalled, server-read, ask-called, ask-stored, server-sendable, server-sent}
 use borrow.Author.Needs.{needs}
 use Rattle.acts.proofs.ask.Statement.{statement}
 use Rattle.acts.proofs.ask.Tie as tie
-use Rattle.changes.specs.Changes.{outBytes}
 
-server-record-requires : tie.Need-server-record-requires
-server-record-requires c κs =
-    let d = c .before .before in
-    (server-in (now (d .args .w)) (d .args .j .0) (d .pre .0), record-held (now (d .args .w)) (d .args .j) (d .pre .0))
+-- at entry
+module _ (c : tie.Start) where
+  abbrev words : List ℕ
+  words = now (c .args .w)
+
+-- the call is made
+module _ (c : tie.After-check-row) where
+  abbrev entry : tie.Start
+  entry = c .before .before .before .before .before .before .before .before .before
+
+  read : serverOf (c .before .before .server-head .result) (c .before .before .before .before .before .server-row .last .1 .1 .0) ≡ serverFrom (serverRecord (serverBlockOf (words entry) (entry .args .j)))
+  read = server-read _ _ _ (c .before .before .server-head .ensures) (c .before .before .before .before .before .server-row .ensures)
+
+  called : ServerCalled (words entry) (Check (entry .args .j)) (entry .args .j) (view (words entry) .transit) (votes.check (entry .args .j) (serverAt (view (words entry)) (entry .args .j) .state)) (c .check-row .result) (c .before .before .before .before .before .server-row .last .1 .1 .0)
+  called = ask-called (words entry) (entry .args .j) (entry .pre .0) (entry .pre .1) _ _ read _ _ (c .check-row .ensures)
+
+server-row-requires : tie.Need-server-row-requires
+server-row-requires c κs = let d = c .before .before .before in (server-in _ _ (d .pre .0), search needs)
+
+server-head-requires : tie.Need-server-head-requires
+server-head-requires c κs = let d = c .before .before .before .before .before .before in (server-in _ _ (d .pre .0), record-held _ (d .args .j) (d .pre .0))
 
 has-room-requires : tie.Need-has-room-requires
 has-room-requires c κs =
-    let d = c .before .before .before .before .before .before .before .before .before .before in
-    let C = ask-called (now (d .args .w)) (d .args .j) (d .pre .0) (d .pre .1) _ (c .before .before .before .before .before .before .before .server-record .ensures) _ (replicate outBytes 0) _ refl (c .before .before .before .before .before .check .ensures .0) (c .before .before .before .before .before .check .ensures .1) in
-    (d .pre .0 .valid, zero-le, omega (arith, call-few (C .call) _ _ (c .before .before .answer2 .given .1)))
+    let m = c .before .before .before .before in
+    (entry m .pre .0 .valid, zero-le, omega (arith, ruled-few (called m .ruled) _ (c .before .counts .ensures)))
 
 returns : tie.Need-returns
 returns c =
-    let d = c .before .before .before .before .before .before .before .before .before .before .before .before in
-    let C = ask-called (now (d .args .w)) (d .args .j) (d .pre .0) (d .pre .1) _ (c .before .before .before .before .before .before .before .before .before .server-record .ensures) _ (replicate outBytes 0) _ refl (c .before .before .before .before .before .before .before .check .ensures .0) (c .before .before .before .before .before .before .before .check .ensures .1) in
-    call-full (C .call) _ _ (c .before .before .before .before .answer2 .given .1) _ (c .before .has-room .ensures) (c .if1 .taken)
+    let m = c .before .before .before .before .before .before in
+    ruled-full (called m .ruled) _ (c .before .before .before .counts .ensures) _ (c .before .has-room .ensures) (c .if1 .taken)
 
 put-server-requires : tie.Need-put-server-requires
 put-server-requires c κs =
-    let d = c .before .before .before .before .before .before .before .before .before .before .before .before .before in
-    let C = ask-called (now (d .args .w)) (d .args .j) (d .pre .0) (d .pre .1) _ (c .before .before .before .before .before .before .before .before .before .before .server-record .ensures) _ (replicate outBytes 0) _ refl (c .before .before .before .before .before .before .before .before .check .ensures .0) (c .before .before .before .before .before .before .before .before .check .ensures .1) in
-    (server-in (now (d .args .w)) (d .args .j .0) (d .pre .0), C .short)
+    let m = c .before .before .before .before .before .before .before .before in
+    (server-in _ _ (entry m .pre .0), search needs, called m .short)
 
-send-requires : tie.Need-send-requires
-send-requires c κs =
-    let d = c .before .before .before .before .before .before .before .before .before .before .before .before .before .before .before .before .before .before in
-    let C = ask-called (now (d .args .w)) (d .args .j) (d .pre .0) (d .pre .1) _ (c .before .before .before .before .before .before .before .before .before .before .before .before .before .before .before .server-record .ensures) _ (replicate outBytes 0) _ refl (c .before .before .before .before .before .before .before .before .before .before .before .before .before .check .ensures .0) (c .before .before .before .before .before .before .before .before .before .before .before .before .before .check .ensures .1) in
-    let B = ask-stored (now (d .args .w)) (d .args .j) (d .pre .0) (d .pre .1) _ (c .before .before .before .before .before .before .before .before .before .before .before .before .before .before .before .server-record .ensures) _ (replicate outBytes 0) _ refl (c .before .before .before .before .before .before .before .before .before .before .before .before .before .check .ensures .0) (c .before .before .before .before .before .before .before .before .before .before .before .before .before .check .ensures .1) _ (c .before .before .before .before .put-server .ensures) in
-    server-sendable C _ _ (c .before .before .before .before .before .before .before .before .before .before .answer2 .given .1) _ (c .before .before .before .before .before .before .before .has-room .ensures) (c .before .before .before .before .before .before .if1 .left) _ B
+send-mails-requires : tie.Need-send-mails-requires
+send-mails-requires c κs =
+    let m = c .before .before .before .before .before .before .before .before .before .before .before .before in
+    let d = entry m in
+    let B = ask-stored (words d) (d .args .j) (d .pre .0) (d .pre .1) _ _ (read m) _ _ (m .check-row .ensures) _ (c .before .before .before .put-server .ensures) in
+    server-sendable (called m) _ (c .before .before .before .before .before .before .before .before .before .counts .ensures) _ (c .before .before .before .before .before .before .before .has-room .ensures) (c .before .before .before .before .before .before .if1 .left) _ B
 
-cast-t26 : tie.Need-cast-t26
-cast-t26 c =
-    let d = c .before .before .before .before .before .before .before .before .before .before .before .before .before .before .before .before .before .before .before .before .before in
-    let C = ask-called (now (d .args .w)) (d .args .j) (d .pre .0) (d .pre .1) _ (c .before .before .before .before .before .before .before .before .before .before .before .before .before .before .before .before .before .before .server-record .ensures) _ (replicate outBytes 0) _ refl (c .before .before .before .before .before .before .before .before .before .before .before .before .before .before .before .before .check .ensures .0) (c .before .before .before .before .before .before .before .before .before .before .before .before .before .before .before .before .check .ensures .1) in
-    record { fits = omega (arith, call-few (C .call) _ _ (c .before .before .before .before .before .before .before .before .before .before .before .before .before .answer2 .given .1)) }
+cast-t34 : tie.Need-cast-t34
+cast-t34 c =
+    let m = c .before .before .before .before .before .before .before .before .before .before .before .before .before .before .before in
+    record { fits = omega (arith, ruled-few (called m .ruled) _ (c .before .before .before .before .before .before .before .before .before .before .before .before .counts .ensures)) }
 
 returns-2 : tie.Need-returns-2
 returns-2 c =
-    let d = c .before .before .before .before .before .before .before .before .before in
-    let C = ask-called (now (d .args .w)) (d .args .j) (d .pre .0) (d .pre .1) _ (c .before .before .before .before .before .before .server-record .ensures) _ (replicate outBytes 0) _ refl (c .before .before .before .before .check .ensures .0) (c .before .before .before .before .check .ensures .1) in
-    call-refused (C .call) _ (c .before .answer .given .1)
+    let m = c .before .before .before in
+    ruled-refused (called m .ruled) _ (c .before .ruling .given .1)
 
 returns-3 : tie.Need-returns-3
 returns-3 c =
-    let d = c .before .before .before .before .before .before .before .before .before .before .before .before .before .before .before .before .before .before .before .before .before in
-    let C = ask-called (now (d .args .w)) (d .args .j) (d .pre .0) (d .pre .1) _ (c .before .before .before .before .before .before .before .before .before .before .before .before .before .before .before .before .before .before .server-record .ensures) _ (replicate outBytes 0) _ refl (c .before .before .before .before .before .before .before .before .before .before .before .before .before .before .before .before .check .ensures .0) (c .before .before .before .before .before .before .before .before .before .before .before .before .before .before .before .before .check .ensures .1) in
-    let B = ask-stored (now (d .args .w)) (d .args .j) (d .pre .0) (d .pre .1) _ (c .before .before .before .before .before .before .before .before .before .before .before .before .before .before .before .before .before .before .server-record .ensures) _ (replicate outBytes 0) _ refl (c .before .before .before .before .before .before .before .before .before .before .before .before .before .before .before .before .check .ensures .0) (c .before .before .before .before .before .before .before .before .before .before .before .before .before .before .before .before .check .ensures .1) _ (c .before .before .before .before .before .before .before .put-server .ensures) in
-    server-sent C _ _ (c .before .before .before .before .before .before .before .before .before .before .before .before .before .answer2 .given .1) _ (c .before .before .before .before .before .before .before .before .before .before .has-room .ensures) (c .before .before .before .before .before .before .before .before .before .if1 .left) _ B _ (c .before .before .send .ensures)
+    let m = c .before .before .before .before .before .before .before .before .before .before .before .before .before .before .before in
+    let d = entry m in
+    let B = ask-stored (words d) (d .args .j) (d .pre .0) (d .pre .1) _ _ (read m) _ _ (m .check-row .ensures) _ (c .before .before .before .before .before .before .put-server .ensures) in
+    server-sent (called m) _ (c .before .before .before .before .before .before .before .before .before .before .before .before .counts .ensures) _ (c .before .before .before .before .before .before .before .before .before .before .has-room .ensures) (c .before .before .before .before .before .before .before .before .before .if1 .left) _ B _ (c .before .before .send-mails .ensures)
 
 pub ask-spec : {M : Type 1} → statement M
 ask-spec =
     tie.close
     (tie.spec
-    server-record-requires
+    (λ c. search needs)
+    server-row-requires
+    server-head-requires
     (λ c. search needs)
     (λ c κs. search needs)
     (λ c. search needs)
     (λ c. search needs)
+    (λ c κs. search needs)
     has-room-requires
     (λ c. search needs)
     returns
-    put-server-requires
     (λ c. search needs)
-    send-requires
-    cast-t26
+    put-server-requires
+    send-mails-requires
+    cast-t34
     (λ c. search needs)
     returns-2
     (λ c. search needs)
