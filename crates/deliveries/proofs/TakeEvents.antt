@@ -7,10 +7,10 @@ use mathlib.Core.List.{List}
 use mathlib.Core.Logic.{⊎-elim}
 use mathlib.Core.Option.{none}
 use lib.Dec.{leb, ltb}
-use lib.ListN.{length, take, drop, length-drop}
+use lib.ListN.{length}
 use lib.Seq.{sets}
 use borrow.Author.Tests.{le-leb, ltb-true, ltb-false}
-use Rattle.ids.specs.Limits.{validRequest, validOwner}
+use Rattle.ids.specs.Limits.{maxServers, validRequest, validOwner}
 use Rattle.ids.specs.declared.ClientId.{ClientId}
 use Rattle.ids.specs.declared.ServerId.{ServerId}
 use Rattle.ids.specs.declared.Timestamp.{Timestamp}
@@ -27,12 +27,14 @@ use Rattle.wire.specs.declared.Message.the-variants.{Response, Check}
 use Rattle.votes.specs.declared.Tag.{Tag}
 use Rattle.votes.specs.declared.Tag.the-variants as tag
 use Rattle.votes.specs.Figure1 as votes
-use Rattle.votes.specs.Places.{Padded}
+use Rattle.rows.specs.Rows.{Padded}
 use Rattle.server.specs.Record as server
 use Rattle.server.specs.Calls as server-calls
 use Rattle.server.specs.declared.Server.{Server}
-use Rattle.server.specs.declared.Stepped.{Stepped as ServerStepped}
-use Rattle.server.proofs.RecordLaws.{server-padded}
+use Rattle.server.specs.declared.Head as server-head
+use Rattle.server.specs.declared.Turned.{Turned}
+use Rattle.server.specs.Rows.{Turns}
+use Rattle.server.proofs.RecordLaws.{valid-padded}
 use Rattle.responses.specs.Figure1 as client
 use Rattle.responses.specs.Figure1.{enough, Quorum}
 use Rattle.client.specs.Record as client-record
@@ -41,7 +43,6 @@ use Rattle.client.specs.declared.Client.{Client}
 use Rattle.client.specs.declared.Stepped.{Stepped as ClientStepped}
 use Rattle.client.proofs.StepLaws.{response-range}
 use Rattle.words.specs.Records.{serverFrom, serverWords, clientFrom, clientWords}
-use Rattle.words.proofs.RecordsLaws.{server-held}
 use Rattle.system.specs.declared.MessageNumber.{MessageNumber}
 use Rattle.system.specs.declared.Event.the-variants.{Take}
 use Rattle.system.specs.Transit.{InTransit, pending, replaced, gone, keeping}
@@ -54,7 +55,7 @@ use Rattle.transit.proofs.Kept.{Named, names-named}
 use Rattle.places.specs.Blocks.{serverRecord, serverPlace, clientRecord, clientPlace, named, serverBlock, clientBlock}
 use Rattle.places.proofs.Facts.{ServerBlock, server-facts}
 use Rattle.places.proofs.ServerSteps.{message-request, receive-outcome, receive-short}
-use Rattle.layout.specs.Layout.{settingOf, lengthOf, sentOf, transitWords, view, valid, serversFrom, transitFrom}
+use Rattle.layout.specs.Layout.{settingOf, lengthOf, sentOf, transitWords, view, valid, serversFrom, clientsFrom}
 use Rattle.layout.specs.Parts.{clientBlockOf, serverBlockOf}
 use Rattle.layout.proofs.ValidLaws.{facts}
 use Rattle.bounded.specs.declared.Moved.{Moved}
@@ -69,10 +70,9 @@ use Rattle.changes.proofs.SentLaws.{Sends, receive-sends, responds-sends, check
 use Rattle.changes.proofs.Storing.{server-block, server-is, receive-stored, client-block, responds-stored, checked-stored}
 use Rattle.bounded.proofs.Sending.{and-then}
 use Rattle.changes.proofs.Taking.{slot-message, length-kept, length-gone}
-use Rattle.bounded.proofs.ServerEvents.{ServerCalled, server-called}
+use Rattle.bounded.proofs.ServerEvents.{ServerCalled, server-called, turns-of}
 use Rattle.bounded.proofs.ClientEvents.{ClientCalled, client-called, still-client, its-facts, its-state, place-state}
 use Rattle.system.specs.Numbered.{serverNo}
-use Rattle.rows.proofs.GoodLaws.{length-requests}
 
 -- what is known of a pending message
 module _ (w : List ℕ) (i : ℕ) (m : Message) (P : Pends w i m) where
@@ -114,7 +114,7 @@ deliver-tagged n wins u i tag.Release k j t = refl
 deliver-tagged n wins u i tag.Inquiry k j t = refl
 
 taken-as : (s : Server) (x : Tag) (k : ClientId) (j : ServerId) (t : Timestamp) → server.valid s ≡ true → format.valid (message x k j t) ≡ true → server-calls.messageOutcome s (message x k j t) ≡ server-calls.taken s x k j t
-unfolding server-calls.messageOutcome
+unfolding server-calls.messageOutcomeUpTo
 taken-as s tag.Request k j t v m = rw (v, m)
 taken-as s tag.Yield k j t v m = rw (v, m)
 taken-as s tag.Release k j t v m = rw (v, m)
@@ -169,13 +169,8 @@ module _ (w : List ℕ) (i : ℕ) (x : Tag) (k : ClientId) (j : ServerId) (t : T
   abbrev held : Server
   held = serverFrom (serverRecord (serverBlockOf w j))
 
-  held-places : length (held .votes .queue .places) ≡ maxQueue
-  unfolding serverFrom
-  held-places =
-      length-requests (drop 5 (serverRecord (serverBlockOf w j))) maxQueue (simp length-drop (omega (arith, server-held (serverRecord (serverBlockOf w j)) (block-facts .held) .fitting .size)))
-
-  pub taking-padded : (s : Server) → s ≡ serverFrom (serverRecord (serverBlockOf w j)) → Padded (s .votes .queue)
-  taking-padded s q = rw q (server-padded held true held-places (sym (block-facts .valid)) refl)
+  pub taking-padded : (h : server-head.Head) (row : List ℕ) → server.serverOf h row ≡ serverFrom (serverRecord (serverBlockOf w j)) → Padded row (h .votes .len)
+  taking-padded h row q = valid-padded maxServers (server.serverOf h row) (rw q (block-facts .valid))
 
   held-state : serverPlace (serverBlockOf w j) .state ≡ serverAt (view w) j .state
   held-state = rw (server-is w (j .0) taking-server)
@@ -186,9 +181,9 @@ module _ (w : List ℕ) (i : ℕ) (x : Tag) (k : ClientId) (j : ServerId) (t : T
       (receive-outcome (settingOf w .n) (settingOf w .clients) (j .0) (serverBlockOf w j) (server-block w (j .0) taking-server) x k t ranged asker-there (few-clients w (sound w (P .slot .valid))) ∙
       ap (λ (q : votes.State). stepped (votes.receive j x asker q)) held-state)
 
-  module _ (up : serverAt (view w) j .up ≡ true) (s : Server) (q : s ≡ serverFrom (serverRecord (serverBlockOf w j))) (r : ServerStepped) (bytes bytes′ : List ℕ) (long : length bytes ≡ outBytes)
-      (f : r ≡ server-calls.result s (withRoom (length bytes) (server-calls.taken s x k j t))) (g : bytes′ ≡ sentInto bytes (withRoom (length bytes) (server-calls.taken s x k j t))) where
-    pub take-called : ServerCalled w (Take (numberAt w i)) j (replaced (slotAt (transitWords w) i .number) keeping (view w .transit)) (votes.receive j x (record { client = k; timestamp = t }) (serverAt (view w) j .state)) r bytes′
+  module _ (up : serverAt (view w) j .up ≡ true) (h : server-head.Head) (row : List ℕ) (q : server.serverOf h row ≡ serverFrom (serverRecord (serverBlockOf w j))) (r : Turned) (row′ : List ℕ)
+      (f : Turns h row (server-calls.taken (server.serverOf h row) x k j t) r row′) where
+    pub take-called : ServerCalled w (Take (numberAt w i)) j (replaced (slotAt (transitWords w) i .number) keeping (view w .transit)) (votes.receive j x (record { client = k; timestamp = t }) (serverAt (view w) j .state)) r row′
     take-called =
         let n = settingOf w .n in
         let clients = settingOf w .clients in
@@ -197,16 +192,16 @@ module _ (w : List ℕ) (i : ℕ) (x : Tag) (k : ClientId) (j : ServerId) (t : T
         server-called w j taking-server up (Take (numberAt w i)) kept (server-calls.taken held x k j t) (votes.receive j x asker (serverAt (view w) j .state))
         (goes ∙ needed (serverAt (view w) j .up) (serverTook (view w) (numberAt w i .0) x k j t) up) (length-kept w i (P .slot)) held-outcome
         (rw (server-is w (j .0) taking-server) (receive-sends n clients (j .0) b ok x asker asker-valid asker-there))
-        (rw (server-is w (j .0) taking-server) (receive-short n clients (j .0) b ok x asker asker-there asker-valid)) r bytes bytes′ long (rw q at f) (rw q at g)
+        (rw (server-is w (j .0) taking-server) (receive-short n clients (j .0) b ok x asker asker-there asker-valid)) r row′ (turns-of (λ (s : Server). server-calls.taken s x k j t) h row held r row′ q f)
 
     -- the message is delivered in w₁, and the record is stored in w₂
     pub take-stored : (w₁ : List ℕ) → Becomes w w₁ (withTransit (view w) (replaced (slotAt (transitWords w) i .number) keeping (view w .transit)))
-        → (w₂ : List ℕ) → w₂ ≡ sets w₁ (serversFrom + serverBlock * (j .0 - 1)) (sets (serverBlockOf w₁ j) 1 (serverWords (r .server)))
+        → (w₂ : List ℕ) → w₂ ≡ sets w₁ (serversFrom + serverBlock * (j .0 - 1)) (sets (serverBlockOf w₁ j) 1 (serverWords (server.serverOf (r .head) row′)))
         → Becomes w w₂ (withServer (withTransit (view w) (replaced (slotAt (transitWords w) i .number) keeping (view w .transit))) j (record { up = serverAt (view w) j .up; state = votes.receive j x (record { client = k; timestamp = t }) (serverAt (view w) j .state) .state }))
     take-stored w₁ B w₂ z =
         let same : votes.receive j x asker (serverAt (view w) j .state) .state ≡ votes.receive j x asker (serverAt (view w₁) j .state) .state =
         ap (λ (u : System). votes.receive j x asker (serverAt u j .state) .state) (sym (B .system)) in
-        let D = receive-stored w₁ (j .0) (still-server B taking-server) (r .server) w₂ z x asker (rw (B .setting) asker-there) asker-valid (rw (B .setting, ← same) (take-called .server)) in
+        let D = receive-stored w₁ (j .0) (still-server B taking-server) (server.serverOf (r .head) row′) w₂ z x asker (rw (B .setting) asker-there) asker-valid (rw (B .setting, ← same) (take-called .server)) in
         and-then (λ u. withServer u j (record { up = serverAt u j .up; state = votes.receive j x asker (serverAt u j .state) .state })) B D
 
 -- a message to a client
@@ -247,7 +242,7 @@ module _ (w : List ℕ) (i : ℕ) (k : ClientId) (j : ServerId) (o : Owner) (P :
   abbrev heard : Client
   heard = clientFrom (clientRecord (clientBlockOf w k))
 
-  pub respond-asks : (s : Client) → s ≡ clientFrom (clientRecord (clientBlockOf w k)) → (client-record.valid s ≡ true) × (1 ≤ j .0) × (j .0 ≤ s .n) × (validOwner o ≡ true)
+  pub respond-asks : (s : Client) → s ≡ clientFrom (clientRecord (clientBlockOf w k)) → (client-record.valid s ≡ true) × (1 ≤ j .0) × (j .0 ≤ s .head .n) × (validOwner o ≡ true)
   respond-asks s q =
       let B = its-facts w k response-client in
       rw q (B .valid, answered .some-server, omega (arith, answered .server, B .servers), owner-valid)
@@ -255,28 +250,28 @@ module _ (w : List ℕ) (i : ℕ) (k : ClientId) (j : ServerId) (o : Owner) (P :
   abbrev hearing : Step client.State
   hearing = client.responds (enough (settingOf w .m)) (settingOf w .n) k j o (clientAt (view w) k .state)
 
-  heard-outcome : _≡_ {A = Outcome client.State} (stepped (client.responds (enough (heard .m)) (heard .n) (heard .id) j o (client-record.view heard))) (stepped hearing)
+  heard-outcome : _≡_ {A = Outcome client.State} (stepped (client.responds (enough (heard .head .m)) (heard .head .n) (heard .head .id) j o (client-record.view heard))) (stepped hearing)
   heard-outcome =
       let B = its-facts w k response-client in
       rw (its-state w k response-client, B .threshold, B .servers, B .number)
 
   module _ (lives : clientAt (view w) k .living ≡ true) (s : Client) (q : s ≡ clientFrom (clientRecord (clientBlockOf w k))) (r : ClientStepped) (bytes bytes′ : List ℕ) (long : length bytes ≡ outBytes)
-      (f : r ≡ client-calls.result s (withRoom (length bytes) (stepped (client.responds (enough (s .m)) (s .n) (s .id) j o (client-record.view s)))))
-      (g : bytes′ ≡ sentInto bytes (withRoom (length bytes) (stepped (client.responds (enough (s .m)) (s .n) (s .id) j o (client-record.view s))))) where
+      (f : r ≡ client-calls.result s (withRoom (length bytes) (stepped (client.responds (enough (s .head .m)) (s .head .n) (s .head .id) j o (client-record.view s)))))
+      (g : bytes′ ≡ sentInto bytes (withRoom (length bytes) (stepped (client.responds (enough (s .head .m)) (s .head .n) (s .head .id) j o (client-record.view s))))) where
     pub respond-called : ClientCalled w (Take (numberAt w i)) k 1 (replaced (slotAt (transitWords w) i .number) gone (view w .transit)) (clientAt (view w) k .downs) (client.responds (enough (settingOf w .m)) (settingOf w .n) k j o (clientAt (view w) k .state)) r bytes′
     respond-called =
         let n = settingOf w .n in
         let m = settingOf w .m in
         let clients = settingOf w .clients in
         let H = response-client in
-        client-called w k H lives (Take (numberAt w i)) 1 without (clientAt (view w) k .downs) (stepped (client.responds (enough (heard .m)) (heard .n) (heard .id) j o (client-record.view heard))) hearing
+        client-called w k H lives (Take (numberAt w i)) 1 without (clientAt (view w) k .downs) (stepped (client.responds (enough (heard .head .m)) (heard .head .n) (heard .head .id) j o (client-record.view heard))) hearing
         (response-goes ∙ needed (clientAt (view w) k .living) (responseTook n (enough m) (view w) (numberAt w i .0) k j o) lives) (length-gone w i (P .slot)) heard-outcome
         (subst (λ (c : client.State). Sends n clients (client.responds (enough m) n k j o c .sent)) (place-state w k H) (responds-sends n m clients (k .0) (clientBlockOf w k) (client-block w (k .0) H) (H .first) (H .last) j o))
         r bytes bytes′ long (rw q at f) (rw q at g)
 
     -- the message is gone in w₁, and the record is stored in w₂
     pub respond-stored : (w₁ : List ℕ) → Becomes w w₁ (withTransit (view w) (replaced (slotAt (transitWords w) i .number) gone (view w .transit)))
-        → (w₂ : List ℕ) → w₂ ≡ sets w₁ (7 + clientBlock * (k .0 - 1)) (sets (clientBlockOf w₁ k) 1 (clientWords (r .client)))
+        → (w₂ : List ℕ) → w₂ ≡ sets w₁ (clientsFrom + clientBlock * (k .0 - 1)) (sets (clientBlockOf w₁ k) 1 (clientWords (r .client)))
         → Becomes w w₂ (withClient (withTransit (view w) (replaced (slotAt (transitWords w) i .number) gone (view w .transit))) k (record { living = clientAt (view w) k .living; state = client.responds (enough (settingOf w .m)) (settingOf w .n) k j o (clientAt (view w) k .state) .state; downs = clientAt (view w) k .downs }))
     respond-stored w₁ B w₂ z =
         let step : System → client.State = λ u. client.responds (enough (settingOf w .m)) (settingOf w .n) k j o (clientAt u k .state) .state in
@@ -311,25 +306,25 @@ module _ (w : List ℕ) (i : ℕ) (k : ClientId) (j : ServerId) (t : Timestamp) 
   abbrev checking : Step client.State
   checking = client.checked k j t (clientAt (view w) k .state)
 
-  asked-outcome : _≡_ {A = Outcome client.State} (stepped (client.checked (asked .id) j t (client-record.view asked))) (stepped checking)
+  asked-outcome : _≡_ {A = Outcome client.State} (stepped (client.checked (asked .head .id) j t (client-record.view asked))) (stepped checking)
   asked-outcome = rw (its-state w k check-client, its-facts w k check-client .number)
 
   module _ (lives : clientAt (view w) k .living ≡ true) (s : Client) (q : s ≡ clientFrom (clientRecord (clientBlockOf w k))) (r : ClientStepped) (bytes bytes′ : List ℕ) (long : length bytes ≡ outBytes)
-      (f : r ≡ client-calls.result s (withRoom (length bytes) (stepped (client.checked (s .id) j t (client-record.view s)))))
-      (g : bytes′ ≡ sentInto bytes (withRoom (length bytes) (stepped (client.checked (s .id) j t (client-record.view s))))) where
+      (f : r ≡ client-calls.result s (withRoom (length bytes) (stepped (client.checked (s .head .id) j t (client-record.view s)))))
+      (g : bytes′ ≡ sentInto bytes (withRoom (length bytes) (stepped (client.checked (s .head .id) j t (client-record.view s))))) where
     pub check-called : ClientCalled w (Take (numberAt w i)) k 1 (replaced (slotAt (transitWords w) i .number) gone (view w .transit)) (clientAt (view w) k .downs) (client.checked k j t (clientAt (view w) k .state)) r bytes′
     check-called =
         let n = settingOf w .n in
         let m = settingOf w .m in
         let clients = settingOf w .clients in
         let H = check-client in
-        client-called w k H lives (Take (numberAt w i)) 1 left (clientAt (view w) k .downs) (stepped (client.checked (asked .id) j t (client-record.view asked))) checking
+        client-called w k H lives (Take (numberAt w i)) 1 left (clientAt (view w) k .downs) (stepped (client.checked (asked .head .id) j t (client-record.view asked))) checking
         (check-goes ∙ needed (clientAt (view w) k .living) (checkTook (view w) (numberAt w i .0) k j t) lives) (length-gone w i (P .slot)) asked-outcome
         (subst (λ (c : client.State). Sends n clients (client.checked k j t c .sent)) (place-state w k H) (checked-sends n m clients (k .0) (clientBlockOf w k) (client-block w (k .0) H) (H .first) (H .last) j t (in-range w i (Check k j t) P) (told .some-server) (told .server)))
         r bytes bytes′ long (rw q at f) (rw q at g)
 
     pub check-stored-in : (w₁ : List ℕ) → Becomes w w₁ (withTransit (view w) (replaced (slotAt (transitWords w) i .number) gone (view w .transit)))
-        → (w₂ : List ℕ) → w₂ ≡ sets w₁ (7 + clientBlock * (k .0 - 1)) (sets (clientBlockOf w₁ k) 1 (clientWords (r .client)))
+        → (w₂ : List ℕ) → w₂ ≡ sets w₁ (clientsFrom + clientBlock * (k .0 - 1)) (sets (clientBlockOf w₁ k) 1 (clientWords (r .client)))
         → Becomes w w₂ (withClient (withTransit (view w) (replaced (slotAt (transitWords w) i .number) gone (view w .transit))) k (record { living = clientAt (view w) k .living; state = client.checked k j t (clientAt (view w) k .state) .state; downs = clientAt (view w) k .downs }))
     check-stored-in w₁ B w₂ z =
         let step : System → client.State = λ u. client.checked k j t (clientAt u k .state) .state in
