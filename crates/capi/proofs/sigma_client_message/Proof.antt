@@ -1,6 +1,6 @@
+-- `capi::sigma_client_message` meets its contract: what stands for words that are no message is refused as they are.
 use Rattle.words.specs.Messages.{messageIn}
 use denote.Ref.{now}
--- `capi::sigma_client_message` meets its contract: what stands for words that are no message is refused as they are.
 use Rattle.capi.proofs.StepLaws.{client-takes-words}
 use borrow.Author.Needs.{needs}
 use Rattle.capi.proofs.sigma_client_message.Statement.{statement}

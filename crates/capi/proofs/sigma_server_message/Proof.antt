@@ -1,6 +1,6 @@
+-- `capi::sigma_server_message` meets its contract: what stands for words that are no message is refused as they are.
 use Rattle.words.specs.Messages.{messageIn}
 use denote.Ref.{now}
--- `capi::sigma_server_message` meets its contract: what stands for words that are no message is refused as they are.
 use Rattle.capi.proofs.StepLaws.{server-takes-words}
 use borrow.Author.Needs.{needs}
 use Rattle.capi.proofs.sigma_server_message.Statement.{statement}
