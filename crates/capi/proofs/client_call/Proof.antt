@@ -16,16 +16,24 @@ module _ (c : tie.Else1) where
   long : length (now (c .before .before .before .before .before .before .args .state)) ≡ clientSize
   long = client-long _ _ (c .before .holds-client .ensures) (c .if1 .left)
 
--- the step is made
-module _ (c : tie.After-client-step) where
+-- its head is read
+module _ (c : tie.After-client-head) where
   abbrev tested : tie.Else1
-  tested = c .before .before .before .before .before .before
+  tested = c .before .before
 
   abbrev entry : tie.Start
-  entry = c .before .before .before .before .before .before .before .before .before .before .before .before
+  entry = c .before .before .before .before .before .before .before .before
+
+-- the step is made
+module _ (c : tie.After-client-step) where
+  abbrev loaded : tie.After-client-head
+  loaded = c .before .before .before .before
 
   storable : Storable (c .client-step .result .answer)
-  storable = client-storable _ _ (tested .before .holds-client .ensures) (tested .if1 .left) _ (c .before .before .before .before .client-head .ensures) (entry .args .call) (now (entry .args .out)) (now (entry .args .sent)) _ _ _ (c .client-step .ensures)
+  storable =
+      let t = tested loaded in
+      let e = entry loaded in
+      client-storable _ _ (t .before .holds-client .ensures) (t .if1 .left) _ (loaded .client-head .ensures) (e .args .call) (now (e .args .out)) (now (e .args .sent)) _ _ _ (c .client-step .ensures)
 
 returns : tie.Need-returns
 returns c = refused-leaves _ _ _ _ _ _ (no-client _ _ (c .before .before .holds-client .ensures) _ (c .before .if1 .taken)) (c .code-of .ensures)
@@ -34,25 +42,36 @@ client-head-requires : tie.Need-client-head-requires
 client-head-requires c κs = client-held _ (is-client _ _ (c .before .before .holds-client .ensures) (c .before .if1 .left)) .head
 
 part-client-short-end : tie.Need-part-client-short-end
-part-client-short-end c = omega (arith, long (c .before .before .before .before))
+part-client-short-end c = omega (arith, long (tested (c .before .before)))
 
 client-short-requires : tie.Need-client-short-requires
-client-short-requires c κs = client-row-long _ _ (c .before .before .before .before .before .before .holds-client .ensures) (c .before .before .before .before .before .if1 .left)
+client-short-requires c κs = let t = tested (c .before .before .before) in client-row-long _ _ (t .before .holds-client .ensures) (t .if1 .left)
 
 returns-2 : tie.Need-returns-2
-returns-2 c = client-short-leaves _ _ (c .before .before .before .before .before .before .before .holds-client .ensures) (c .before .before .before .before .before .before .if1 .left) _ (c .before .before .before .before .client-head .ensures) (c .before .before .before .before .before .before .before .before .before .before .before .before .args .call) (now (c .before .before .before .before .before .before .before .before .before .before .before .before .args .out)) (now (c .before .before .before .before .before .before .before .before .before .before .before .before .args .sent)) _ (c .before .before .before .if2 .taken) (c .client-short .ensures)
+returns-2 c =
+    let loaded = c .before .before .before .before in
+    let t = tested loaded in
+    let e = entry loaded in
+    client-short-leaves _ _ (t .before .holds-client .ensures) (t .if1 .left) _ (loaded .client-head .ensures) (e .args .call) (now (e .args .out)) (now (e .args .sent)) _ (c .before .before .before .if2 .taken) (c .client-short .ensures)
 
 part-client-step-end : tie.Need-part-client-step-end
-part-client-step-end c = omega (arith, long (c .before .before .before))
+part-client-step-end c = omega (arith, long (tested (c .before)))
 
 client-finish-requires : tie.Need-client-finish-requires
-client-finish-requires c κs = let t = c .before .before .before .before .before .before in (omega (arith, long (tested t)), c .before .before .before .before .before .before .before .before .before .if2 .left, storable t)
+client-finish-requires c κs =
+    let made = c .before .before .before .before .before .before in
+    let l = loaded made in
+    (omega (arith, long (tested l)), made .before .before .before .if2 .left, storable made)
 
 returns-3 : tie.Need-returns-3
 returns-3 c =
-    let t = c .before .before .before .before .before .before .before .before .before .before .before in
-    let e = entry t in
-    client-done-leaves _ _ (tested t .before .holds-client .ensures) (tested t .if1 .left) _ (t .before .before .before .before .client-head .ensures) (e .args .call) (now (e .args .out)) (now (e .args .sent)) _ _ _ (t .client-step .ensures) _ _ _ (c .before .before .before .before .before .before .before .before .before .before .before .before .before .before .if2 .left) (c .before .before .before .before .client-finish .ensures)
+    let finished = c .before .before .before .before in
+    let made = finished .before .before .before .before .before .before .before in
+    let l = loaded made in
+    let t = tested l in
+    let e = entry l in
+    client-done-leaves _ _ (t .before .holds-client .ensures) (t .if1 .left) _ (l .client-head .ensures) (e .args .call) (now (e .args .out)) (now (e .args .sent)) _ _ _ (made .client-step .ensures)
+    _ _ _ (made .before .before .before .if2 .left) (finished .client-finish .ensures)
 
 pub client-call-spec : {M : Type 1} → statement M
 client-call-spec =

@@ -5,13 +5,16 @@ use Rattle.capi.proofs.client_made.Statement.{statement}
 use Rattle.capi.proofs.client_made.Tie as tie
 
 put-client-requires : tie.Need-put-client-requires
-put-client-requires c κs = omega (arith, c .before .before .before .before .before .before .before .before .pre .0, c .before .before .before .before .before .before .before .before .pre .1)
+put-client-requires c κs = let e = c .before .before .before .before .before .before .before .before in omega (arith, e .pre .0, e .pre .1)
 
 returns : tie.Need-returns
-returns c = (rw (c .before .before .before .before .before .before .before .before .enum-told .given .1), rw (c .before .before .before .before .before .before .before .before .enum-told .given .1) (c .before .before .put-client .ensures))
+returns c =
+    let stored = c .before .before in
+    let arm = stored .before .before .before .before .before .before in
+    (rw (arm .enum-told .given .1), rw (arm .enum-told .given .1) (stored .put-client .ensures))
 
 returns-2 : tie.Need-returns-2
-returns-2 c = (rw (c .before .before .answer .given .1) (c .code-of .ensures), rw (c .before .before .answer .given .1))
+returns-2 c = let arm = c .before .before in (rw (arm .answer .given .1) (c .code-of .ensures), rw (arm .answer .given .1))
 
 pub client-made-spec : {M : Type 1} → statement M
 client-made-spec =

@@ -7,7 +7,11 @@ use Rattle.capi.proofs.client_short.Statement.{statement}
 use Rattle.capi.proofs.client_short.Tie as tie
 
 returns : tie.Need-returns
-returns c = client-short-answers (c .before .before .before .before .before .before .before .before .before .before .args .call) (c .before .before .before .before .before .before .before .before .before .before .args .h) (now (c .before .before .before .before .before .before .before .before .before .before .args .row)) _ _ (0 ∷ []) _ _ _ (c .before .before .before .before .before .before .before .copy .ensures) (c .before .before .before .client-step .ensures) (c .short-answer .ensures)
+returns c =
+    let made = c .before .before .before in
+    let copied = made .before .before .before .before in
+    let e = copied .before .before .before in
+    client-short-answers (e .args .call) (e .args .h) (now (e .args .row)) _ _ (0 ∷ []) _ _ _ (copied .copy .ensures) (made .client-step .ensures) (c .short-answer .ensures)
 
 pub client-short-spec : {M : Type 1} → statement M
 client-short-spec =

@@ -7,7 +7,11 @@ use Rattle.capi.proofs.put_client.Statement.{statement}
 use Rattle.capi.proofs.put_client.Tie as tie
 
 returns : tie.Need-returns
-returns c = client-stored _ _ _ (clientOf (c .before .before .before .before .before .before .before .before .before .before .args .h) (now (c .before .before .before .before .before .before .before .before .before .before .args .row))) (c .before .before .before .before .before .before .put-client-head .ensures) (c .before .before .put-row .ensures)
+returns c =
+    let rowed = c .before .before in
+    let headed = rowed .before .before .before .before in
+    let e = headed .before .before .before .before in
+    client-stored _ _ _ (clientOf (e .args .h) (now (e .args .row))) (headed .put-client-head .ensures) (rowed .put-row .ensures)
 
 pub put-client-spec : {M : Type 1} → statement M
 put-client-spec =

@@ -6,7 +6,10 @@ use Rattle.capi.proofs.put_row.Statement.{statement}
 use Rattle.capi.proofs.put_row.Tie as tie
 
 returns : tie.Need-returns
-returns c = row-copied (now (c .before .before .before .before .before .before .args .state)) (now (c .before .before .before .before .before .before .args .row)) _ (c .before .before .before .before .before .before .pre) (c .before .before .copy .ensures)
+returns c =
+    let copied = c .before .before in
+    let e = copied .before .before .before .before in
+    row-copied (now (e .args .state)) (now (e .args .row)) _ (e .pre) (copied .copy .ensures)
 
 pub put-row-spec : {M : Type 1} → statement M
 put-row-spec =

@@ -7,7 +7,11 @@ use Rattle.capi.proofs.put_server.Statement.{statement}
 use Rattle.capi.proofs.put_server.Tie as tie
 
 returns : tie.Need-returns
-returns c = server-stored _ _ _ (serverOf (c .before .before .before .before .before .before .before .before .before .before .args .h) (now (c .before .before .before .before .before .before .before .before .before .before .args .row))) (c .before .before .before .before .before .before .put-server-head .ensures) (c .before .before .put-row .ensures)
+returns c =
+    let rowed = c .before .before in
+    let headed = rowed .before .before .before .before in
+    let e = headed .before .before .before .before in
+    server-stored _ _ _ (serverOf (e .args .h) (now (e .args .row))) (headed .put-server-head .ensures) (rowed .put-row .ensures)
 
 pub put-server-spec : {M : Type 1} → statement M
 put-server-spec =

@@ -20,6 +20,12 @@ module _ (c : tie.Else1) where
 
 -- the step is made
 module _ (c : tie.After-server-step) where
+  abbrev copied : tie.After-copy
+  copied = c .before .before .before
+
+  abbrev loaded : tie.After-server-head
+  loaded = c .before .before .before .before .before .before .before
+
   abbrev tested : tie.Else1
   tested = c .before .before .before .before .before .before .before .before .before
 
@@ -27,10 +33,10 @@ module _ (c : tie.After-server-step) where
   entry = c .before .before .before .before .before .before .before .before .before .before .before .before .before .before .before
 
   kept : length (c .server-step .last .1 .0) ≡ server.rowWords
-  kept = server-kept _ _ (tested .before .holds-server .ensures) (tested .if1 .left) _ _ (c .before .before .before .before .before .before .before .server-head .ensures) (c .before .before .before .copy .ensures) (entry .args .call) _ _ (c .server-step .ensures)
+  kept = server-kept _ _ (tested .before .holds-server .ensures) (tested .if1 .left) _ _ (loaded .server-head .ensures) (copied .copy .ensures) (entry .args .call) _ _ (c .server-step .ensures)
 
   short : c .server-step .result .ruling ≡ Done → c .server-step .result .head .votes .len ≤ maxWord
-  short = server-short _ _ (tested .before .holds-server .ensures) (tested .if1 .left) _ _ (c .before .before .before .before .before .before .before .server-head .ensures) (c .before .before .before .copy .ensures) (entry .args .call) _ _ (c .server-step .ensures)
+  short = server-short _ _ (tested .before .holds-server .ensures) (tested .if1 .left) _ _ (loaded .server-head .ensures) (copied .copy .ensures) (entry .args .call) _ _ (c .server-step .ensures)
 
 returns : tie.Need-returns
 returns c = refused-leaves _ _ _ _ _ _ (no-server _ _ (c .before .before .holds-server .ensures) _ (c .before .if1 .taken)) (c .code-of .ensures)
@@ -42,13 +48,15 @@ part-copy-end : tie.Need-part-copy-end
 part-copy-end c = omega (arith, long (c .before .before .before))
 
 server-finish-requires : tie.Need-server-finish-requires
-server-finish-requires c κs = let t = c .before .before .before .before .before in (omega (arith, long (tested t), kept t), short t)
+server-finish-requires c κs = let made = c .before .before .before .before .before in (omega (arith, long (tested made), kept made), short made)
 
 returns-2 : tie.Need-returns-2
 returns-2 c =
-    let t = c .before .before .before .before .before .before .before .before .before .before .before .before in
-    let e = entry t in
-    server-leaves _ _ (tested t .before .holds-server .ensures) (tested t .if1 .left) _ _ (t .before .before .before .before .before .before .before .server-head .ensures) (t .before .before .before .copy .ensures) (e .args .call) _ _ (t .server-step .ensures) _ _ (now (e .args .out)) _ (now (e .args .sent)) _ (c .before .before .before .before .before .before .server-finish .ensures)
+    let finished = c .before .before .before .before .before .before in
+    let made = finished .before .before .before .before .before .before in
+    let e = entry made in
+    server-leaves _ _ (tested made .before .holds-server .ensures) (tested made .if1 .left) _ _ (loaded made .server-head .ensures) (copied made .copy .ensures) (e .args .call) _ _ (made .server-step .ensures)
+    _ _ (now (e .args .out)) _ (now (e .args .sent)) _ (finished .server-finish .ensures)
 
 pub server-call-spec : {M : Type 1} → statement M
 server-call-spec =

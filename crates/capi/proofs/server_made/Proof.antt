@@ -5,13 +5,16 @@ use Rattle.capi.proofs.server_made.Statement.{statement}
 use Rattle.capi.proofs.server_made.Tie as tie
 
 put-server-requires : tie.Need-put-server-requires
-put-server-requires c κs = (omega (arith, c .before .before .before .before .before .before .before .before .pre .0, c .before .before .before .before .before .before .before .before .pre .1), c .before .before .before .before .before .before .before .before .pre .2)
+put-server-requires c κs = let e = c .before .before .before .before .before .before .before .before in (omega (arith, e .pre .0, e .pre .1), e .pre .2)
 
 returns : tie.Need-returns
-returns c = (rw (c .before .before .before .before .before .before .before .before .enum-told .given .1), rw (c .before .before .before .before .before .before .before .before .enum-told .given .1) (c .before .before .put-server .ensures))
+returns c =
+    let stored = c .before .before in
+    let arm = stored .before .before .before .before .before .before in
+    (rw (arm .enum-told .given .1), rw (arm .enum-told .given .1) (stored .put-server .ensures))
 
 returns-2 : tie.Need-returns-2
-returns-2 c = (rw (c .before .before .answer .given .1) (c .code-of .ensures), rw (c .before .before .answer .given .1))
+returns-2 c = let arm = c .before .before in (rw (arm .answer .given .1) (c .code-of .ensures), rw (arm .answer .given .1))
 
 pub server-made-spec : {M : Type 1} → statement M
 server-made-spec =

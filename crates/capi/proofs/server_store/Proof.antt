@@ -4,13 +4,21 @@ use Rattle.capi.proofs.server_store.Statement.{statement}
 use Rattle.capi.proofs.server_store.Tie as tie
 
 put-counts-requires : tie.Need-put-counts-requires
-put-counts-requires c κs = let f = c .before .before .before .before .before .before .before .before .before .before .before .pre .3 .few _ _ (c .before .before .before .before .before .before .a .given .1) in (c .before .before .before .before .before .before .before .before .before .before .before .pre .1, f .0, f .1)
+put-counts-requires c κs =
+    let arm = c .before .before .before .before .before .before in
+    let e = arm .before .before .before .before .before in
+    let few = e .pre .3 .few _ _ (arm .a .given .1) in
+    (e .pre .1, few .0, few .1)
 
 returns : tie.Need-returns
-returns c = (rw (c .before .before .before .before .before .before .before .before .before .a .given .1), rw (c .before .before .before .before .before .before .before .before .before .a .given .1) (c .before .before .before .before .before .before .put-server .ensures), rw (c .before .before .before .before .before .before .before .before .before .a .given .1) (c .before .before .put-counts .ensures))
+returns c =
+    let counted = c .before .before in
+    let stored = counted .before .before .before .before in
+    let arm = stored .before .before .before in
+    (rw (arm .a .given .1), rw (arm .a .given .1) (stored .put-server .ensures), rw (arm .a .given .1) (counted .put-counts .ensures))
 
 returns-2 : tie.Need-returns-2
-returns-2 c = (rw (c .before .before .a2 .given .1) (c .code-of .ensures), rw (c .before .before .a2 .given .1), rw (c .before .before .a2 .given .1))
+returns-2 c = let arm = c .before .before in (rw (arm .a2 .given .1) (c .code-of .ensures), rw (arm .a2 .given .1), rw (arm .a2 .given .1))
 
 pub server-store-spec : {M : Type 1} → statement M
 server-store-spec =

@@ -7,7 +7,11 @@ use Rattle.capi.proofs.sigma_client_message.Statement.{statement}
 use Rattle.capi.proofs.sigma_client_message.Tie as tie
 
 returns : tie.Need-returns
-returns c = rw (client-takes-words (now (c .before .before .before .before .before .before .before .before .before .before .before .before .before .before .before .args .state)) (messageIn (now (c .before .before .before .before .before .before .before .before .before .before .before .before .before .before .before .args .message))) _ (c .before .before .before .before .before .before .before .before .before .before .message-in .ensures)) at (c .before .before .before .before .before .before .client-call .ensures)
+returns c =
+    let called = c .before .before .before .before .before .before in
+    let read = called .before .before .before .before in
+    let e = read .before .before .before .before .before in
+    rw (client-takes-words (now (e .args .state)) (messageIn (now (e .args .message))) _ (read .message-in .ensures)) at (called .client-call .ensures)
 
 pub sigma-client-message-spec : {M : Type 1} → statement M
 sigma-client-message-spec =
