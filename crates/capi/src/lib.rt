@@ -101,6 +101,7 @@ fn put_row(state: &mut [u32], row: &[u32])
     rows::copy(row, &mut state[words::HEAD_WORDS..end]);
 }
 
+// Writes a record in the first words: its head, and the row behind it.
 fn put_server(state: &mut [u32], h: server::Head, row: &[u32])
     requires { ⌜ (recordHead + length (now row) ≤ length (now state)) × (h .votes .len ≤ maxWord) ⌝ }
     ensures { λ _. ⌜ now (state .exit) ≡ sets (now (state .entry)) 0 (serverWords (server.serverOf h (now (row .entry)))) ⌝ }
@@ -172,6 +173,7 @@ fn server_send(
     server_store(answer, head, row, state, sent)
 }
 
+// A refused step's number, or what becomes of one that was made.
 fn server_finish(
     t: server::Turned,
     row: &[u32],
@@ -333,6 +335,7 @@ pub extern "C" fn sigma_client_message(
     client_call(ClientCall::Message(m), state, out, sent)
 }
 
+// A new record's words are stored; the number of one that was refused is returned.
 fn server_made(r: server::Stepped, state: &mut [u32]) -> u32
     requires { ⌜ (serverSize ≤ length (now state)) × (length (r .server .row) ≡ server.rowWords) × (r .server .head .votes .len ≤ maxWord) ⌝ }
     ensures { λ x. ⌜ (x ≡ answerCode (r .answer)) × (now (state .exit) ≡ answerRecord (serverWords (r .server)) (now (state .entry)) (r .answer)) ⌝ }
