@@ -1,47 +1,95 @@
 -- The step calls: from the outcome of a step to what the call returns and leaves. Each law is one way out of a call.
-use Prim.Native.Nat.{ℕ, _<_, _≤_}
+use Prim.Native.Nat.{ℕ, _+_, _*_, _-_, _<_, _≤_}
 use native.Mathlib.Omega.{arith}
-use mathlib.Core.Path.{_≡_, refl, sym, _∙_}
+use mathlib.Core.Path.{_≡_, refl, sym, ap, _∙_}
 use mathlib.Core.Bool.{Bool, true, false, not}
-use mathlib.Core.List.{List}
+use mathlib.Core.List.{List, _++_, map, append-nil, append-assoc}
 use mathlib.Core.Logic.{⊎-elim}
 use mathlib.Core.Option.{Option, none, some}
 use lib.Dec.{ltb}
-use lib.ListN.{length}
+use lib.ListN.{length, take, drop, length-append, length-drop, length-map}
+use lib.Seq.{sets, sets-eq, take-all, drop-length, drop-drop, drop-at, length-take-le}
 use borrow.Author.Tests.{lt-ltb, le-ltb, not-true, not-false}
+use borrow.Rule.Slice.PartMut.{putMid, put-same}
 use Rattle.ids.specs.Refusals.{code}
 use Rattle.ids.specs.declared.Refusal.{Refusal}
 use Rattle.ids.specs.declared.Refusal.the-variants.{InvalidRecord, RoomShort}
 use Rattle.ids.proofs.Choice.{decided, passed}
+use Rattle.rows.proofs.RowLaws.{length-row-of}
 use Rattle.wire.specs.Format as format
 use Rattle.wire.specs.Format.{sizeOfAll}
-use Rattle.wire.specs.Step.{Step, Outcome, refused, stepped, withRoom, answerOf, sentInto}
+use Rattle.wire.specs.Step.{Step, Outcome, refused, stepped, withRoom, answerOf}
 use Rattle.wire.specs.declared.Answer.{Answer}
+use Rattle.wire.specs.declared.Answer.the-variants.{Sent, Refused}
 use Rattle.wire.specs.declared.Message.{Message}
-use Rattle.ids.specs.Limits.{validStamped, validParties}
+use Rattle.ids.specs.Limits.{maxServers, validStamped, validParties}
 use Rattle.votes.specs.Figure1 as votes
+use Rattle.votes.specs.Places.{mails}
+use Rattle.votes.specs.declared.Mail.{Mail}
+use Rattle.votes.specs.declared.Mail.the-variants.{Nothing, One}
 use Rattle.server.specs.Record as server
 use Rattle.server.specs.Calls as server-calls
+use Rattle.server.specs.Parts.{threeMails, sentAnswer, sentBuffer}
+use Rattle.server.specs.Rows.{Turns}
+use Rattle.server.specs.declared.Head.{Head as ServerHead}
 use Rattle.server.specs.declared.Server.{Server}
+use Rattle.server.specs.declared.Ruling.the-variants.{Done, Refused as Ruled}
+use Rattle.server.specs.declared.Turned.{Turned as ServerTurned}
 use Rattle.responses.specs.Figure1 as client-state
+use Rattle.responses.specs.Row.{place}
 use Rattle.client.specs.Record as client
 use Rattle.client.specs.Calls as client-calls
+use Rattle.client.specs.Steps.{Answers}
+use Rattle.client.specs.declared.Head.{Head as ClientHead}
 use Rattle.client.specs.declared.Client.{Client}
-use Rattle.server.specs.declared.Stepped.{Stepped as ServerStepped}
-use Rattle.client.specs.declared.Stepped.{Stepped as ClientStepped}
+use Rattle.client.specs.declared.Turned.{Turned as ClientTurned}
+use Rattle.client.proofs.ValidLaws.{valid-known, valid-padded, padded-words}
 use Rattle.words.specs.Messages.{messageOr}
-use Rattle.words.specs.Records.{holdsServer, serverFrom, serverWords, holdsClient, clientFrom, clientWords}
+use Rattle.words.specs.Records.{maxWord, recordHead, serverSize, clientSize, holdsServer, serverHeadFrom, serverFrom, holdsClient, clientHeadFrom, clientHeadWords, clientFrom, clientWords}
+use Rattle.words.proofs.RecordsLaws.{server-held, client-held}
+use Rattle.sends.proofs.ServerSends.{never, size-few}
 use Rattle.capi.specs.Steps.{inWords, lent, Leaves, onServer, onClient, serverWith, clientWith, serverTakes, clientTakes}
-use Rattle.capi.specs.Parts.{answerCode, answerRecord, answerCounts, shortCode, shortAnswer, Storable, serverOutcome, clientOutcome}
+use Rattle.capi.specs.Parts.{answerCode, answerRecord, answerCounts, shortCode, shortAnswer, Storable, turnedWords, serverOutcome, clientOutcome}
 use Rattle.capi.specs.declared.ServerCall.{ServerCall}
 use Rattle.capi.specs.declared.ServerCall.the-variants.{Message as ServerMessage}
 use Rattle.capi.specs.declared.ClientCall.{ClientCall}
 use Rattle.capi.specs.declared.ClientCall.the-variants.{Message as ClientMessage}
-use Rattle.sends.proofs.ServerSends.{never, valid-length}
 use Rattle.capi.proofs.Accepted.{server-accepted, client-accepted}
-use Rattle.client.proofs.ValidLaws.{valid-known}
 
--- a refused call changes nothing
+-- THE WORDS of a head and n words of its row
+-- a whole record is written over a whole record
+pub whole : (ws vs : List ℕ) → length vs ≡ length ws → sets ws 0 vs ≡ vs
+whole ws vs e =
+    let z : 0 + length vs ≡ length ws = omega arith in
+    sets-eq vs ws 0 (omega arith) ∙ rw (z, drop-length ws) (append-nil vs)
+
+-- the words behind a head, lent and back as the row
+pub row-copied : (ws row back : List ℕ) → recordHead + length row ≤ length ws → back ≡ row → putMid recordHead (recordHead + length row - recordHead) ws back ≡ sets ws recordHead row
+row-copied ws row back h e =
+    let z : recordHead + length row - recordHead ≡ length row = omega arith in
+    rw (e, z, drop-drop (length row) recordHead ws) (sym (append-assoc (take recordHead ws) row (drop (recordHead + length row) ws)) ∙ sym (sets-eq row ws recordHead h))
+
+module _ (ws : List ℕ) (n : ℕ) (l : length ws ≡ recordHead + n) where
+  rest-long : length (drop recordHead ws) ≡ n
+  rest-long = simp length-drop (omega (arith, l))
+
+  pub whole-row : take n (drop recordHead ws) ≡ drop recordHead ws
+  whole-row = take-all n (drop recordHead ws) (omega (arith, rest-long))
+
+  module _ (row head : List ℕ) (r : length row ≡ n) (h : length head ≡ recordHead) where
+    row-back : putMid recordHead n ws row ≡ take recordHead ws ++ row
+    row-back = let e = rw rest-long at (drop-length (drop recordHead ws)) in rw (e, append-nil row)
+
+    head-over : sets (take recordHead ws ++ row) 0 head ≡ head ++ row
+    head-over =
+        let k : length (take recordHead ws) ≡ recordHead = length-take-le recordHead ws (omega (arith, l)) in
+        sets-eq head (take recordHead ws ++ row) 0 (simp length-append (omega (arith, k, h))) ∙ rw (h, drop-at (take recordHead ws) row recordHead k)
+
+    -- the row first and the head then are the whole record
+    pub row-then-head : sets (putMid recordHead n ws row) 0 head ≡ sets ws 0 (head ++ row)
+    row-then-head = rw row-back (head-over ∙ sym (whole ws (head ++ row) (simp length-append (omega (arith, l, r, h)))))
+
+-- A REFUSED CALL changes nothing
 pub refused-leaves : (o : Outcome (List ℕ)) (e : Refusal) (r : ℕ) (ws out sent : List ℕ) → o ≡ refused e → r ≡ code e → Leaves (lent out sent o) r ws ws out out sent sent
 unfolding withRoom
 refused-leaves o e r ws out sent p c = rw p (record { returned = c; stored = refl; written = refl; counted = refl })
@@ -53,135 +101,211 @@ short-answers (refused e) room r h = h
 short-answers (stepped p) room r h =
     ⊎-elim (λ (t : ltb room (sizeOfAll (p .sent)) ≡ true). rw t at h) (λ (t : ltb room (sizeOfAll (p .sent)) ≡ false). rw t at h) (decided (ltb room (sizeOfAll (p .sent))))
 
-pub server-short-answers : (call : ServerCall) (s : Server) (room r : ℕ) (x : ServerStepped) → x ≡ server-calls.result s (withRoom room (serverOutcome call s)) → r ≡ shortAnswer (x .answer) → r ≡ shortCode (serverOutcome call s)
-server-short-answers call s room r x e h = short-answers (serverOutcome call s) room r (rw e at h)
+short-leaves : {A : Type 0} (g : A → List ℕ) (ws out sent : List ℕ) (o : Outcome A) (r : ℕ) → length sent < 2 → r ≡ shortCode o → Leaves (lent out sent (inWords g o)) r ws ws out out sent sent
+unfolding withRoom
+short-leaves g ws out sent (refused e) r l h = record { returned = h; stored = refl; written = refl; counted = refl }
+short-leaves g ws out sent (stepped p) r l h =
+    ⊎-elim
+    (λ (t : ltb (length out) (sizeOfAll (p .sent)) ≡ true). rw t (record { returned = h; stored = refl; written = refl; counted = refl }))
+    (λ (t : ltb (length out) (sizeOfAll (p .sent)) ≡ false). rw (t, lt-ltb _ _ l) (record { returned = h; stored = refl; written = refl; counted = refl }))
+    (decided (ltb (length out) (sizeOfAll (p .sent))))
 
-pub client-short-answers : (call : ClientCall) (c : Client) (room r : ℕ) (x : ClientStepped) → x ≡ client-calls.result c (withRoom room (clientOutcome call c)) → r ≡ shortAnswer (x .answer) → r ≡ shortCode (clientOutcome call c)
-client-short-answers call c room r x e h = short-answers (clientOutcome call c) room r (rw e at h)
-
-module _ {A : Type 0} (g : A → List ℕ) where
-  module _ (ws out sent : List ℕ) where
-    pub short-leaves : (o : Outcome A) (r : ℕ) → length sent < 2 → r ≡ shortCode o → Leaves (lent out sent (inWords g o)) r ws ws out out sent sent
-    unfolding withRoom
-    short-leaves (refused e) r l h = record { returned = h; stored = refl; written = refl; counted = refl }
-    short-leaves (stepped p) r l h =
-        ⊎-elim
-        (λ (t : ltb (length out) (sizeOfAll (p .sent)) ≡ true). rw t (record { returned = h; stored = refl; written = refl; counted = refl }))
-        (λ (t : ltb (length out) (sizeOfAll (p .sent)) ≡ false). rw (t, lt-ltb _ _ l) (record { returned = h; stored = refl; written = refl; counted = refl }))
-        (decided (ltb (length out) (sizeOfAll (p .sent))))
-
-    pub done-leaves : (o : Outcome A) (a : Answer) (new : List ℕ) (r : ℕ) (ws′ out′ sent′ : List ℕ) → 2 ≤ length sent
-        → a ≡ answerOf (withRoom (length out) o) → ((p : Step A) → withRoom (length out) o ≡ stepped p → new ≡ g (p .state))
-        → out′ ≡ sentInto out (withRoom (length out) o) → r ≡ answerCode a → ws′ ≡ answerRecord new ws a → sent′ ≡ answerCounts sent a
-        → Leaves (lent out sent (inWords g o)) r ws ws′ out out′ sent sent′
-    unfolding withRoom
-    done-leaves (refused e) a new r ws′ out′ sent′ l ea en eo er ew es =
-        record { returned = rw ea at er; stored = rw ea at ew; written = eo; counted = rw ea at es }
-    done-leaves (stepped p) a new r ws′ out′ sent′ l ea en eo er ew es =
-        ⊎-elim
-        (λ (t : ltb (length out) (sizeOfAll (p .sent)) ≡ true).
-        rw t (record { returned = rw (ea, t) at er; stored = rw (ea, t) at ew; written = rw t at eo; counted = rw (ea, t) at es }))
-        (λ (t : ltb (length out) (sizeOfAll (p .sent)) ≡ false).
-        rw (t, le-ltb _ _ l)
-        (record { returned = rw (ea, t) at er; stored = rw (ea, t, en p (rw t)) at ew; written = rw t at eo; counted = rw (ea, t) at es }))
-        (decided (ltb (length out) (sizeOfAll (p .sent))))
-
--- what an accepted step answers fits the words it is stored in
 module _ {A : Type 0} where
   pub room-stepped : (room : ℕ) (o : Outcome A) (p : Step A) → withRoom room o ≡ stepped p → o ≡ stepped p
   unfolding withRoom
   room-stepped room (refused e) p h = h
   room-stepped room (stepped x) p h = passed (ltb room (sizeOfAll (x .sent))) (never RoomShort p) h .1
 
-  fitting : (x : Outcome A) (len : ℕ) (a : Answer) → a ≡ answerOf x → ((p : Step A) → x ≡ stepped p → (length (p .sent) ≤ 31) × (sizeOfAll (p .sent) ≤ 372) × (len ≤ 16)) → Storable a len
-  fitting (refused e) len a q k =
-      record {
-        few = λ i n h. let z : _≡_ {A = ℕ} 0 1 = cc in absurd (omega arith);
-        short = λ i n h. let z : _≡_ {A = ℕ} 0 1 = cc in absurd (omega arith);
-      }
-  fitting (stepped p) len a q k =
-      record {
-        few = λ i n h. let c₁ : length (p .sent) ≡ i = cc in let c₂ : sizeOfAll (p .sent) ≡ n = cc in (omega (arith, k p refl .0), omega (arith, k p refl .1));
-        short = λ i n h. k p refl .2;
-      }
+  -- what an accepted step answers fits the words it is stored in
+  fitting : (x : Outcome A) (a : Answer) → a ≡ answerOf x → ((p : Step A) → x ≡ stepped p → (length (p .sent) ≤ maxWord) × (sizeOfAll (p .sent) ≤ maxWord)) → Storable a
+  fitting (refused e) a q k = record { few = λ i n h. let z : _≡_ {A = ℕ} 0 1 = cc in absurd (omega arith) }
+  fitting (stepped p) a q k =
+      record { few = λ i n h. let c₁ : length (p .sent) ≡ i = cc in let c₂ : sizeOfAll (p .sent) ≡ n = cc in (omega (arith, k p refl .0), omega (arith, k p refl .1)) }
 
--- the server's call, in each way out
-module _ (ws : List ℕ) (b : Bool) (h : b ≡ holdsServer ws) where
+-- THE SERVER'S CALL
+-- the messages of a step are three at most
+mail-few : (m : Mail) → length (mails m) ≤ 1
+mail-few Nothing = omega arith
+mail-few (One x) = omega arith
+
+module _ (a b c : Mail) where
+  three-few : length (threeMails a b c) ≤ 3
+  unfolding threeMails
+  three-few = simp length-append (omega (arith, mail-few a, mail-few b, mail-few c))
+
+  pub three-storable : (x : Answer) (room : ℕ) → x ≡ sentAnswer (threeMails a b c) room → Storable x
+  unfolding sentAnswer
+  three-storable x room e =
+      let ms : List Message = threeMails a b c in
+      ⊎-elim
+      (λ (t : ltb room (sizeOfAll ms) ≡ true). record { few = λ i n h. let k : x ≡ Refused RoomShort = rw t at e in let z : _≡_ {A = ℕ} 0 1 = cc in absurd (omega arith) })
+      (λ (t : ltb room (sizeOfAll ms) ≡ false).
+      record { few = λ i n h. let k : x ≡ Sent (length ms) (sizeOfAll ms) = rw t at e in let c₁ : length ms ≡ i = cc in let c₂ : sizeOfAll ms ≡ n = cc in (omega (arith, three-few), omega (arith, three-few, size-few ms)) })
+      (decided (ltb room (sizeOfAll ms)))
+
+-- a step that was made, from what sending its messages answers
+module _ (p : Step (List ℕ)) (ws out sent : List ℕ) where
+  pub counts-short : (r : ℕ) → length sent < 2 → r ≡ code RoomShort → Leaves (lent out sent (stepped p)) r ws ws out out sent sent
+  unfolding withRoom
+  counts-short r l h = short-leaves (λ (x : List ℕ). x) ws out sent (stepped p) r l h
+
+  pub sent-leaves : (a : Answer) (r : ℕ) (ws′ out′ sent′ : List ℕ) → 2 ≤ length sent → a ≡ sentAnswer (p .sent) (length out) → out′ ≡ sentBuffer (p .sent) out
+      → (r ≡ answerCode a) × (ws′ ≡ answerRecord (p .state) ws a) × (sent′ ≡ answerCounts sent a)
+      → Leaves (lent out sent (stepped p)) r ws ws′ out out′ sent sent′
+  unfolding withRoom sentAnswer sentBuffer
+  sent-leaves a r ws′ out′ sent′ l ea eo (er, ew, es) =
+      ⊎-elim
+      (λ (t : ltb (length out) (sizeOfAll (p .sent)) ≡ true).
+      rw t (record { returned = rw (ea, t) at er; stored = rw (ea, t) at ew; written = rw t at eo; counted = rw (ea, t) at es }))
+      (λ (t : ltb (length out) (sizeOfAll (p .sent)) ≡ false).
+      rw (t, le-ltb _ _ l) (record { returned = rw (ea, t) at er; stored = rw (ea, t) at ew; written = rw t at eo; counted = rw (ea, t) at es }))
+      (decided (ltb (length out) (sizeOfAll (p .sent))))
+
+-- a step on a row, as the outcome on its record's words
+turned-words : (h : ServerHead) (row after : List ℕ) (o : Outcome votes.State) (t : ServerTurned) → Turns h row o t after → turnedWords t after ≡ inWords (serverWith (server.serverOf h row)) o
+turned-words h row after (refused e) t T = rw (T .ruled)
+turned-words h row after (stepped p) t T = rw (T .ruled, T .head, T .row, T .sent)
+
+module _ (ws : List ℕ) (b : Bool) (e : b ≡ holdsServer ws) where
   pub is-server : not b ≡ false → holdsServer ws ≡ true
-  is-server n = sym h ∙ not-false b n
+  is-server n = sym e ∙ not-false b n
 
   pub no-server : (f : Server → Outcome votes.State) → not b ≡ true → onServer ws f ≡ refused InvalidRecord
   unfolding onServer
-  no-server f n = let u : holdsServer ws ≡ false = sym h ∙ not-true b n in rw u
+  no-server f n = let u : holdsServer ws ≡ false = sym e ∙ not-true b n in rw u
 
-  module _ (n : not b ≡ false) (s : Server) (q : s ≡ serverFrom ws) where
-    on-server : (f : Server → Outcome votes.State) → onServer ws f ≡ inWords (serverWith s) (f s)
-    unfolding onServer
-    on-server f = rw (is-server n, q)
+  module _ (n : not b ≡ false) where
+    pub server-long : length ws ≡ serverSize
+    server-long = server-held ws (is-server n) .size
 
-    module _ (call : ServerCall) (out sent : List ℕ) where
-      pub server-short-leaves : (r : ℕ) → length sent < 2 → r ≡ shortCode (serverOutcome call s) → Leaves (lent out sent (onServer ws (serverOutcome call))) r ws ws out out sent sent
-      server-short-leaves r l e = rw (on-server (serverOutcome call)) (short-leaves (serverWith s) ws out sent (serverOutcome call s) r l e)
+    module _ (h : ServerHead) (row : List ℕ) (eh : h ≡ serverHeadFrom ws) (er : row ≡ take server.rowWords (drop recordHead ws)) where
+      pub row-long : length row ≡ server.rowWords
+      row-long = rw (er, whole-row ws server.rowWords server-long) (rest-long ws server.rowWords server-long)
 
-      module _ (x : ServerStepped) (e : x ≡ server-calls.result s (withRoom (length out) (serverOutcome call s))) where
-        pub server-storable : Storable (x .answer) (x .server .votes .queue .len)
-        server-storable =
-            fitting (withRoom (length out) (serverOutcome call s)) (x .server .votes .queue .len) (x .answer) (rw e)
-            (λ p k.
-            let a = server-accepted call s p (room-stepped (length out) (serverOutcome call s) p k) in
-            let z : x .server ≡ server-calls.serverAfter s (stepped p) = rw (e, k) in
-            (omega (arith, a .few), omega (arith, a .small), rw z (valid-length (server-calls.serverAfter s (stepped p)) (a .after))))
+      its-server : server.serverOf h row ≡ serverFrom ws
+      its-server = rw (eh, er, whole-row ws server.rowWords server-long)
 
-        pub server-done-leaves : (r : ℕ) (ws′ out′ sent′ : List ℕ) → 2 ≤ length sent → out′ ≡ sentInto out (withRoom (length out) (serverOutcome call s))
-            → (r ≡ answerCode (x .answer)) × (ws′ ≡ answerRecord (serverWords (x .server)) ws (x .answer)) × (sent′ ≡ answerCounts sent (x .answer))
+      module _ (call : ServerCall) (t : ServerTurned) (after : List ℕ) (T : Turns h row (serverOutcome call (server.serverOf h row)) t after) where
+        by-outcome : (o : Outcome votes.State) → serverOutcome call (server.serverOf h row) ≡ o → Turns h row o t after → (length after ≡ length row) × (t .ruling ≡ Done → t .head .votes .len ≤ maxWord)
+        by-outcome (refused x) q T =
+            (ap length (T .row), λ d. let k : Ruled x ≡ Done = sym (T .ruled) ∙ d in let z : _≡_ {A = ℕ} 0 1 = cc in absurd (omega arith))
+        by-outcome (stepped p) q T =
+            let g = server-accepted call (server.serverOf h row) p q .room in
+            (ap length (T .row) ∙ length-row-of (length row) (p .state .queue) g, λ d. rw (T .head) (omega (arith, g, row-long)))
+
+        pub server-kept : length after ≡ server.rowWords
+        server-kept = by-outcome (serverOutcome call (server.serverOf h row)) refl T .0 ∙ row-long
+
+        pub server-short : t .ruling ≡ Done → t .head .votes .len ≤ maxWord
+        server-short = by-outcome (serverOutcome call (server.serverOf h row)) refl T .1
+
+        on-server : onServer ws (serverOutcome call) ≡ turnedWords t after
+        unfolding onServer
+        on-server = rw (is-server n, ← its-server) (sym (turned-words h row after (serverOutcome call (server.serverOf h row)) t T))
+
+        pub server-leaves : (r : ℕ) (ws′ out out′ sent sent′ : List ℕ) → Leaves (lent out sent (turnedWords t after)) r ws ws′ out out′ sent sent′
             → Leaves (lent out sent (onServer ws (serverOutcome call))) r ws ws′ out out′ sent sent′
-        server-done-leaves r ws′ out′ sent′ l eo (er, ew, es) =
-            rw (on-server (serverOutcome call))
-            (done-leaves (serverWith s) ws out sent (serverOutcome call s) (x .answer) (serverWords (x .server)) r ws′ out′ sent′ l (rw e) (λ p k. rw (e, k)) eo er ew es)
+        server-leaves r ws′ out out′ sent sent′ L = rw on-server L
 
--- the client's call, in each way out
-module _ (ws : List ℕ) (b : Bool) (h : b ≡ holdsClient ws) where
+-- THE CLIENT'S CALL
+pub client-short-answers : (call : ClientCall) (h : ClientHead) (row copy after o l : List ℕ) (t : ClientTurned) (r : ℕ) → copy ≡ row → Answers h copy (clientOutcome call (client.clientOf h copy)) o t after l → r ≡ shortAnswer (t .answer) → r ≡ shortCode (clientOutcome call (client.clientOf h row))
+client-short-answers call h row copy after o l t r c (a, b, d) e =
+    rw (← c) (short-answers (clientOutcome call (client.clientOf h copy)) (length o) r (rw a at e))
+
+length-head-words : (h : ClientHead) → length (clientHeadWords h) ≡ recordHead
+unfolding clientHeadWords
+length-head-words h = refl
+
+-- the step in place, its head stored and its counts
+module _ (ws : List ℕ) (l : length ws ≡ clientSize) (h : ClientHead) where
+  abbrev row : List ℕ
+  row = take client.rowWords (drop recordHead ws)
+
+  long : length row ≡ client.rowWords
+  long = rw (whole-row ws client.rowWords l) (rest-long ws client.rowWords l)
+
+  done-leaves : (o : Outcome client-state.State) (t : ClientTurned) (row′ : List ℕ) (out out′ sent sent′ ws′ : List ℕ) (r : ℕ) → 2 ≤ length sent
+      → ((p : Step client-state.State) → o ≡ stepped p → 2 * length (p .state .responses) ≤ client.rowWords)
+      → Answers h row o out t row′ out′
+      → (r ≡ answerCode (t .answer)) × (ws′ ≡ answerRecord (clientHeadWords (t .head)) (putMid recordHead client.rowWords ws row′) (t .answer)) × (sent′ ≡ answerCounts sent (t .answer))
+      → Leaves (lent out sent (inWords (clientWith (client.clientOf h row)) o)) r ws ws′ out out′ sent sent′
+  unfolding withRoom clientWords
+  done-leaves (refused e) t row′ out out′ sent sent′ ws′ r g few (a, b, c) (er, ew, es) =
+      record { returned = rw a at er; stored = rw (a, b, put-same recordHead client.rowWords ws) at ew; written = c; counted = rw a at es }
+  done-leaves (stepped p) t row′ out out′ sent sent′ ws′ r g few (a, b, c) (er, ew, es) =
+      ⊎-elim
+      (λ (u : ltb (length out) (sizeOfAll (p .sent)) ≡ true).
+      rw u (record { returned = rw (a, u) at er; stored = rw (a, b, u, put-same recordHead client.rowWords ws) at ew; written = rw u at c; counted = rw (a, u) at es }))
+      (λ (u : ltb (length out) (sizeOfAll (p .sent)) ≡ false).
+      let k : List ℕ = client-calls.rowAfter row (stepped p) in
+      let d : row′ ≡ k = rw u at b in
+      let f : 2 * length (map place (p .state .responses)) ≤ length row = simp length-map (omega (arith, few p refl, long)) in
+      let w = rw (a, u, d) at ew in
+      rw (u, le-ltb _ _ g)
+      (record {
+        returned = rw (a, u) at er;
+        stored = w ∙ row-then-head ws client.rowWords l k (clientHeadWords (client-calls.headAfter h (stepped p))) (length-row-of (length row) (map place (p .state .responses)) f ∙ long) (length-head-words (client-calls.headAfter h (stepped p)));
+        written = rw u at c;
+        counted = rw (a, u) at es;
+      }))
+      (decided (ltb (length out) (sizeOfAll (p .sent))))
+
+module _ (ws : List ℕ) (b : Bool) (e : b ≡ holdsClient ws) where
   pub is-client : not b ≡ false → holdsClient ws ≡ true
-  is-client n = sym h ∙ not-false b n
+  is-client n = sym e ∙ not-false b n
 
   pub no-client : (f : Client → Outcome client-state.State) → not b ≡ true → onClient ws f ≡ refused InvalidRecord
   unfolding onClient
-  no-client f n = let u : holdsClient ws ≡ false = sym h ∙ not-true b n in rw u
+  no-client f n = let u : holdsClient ws ≡ false = sym e ∙ not-true b n in rw u
 
-  module _ (n : not b ≡ false) (s : Client) (q : s ≡ clientFrom ws) where
-    on-client : (f : Client → Outcome client-state.State) → onClient ws f ≡ inWords (clientWith s) (f s)
-    unfolding onClient
-    on-client f = rw (is-client n, q)
+  module _ (n : not b ≡ false) where
+    pub client-long : length ws ≡ clientSize
+    client-long = client-held ws (is-client n) .size
 
-    module _ (call : ClientCall) (out sent : List ℕ) where
-      pub client-short-leaves : (r : ℕ) → length sent < 2 → r ≡ shortCode (clientOutcome call s) → Leaves (lent out sent (onClient ws (clientOutcome call))) r ws ws out out sent sent
-      client-short-leaves r l e = rw (on-client (clientOutcome call)) (short-leaves (clientWith s) ws out sent (clientOutcome call s) r l e)
+    pub client-row-long : length (take client.rowWords (drop recordHead ws)) ≡ client.rowWords
+    client-row-long = rw (whole-row ws client.rowWords client-long) (rest-long ws client.rowWords client-long)
 
-      module _ (x : ClientStepped) (e : x ≡ client-calls.result s (withRoom (length out) (clientOutcome call s))) where
-        pub client-storable : Storable (x .answer) 0
-        client-storable =
-            fitting (withRoom (length out) (clientOutcome call s)) 0 (x .answer) (rw e)
-            (λ p k.
-            let a = client-accepted call s p (room-stepped (length out) (clientOutcome call s) p k) in
-            let f : s .n ≤ 31 = valid-known s (a .before) .few in
-            (omega (arith, a .most .few), omega (arith, a .most .small), omega arith))
+    module _ (h : ClientHead) (eh : h ≡ clientHeadFrom ws) where
+      abbrev its : Client
+      its = client.clientOf h (take client.rowWords (drop recordHead ws))
 
-        pub client-done-leaves : (r : ℕ) (ws′ out′ sent′ : List ℕ) → 2 ≤ length sent → out′ ≡ sentInto out (withRoom (length out) (clientOutcome call s))
-            → (r ≡ answerCode (x .answer)) × (ws′ ≡ answerRecord (clientWords (x .client)) ws (x .answer)) × (sent′ ≡ answerCounts sent (x .answer))
-            → Leaves (lent out sent (onClient ws (clientOutcome call))) r ws ws′ out out′ sent sent′
-        client-done-leaves r ws′ out′ sent′ l eo (er, ew, es) =
-            rw (on-client (clientOutcome call))
-            (done-leaves (clientWith s) ws out sent (clientOutcome call s) (x .answer) (clientWords (x .client)) r ws′ out′ sent′ l (rw e) (λ p k. rw (e, k)) eo er ew es)
+      its-client : its ≡ clientFrom ws
+      its-client = rw (eh, whole-row ws client.rowWords client-long)
+
+      on-client : (f : Client → Outcome client-state.State) → onClient ws f ≡ inWords (clientWith its) (f its)
+      unfolding onClient
+      on-client f = rw (is-client n, ← its-client)
+
+      module _ (call : ClientCall) (out sent : List ℕ) where
+        pub client-short-leaves : (r : ℕ) → length sent < 2 → r ≡ shortCode (clientOutcome call its) → Leaves (lent out sent (onClient ws (clientOutcome call))) r ws ws out out sent sent
+        client-short-leaves r l k = rw (on-client (clientOutcome call)) (short-leaves (clientWith its) ws out sent (clientOutcome call its) r l k)
+
+        module _ (t : ClientTurned) (row′ out′ : List ℕ) (A : Answers h (take client.rowWords (drop recordHead ws)) (clientOutcome call its) out t row′ out′) where
+          pub client-storable : Storable (t .answer)
+          client-storable =
+              fitting (withRoom (length out) (clientOutcome call its)) (t .answer) (rw (A .0))
+              (λ p k.
+              let a = client-accepted call its p (room-stepped (length out) (clientOutcome call its) p k) in
+              let f : its .head .n ≤ maxServers = valid-known its (a .before) .few in
+              (omega (arith, a .most .few), omega (arith, a .most .small)))
+
+          pub client-done-leaves : (r : ℕ) (ws′ sent′ : List ℕ) → 2 ≤ length sent
+              → (r ≡ answerCode (t .answer)) × (ws′ ≡ answerRecord (clientHeadWords (t .head)) (putMid recordHead client.rowWords ws row′) (t .answer)) × (sent′ ≡ answerCounts sent (t .answer))
+              → Leaves (lent out sent (onClient ws (clientOutcome call))) r ws ws′ out out′ sent sent′
+          client-done-leaves r ws′ sent′ l F =
+              rw (on-client (clientOutcome call))
+              (done-leaves ws client-long h (clientOutcome call its) t row′ out out′ sent sent′ ws′ r l
+              (λ p k. let a = client-accepted call its p k in omega (arith, a .long, padded-words (its .row) (its .head .n) (valid-padded its (a .before)), client-row-long)) A F)
 
 -- words that are no message: the step refuses what stands for them
 server-takes : (x : Option Message) (s : Server) → server-calls.messageOutcome s (messageOr x) ≡ serverTakes x s
-unfolding server-calls.messageOutcome format.valid validStamped validParties
+unfolding server-calls.messageOutcomeUpTo format.valid validStamped validParties
 server-takes (some m) s = refl
 server-takes none s =
     ⊎-elim (λ (v : server.valid s ≡ true). rw v) (λ (v : server.valid s ≡ false). rw v) (decided (server.valid s))
 
 client-takes : (x : Option Message) (c : Client) → client-calls.messageOutcome c (messageOr x) ≡ clientTakes x c
-unfolding client-calls.messageOutcome format.valid validStamped validParties
+unfolding client-calls.messageOutcomeUpTo format.valid validStamped validParties
 client-takes (some m) c = refl
 client-takes none c =
     ⊎-elim (λ (v : client.valid c ≡ true). rw v) (λ (v : client.valid c ≡ false). rw v) (decided (client.valid c))

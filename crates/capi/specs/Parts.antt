@@ -1,5 +1,5 @@
 -- What the private functions of the step calls are, and what they compute from a step's answer. No exported call cites these.
-use Prim.Native.Nat.{ℕ, _<_, _≤_}
+use Prim.Native.Nat.{ℕ, _≤_}
 use mathlib.Core.Path.{_≡_}
 use mathlib.Core.List.{List, [], _∷_}
 use lib.Seq.{sets}
@@ -9,11 +9,17 @@ use Rattle.wire.specs.Step.{Outcome, refused, stepped}
 use Rattle.wire.specs.declared.Answer.{Answer}
 use Rattle.wire.specs.declared.Answer.the-variants.{Sent, Refused}
 use Rattle.votes.specs.Figure1 as votes
+use Rattle.server.specs.Record as server
 use Rattle.server.specs.Calls as server-calls
+use Rattle.server.specs.Parts.{threeMails}
+use Rattle.server.specs.declared.Ruling.{Ruling}
+use Rattle.server.specs.declared.Ruling.the-variants.{Done, Refused as Ruled}
+use Rattle.server.specs.declared.Turned.{Turned}
 use Rattle.server.specs.declared.Server.{Server}
 use Rattle.responses.specs.Figure1 as client-state
 use Rattle.client.specs.Calls as client-calls
 use Rattle.client.specs.declared.Client.{Client}
+use Rattle.words.specs.Records.{maxWord, serverWords}
 use Rattle.capi.specs.declared.ServerCall.{ServerCall}
 use Rattle.capi.specs.declared.ServerCall.the-variants.{Message as ServerMessage, Suspect, Check}
 use Rattle.capi.specs.declared.ClientCall.{ClientCall}
@@ -41,10 +47,21 @@ abbrev pub shortAnswer : Answer → ℕ
 shortAnswer (Refused e) = code e
 shortAnswer (Sent k n) = code RoomShort
 
--- what an answer counts fits a word, and a queue to be stored has at most so many places
-pub record Storable (a : Answer) (len : ℕ) : Type 0 where
-  pub few : (k n : ℕ) → a ≡ Sent k n → (k < 4294967296) × (n < 4294967296)
-  pub short : (k n : ℕ) → a ≡ Sent k n → len ≤ 16
+-- what an answer counts fits a word
+pub record Storable (a : Answer) : Type 0 where
+  pub few : (k n : ℕ) → a ≡ Sent k n → (k ≤ maxWord) × (n ≤ maxWord)
+
+-- a server's step on a lent row, with the record as words: one that was made, and any
+abbrev pub acceptedWords : Turned → List ℕ → Outcome (List ℕ)
+acceptedWords t row =
+    stepped (record { state = serverWords (server.serverOf (t .head) row); sent = threeMails (t .first) (t .second) (t .third) })
+
+abbrev pub ruledWords : Ruling → Outcome (List ℕ) → Outcome (List ℕ)
+ruledWords (Ruled e) o = refused e
+ruledWords Done o = o
+
+abbrev pub turnedWords : Turned → List ℕ → Outcome (List ℕ)
+turnedWords t row = ruledWords (t .ruling) (acceptedWords t row)
 
 -- the code's own names for the steps of a record
 abbrev pub serverOutcome : ServerCall → Server → Outcome votes.State

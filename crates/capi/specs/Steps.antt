@@ -16,7 +16,6 @@ use Rattle.wire.specs.Format.{sizeOfAll}
 use Rattle.wire.specs.Step.{Outcome, refused, stepped, stay, withRoom, sentInto}
 use Rattle.wire.specs.declared.Message.{Message}
 use Rattle.votes.specs.Figure1 as votes
-use Rattle.votes.specs.Queues as queues
 use Rattle.server.specs.Record as server
 use Rattle.server.specs.Calls as server-calls
 use Rattle.server.specs.declared.Server.{Server}
@@ -66,13 +65,13 @@ pub record Leaves (o : Outcome (List ℕ)) (r : ℕ) (ws ws′ out out′ sent s
 
 -- a step on the record that the words are; 21 if they are none
 abbrev pub serverWith : Server → votes.State → List ℕ
-serverWith s q = serverWords (record { n = s .n; id = s .id; votes = queues.store q })
+serverWith s q = serverWords (server-calls.serverAfter s (stepped (stay q)))
 
 unfoldable pub onServer : List ℕ → (Server → Outcome votes.State) → Outcome (List ℕ)
 onServer ws f = maybe (serverIn ws) (refused InvalidRecord) (λ s. inWords (serverWith s) (f s))
 
 abbrev pub clientWith : Client → client-state.State → List ℕ
-clientWith c q = clientWords (client.store (c .n) (c .m) (c .id) q)
+clientWith c q = clientWords (client-calls.clientAfter c (stepped (stay q)))
 
 unfoldable pub onClient : List ℕ → (Client → Outcome client-state.State) → Outcome (List ℕ)
 onClient ws f = maybe (clientIn ws) (refused InvalidRecord) (λ c. inWords (clientWith c) (f c))
@@ -109,7 +108,7 @@ clientExit ws = onClient ws client-calls.exitOutcome
 unfoldable pub serverNew : ℕ → ℕ → ℕ → Outcome (List ℕ)
 serverNew n j room =
     if leb serverSize room && server.validSizes n (record { 0 = j }) then
-    stepped (stay (serverWords (record { n = n; id = record { 0 = j }; votes = queues.store votes.idle })))
+    stepped (stay (serverWords (server-calls.emptyServer n (record { 0 = j }))))
     else refused ParameterOutOfRange
 
 unfoldable pub clientNew : ℕ → ℕ → ℕ → ℕ → Outcome (List ℕ)

@@ -2,24 +2,24 @@
 // include/sigma.h declares these functions.
 ghost use mathlib.Core.Path.{_≡_};
 ghost use mathlib.Core.List.{[], _∷_, _++_};
-ghost use Prim.Native.Nat.{_≤_, _<_};
+ghost use Prim.Native.Nat.{_+_, _≤_};
 ghost use lib.ListN.{length};
 ghost use lib.Seq.{sets};
 ghost use Rattle.wire.specs.Format.{words as wordsOf};
 ghost use Rattle.wire.specs.Calls.{readOf};
-ghost use Rattle.wire.specs.Step.{withRoom, sentInto};
-ghost use Rattle.server.specs.Calls.{result as serverResult};
-ghost use Rattle.client.specs.Calls.{result as clientResult};
+ghost use Rattle.server.specs.Record as server;
+ghost use Rattle.server.specs.Rows.{Turns};
+ghost use Rattle.client.specs.Record as client;
+ghost use Rattle.client.specs.Steps.{Answers};
 ghost use Rattle.words.specs.Messages.{messageIn};
-ghost use Rattle.words.specs.Records.{serverWords, clientWords};
+ghost use Rattle.words.specs.Records.{maxWord, recordHead, serverSize, clientSize, serverWords, clientHeadWords, clientWords};
 ghost use Rattle.capi.specs.Calls.{readCode, readWords, writtenCode, writeCode, writeBuffer};
 ghost use Rattle.capi.specs.Steps.{lent, Leaves, codeOf, recordInto, serverMessage, serverSuspect, serverCheck, clientMessage, clientBegin, clientExit, serverNew, clientNew, onServer, onClient};
-ghost use Rattle.capi.specs.Parts.{answerCode, answerRecord, answerCounts, shortCode, shortAnswer, Storable, serverOutcome, clientOutcome};
-use client::Client;
+ghost use Rattle.capi.specs.Parts.{answerCode, answerRecord, answerCounts, shortCode, shortAnswer, Storable, turnedWords, acceptedWords, serverOutcome, clientOutcome};
 use ids::ClientId;
 use ids::Refusal;
 use ids::ServerId;
-use server::Server;
+use server::Ruling;
 use wire::Answer;
 use wire::Fields;
 use wire::Message;
@@ -92,6 +92,129 @@ pub enum ClientCall {
     Exit,
 }
 
+// Writes a row behind the five words of a head.
+fn put_row(state: &mut [u32], row: &[u32])
+    requires { ⌜ recordHead + length (now row) ≤ length (now state) ⌝ }
+    ensures { λ _. ⌜ now (state .exit) ≡ sets (now (state .entry)) recordHead (now (row .entry)) ⌝ }
+{
+    let end = words::HEAD_WORDS + row.len();
+    rows::copy(row, &mut state[words::HEAD_WORDS..end]);
+}
+
+// Writes a record in the first words: its head, and the row behind it.
+fn put_server(state: &mut [u32], h: server::Head, row: &[u32])
+    requires { ⌜ (recordHead + length (now row) ≤ length (now state)) × (h .votes .len ≤ maxWord) ⌝ }
+    ensures { λ _. ⌜ now (state .exit) ≡ sets (now (state .entry)) 0 (serverWords (server.serverOf h (now (row .entry)))) ⌝ }
+{
+    words::put_server_head(state, h);
+    put_row(state, row);
+}
+
+fn put_client(state: &mut [u32], h: client::Head, row: &[u32])
+    requires { ⌜ recordHead + length (now row) ≤ length (now state) ⌝ }
+    ensures { λ _. ⌜ now (state .exit) ≡ sets (now (state .entry)) 0 (clientWords (client.clientOf h (now (row .entry)))) ⌝ }
+{
+    words::put_client_head(state, h);
+    put_row(state, row);
+}
+
+fn put_counts(sent: &mut [u32], count: usize, bytes: usize)
+    requires { ⌜ (2 ≤ length (now sent)) × (count ≤ maxWord) × (bytes ≤ maxWord) ⌝ }
+    ensures { λ _. ⌜ now (sent .exit) ≡ sets (now (sent .entry)) 0 (count ∷ bytes ∷ []) ⌝ }
+{
+    sent[0] = count as u32;
+    sent[1] = bytes as u32;
+}
+
+fn server_step(h: server::Head, row: &mut [u32], call: ServerCall) -> server::Turned
+    ensures { λ t. ⌜ Turns h (now (row .entry)) (serverOutcome call (server.serverOf h (now (row .entry)))) t (now (row .exit)) ⌝ }
+{
+    match call {
+        ServerCall::Message(m) => server::message_row(h, row, m),
+        ServerCall::Suspect => server::suspect_row(h, row),
+        ServerCall::Check => server::check_row(h, row),
+    }
+}
+
+// An accepted step's record and counts are stored; a refused one's number is returned.
+fn server_store(a: Answer, h: server::Head, row: &[u32], state: &mut [u32], sent: &mut [u32]) -> u32
+    requires { ⌜ (recordHead + length (now row) ≤ length (now state)) × (2 ≤ length (now sent)) × (h .votes .len ≤ maxWord) × Storable a ⌝ }
+    ensures { λ x. ⌜ (x ≡ answerCode a) × (now (state .exit) ≡ answerRecord (serverWords (server.serverOf h (now (row .entry)))) (now (state .entry)) a) × (now (sent .exit) ≡ answerCounts (now (sent .entry)) a) ⌝ }
+{
+    match a {
+        Answer::Sent(count, bytes) => {
+            put_server(state, h, row);
+            put_counts(sent, count, bytes);
+            0
+        }
+        Answer::Refused(e) => ids::code_of(e),
+    }
+}
+
+// A step that was made: its messages are sent and its record kept, or, for want of room, neither.
+fn server_send(
+    t: server::Turned,
+    row: &[u32],
+    state: &mut [u32],
+    out: &mut [u8],
+    sent: &mut [u32],
+) -> u32
+    requires { ⌜ (recordHead + length (now row) ≤ length (now state)) × (t .head .votes .len ≤ maxWord) ⌝ }
+    ensures { λ r. ⌜ Leaves (lent (now (out .entry)) (now (sent .entry)) (acceptedWords t (now (row .entry)))) r (now (state .entry)) (now (state .exit)) (now (out .entry)) (now (out .exit)) (now (sent .entry)) (now (sent .exit)) ⌝ }
+{
+    if sent.len() < 2 {
+        return ids::code_of(Refusal::RoomShort);
+    }
+    let first = t.first;
+    let second = t.second;
+    let third = t.third;
+    let answer = server::send(first, second, third, out);
+    let head = t.head;
+    server_store(answer, head, row, state, sent)
+}
+
+// A refused step's number, or what becomes of one that was made.
+fn server_finish(
+    t: server::Turned,
+    row: &[u32],
+    state: &mut [u32],
+    out: &mut [u8],
+    sent: &mut [u32],
+) -> u32
+    requires { ⌜ (recordHead + length (now row) ≤ length (now state)) × (t .ruling ≡ Ruling.Done → t .head .votes .len ≤ maxWord) ⌝ }
+    ensures { λ r. ⌜ Leaves (lent (now (out .entry)) (now (sent .entry)) (turnedWords t (now (row .entry)))) r (now (state .entry)) (now (state .exit)) (now (out .entry)) (now (out .exit)) (now (sent .entry)) (now (sent .exit)) ⌝ }
+{
+    let ruling = t.ruling;
+    match ruling {
+        Ruling::Done => server_send(t, row, state, out, sent),
+        Ruling::Refused(e) => ids::code_of(e),
+    }
+}
+
+// A server's step, on a copy of its row: a refused one drops the copy.
+fn server_call(call: ServerCall, state: &mut [u32], out: &mut [u8], sent: &mut [u32]) -> u32
+    ensures { λ r. ⌜ Leaves (lent (now (out .entry)) (now (sent .entry)) (onServer (now (state .entry)) (serverOutcome call))) r (now (state .entry)) (now (state .exit)) (now (out .entry)) (now (out .exit)) (now (sent .entry)) (now (sent .exit)) ⌝ }
+{
+    if !words::holds_server(state) {
+        return ids::code_of(Refusal::InvalidRecord);
+    }
+    let h = words::server_head(state);
+    let mut row = [0u32; server::ROW_WORDS];
+    rows::copy(&state[words::HEAD_WORDS..words::SERVER_WORDS], &mut row);
+    let t = server_step(h, &mut row, call);
+    server_finish(t, &row, state, out, sent)
+}
+
+fn client_step(h: client::Head, row: &mut [u32], call: ClientCall, out: &mut [u8]) -> client::Turned
+    ensures { λ t. ⌜ Answers h (now (row .entry)) (clientOutcome call (client.clientOf h (now (row .entry)))) (now (out .entry)) t (now (row .exit)) (now (out .exit)) ⌝ }
+{
+    match call {
+        ClientCall::Message(m) => client::message_row(h, row, m, out),
+        ClientCall::Begin => client::begin_row(h, row, out),
+        ClientCall::Exit => client::exit_row(h, row, out),
+    }
+}
+
 // The answer's number where there is no room for the counts: 6, unless the step is refused otherwise.
 fn short_answer(a: Answer) -> u32
     ensures { λ r. ⌜ r ≡ shortAnswer a ⌝ }
@@ -102,44 +225,29 @@ fn short_answer(a: Answer) -> u32
     }
 }
 
-fn put_counts(sent: &mut [u32], count: usize, bytes: usize)
-    requires { ⌜ (2 ≤ length (now sent)) × (count < 4294967296) × (bytes < 4294967296) ⌝ }
-    ensures { λ _. ⌜ now (sent .exit) ≡ sets (now (sent .entry)) 0 (count ∷ bytes ∷ []) ⌝ }
+// The number of a call that has no room for the counts: the step is made on a copy, and what it would send goes nowhere.
+fn client_short(h: client::Head, row: &[u32], call: ClientCall) -> u32
+    requires { ⌜ length (now row) ≡ client.rowWords ⌝ }
+    ensures { λ r. ⌜ r ≡ shortCode (clientOutcome call (client.clientOf h (now (row .entry)))) ⌝ }
 {
-    sent[0] = count as u32;
-    sent[1] = bytes as u32;
-}
-
-fn server_step(s: Server, call: ServerCall, out: &mut [u8]) -> server::Stepped
-    ensures { λ r. ⌜ (r ≡ serverResult s (withRoom (length (now (out .entry))) (serverOutcome call s))) × (now (out .exit) ≡ sentInto (now (out .entry)) (withRoom (length (now (out .entry))) (serverOutcome call s))) ⌝ }
-{
-    match call {
-        ServerCall::Message(m) => server::message(s, m, out),
-        ServerCall::Suspect => server::suspect(s, out),
-        ServerCall::Check => server::check(s, out),
-    }
-}
-
-// The number of a call that has no room for the counts. What the step would send goes nowhere.
-fn server_short(s: Server, call: ServerCall) -> u32
-    ensures { λ r. ⌜ r ≡ shortCode (serverOutcome call s) ⌝ }
-{
+    let mut spare = [0u32; client::ROW_WORDS];
+    rows::copy(row, &mut spare);
     let mut nowhere = [0u8; 1];
-    let r = server_step(s, call, &mut nowhere);
-    let answer = r.answer;
+    let t = client_step(h, &mut spare, call, &mut nowhere);
+    let answer = t.answer;
     short_answer(answer)
 }
 
-// An accepted step's record and counts are stored; a refused one's number is returned.
-fn server_finish(r: server::Stepped, state: &mut [u32], sent: &mut [u32]) -> u32
-    requires { ⌜ (37 ≤ length (now state)) × (2 ≤ length (now sent)) × Storable (r .answer) (r .server .votes .queue .len) ⌝ }
-    ensures { λ x. ⌜ (x ≡ answerCode (r .answer)) × (now (state .exit) ≡ answerRecord (serverWords (r .server)) (now (state .entry)) (r .answer)) × (now (sent .exit) ≡ answerCounts (now (sent .entry)) (r .answer)) ⌝ }
+// An accepted step's head and counts are stored, its row stands already; a refused one's number is returned.
+fn client_finish(t: client::Turned, state: &mut [u32], sent: &mut [u32]) -> u32
+    requires { ⌜ (recordHead ≤ length (now state)) × (2 ≤ length (now sent)) × Storable (t .answer) ⌝ }
+    ensures { λ x. ⌜ (x ≡ answerCode (t .answer)) × (now (state .exit) ≡ answerRecord (clientHeadWords (t .head)) (now (state .entry)) (t .answer)) × (now (sent .exit) ≡ answerCounts (now (sent .entry)) (t .answer)) ⌝ }
 {
-    let answer = r.answer;
+    let answer = t.answer;
     match answer {
         Answer::Sent(count, bytes) => {
-            let s = r.server;
-            words::store_server(state, s);
+            let h = t.head;
+            words::put_client_head(state, h);
             put_counts(sent, count, bytes);
             0
         }
@@ -147,67 +255,24 @@ fn server_finish(r: server::Stepped, state: &mut [u32], sent: &mut [u32]) -> u32
     }
 }
 
-fn server_call(call: ServerCall, state: &mut [u32], out: &mut [u8], sent: &mut [u32]) -> u32
-    ensures { λ r. ⌜ Leaves (lent (now (out .entry)) (now (sent .entry)) (onServer (now (state .entry)) (serverOutcome call))) r (now (state .entry)) (now (state .exit)) (now (out .entry)) (now (out .exit)) (now (sent .entry)) (now (sent .exit)) ⌝ }
-{
-    if !words::holds_server(state) {
-        return ids::code_of(Refusal::InvalidRecord);
-    }
-    let s = words::load_server(state);
-    if sent.len() < 2 {
-        return server_short(s, call);
-    }
-    let r = server_step(s, call, out);
-    server_finish(r, state, sent)
-}
-
-fn client_step(c: Client, call: ClientCall, out: &mut [u8]) -> client::Stepped
-    ensures { λ r. ⌜ (r ≡ clientResult c (withRoom (length (now (out .entry))) (clientOutcome call c))) × (now (out .exit) ≡ sentInto (now (out .entry)) (withRoom (length (now (out .entry))) (clientOutcome call c))) ⌝ }
-{
-    match call {
-        ClientCall::Message(m) => client::message(c, m, out),
-        ClientCall::Begin => client::begin(c, out),
-        ClientCall::Exit => client::exit(c, out),
-    }
-}
-
-fn client_short(c: Client, call: ClientCall) -> u32
-    ensures { λ r. ⌜ r ≡ shortCode (clientOutcome call c) ⌝ }
-{
-    let mut nowhere = [0u8; 1];
-    let r = client_step(c, call, &mut nowhere);
-    let answer = r.answer;
-    short_answer(answer)
-}
-
-fn client_finish(r: client::Stepped, state: &mut [u32], sent: &mut [u32]) -> u32
-    requires { ⌜ (67 ≤ length (now state)) × (2 ≤ length (now sent)) × Storable (r .answer) 0 ⌝ }
-    ensures { λ x. ⌜ (x ≡ answerCode (r .answer)) × (now (state .exit) ≡ answerRecord (clientWords (r .client)) (now (state .entry)) (r .answer)) × (now (sent .exit) ≡ answerCounts (now (sent .entry)) (r .answer)) ⌝ }
-{
-    let answer = r.answer;
-    match answer {
-        Answer::Sent(count, bytes) => {
-            let c = r.client;
-            words::store_client(state, c);
-            put_counts(sent, count, bytes);
-            0
-        }
-        Answer::Refused(e) => ids::code_of(e),
-    }
-}
-
+// A client's step, on its row where it stands: a refused one leaves it as it was.
 fn client_call(call: ClientCall, state: &mut [u32], out: &mut [u8], sent: &mut [u32]) -> u32
     ensures { λ r. ⌜ Leaves (lent (now (out .entry)) (now (sent .entry)) (onClient (now (state .entry)) (clientOutcome call))) r (now (state .entry)) (now (state .exit)) (now (out .entry)) (now (out .exit)) (now (sent .entry)) (now (sent .exit)) ⌝ }
 {
     if !words::holds_client(state) {
         return ids::code_of(Refusal::InvalidRecord);
     }
-    let c = words::load_client(state);
+    let h = words::client_head(state);
     if sent.len() < 2 {
-        return client_short(c, call);
+        return client_short(h, &state[words::HEAD_WORDS..words::CLIENT_WORDS], call);
     }
-    let r = client_step(c, call, out);
-    client_finish(r, state, sent)
+    let t = client_step(
+        h,
+        &mut state[words::HEAD_WORDS..words::CLIENT_WORDS],
+        call,
+        out,
+    );
+    client_finish(t, state, sent)
 }
 
 // The server takes a REQUEST, YIELD, RELEASE or INQUIRY. Refused 21, 5, 13, 14, 6.
@@ -270,12 +335,47 @@ pub extern "C" fn sigma_client_message(
     client_call(ClientCall::Message(m), state, out, sent)
 }
 
-// The record of server `id` of 1 to `n`, in the first 37 words. Refused 7.
+// A new record's words are stored; the number of one that was refused is returned.
+fn server_made(r: server::Stepped, state: &mut [u32]) -> u32
+    requires { ⌜ (serverSize ≤ length (now state)) × (length (r .server .row) ≡ server.rowWords) × (r .server .head .votes .len ≤ maxWord) ⌝ }
+    ensures { λ x. ⌜ (x ≡ answerCode (r .answer)) × (now (state .exit) ≡ answerRecord (serverWords (r .server)) (now (state .entry)) (r .answer)) ⌝ }
+{
+    let answer = r.answer;
+    match answer {
+        Answer::Sent(_, _) => {
+            let s = r.server;
+            let head = s.head;
+            let row = s.row;
+            put_server(state, head, &row);
+            0
+        }
+        Answer::Refused(e) => ids::code_of(e),
+    }
+}
+
+fn client_made(r: client::Stepped, state: &mut [u32]) -> u32
+    requires { ⌜ (clientSize ≤ length (now state)) × (length (r .client .row) ≡ client.rowWords) ⌝ }
+    ensures { λ x. ⌜ (x ≡ answerCode (r .answer)) × (now (state .exit) ≡ answerRecord (clientWords (r .client)) (now (state .entry)) (r .answer)) ⌝ }
+{
+    let answer = r.answer;
+    match answer {
+        Answer::Sent(_, _) => {
+            let c = r.client;
+            let head = c.head;
+            let row = c.row;
+            put_client(state, head, &row);
+            0
+        }
+        Answer::Refused(e) => ids::code_of(e),
+    }
+}
+
+// The record of server `id` of 1 to `n`, in the first words. Refused 7.
 #[no_mangle]
 pub extern "C" fn sigma_server_new(n: u32, id: u32, state: &mut [u32]) -> u32
     ensures { λ r. ⌜ (r ≡ codeOf (serverNew n id (length (now (state .entry))))) × (now (state .exit) ≡ recordInto (now (state .entry)) (serverNew n id (length (now (state .entry))))) ⌝ }
 {
-    if state.len() < 37 {
+    if state.len() < words::SERVER_WORDS {
         return ids::code_of(Refusal::ParameterOutOfRange);
     }
     if !words::fits_head(n, id, 0) {
@@ -283,16 +383,15 @@ pub extern "C" fn sigma_server_new(n: u32, id: u32, state: &mut [u32]) -> u32
     }
     let j = ServerId(id as u16);
     let r = server::new(n as u16, j);
-    let mut counts = [0u32; 2];
-    server_finish(r, state, &mut counts)
+    server_made(r, state)
 }
 
-// The record of client `id` with `n` servers and threshold `m`, in the first 67 words. Refused 7.
+// The record of client `id` with `n` servers and threshold `m`, in the first words. Refused 7.
 #[no_mangle]
 pub extern "C" fn sigma_client_new(n: u32, m: u32, id: u32, state: &mut [u32]) -> u32
     ensures { λ r. ⌜ (r ≡ codeOf (clientNew n m id (length (now (state .entry))))) × (now (state .exit) ≡ recordInto (now (state .entry)) (clientNew n m id (length (now (state .entry))))) ⌝ }
 {
-    if state.len() < 67 {
+    if state.len() < words::CLIENT_WORDS {
         return ids::code_of(Refusal::ParameterOutOfRange);
     }
     if !words::fits_head(n, m, id) {
@@ -300,6 +399,5 @@ pub extern "C" fn sigma_client_new(n: u32, m: u32, id: u32, state: &mut [u32]) -
     }
     let k = ClientId(id as u16);
     let r = client::new(n as u16, m as u16, k);
-    let mut counts = [0u32; 2];
-    client_finish(r, state, &mut counts)
+    client_made(r, state)
 }

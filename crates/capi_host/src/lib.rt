@@ -6,7 +6,7 @@ ghost use Rattle.capi_host.specs.Leaves.{Leaves};
 // The record's words, and what the last accepted step sent: messages, and their bytes.
 #[repr(C)]
 pub struct Host {
-    pub words: [u32; 37],
+    pub words: [u32; words::SERVER_WORDS],
     pub sent: [u32; 2],
 }
 

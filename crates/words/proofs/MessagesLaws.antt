@@ -15,19 +15,19 @@ use Rattle.words.specs.declared.Crossed.{Crossed}
 use Rattle.words.specs.declared.Crossed.the-variants.{Numbers, TooLarge}
 
 module _ (kind client server owner : ℕ) where
-  pub fit-kind : 65535 < kind → false ≡ fits kind client server owner
+  pub fit-kind : maxShort < kind → false ≡ fits kind client server owner
   unfolding fits
   fit-kind h = rw (lt-leb _ _ h)
 
-  pub fit-client : kind ≤ 65535 → 65535 < client → false ≡ fits kind client server owner
+  pub fit-client : kind ≤ maxShort → maxShort < client → false ≡ fits kind client server owner
   unfolding fits
   fit-client a h = rw (le-leb _ _ a, lt-leb _ _ h)
 
-  pub fit-server : kind ≤ 65535 → client ≤ 65535 → 65535 < server → false ≡ fits kind client server owner
+  pub fit-server : kind ≤ maxShort → client ≤ maxShort → maxShort < server → false ≡ fits kind client server owner
   unfolding fits
   fit-server a b h = rw (le-leb _ _ a, le-leb _ _ b, lt-leb _ _ h)
 
-  pub fit-owner : kind ≤ 65535 → client ≤ 65535 → server ≤ 65535 → leb owner 65535 ≡ fits kind client server owner
+  pub fit-owner : kind ≤ maxShort → client ≤ maxShort → server ≤ maxShort → leb owner maxShort ≡ fits kind client server owner
   unfolding fits
   fit-owner a b c = rw (le-leb _ _ a, le-leb _ _ b, le-leb _ _ c)
 

@@ -3,24 +3,29 @@ use borrow.Author.Needs.{needs}
 use Rattle.capi.proofs.client_finish.Statement.{statement}
 use Rattle.capi.proofs.client_finish.Tie as tie
 
-store-client-requires : tie.Need-store-client-requires
-store-client-requires c κs = c .before .before .before .before .before .before .before .pre .0
-
 put-counts-requires : tie.Need-put-counts-requires
-put-counts-requires c κs = let f = c .before .before .before .before .before .before .before .before .before .before .before .pre .2 .few _ _ (c .before .before .before .before .before .before .before .answer .given .1) in (c .before .before .before .before .before .before .before .before .before .before .before .pre .1, f .0, f .1)
+put-counts-requires c κs =
+    let arm = c .before .before .before .before .before .before .before in
+    let e = arm .before .before .before .before in
+    let few = e .pre .2 .few _ _ (arm .answer .given .1) in
+    (e .pre .1, few .0, few .1)
 
 returns : tie.Need-returns
-returns c = (rw (c .before .before .before .before .before .before .before .before .before .before .answer .given .1), rw (c .before .before .before .before .before .before .before .before .before .before .answer .given .1) (c .before .before .before .before .before .before .store-client .ensures), rw (c .before .before .before .before .before .before .before .before .before .before .answer .given .1) (c .before .before .put-counts .ensures))
+returns c =
+    let counted = c .before .before in
+    let stored = counted .before .before .before .before in
+    let arm = stored .before .before .before .before in
+    (rw (arm .answer .given .1), rw (arm .answer .given .1) (stored .put-client-head .ensures), rw (arm .answer .given .1) (counted .put-counts .ensures))
 
 returns-2 : tie.Need-returns-2
-returns-2 c = (rw (c .before .before .answer2 .given .1) (c .code-of .ensures), rw (c .before .before .answer2 .given .1), rw (c .before .before .answer2 .given .1))
+returns-2 c = let arm = c .before .before in (rw (arm .answer2 .given .1) (c .code-of .ensures), rw (arm .answer2 .given .1), rw (arm .answer2 .given .1))
 
 pub client-finish-spec : {M : Type 1} → statement M
 client-finish-spec =
     tie.close
     (tie.spec
     (λ c. search needs)
-    store-client-requires
+    (λ c κs. search needs)
     put-counts-requires
     (λ c. search needs)
     (λ c κs. search needs)

@@ -1,26 +1,62 @@
-use Rattle.words.proofs.RecordsLaws.{server-held}
-use native.Mathlib.Omega.{arith}
--- `capi::server_call` meets its contract: one law for each way out.
+-- `capi::server_call` meets its contract: the row is the words behind the head, and the step on it is the outcome on the words.
 use denote.Ref.{now}
-use Rattle.capi.proofs.StepLaws.{refused-leaves, is-server, no-server, server-short-leaves, server-storable, server-done-leaves}
+use mathlib.Core.Path.{_≡_}
+use Prim.Native.Nat.{_≤_}
+use native.Mathlib.Omega.{arith}
+use lib.ListN.{length}
+use Rattle.server.specs.Record as server
+use Rattle.server.specs.declared.Ruling.the-variants.{Done}
+use Rattle.words.specs.Records.{maxWord, serverSize}
+use Rattle.words.proofs.RecordsLaws.{server-held}
+use Rattle.capi.proofs.StepLaws.{refused-leaves, no-server, is-server, server-long, server-kept, server-short, server-leaves}
 use borrow.Author.Needs.{needs}
 use Rattle.capi.proofs.server_call.Statement.{statement}
 use Rattle.capi.proofs.server_call.Tie as tie
 
+-- the words are a server's record
+module _ (c : tie.Else1) where
+  long : length (now (c .before .before .before .before .before .before .args .state)) ≡ serverSize
+  long = server-long _ _ (c .before .holds-server .ensures) (c .if1 .left)
+
+-- the step is made
+module _ (c : tie.After-server-step) where
+  abbrev copied : tie.After-copy
+  copied = c .before .before .before
+
+  abbrev loaded : tie.After-server-head
+  loaded = c .before .before .before .before .before .before .before
+
+  abbrev tested : tie.Else1
+  tested = c .before .before .before .before .before .before .before .before .before
+
+  abbrev entry : tie.Start
+  entry = c .before .before .before .before .before .before .before .before .before .before .before .before .before .before .before
+
+  kept : length (c .server-step .last .1 .0) ≡ server.rowWords
+  kept = server-kept _ _ (tested .before .holds-server .ensures) (tested .if1 .left) _ _ (loaded .server-head .ensures) (copied .copy .ensures) (entry .args .call) _ _ (c .server-step .ensures)
+
+  short : c .server-step .result .ruling ≡ Done → c .server-step .result .head .votes .len ≤ maxWord
+  short = server-short _ _ (tested .before .holds-server .ensures) (tested .if1 .left) _ _ (loaded .server-head .ensures) (copied .copy .ensures) (entry .args .call) _ _ (c .server-step .ensures)
+
 returns : tie.Need-returns
 returns c = refused-leaves _ _ _ _ _ _ (no-server _ _ (c .before .before .holds-server .ensures) _ (c .before .if1 .taken)) (c .code-of .ensures)
 
-load-server-requires : tie.Need-load-server-requires
-load-server-requires c κs = is-server _ _ (c .before .before .holds-server .ensures) (c .before .if1 .left)
+server-head-requires : tie.Need-server-head-requires
+server-head-requires c κs = server-held _ (is-server _ _ (c .before .before .holds-server .ensures) (c .before .if1 .left)) .head
 
-returns-2 : tie.Need-returns-2
-returns-2 c = server-short-leaves _ _ (c .before .before .before .before .before .holds-server .ensures) (c .before .before .before .before .if1 .left) _ (c .before .before .load-server .ensures) (c .before .before .before .before .before .before .before .before .before .before .args .call) (now (c .before .before .before .before .before .before .before .before .before .before .args .out)) (now (c .before .before .before .before .before .before .before .before .before .before .args .sent)) _ (c .before .if2 .taken) (c .server-short .ensures)
+part-copy-end : tie.Need-part-copy-end
+part-copy-end c = omega (arith, long (c .before .before .before))
 
 server-finish-requires : tie.Need-server-finish-requires
-server-finish-requires c κs = (omega (arith, server-held _ (is-server _ _ (c .before .before .before .before .before .before .before .before .before .before .holds-server .ensures) (c .before .before .before .before .before .before .before .before .before .if1 .left)) .fitting .size), c .before .before .before .before .before .before .if2 .left, server-storable _ _ (c .before .before .before .before .before .before .before .before .before .before .holds-server .ensures) (c .before .before .before .before .before .before .before .before .before .if1 .left) _ (c .before .before .before .before .before .before .before .load-server .ensures) (c .before .before .before .before .before .before .before .before .before .before .before .before .before .before .before .args .call) (now (c .before .before .before .before .before .before .before .before .before .before .before .before .before .before .before .args .out)) (now (c .before .before .before .before .before .before .before .before .before .before .before .before .before .before .before .args .sent)) _ (c .before .before .before .before .server-step .ensures .0))
+server-finish-requires c κs = let made = c .before .before .before .before .before in (omega (arith, long (tested made), kept made), short made)
 
-returns-3 : tie.Need-returns-3
-returns-3 c = server-done-leaves _ _ (c .before .before .before .before .before .before .before .before .before .before .before .before .before .before .before .holds-server .ensures) (c .before .before .before .before .before .before .before .before .before .before .before .before .before .before .if1 .left) _ (c .before .before .before .before .before .before .before .before .before .before .before .before .load-server .ensures) (c .before .before .before .before .before .before .before .before .before .before .before .before .before .before .before .before .before .before .before .before .args .call) (now (c .before .before .before .before .before .before .before .before .before .before .before .before .before .before .before .before .before .before .before .before .args .out)) (now (c .before .before .before .before .before .before .before .before .before .before .before .before .before .before .before .before .before .before .before .before .args .sent)) _ (c .before .before .before .before .before .before .before .before .before .server-step .ensures .0) _ _ _ _ (c .before .before .before .before .before .before .before .before .before .before .before .if2 .left) (c .before .before .before .before .before .before .before .before .before .server-step .ensures .1) (c .before .before .before .before .server-finish .ensures)
+returns-2 : tie.Need-returns-2
+returns-2 c =
+    let finished = c .before .before .before .before .before .before in
+    let made = finished .before .before .before .before .before .before in
+    let e = entry made in
+    server-leaves _ _ (tested made .before .holds-server .ensures) (tested made .if1 .left) _ _ (loaded made .server-head .ensures) (copied made .copy .ensures) (e .args .call) _ _ (made .server-step .ensures)
+    _ _ (now (e .args .out)) _ (now (e .args .sent)) _ (finished .server-finish .ensures)
 
 pub server-call-spec : {M : Type 1} → statement M
 server-call-spec =
@@ -30,13 +66,17 @@ server-call-spec =
     (λ c κs. search needs)
     (λ c. search needs)
     returns
-    load-server-requires
+    server-head-requires
+    (λ c. search needs)
+    (λ c. search needs)
+    part-copy-end
+    (λ c. search needs)
     (λ c κs. search needs)
     (λ c. search needs)
-    returns-2
     (λ c κs. search needs)
+    (λ c. search needs)
     server-finish-requires
     (λ c. search needs)
     (λ c. search needs)
     (λ c. search needs)
-    returns-3)
+    returns-2)

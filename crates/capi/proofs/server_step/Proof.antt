@@ -4,13 +4,13 @@ use Rattle.capi.proofs.server_step.Statement.{statement}
 use Rattle.capi.proofs.server_step.Tie as tie
 
 returns : tie.Need-returns
-returns c = rw (c .before .before .before .before .before .call .given .1) (c .before .before .message .ensures)
+returns c = let made = c .before .before in rw (made .before .before .before .call .given .1) (made .message-row .ensures)
 
 returns-2 : tie.Need-returns-2
-returns-2 c = rw (c .before .before .before .before .enum-told .given .1) (c .before .before .suspect .ensures)
+returns-2 c = let made = c .before .before in rw (made .before .before .enum-told .given .1) (made .suspect-row .ensures)
 
 returns-3 : tie.Need-returns-3
-returns-3 c = rw (c .before .before .before .before .enum-told2 .given .1) (c .before .before .check .ensures)
+returns-3 c = rw (c .before .before .enum-told2 .given .1) (c .check-row .ensures)
 
 pub server-step-spec : {M : Type 1} → statement M
 server-step-spec =

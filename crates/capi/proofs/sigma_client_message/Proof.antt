@@ -1,13 +1,17 @@
+-- `capi::sigma_client_message` meets its contract: what stands for words that are no message is refused as they are.
 use Rattle.words.specs.Messages.{messageIn}
 use denote.Ref.{now}
--- `capi::sigma_client_message` meets its contract: what stands for words that are no message is refused as they are.
 use Rattle.capi.proofs.StepLaws.{client-takes-words}
 use borrow.Author.Needs.{needs}
 use Rattle.capi.proofs.sigma_client_message.Statement.{statement}
 use Rattle.capi.proofs.sigma_client_message.Tie as tie
 
 returns : tie.Need-returns
-returns c = rw (client-takes-words (now (c .before .before .before .before .before .before .before .before .before .before .before .before .before .before .before .args .state)) (messageIn (now (c .before .before .before .before .before .before .before .before .before .before .before .before .before .before .before .args .message))) _ (c .before .before .before .before .before .before .before .before .before .before .message-in .ensures)) at (c .before .before .before .before .before .before .client-call .ensures)
+returns c =
+    let called = c .before .before .before .before .before .before in
+    let read = called .before .before .before .before in
+    let e = read .before .before .before .before .before in
+    rw (client-takes-words (now (e .args .state)) (messageIn (now (e .args .message))) _ (read .message-in .ensures)) at (called .client-call .ensures)
 
 pub sigma-client-message-spec : {M : Type 1} → statement M
 sigma-client-message-spec =

@@ -1,10 +1,10 @@
 -- `capi::sigma_client_new` meets its contract: room, then numbers too wide for a record, then the record made.
-use Rattle.capi.proofs.NewLaws.{client-new-room, client-new-wide, client-new-done, client-new-storable}
-use Rattle.words.proofs.RecordsLaws.{head-small}
-use borrow.Author.Tests.{not-false}
 use mathlib.Core.Path.{sym, _∙_}
 use denote.Ref.{now}
 use native.Mathlib.Omega.{arith}
+use borrow.Author.Tests.{not-false}
+use Rattle.words.proofs.RecordsLaws.{head-small}
+use Rattle.capi.proofs.NewLaws.{client-new-room, client-new-wide, client-new-done, client-new-whole}
 use borrow.Author.Needs.{needs}
 use Rattle.capi.proofs.sigma_client_new.Statement.{statement}
 use Rattle.capi.proofs.sigma_client_new.Tie as tie
@@ -13,7 +13,10 @@ returns : tie.Need-returns
 returns c = client-new-room _ _ _ (now (c .before .before .before .args .state)) _ (c .before .if1 .taken) (c .code-of .ensures)
 
 returns-2 : tie.Need-returns-2
-returns-2 c = client-new-wide _ _ _ (now (c .before .before .before .before .before .args .state)) (c .before .before .before .if1 .left) _ _ (c .before .before .fits-head .ensures) (c .before .if2 .taken) (c .code-of2 .ensures)
+returns-2 c =
+    let asked = c .before .before in
+    let tested = asked .before in
+    client-new-wide _ _ _ (now (tested .before .before .args .state)) (tested .if1 .left) _ _ (asked .fits-head .ensures) (c .before .if2 .taken) (c .code-of2 .ensures)
 
 cast-new : tie.Need-cast-new
 cast-new c = let (a, b, d) = head-small _ _ _ (sym (c .before .fits-head .ensures) ∙ not-false _ (c .if2 .left)) in omega arith
@@ -24,11 +27,15 @@ cast-new-2 c = let (a, b, d) = head-small _ _ _ (sym (c .before .fits-head .ensu
 cast-new-3 : tie.Need-cast-new-3
 cast-new-3 c = let (a, b, d) = head-small _ _ _ (sym (c .before .fits-head .ensures) ∙ not-false _ (c .if2 .left)) in omega arith
 
-client-finish-requires : tie.Need-client-finish-requires
-client-finish-requires c κs = (c .before .before .before .before .before .if1 .left, omega arith, client-new-storable _ _ _ _ (c .before .before .new .ensures))
+client-made-requires : tie.Need-client-made-requires
+client-made-requires c κs = (c .before .before .before .before .if1 .left, client-new-whole _ _ _ _ (c .before .new .ensures))
 
 returns-3 : tie.Need-returns-3
-returns-3 c = client-new-done _ _ _ (now (c .before .before .before .before .before .before .before .before .before .before .before .args .state)) (c .before .before .before .before .before .before .before .before .before .if1 .left) _ _ _ (c .before .before .before .before .before .before .new .ensures) (c .before .before .before .client-finish .ensures .0) (c .before .before .before .client-finish .ensures .1)
+returns-3 c =
+    let made = c .before .before in
+    let new = made .before .before in
+    let tested = new .before .before .before in
+    client-new-done _ _ _ (now (tested .before .before .args .state)) (tested .if1 .left) _ _ _ (new .new .ensures) (made .client-made .ensures .0) (made .client-made .ensures .1)
 
 pub sigma-client-new-spec : {M : Type 1} → statement M
 sigma-client-new-spec =
@@ -43,7 +50,6 @@ sigma-client-new-spec =
     cast-new-2
     cast-new-3
     (λ c κs. search needs)
-    (λ c. search needs)
-    client-finish-requires
+    client-made-requires
     (λ c. search needs)
     returns-3)

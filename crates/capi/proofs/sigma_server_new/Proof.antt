@@ -1,10 +1,10 @@
 -- `capi::sigma_server_new` meets its contract: room, then numbers too wide for a record, then the record made.
-use Rattle.capi.proofs.NewLaws.{server-new-room, server-new-wide, server-new-done, server-new-storable}
-use Rattle.words.proofs.RecordsLaws.{head-small}
-use borrow.Author.Tests.{not-false}
 use mathlib.Core.Path.{sym, _∙_}
 use denote.Ref.{now}
 use native.Mathlib.Omega.{arith}
+use borrow.Author.Tests.{not-false}
+use Rattle.words.proofs.RecordsLaws.{head-small}
+use Rattle.capi.proofs.NewLaws.{server-new-room, server-new-wide, server-new-done, server-new-whole}
 use borrow.Author.Needs.{needs}
 use Rattle.capi.proofs.sigma_server_new.Statement.{statement}
 use Rattle.capi.proofs.sigma_server_new.Tie as tie
@@ -13,7 +13,10 @@ returns : tie.Need-returns
 returns c = server-new-room _ _ (now (c .before .before .before .args .state)) _ (c .before .if1 .taken) (c .code-of .ensures)
 
 returns-2 : tie.Need-returns-2
-returns-2 c = server-new-wide _ _ (now (c .before .before .before .before .before .args .state)) (c .before .before .before .if1 .left) _ _ (c .before .before .fits-head .ensures) (c .before .if2 .taken) (c .code-of2 .ensures)
+returns-2 c =
+    let asked = c .before .before in
+    let tested = asked .before in
+    server-new-wide _ _ (now (tested .before .before .args .state)) (tested .if1 .left) _ _ (asked .fits-head .ensures) (c .before .if2 .taken) (c .code-of2 .ensures)
 
 cast-new : tie.Need-cast-new
 cast-new c = let (a, b, d) = head-small _ _ _ (sym (c .before .fits-head .ensures) ∙ not-false _ (c .if2 .left)) in omega arith
@@ -21,11 +24,15 @@ cast-new c = let (a, b, d) = head-small _ _ _ (sym (c .before .fits-head .ensure
 cast-new-2 : tie.Need-cast-new-2
 cast-new-2 c = let (a, b, d) = head-small _ _ _ (sym (c .before .fits-head .ensures) ∙ not-false _ (c .if2 .left)) in omega arith
 
-server-finish-requires : tie.Need-server-finish-requires
-server-finish-requires c κs = (c .before .before .before .before .before .if1 .left, omega arith, server-new-storable _ _ _ (c .before .before .new .ensures))
+server-made-requires : tie.Need-server-made-requires
+server-made-requires c κs = let w = server-new-whole _ _ _ (c .before .new .ensures) in (c .before .before .before .before .if1 .left, w .0, w .1)
 
 returns-3 : tie.Need-returns-3
-returns-3 c = server-new-done _ _ (now (c .before .before .before .before .before .before .before .before .before .before .before .args .state)) (c .before .before .before .before .before .before .before .before .before .if1 .left) _ _ _ (c .before .before .before .before .before .before .new .ensures) (c .before .before .before .server-finish .ensures .0) (c .before .before .before .server-finish .ensures .1)
+returns-3 c =
+    let made = c .before .before in
+    let new = made .before .before in
+    let tested = new .before .before .before in
+    server-new-done _ _ (now (tested .before .before .args .state)) (tested .if1 .left) _ _ _ (new .new .ensures) (made .server-made .ensures .0) (made .server-made .ensures .1)
 
 pub sigma-server-new-spec : {M : Type 1} → statement M
 sigma-server-new-spec =
@@ -39,7 +46,6 @@ sigma-server-new-spec =
     cast-new
     cast-new-2
     (λ c κs. search needs)
-    (λ c. search needs)
-    server-finish-requires
+    server-made-requires
     (λ c. search needs)
     returns-3)

@@ -7,13 +7,13 @@ use Rattle.words.proofs.client_head.Statement.{statement}
 use Rattle.words.proofs.client_head.Tie as tie
 
 cast-t11 : tie.Need-cast-t11
-cast-t11 c = omega (arith, headed-small (now (c .before .before .before .before .before .args .words)) (c .before .before .before .before .before .pre))
+cast-t11 c = let e = c .before .before .before .before .before in omega (arith, headed-small (now (e .args .words)) (e .pre))
 
 cast-m : tie.Need-cast-m
-cast-m c = omega (arith, headed-small (now (c .before .before .before .before .before .before .args .words)) (c .before .before .before .before .before .before .pre))
+cast-m c = let e = c .before .before .before .before .before .before in omega (arith, headed-small (now (e .args .words)) (e .pre))
 
 cast-n : tie.Need-cast-n
-cast-n c = omega (arith, headed-small (now (c .before .before .before .before .before .before .before .args .words)) (c .before .before .before .before .before .before .before .pre))
+cast-n c = let e = c .before .before .before .before .before .before .before in omega (arith, headed-small (now (e .args .words)) (e .pre))
 
 returns : tie.Need-returns
 returns c = search client-headed

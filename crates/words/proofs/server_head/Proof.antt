@@ -7,16 +7,16 @@ use Rattle.words.proofs.server_head.Statement.{statement}
 use Rattle.words.proofs.server_head.Tie as tie
 
 cast-owner-of : tie.Need-cast-owner-of
-cast-owner-of c = omega (arith, headed-small (now (c .before .before .args .words)) (c .before .before .pre))
+cast-owner-of c = let e = c .before .before in omega (arith, headed-small (now (e .args .words)) (e .pre))
 
 cast-len : tie.Need-cast-len
 cast-len c = omega (arith, c .shared-slice-known4 .given 4)
 
 cast-t9 : tie.Need-cast-t9
-cast-t9 c = omega (arith, headed-small (now (c .before .before .before .before .before .before .args .words)) (c .before .before .before .before .before .before .pre))
+cast-t9 c = let e = c .before .before .before .before .before .before in omega (arith, headed-small (now (e .args .words)) (e .pre))
 
 cast-n : tie.Need-cast-n
-cast-n c = omega (arith, headed-small (now (c .before .before .before .before .before .before .before .args .words)) (c .before .before .before .before .before .before .before .pre))
+cast-n c = let e = c .before .before .before .before .before .before .before in omega (arith, headed-small (now (e .args .words)) (e .pre))
 
 returns : tie.Need-returns
 returns c = search server-headed

@@ -1,0 +1,30 @@
+-- `capi::client_made` meets its contract: each arm is given which answer it is.
+use native.Mathlib.Omega.{arith}
+use borrow.Author.Needs.{needs}
+use Rattle.capi.proofs.client_made.Statement.{statement}
+use Rattle.capi.proofs.client_made.Tie as tie
+
+put-client-requires : tie.Need-put-client-requires
+put-client-requires c κs = let e = c .before .before .before .before .before .before .before .before in omega (arith, e .pre .0, e .pre .1)
+
+returns : tie.Need-returns
+returns c =
+    let stored = c .before .before in
+    let arm = stored .before .before .before .before .before .before in
+    (rw (arm .enum-told .given .1), rw (arm .enum-told .given .1) (stored .put-client .ensures))
+
+returns-2 : tie.Need-returns-2
+returns-2 c = let arm = c .before .before in (rw (arm .answer .given .1) (c .code-of .ensures), rw (arm .answer .given .1))
+
+pub client-made-spec : {M : Type 1} → statement M
+client-made-spec =
+    tie.close
+    (tie.spec
+    (λ c. search needs)
+    (λ c. search needs)
+    put-client-requires
+    (λ c. search needs)
+    (λ c κs. search needs)
+    (λ c. search needs)
+    returns
+    returns-2)
