@@ -21,7 +21,7 @@ use Rattle.system.specs.Runs.{after, isStepped, runBy, acceptedEvents, mostHold
 use Rattle.language.specs.Words.{newline}
 use Rattle.language.specs.Lines.{eventIn, settingIn}
 use Rattle.language.specs.Printed.{headerLine, noLine, endLine, refusedLine}
-use Rattle.language.specs.declared.Setting.{Setting}
+use Rattle.system.specs.declared.Setting.{Setting}
 use Rattle.output.specs.Output.{maxLines, continued, linesOf, happens, answerLine, answers, eventsIn, fresh, endOf, runs, played, printedFor, output}
 use Rattle.output.specs.Reader.{Run, Stage, opening, running, closed, Reader, Printed, started, opened, moved, passed, lineTaken, worked, maxKept, behind, taken, fed, ended, finished, empty}
 

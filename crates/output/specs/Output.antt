@@ -19,7 +19,7 @@ use Rattle.bounded.specs.Happens.{bounded}
 use Rattle.language.specs.Words.{newline}
 use Rattle.language.specs.Lines.{eventIn, settingIn}
 use Rattle.language.specs.Printed.{headerLine, okLine, noLine, endLine, refusedLine}
-use Rattle.language.specs.declared.Setting.{Setting}
+use Rattle.system.specs.declared.Setting.{Setting}
 
 -- how many event lines of a script are read
 abbrev pub maxLines : ℕ

@@ -13,7 +13,7 @@ use Rattle.system.specs.Runs.{after, isStepped}
 use Rattle.language.specs.Words.{newline}
 use Rattle.language.specs.Lines.{maxLine, eventIn, settingIn}
 use Rattle.language.specs.Printed.{headerLine, noLine, endLine, refusedLine}
-use Rattle.language.specs.declared.Setting.{Setting}
+use Rattle.system.specs.declared.Setting.{Setting}
 use Rattle.output.specs.Output.{maxLines, happens, answerLine, fresh, runs}
 
 -- a script that runs: how many event lines are answered, how many of them were accepted, the most holders at once

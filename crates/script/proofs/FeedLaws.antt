@@ -19,7 +19,7 @@ use Rattle.system.specs.declared.Event.{Event}
 use Rattle.system.specs.Places.{System, holders}
 use Rattle.system.specs.Runs.{after}
 use Rattle.system.specs.Events.{Result}
-use Rattle.language.specs.declared.Setting.{Setting}
+use Rattle.system.specs.declared.Setting.{Setting}
 use Rattle.language.specs.Words.{newline}
 use Rattle.language.specs.Lines.{eventIn, settingIn}
 use Rattle.language.proofs.PrintedLaws.{refused-short, no-short, ok-short, header-short, end-short}

@@ -30,7 +30,7 @@ use Rattle.regions.specs.Blocks.{blocks}
 use Rattle.regions.proofs.BlockLaws.{length-blocks}
 use Rattle.places.specs.Blocks.{clientPlace, clientBlock}
 use Rattle.wire.specs.Step.{refused, stepped}
-use Rattle.language.specs.declared.Setting.{Setting}
+use Rattle.system.specs.declared.Setting.{Setting}
 use Rattle.language.specs.declared.First.the-variants.{Setting as Opens, Bad as NotOpening}
 use Rattle.language.specs.declared.Line.the-variants.{Event as Says, Unknown, Bad}
 use Rattle.language.specs.Lines.{eventIn, sixteenBits, lineOf, firstOf, settingIn as line-setting}

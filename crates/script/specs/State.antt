@@ -11,7 +11,7 @@ use Rattle.ids.specs.Choice.{if_then_else_}
 use Rattle.ids.specs.Lists.{every}
 use Rattle.regions.specs.Blocks.{region}
 use Rattle.system.specs.Places.{holders}
-use Rattle.language.specs.declared.Setting.{Setting}
+use Rattle.system.specs.declared.Setting.{Setting}
 use Rattle.system.specs.Limits.{systemClients}
 use Rattle.layout.specs.Layout as layout
 use Rattle.output.specs.Output.{maxLines}

@@ -18,10 +18,10 @@ ghost use Rattle.output.specs.Output.{maxLines};
 use ids::Refusal;
 use language::First;
 use language::Line;
-use language::Setting;
 use simulation::Moved;
 use simulation::Reply;
 use system::Event;
+use system::Setting;
 
 // The words of the head: the stage, the event lines answered and those accepted, the most holders at once, and the bytes of the line so far.
 // Then the line, a word for each byte, and the simulation.
