@@ -28,7 +28,7 @@ most-least s w [] = omega arith
 most-least s w (e ∷ es) = omega arith
 
 -- one event, which gave o
-module _ (r : Run) (h : holders (r .system) ≤ r .holding) where
+module _ (r : Run) where
   pub moved-setting : (o : Result) → moved r o .setting ≡ r .setting
   unfolding moved
   moved-setting (refused x) = refl
@@ -44,22 +44,23 @@ module _ (r : Run) (h : holders (r .system) ≤ r .holding) where
   moved-accepted (refused x) = omega arith
   moved-accepted (stepped t) = refl
 
-  pub moved-holding : (o : Result) → moved r o .holding ≡ max (r .holding) (holders (after (r .system) o))
-  unfolding moved after
-  moved-holding (refused x) = omega (arith, h)
-  moved-holding (stepped t) = refl
+  module _ (h : holders (r .system) ≤ r .holding) where
+    pub moved-holding : (o : Result) → moved r o .holding ≡ max (r .holding) (holders (after (r .system) o))
+    unfolding moved after
+    moved-holding (refused x) = omega (arith, h)
+    moved-holding (stepped t) = refl
 
-  by-counts : (e : Event) (es : List Event) → ahead (next r e) es ≡ ahead r (e ∷ es)
-  unfolding acceptedEvents mostHolders runBy
-  by-counts e es =
-      let o : Result = happens (r .setting) (r .system) e in
-      let w : System = after (r .system) o in
-      let b : ℕ = if isStepped o then 1 else 0 in
-      let n : ℕ = acceptedEvents (happens (r .setting)) w es in
-      let k : ℕ = mostHolders (happens (r .setting)) w es in
-      let x : r .accepted + b + n ≡ r .accepted + (b + n) = omega arith in
-      let y : max (max (r .holding) (holders w)) k ≡ max (r .holding) (max (holders (r .system)) k) = omega (arith, h, most-least (r .setting) w es) in
-      rw (moved-setting o, moved-system o, moved-accepted o, moved-holding o) (λ i. record { setting = r .setting; system = runBy (happens (r .setting)) w es; accepted = x i; holding = y i })
+    by-counts : (e : Event) (es : List Event) → ahead (next r e) es ≡ ahead r (e ∷ es)
+    unfolding acceptedEvents mostHolders runBy
+    by-counts e es =
+        let o : Result = happens (r .setting) (r .system) e in
+        let w : System = after (r .system) o in
+        let b : ℕ = if isStepped o then 1 else 0 in
+        let n : ℕ = acceptedEvents (happens (r .setting)) w es in
+        let k : ℕ = mostHolders (happens (r .setting)) w es in
+        let x : r .accepted + b + n ≡ r .accepted + (b + n) = omega arith in
+        let y : max (max (r .holding) (holders w)) k ≡ max (r .holding) (max (holders (r .system)) k) = omega (arith, h, most-least (r .setting) w es) in
+        rw (moved-setting o, moved-system o, moved-accepted o, moved-holding o) (λ i. record { setting = r .setting; system = runBy (happens (r .setting)) w es; accepted = x i; holding = y i })
 
 pub plays-ahead : (es : List Event) (r : Run) → holders (r .system) ≤ r .holding → plays r es ≡ ahead r es
 unfolding plays acceptedEvents mostHolders runBy
@@ -69,7 +70,7 @@ plays-ahead [] r h =
     λ i. record { setting = r .setting; system = r .system; accepted = x i; holding = y i }
 plays-ahead (e ∷ es) r h =
     let o : Result = happens (r .setting) (r .system) e in
-    let k : holders (next r e .system) ≤ next r e .holding = rw (moved-system r h o, moved-holding r h o) (omega arith) in
+    let k : holders (next r e .system) ≤ next r e .holding = rw (moved-system r o, moved-holding r h o) (omega arith) in
     plays-ahead es (next r e) k ∙ by-counts r h e es
 
 -- The whole run of a setting: the events accepted, and the most living holders at once.
