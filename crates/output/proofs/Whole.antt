@@ -1,7 +1,7 @@
 -- However a script comes in, what is printed for its bytes and at the end is `output` of the whole: bytes make lines, lines are
 -- answered one by one, and the counts that the run keeps are those of its events.
 use mathlib.Core.Path.{_≡_, refl, sym, ap, _∙_}
-use Prim.Native.Nat.{ℕ, zero, suc, _+_, _-_, _≤_, _<_}
+use Prim.Native.Nat.{ℕ, zero, suc, _-_, _≤_, _<_}
 use native.Mathlib.Omega.{arith}
 use mathlib.Core.Bool.{true, false}
 use mathlib.Core.Option.{Option, none, some}
@@ -11,7 +11,7 @@ use lib.Dec.{eqb, ltb, leb}
 use lib.ListN.{length, take, length-take}
 use lib.Seq.{take-nil, take-all}
 use borrow.Author.Tests.{leb-true, leb-false, lt-leb, ltb-true, ltb-false, lt-ltb, le-ltb, ne-eqb}
-use Rattle.ids.specs.Choice.{if_then_else_, maybe}
+use Rattle.ids.specs.Choice.{maybe}
 use Rattle.ids.specs.declared.Refusal.the-variants.{BadLine, ParameterOutOfRange}
 use Rattle.ids.proofs.Choice.{decided, Test}
 use Rattle.system.specs.declared.Event.{Event}
@@ -22,7 +22,7 @@ use Rattle.simulation.specs.Opens.{inRange}
 use Rattle.runs.specs.Run.{Run, fresh, started, happens, next, plays}
 use Rattle.runs.proofs.Whole.{moved-setting, moved-system, plays-counted}
 use Rattle.language.specs.Words.{newline}
-use Rattle.language.specs.Lines.{eventIn, settingIn}
+use Rattle.language.specs.Lines.{maxLine, eventIn, settingIn}
 use Rattle.language.specs.Printed.{headerLine, noLine, endLine, refusedLine}
 use Rattle.system.specs.declared.Setting.{Setting}
 use Rattle.output.specs.Output.{maxLines, continued, linesOf, answerLine, answers, eventsIn, endOf, played, printedFor, output}
@@ -57,29 +57,29 @@ told-cons : (st : Stage) (l : List ℕ) (ls : List (List ℕ)) → told st (l �
 unfolding workedAll
 told-cons st l ls = append-assoc (worked st l .out) (workedAll (worked st l .now) ls .out) (ended (workedAll (worked st l .now) ls .now))
 
--- of a line, the first 41 bytes decide
+-- of a line, the bytes that are kept decide
 clip-behind : (n : ℕ) (l r : List ℕ) → take n (take n l ++ r) ≡ take n (l ++ r)
 clip-behind zero l r = refl
 clip-behind (suc n) [] r = refl
 clip-behind (suc n) (a ∷ l) r = ap (λ (x : List ℕ). a ∷ x) (clip-behind n l r)
 
-clip-long : (l : List ℕ) → leb (length l) 40 ≡ false → leb (length (take maxKept l)) 40 ≡ false
-clip-long l e = lt-leb (length (take maxKept l)) 40 (omega (arith, length-take maxKept l, leb-false (length l) 40 e))
+clip-long : (l : List ℕ) → leb (length l) maxLine ≡ false → leb (length (take maxKept l)) maxLine ≡ false
+clip-long l e = lt-leb (length (take maxKept l)) maxLine (omega (arith, length-take maxKept l, leb-false (length l) maxLine e))
 
-long-event : (l : List ℕ) → leb (length l) 40 ≡ false → eventIn l ≡ none
+long-event : (l : List ℕ) → leb (length l) maxLine ≡ false → eventIn l ≡ none
 unfolding eventIn
 long-event l e = rw e
 
-long-setting : (l : List ℕ) → leb (length l) 40 ≡ false → settingIn l ≡ none
+long-setting : (l : List ℕ) → leb (length l) maxLine ≡ false → settingIn l ≡ none
 unfolding settingIn
 long-setting l e = rw e
 
-clipped : {A : Type 0} (f : List ℕ → Option A) → ((l : List ℕ) → leb (length l) 40 ≡ false → f l ≡ none) → (l : List ℕ) → f (take maxKept l) ≡ f l
+clipped : {A : Type 0} (f : List ℕ → Option A) → ((l : List ℕ) → leb (length l) maxLine ≡ false → f l ≡ none) → (l : List ℕ) → f (take maxKept l) ≡ f l
 clipped f long l =
     ⊎-elim
-    (λ (e : leb (length l) 40 ≡ true). ap f (take-all maxKept l (omega (arith, leb-true (length l) 40 e))))
-    (λ (e : leb (length l) 40 ≡ false). long (take maxKept l) (clip-long l e) ∙ sym (long l e))
-    (decided (leb (length l) 40))
+    (λ (e : leb (length l) maxLine ≡ true). ap f (take-all maxKept l (omega (arith, leb-true (length l) maxLine e))))
+    (λ (e : leb (length l) maxLine ≡ false). long (take maxKept l) (clip-long l e) ∙ sym (long l e))
+    (decided (leb (length l) maxLine))
 
 worked-clipped : (st : Stage) (l : List ℕ) → worked st (take maxKept l) ≡ worked st l
 unfolding worked lineTaken

@@ -1,5 +1,5 @@
 -- An event of a run: the simulation's reply says which case of the run's step it is, and the counts follow the reply.
-use mathlib.Core.Path.{_≡_, refl, sym, ap, _∙_}
+use mathlib.Core.Path.{_≡_, sym, ap, _∙_}
 use Prim.Native.Nat.{ℕ, _+_, max}
 use mathlib.Core.List.{List}
 use mathlib.Core.Bool.{true}
@@ -17,8 +17,7 @@ use Rattle.bounded.specs.Happens.{Leaves, happens, replyOf}
 use Rattle.bounded.specs.declared.Reply.{Reply}
 use Rattle.bounded.specs.declared.Reply.the-variants.{Accepted, Refused}
 use Rattle.runs.specs.declared.Counts.{Counts}
-use Rattle.runs.specs.declared.Went.{Went}
-use Rattle.runs.specs.Run.{Run, moved, next}
+use Rattle.runs.specs.Run.{Run, moved}
 use Rattle.runs.specs.Calls.{runIn, counted, Goes}
 
 pub counted-refused : (c : Counts) (r : Reply) (x : Refusal) → r ≡ Refused x → c ≡ counted c r

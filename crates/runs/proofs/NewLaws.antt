@@ -9,20 +9,19 @@ use lib.ListN.{length, replicate}
 use borrow.Author.Tests.{eqb-true}
 use Rattle.ids.specs.declared.Refusal.{Refusal}
 use Rattle.ids.specs.declared.Refusal.the-variants.{ParameterOutOfRange}
-use Rattle.ids.proofs.Choice.{both, clash}
+use Rattle.ids.proofs.Choice.{both}
 use Rattle.client.specs.Figure1.{count, fresh as freshClient}
 use Rattle.system.specs.declared.Setting.{Setting}
-use Rattle.system.specs.Places.{System, isInside, holders}
+use Rattle.system.specs.Places.{isInside, holders}
 use Rattle.system.specs.Runs.{start}
-use Rattle.layout.specs.Layout.{simulationSize, settingOf, view, valid}
+use Rattle.layout.specs.Layout.{simulationSize}
 use Rattle.layout.proofs.ValidLaws as layout-laws
-use Rattle.changes.specs.Opening.{Starts}
 use Rattle.bounded.specs.declared.Moved.{Moved}
 use Rattle.bounded.specs.declared.Moved.the-variants as made
 use Rattle.simulation.specs.Opens as simulation
 use Rattle.runs.specs.declared.Begun.the-variants.{Run as Runs, Refused}
-use Rattle.runs.specs.Run.{Run, fresh, started}
-use Rattle.runs.specs.Calls.{runIn, countsOf, newAnswer, NewLeaves}
+use Rattle.runs.specs.Run.{fresh}
+use Rattle.runs.specs.Calls.{newAnswer, NewLeaves}
 
 none-inside : (n c : ℕ) → count (map isInside (replicate c (record { living = true; state = freshClient n; downs = [] }))) ≡ 0
 none-inside n zero = refl
