@@ -28,7 +28,7 @@ use Rattle.output.specs.Output.{maxLines, answerLine}
 use Rattle.script.specs.declared.Progress.{Progress}
 use Rattle.script.specs.declared.Progress.the-variants.{Took, Refused}
 use Rattle.output.specs.Reader.{Script, Stage, opening, running, closed, Reader, Printed, opened, lineTaken, worked, taken, Fed, maxPrinted, followed, fedWithin, ended, lastLine, finished, maxKept}
-use Rattle.script.specs.State.{stageAt, lengthAt, keptIn, simulationIn, stageOf, view, valid, stateSize}
+use Rattle.script.specs.State.{stageClosed, stageAt, lengthAt, keptIn, simulationIn, stageOf, view, valid, stateSize}
 use Rattle.script.specs.Calls.{feedAnswer, FeedLeaves, finishAnswer, FinishLeaves, Sound, Ready, Does, Takes, FedAs, maxEnding}
 use Rattle.script.proofs.StateLaws.{itself-is, view-is, valid-is, store-stage, store-length, from-facts}
 use Rattle.script.proofs.LineLaws.{known, sound}
@@ -273,7 +273,7 @@ module _ (w out : List ℕ) (S : Sound w) (room : maxEnding ≤ length out) wher
         )
 
   -- a script that has ended
-  pub closed-words : (w₁ w₂ : List ℕ) → Sound w₁ → w₂ ≡ set (set w₁ stageAt 2) lengthAt 0 → (view w₂ ≡ record { stage = closed; line = [] }) × (valid w₂ ≡ true)
+  pub closed-words : (w₁ w₂ : List ℕ) → Sound w₁ → w₂ ≡ set (set w₁ stageAt stageClosed) lengthAt 0 → (view w₂ ≡ record { stage = closed; line = [] }) × (valid w₂ ≡ true)
   unfolding stageOf
   closed-words w₁ w₂ K p =
       let I = store-length (store-stage (itself-is w₁ (K .long)) 2) 0 in

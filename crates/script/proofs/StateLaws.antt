@@ -19,7 +19,7 @@ use Rattle.system.specs.Limits.{systemClients}
 use Rattle.system.specs.Places.{holders}
 use Rattle.output.specs.Output.{maxLines}
 use Rattle.output.specs.Reader.{maxKept}
-use Rattle.script.specs.State.{stageAt, answeredAt, acceptedAt, holdingAt, lengthAt, lineFrom, stateSize, Head, headIn, keptIn, simulationIn, stageOf, lineOf, view, validRun, byteWord, validParts, valid, stateHead}
+use Rattle.script.specs.State.{stageRunning, stageClosed, stageAt, answeredAt, acceptedAt, holdingAt, lengthAt, lineFrom, stateSize, Head, headIn, keptIn, simulationIn, stageOf, lineOf, view, validRun, byteWord, validParts, valid, stateHead}
 use Rattle.layout.specs.Layout.{simulationSize}
 
 -- w is these parts
@@ -174,18 +174,18 @@ module _ {w : List ℕ} {h : Head} {l s : List ℕ} (p : Is w h l s) where
 
 -- what a valid state says of its parts
 pub record Facts (h : Head) (l s : List ℕ) : Type 0 where
-  pub stage : h .stage ≤ 2
+  pub stage : h .stage ≤ stageClosed
   pub few : h .length ≤ maxKept
   pub bytes : every byteWord l ≡ true
-  pub runs : h .stage ≡ 1 → validRun h s ≡ true
+  pub runs : h .stage ≡ stageRunning → validRun h s ≡ true
 
 pub facts : (h : Head) (l s : List ℕ) → validParts h l s ≡ true → Facts h l s
 unfolding validParts
 facts h l s e =
-    let (a, x) = both (leb (h .stage) 2) (leb (h .length) maxKept && (every byteWord l && (if eqb (h .stage) 1 then validRun h s else true))) e in
-    let (b, y) = both (leb (h .length) maxKept) (every byteWord l && (if eqb (h .stage) 1 then validRun h s else true)) x in
-    let (c, z) = both (every byteWord l) (if eqb (h .stage) 1 then validRun h s else true) y in
-    record { stage = leb-true _ _ a; few = leb-true _ _ b; bytes = c; runs = λ q. rw (eq-eqb (h .stage) 1 q) at z }
+    let (a, x) = both (leb (h .stage) stageClosed) (leb (h .length) maxKept && (every byteWord l && (if eqb (h .stage) stageRunning then validRun h s else true))) e in
+    let (b, y) = both (leb (h .length) maxKept) (every byteWord l && (if eqb (h .stage) stageRunning then validRun h s else true)) x in
+    let (c, z) = both (every byteWord l) (if eqb (h .stage) stageRunning then validRun h s else true) y in
+    record { stage = leb-true _ _ a; few = leb-true _ _ b; bytes = c; runs = λ q. rw (eq-eqb (h .stage) stageRunning q) at z }
 
 pub record RunFacts (h : Head) (s : List ℕ) : Type 0 where
   pub simulation : layout.valid s ≡ true
@@ -208,10 +208,10 @@ unfolding validRun
 from-run h s f =
     rw (f .simulation, le-leb (h .answered) maxLines (f .answered), le-leb (h .accepted) (h .answered) (f .accepted), le-leb (holders (layout.view s)) (h .holding) (f .holding), le-leb (h .holding) systemClients (f .few))
 
-pub from-facts : (h : Head) (l s : List ℕ) → h .stage ≤ 2 → h .length ≤ maxKept → every byteWord l ≡ true → (h .stage ≡ 1 → validRun h s ≡ true) → validParts h l s ≡ true
+pub from-facts : (h : Head) (l s : List ℕ) → h .stage ≤ stageClosed → h .length ≤ maxKept → every byteWord l ≡ true → (h .stage ≡ stageRunning → validRun h s ≡ true) → validParts h l s ≡ true
 unfolding validParts
-from-facts h l s a b c d = rw (le-leb (h .stage) 2 a, le-leb (h .length) maxKept b, c) (by-stage (decided (eqb (h .stage) 1)))
+from-facts h l s a b c d = rw (le-leb (h .stage) stageClosed a, le-leb (h .length) maxKept b, c) (by-stage (decided (eqb (h .stage) stageRunning)))
   where
-    by-stage : Test (eqb (h .stage) 1) → (if eqb (h .stage) 1 then validRun h s else true) ≡ true
-    by-stage (inl e) = rw e (d (eqb-true (h .stage) 1 e))
+    by-stage : Test (eqb (h .stage) stageRunning) → (if eqb (h .stage) stageRunning then validRun h s else true) ≡ true
+    by-stage (inl e) = rw e (d (eqb-true (h .stage) stageRunning e))
     by-stage (inr e) = rw e

@@ -54,7 +54,7 @@ use Rattle.runs.specs.Calls.{maxAccepted, runIn, countsOf, newAnswer, NewLeaves
 use Rattle.runs.proofs.Whole.{moved-system, moved-accepted, moved-holding}
 use Rattle.output.specs.Output.{maxLines, answerLine}
 use Rattle.output.specs.Reader.{Script, Stage, opening, running, closed, Reader, Printed, unanswered, opened, onward, lineTaken, worked, behind, taken, ended, lastLine, maxKept, maxPrinted}
-use Rattle.script.specs.State.{stageAt, answeredAt, acceptedAt, holdingAt, lengthAt, stateSize, Head, headIn, keptIn, simulationIn, countsIn, scriptIn, stageOf, view, validRun, valid, stateHead}
+use Rattle.script.specs.State.{stageOpening, stageRunning, stageClosed, stageAt, answeredAt, acceptedAt, holdingAt, lengthAt, stateSize, Head, headIn, keptIn, simulationIn, countsIn, scriptIn, stageOf, view, validRun, valid, stateHead}
 use Rattle.script.specs.declared.Progress.the-variants.{Took, Refused}
 use Rattle.script.specs.Calls.{newAnswer as newScript, newWords, Sound, Ready, Reads, Does, Takes, happened, passing, replyLine, withCounts}
 use Rattle.script.proofs.StateLaws.{Is, itself-is, view-is, valid-is, store-length, store-stage, store-answered, store-accepted, store-holding, store-simulation, Facts, RunFacts, run-facts, from-run, from-facts}
@@ -69,17 +69,17 @@ pub line-read : {A : Type 0} (f : List ℕ → A) (w : List ℕ) → Sound w →
 line-read f w S o l e q r p = p ∙ ap f (line-parsed w S o l e q)
 
 -- the stage, by its word
-pub stage-opening : (w : List ℕ) → getD w stageAt 0 ≡ 0 → view w .stage ≡ opening
+pub stage-opening : (w : List ℕ) → getD w stageAt 0 ≡ stageOpening → view w .stage ≡ opening
 unfolding view stageOf headIn
 stage-opening w e = rw e
 
-pub stage-running : (w : List ℕ) → getD w stageAt 0 ≡ 1 → view w .stage ≡ running (scriptIn (headIn w) (simulationIn w))
+pub stage-running : (w : List ℕ) → getD w stageAt 0 ≡ stageRunning → view w .stage ≡ running (scriptIn (headIn w) (simulationIn w))
 unfolding view stageOf headIn
 stage-running w e = rw e
 
-pub stage-closed : (w : List ℕ) → (getD w stageAt 0 ≡ 0 → ⊥) → (getD w stageAt 0 ≡ 1 → ⊥) → view w .stage ≡ closed
+pub stage-closed : (w : List ℕ) → (getD w stageAt 0 ≡ stageOpening → ⊥) → (getD w stageAt 0 ≡ stageRunning → ⊥) → view w .stage ≡ closed
 unfolding view stageOf headIn
-stage-closed w a b = rw (ne-eqb (getD w stageAt 0) 0 a, ne-eqb (getD w stageAt 0) 1 b)
+stage-closed w a b = rw (ne-eqb (getD w stageAt 0) stageOpening a, ne-eqb (getD w stageAt 0) stageRunning b)
 
 -- a count of at most one, and the holders of a simulation
 one-or-none : (b : Bool) → (if b then 1 else 0) ≤ 1
@@ -124,7 +124,7 @@ module _ (w out : List ℕ) (at : ℕ) (R : Ready w out at) where
 
   -- the general form: h has the length of w's line
   pub does : (p : Printed Stage) (w′ : List ℕ) (h : Head) (s : List ℕ) → Is w′ h (keptIn w) s → h .length ≡ headIn w .length → stageOf h s ≡ p .now →
-      h .stage ≤ 2 → (h .stage ≡ 1 → validRun h s ≡ true) → (out′ : List ℕ) (r : ℕ) → (r ≡ at + length (p .out)) × (out′ ≡ sets out at (p .out)) → Does w out at p w′ out′ r
+      h .stage ≤ stageClosed → (h .stage ≡ stageRunning → validRun h s ≡ true) → (out′ : List ℕ) (r : ℕ) → (r ≡ at + length (p .out)) × (out′ ≡ sets out at (p .out)) → Does w out at p w′ out′ r
   unfolding view
   does p w′ h s I e q few run out′ r b =
       record {
@@ -137,9 +137,9 @@ module _ (w out : List ℕ) (at : ℕ) (R : Ready w out at) where
 
   -- the first line is refused
   pub refused-does : (x : Refusal) (out′ : List ℕ) (r : ℕ) → (r ≡ at + length (refusedLine x)) × (out′ ≡ sets out at (refusedLine x)) →
-      Does w out at (record { now = closed; out = refusedLine x }) (set w stageAt 2) out′ r
+      Does w out at (record { now = closed; out = refusedLine x }) (set w stageAt stageClosed) out′ r
   unfolding stageOf
-  refused-does x out′ r b = does (record { now = closed; out = refusedLine x }) (set w stageAt 2) _ (simulationIn w) (store-stage (itself-is w (R .long)) 2) refl refl (omega arith) (λ e. absurd (omega (arith, e))) out′ r b
+  refused-does x out′ r b = does (record { now = closed; out = refusedLine x }) (set w stageAt stageClosed) _ (simulationIn w) (store-stage (itself-is w (R .long)) 2) refl refl (omega arith) (λ e. absurd (omega (arith, e))) out′ r b
 
   -- nothing is done and nothing printed
   pub stays : (p : Printed Stage) → p .now ≡ view w .stage → p .out ≡ [] → Does w out at p w out at
@@ -220,7 +220,7 @@ module _ (w out : List ℕ) (at : ℕ) (R : Ready w out at) where
           does (happened (scriptIn (headIn w) (simulationIn w)) e) w′ head s′ I refl (rw (N .runs) (ap running went-on)) (omega (arith, N .runs))
           (λ q. from-run head s′ counts-in-range) out′ r (rw answered-line at b)
 
-pub end-valid : (w : List ℕ) → valid w ≡ true → getD w stageAt 0 ≡ 1 → layout.valid (take simulationSize (drop stateHead w)) ≡ true
+pub end-valid : (w : List ℕ) → valid w ≡ true → getD w stageAt 0 ≡ stageRunning → layout.valid (take simulationSize (drop stateHead w)) ≡ true
 unfolding simulationIn headIn
 end-valid w v one = run-facts (headIn w) (simulationIn w) (known w v .runs one) .simulation
 
@@ -239,16 +239,16 @@ module _ (w : List ℕ) (at : ℕ) (o : List ℕ) where
   abbrev Ends : List ℕ → ℕ → Type 0
   Ends o′ r = (r ≡ at + length (ended (view w .stage))) × (o′ ≡ sets o at (ended (view w .stage)))
 
-  pub end-opening : getD w stageAt 0 ≡ 0 → (o′ : List ℕ) (r : ℕ) → (r ≡ at + length (refusedLine BadLine)) × (o′ ≡ sets o at (refusedLine BadLine)) → Ends o′ r
+  pub end-opening : getD w stageAt 0 ≡ stageOpening → (o′ : List ℕ) (r : ℕ) → (r ≡ at + length (refusedLine BadLine)) × (o′ ≡ sets o at (refusedLine BadLine)) → Ends o′ r
   unfolding ended
   end-opening e o′ r b = rw (stage-opening w e) b
 
-  pub end-running : getD w stageAt 0 ≡ 1 → (k : ℕ) → k ≡ layout.view (take simulationSize (drop stateHead w)) .most → (o′ : List ℕ) (r : ℕ) →
+  pub end-running : getD w stageAt 0 ≡ stageRunning → (k : ℕ) → k ≡ layout.view (take simulationSize (drop stateHead w)) .most → (o′ : List ℕ) (r : ℕ) →
       (r ≡ at + length (endLine (getD w acceptedAt 0) (getD w holdingAt 0) k)) × (o′ ≡ sets o at (endLine (getD w acceptedAt 0) (getD w holdingAt 0) k)) → Ends o′ r
   unfolding ended headIn simulationIn
   end-running e k q o′ r b = rw (stage-running w e) (rw q at b)
 
-  pub end-closed : (getD w stageAt 0 ≡ 0 → ⊥) → (getD w stageAt 0 ≡ 1 → ⊥) → Ends o at
+  pub end-closed : (getD w stageAt 0 ≡ stageOpening → ⊥) → (getD w stageAt 0 ≡ stageRunning → ⊥) → Ends o at
   unfolding ended
   end-closed a b = rw (stage-closed w a b) (omega arith, refl)
 
@@ -285,7 +285,7 @@ unfolding newAnswer
 begun-run true s c e = (refl, (cc))
 begun-run false s c e = let z : _≡_ {A = ℕ} 0 1 = cc in absurd (omega arith)
 
-module _ (w out : List ℕ) (at : ℕ) (R : Ready w out at) (zeroth : getD w stageAt 0 ≡ 0) where
+module _ (w out : List ℕ) (at : ℕ) (R : Ready w out at) (zeroth : getD w stageAt 0 ≡ stageOpening) where
   module _ (s′ : List ℕ) (long : length s′ ≡ simulationSize) where
     lent-is : Is (sets w stateHead s′) (headIn w) (keptIn w) s′
     lent-is = store-simulation (itself-is w (R .long)) s′ long
@@ -312,7 +312,7 @@ module _ (w out : List ℕ) (at : ℕ) (R : Ready w out at) (zeroth : getD w sta
 
   -- the setting is in range: the script runs
   pub open-running : (s : Setting) (s′ : List ℕ) → inRange s ≡ true → runIn (countsOf (started s)) s′ ≡ started s → layout.valid s′ ≡ true → length s′ ≡ simulationSize → (out′ : List ℕ) (r : ℕ) →
-      (r ≡ at + length (headerLine s)) × (out′ ≡ sets out at (headerLine s)) → Does w out at (opened (some s)) (withCounts (set (sets w stateHead s′) stageAt 1) 0 (countsOf (started s))) out′ r
+      (r ≡ at + length (headerLine s)) × (out′ ≡ sets out at (headerLine s)) → Does w out at (opened (some s)) (withCounts (set (sets w stateHead s′) stageAt stageRunning) 0 (countsOf (started s))) out′ r
   unfolding opened stageOf
   open-running s s′ in-it u v long out′ r b =
       let I = store-holding (store-accepted (store-answered (store-stage (lent-is s′ long) 1) 0) 0) (holders (fresh s)) in
@@ -329,15 +329,15 @@ module _ (w : List ℕ) where
   abbrev Line : Printed Stage
   Line = worked (view w .stage) (view w .line)
 
-  pub opening-line : getD w stageAt 0 ≡ 0 → worked (view w .stage) (view w .line) ≡ opened (line-setting (view w .line))
+  pub opening-line : getD w stageAt 0 ≡ stageOpening → worked (view w .stage) (view w .line) ≡ opened (line-setting (view w .line))
   unfolding worked
   opening-line e = rw (stage-opening w e)
 
-  pub closed-line : (getD w stageAt 0 ≡ 0 → ⊥) → (getD w stageAt 0 ≡ 1 → ⊥) → worked (view w .stage) (view w .line) ≡ record { now = closed; out = [] }
+  pub closed-line : (getD w stageAt 0 ≡ stageOpening → ⊥) → (getD w stageAt 0 ≡ stageRunning → ⊥) → worked (view w .stage) (view w .line) ≡ record { now = closed; out = [] }
   unfolding worked
   closed-line a b = rw (stage-closed w a b)
 
-  module _ (one : getD w stageAt 0 ≡ 1) where
+  module _ (one : getD w stageAt 0 ≡ stageRunning) where
     pub unread-line : maxLines ≤ getD w answeredAt 0 → worked (view w .stage) (view w .line) ≡ record { now = view w .stage; out = [] }
     unfolding worked lineTaken headIn
     unread-line h = rw (stage-running w one, le-ltb (getD w answeredAt 0) maxLines h)
@@ -421,8 +421,8 @@ pub counts-same : (w : List ℕ) (i : ℕ) (c : Counts) → length (withCounts w
 counts-same w i c =
     length-set (set (set w answeredAt i) acceptedAt (c .accepted)) holdingAt (c .holding) ∙ (length-set (set w answeredAt i) acceptedAt (c .accepted) ∙ length-set w answeredAt i)
 
-pub started-same : (w w′ : List ℕ) (c : Counts) → w′ ≡ withCounts (set w stageAt 1) 0 c → length w′ ≡ length w
-started-same w w′ c p = ap length p ∙ (counts-same (set w stageAt 1) 0 c ∙ length-set w stageAt 1)
+pub started-same : (w w′ : List ℕ) (c : Counts) → w′ ≡ withCounts (set w stageAt stageRunning) 0 c → length w′ ≡ length w
+started-same w w′ c p = ap length p ∙ (counts-same (set w stageAt stageRunning) 0 c ∙ length-set w stageAt stageRunning)
 
 -- the simulation, lent and come back -----------------------------------------------------------------------------------------------
 
@@ -472,7 +472,7 @@ module _ (w out : List ℕ) (at : ℕ) (R : Ready w out at) (N : Reads w) (e : E
     event-happened out′ r b = happened-does w out at R N e s′ went leaves w′ words out′ r b
 
 -- a new run's two ends
-module _ (w out : List ℕ) (at : ℕ) (R : Ready w out at) (zeroth : getD w stageAt 0 ≡ 0) (s : Setting) (s′ : List ℕ) (made : Begun)
+module _ (w out : List ℕ) (at : ℕ) (R : Ready w out at) (zeroth : getD w stageAt 0 ≡ stageOpening) (s : Setting) (s′ : List ℕ) (made : Begun)
     (N : NewLeaves s (take simulationSize (drop stateHead w)) s′ × (made ≡ newAnswer (opens (length (take simulationSize (drop stateHead w))) s) s)) where
   abbrev opens-it : Bool
   opens-it = opens (length (take simulationSize (drop stateHead w))) s
@@ -506,9 +506,9 @@ module _ (w out : List ℕ) (at : ℕ) (R : Ready w out at) (zeroth : getD w sta
     pub begin-long : length (putMid stateHead simulationSize w s′) ≡ stateSize
     begin-long = back-long w s′ (R .long) fresh-long
 
-    module _ (w′ : List ℕ) (p : w′ ≡ withCounts (set (putMid stateHead simulationSize w s′) stageAt 1) 0 c) where
+    module _ (w′ : List ℕ) (p : w′ ≡ withCounts (set (putMid stateHead simulationSize w s′) stageAt stageRunning) 0 c) where
       pub begin-same : length w′ ≡ length w
-      begin-same = ap length p ∙ (counts-same (set (putMid stateHead simulationSize w s′) stageAt 1) 0 c ∙ (length-set (putMid stateHead simulationSize w s′) stageAt 1 ∙ (begin-long ∙ sym (R .long))))
+      begin-same = ap length p ∙ (counts-same (set (putMid stateHead simulationSize w s′) stageAt stageRunning) 0 c ∙ (length-set (putMid stateHead simulationSize w s′) stageAt stageRunning ∙ (begin-long ∙ sym (R .long))))
 
       pub begin-running : (out′ : List ℕ) (r : ℕ) → (r ≡ at + length (headerLine s)) × (out′ ≡ sets out at (headerLine s)) → Does w out at (opened (some s)) w′ out′ r
       begin-running out′ r b =
@@ -540,10 +540,10 @@ module _ (w out : List ℕ) (at : ℕ) (R : Ready w out at) where
     pub setting-first : (s : Setting) → Opens s ≡ firstOf (line-setting (view w .line)) → Does w out at (opened (some s)) w′ out′ r → Does w out at (opened (line-setting (view w .line))) w′ out′ r
     setting-first s e D = rw (first-setting (line-setting (view w .line)) s e) D
 
-    pub opening-does : getD w stageAt 0 ≡ 0 → Does w out at (opened (line-setting (view w .line))) w′ out′ r → Does w out at (worked (view w .stage) (view w .line)) w′ out′ r
+    pub opening-does : getD w stageAt 0 ≡ stageOpening → Does w out at (opened (line-setting (view w .line))) w′ out′ r → Does w out at (worked (view w .stage) (view w .line)) w′ out′ r
     opening-does e D = rw (opening-line w e) D
 
-    module _ (one : getD w stageAt 0 ≡ 1) (more : getD w answeredAt 0 < maxLines) where
+    module _ (one : getD w stageAt 0 ≡ stageRunning) (more : getD w answeredAt 0 < maxLines) where
       pub bad-does : Bad ≡ lineOf (eventIn (view w .line)) → Does w out at (passing (scriptIn (headIn w) (simulationIn w)) BadLine) w′ out′ r → Does w out at (worked (view w .stage) (view w .line)) w′ out′ r
       bad-does e D = rw (bad-line w one more (parsed-bad (eventIn (view w .line)) e)) D
 
@@ -557,14 +557,14 @@ module _ (w out : List ℕ) (at : ℕ) (R : Ready w out at) where
           let F = run-facts (headIn w) (simulationIn w) (known w (R .valid) .runs one) in
           rw (unknown-line w one more (K .event) (K .read) (nobody-such (simulationIn w) (F .simulation) (K .event) (K .wide))) D
 
-  pub reading : getD w stageAt 0 ≡ 1 → getD w answeredAt 0 < maxLines → Reads w
+  pub reading : getD w stageAt 0 ≡ stageRunning → getD w answeredAt 0 < maxLines → Reads w
   unfolding headIn
   reading one more = record { runs = one; more = more; fewer = run-facts (headIn w) (simulationIn w) (known w (R .valid) .runs one) .accepted }
 
-  pub unread-does : getD w stageAt 0 ≡ 1 → maxLines ≤ getD w answeredAt 0 → Does w out at (worked (view w .stage) (view w .line)) w out at
+  pub unread-does : getD w stageAt 0 ≡ stageRunning → maxLines ≤ getD w answeredAt 0 → Does w out at (worked (view w .stage) (view w .line)) w out at
   unread-does one h = let e = unread-line w one h in stays w out at R _ (ap (λ (p : Printed Stage). p .now) e) (ap (λ (p : Printed Stage). p .out) e)
 
-  pub closed-does : (getD w stageAt 0 ≡ 0 → ⊥) → (getD w stageAt 0 ≡ 1 → ⊥) → Does w out at (worked (view w .stage) (view w .line)) w out at
+  pub closed-does : (getD w stageAt 0 ≡ stageOpening → ⊥) → (getD w stageAt 0 ≡ stageRunning → ⊥) → Does w out at (worked (view w .stage) (view w .line)) w out at
   closed-does a b =
       let e = closed-line w a b in
       stays w out at R _ (ap (λ (p : Printed Stage). p .now) e ∙ sym (stage-closed w a b)) (ap (λ (p : Printed Stage). p .out) e)

@@ -12,7 +12,7 @@ use Rattle.ids.proofs.LimitsLaws.{within-range}
 use Rattle.system.specs.Places.{holders}
 use Rattle.layout.specs.Layout as layout
 use Rattle.layout.proofs.ValidLaws as layout-laws
-use Rattle.script.specs.State.{stageAt, answeredAt, acceptedAt, holdingAt, lengthAt, stateSize, headIn, keptIn, simulationIn, validRun, byteWord, validParts, valid, stateHead}
+use Rattle.script.specs.State.{stageRunning, stageClosed, stageAt, answeredAt, acceptedAt, holdingAt, lengthAt, stateSize, headIn, keptIn, simulationIn, validRun, byteWord, validParts, valid, stateHead}
 use Rattle.script.proofs.StateLaws.{simulation-long}
 use Rattle.system.specs.Limits.{systemClients}
 use Rattle.layout.specs.Layout.{simulationSize}
@@ -65,25 +65,25 @@ module _ (w : List ℕ) where
   size-wrong ne = rw (ne-eqb (length w) stateSize ne)
 
   module _ (long : length w ≡ stateSize) where
-    pub stage-wrong : 2 < getD w stageAt 0 → false ≡ valid w
+    pub stage-wrong : stageClosed < getD w stageAt 0 → false ≡ valid w
     unfolding valid validParts headIn
-    stage-wrong g = rw (eq-eqb (length w) stateSize long, lt-leb (getD w stageAt 0) 2 g)
+    stage-wrong g = rw (eq-eqb (length w) stateSize long, lt-leb (getD w stageAt 0) stageClosed g)
 
-    module _ (a : getD w stageAt 0 ≤ 2) where
+    module _ (a : getD w stageAt 0 ≤ stageClosed) where
       pub line-wrong : maxKept < getD w lengthAt 0 → false ≡ valid w
       unfolding valid validParts headIn
-      line-wrong g = rw (eq-eqb (length w) stateSize long, le-leb (getD w stageAt 0) 2 a, lt-leb (getD w lengthAt 0) maxKept g)
+      line-wrong g = rw (eq-eqb (length w) stateSize long, le-leb (getD w stageAt 0) stageClosed a, lt-leb (getD w lengthAt 0) maxKept g)
 
       module _ (b : getD w lengthAt 0 ≤ maxKept) (x : Bool) (e : x ≡ every byteWord (keptIn w)) where
         pub bytes-wrong : not x ≡ true → false ≡ valid w
         unfolding valid validParts headIn
-        bytes-wrong n = rw (eq-eqb (length w) stateSize long, le-leb (getD w stageAt 0) 2 a, le-leb (getD w lengthAt 0) maxKept b, sym e ∙ not-true x n)
+        bytes-wrong n = rw (eq-eqb (length w) stateSize long, le-leb (getD w stageAt 0) stageClosed a, le-leb (getD w lengthAt 0) maxKept b, sym e ∙ not-true x n)
 
         module _ (n : not x ≡ false) where
-          pub no-run : (getD w stageAt 0 ≡ 1 → ⊥) → true ≡ valid w
+          pub no-run : (getD w stageAt 0 ≡ stageRunning → ⊥) → true ≡ valid w
           unfolding valid validParts headIn
-          no-run ne = rw (eq-eqb (length w) stateSize long, le-leb (getD w stageAt 0) 2 a, le-leb (getD w lengthAt 0) maxKept b, sym e ∙ not-false x n, ne-eqb (getD w stageAt 0) 1 ne)
+          no-run ne = rw (eq-eqb (length w) stateSize long, le-leb (getD w stageAt 0) stageClosed a, le-leb (getD w lengthAt 0) maxKept b, sym e ∙ not-false x n, ne-eqb (getD w stageAt 0) stageRunning ne)
 
-          pub run-decides : getD w stageAt 0 ≡ 1 → (r : Bool) → r ≡ validRun (headIn w) (simulationIn w) → r ≡ valid w
+          pub run-decides : getD w stageAt 0 ≡ stageRunning → (r : Bool) → r ≡ validRun (headIn w) (simulationIn w) → r ≡ valid w
           unfolding valid validParts headIn
-          run-decides q r p = rw (eq-eqb (length w) stateSize long, le-leb (getD w stageAt 0) 2 a, le-leb (getD w lengthAt 0) maxKept b, sym e ∙ not-false x n, eq-eqb (getD w stageAt 0) 1 q) p
+          run-decides q r p = rw (eq-eqb (length w) stateSize long, le-leb (getD w stageAt 0) stageClosed a, le-leb (getD w lengthAt 0) maxKept b, sym e ∙ not-false x n, eq-eqb (getD w stageAt 0) stageRunning q) p

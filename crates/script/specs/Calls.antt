@@ -19,7 +19,7 @@ use Rattle.runs.specs.Run.{happens, next}
 use Rattle.language.specs.Printed.{noLine, okLine}
 use Rattle.output.specs.Output.{answerLine, maxLines}
 use Rattle.output.specs.Reader.{Script, Stage, running, closed, Reader, Printed, onward, maxPrinted, fedWithin, finished, maxKept}
-use Rattle.script.specs.State.{stageAt, answeredAt, acceptedAt, holdingAt, lengthAt, stateSize, view, valid, stateHead}
+use Rattle.script.specs.State.{stageRunning, stageAt, answeredAt, acceptedAt, holdingAt, lengthAt, stateSize, view, valid, stateHead}
 
 -- a new script: 7 if the words are too few or too many
 unfoldable pub newAnswer : List ℕ → Progress
@@ -78,7 +78,7 @@ pub record Ready (w out : List ℕ) (at : ℕ) : Type 0 where
 
 -- a script that runs, with an event line still to be read
 pub record Reads (w : List ℕ) : Type 0 where
-  pub runs : getD w stageAt 0 ≡ 1
+  pub runs : getD w stageAt 0 ≡ stageRunning
   pub more : getD w answeredAt 0 < maxLines
   pub fewer : getD w acceptedAt 0 ≤ getD w answeredAt 0
 

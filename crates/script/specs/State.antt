@@ -1,6 +1,5 @@
 -- The state of a script as words: what a reader of it has taken in so far. 0 is none.
--- First the head: the stage (0 before the first line, 1 while the script runs, 2 when its first line was refused or it has ended), the
--- event lines answered, those accepted, the most holders at once, and the bytes of the line so far. Then those bytes, a word for each, and
+-- First the head: the stage, the event lines answered, those accepted, the most holders at once, and the bytes of the line so far. Then those bytes, a word for each, and
 -- the simulation's words.
 use Prim.Native.Nat.{ℕ, _+_}
 use mathlib.Core.Bool.{Bool, true, _&&_}
@@ -33,6 +32,16 @@ holdingAt = 3
 
 abbrev pub lengthAt : ℕ
 lengthAt = 4
+
+-- the stages: before the first line, while the script runs, when its first line was refused or it has ended
+abbrev pub stageOpening : ℕ
+stageOpening = 0
+
+abbrev pub stageRunning : ℕ
+stageRunning = 1
+
+abbrev pub stageClosed : ℕ
+stageClosed = 2
 
 -- the words before the line, before the simulation, and all
 abbrev pub lineFrom : ℕ
@@ -76,7 +85,7 @@ abbrev pub scriptIn : Head → List ℕ → Script
 scriptIn h s = record { answered = h .answered; run = runIn (countsIn h) s }
 
 unfoldable pub stageOf : Head → List ℕ → Stage
-stageOf h s = if eqb (h .stage) 0 then opening else if eqb (h .stage) 1 then running (scriptIn h s) else closed
+stageOf h s = if eqb (h .stage) stageOpening then opening else if eqb (h .stage) stageRunning then running (scriptIn h s) else closed
 
 abbrev pub lineOf : Head → List ℕ → List ℕ
 lineOf h l = take (h .length) l
@@ -96,7 +105,7 @@ byteWord x = leb x 255
 
 unfoldable pub validParts : Head → List ℕ → List ℕ → Bool
 validParts h l s =
-    leb (h .stage) 2 && (leb (h .length) maxKept && (every byteWord l && (if eqb (h .stage) 1 then validRun h s else true)))
+    leb (h .stage) stageClosed && (leb (h .length) maxKept && (every byteWord l && (if eqb (h .stage) stageRunning then validRun h s else true)))
 
 unfoldable pub valid : List ℕ → Bool
 valid w = eqb (length w) stateSize && validParts (headIn w) (keptIn w) (simulationIn w)

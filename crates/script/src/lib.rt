@@ -12,7 +12,7 @@ ghost use Rattle.ids.specs.Lists.{every};
 ghost use Rattle.language.specs.Lines.{eventIn, lineOf, settingIn, firstOf};
 ghost use Rattle.language.specs.Printed.{refusedLine};
 ghost use Rattle.output.specs.Reader.{closed, opened, worked, behind, taken, ended, lastLine, finished, maxKept, maxPrinted};
-ghost use Rattle.script.specs.State.{headIn, keptIn, simulationIn, countsIn, scriptIn, byteWord, validRun, view, valid as isValid, stateSize, stateHead, stageAt, lengthAt};
+ghost use Rattle.script.specs.State.{headIn, keptIn, simulationIn, countsIn, scriptIn, byteWord, validRun, view, valid as isValid, stateSize, stateHead, stageAt, lengthAt, stageOpening, stageRunning, stageClosed};
 ghost use Rattle.script.specs.Calls.{newAnswer, newWords, feedAnswer, FeedLeaves, finishAnswer, FinishLeaves, Sound, Ready, Reads, Does, Takes, FedAs, happened, passing, maxEnding, withCounts, replyLine};
 use ids::Refusal;
 use language::First;
@@ -40,6 +40,13 @@ const LINE_FROM: usize = 5;
 pub const STATE_HEAD: usize = LINE_FROM + LINE;
 
 pub const STATE_WORDS: usize = STATE_HEAD + layout::SIMULATION_WORDS;
+
+// The stages: before the first line, while the script runs, and when its first line was refused or it has ended.
+pub const OPENING: u32 = 0;
+
+pub const RUNNING: u32 = 1;
+
+pub const CLOSED: u32 = 2;
 
 // The bytes of a line that are kept, one more than a line may have; the event lines that are answered; the longest printed line, and the
 // longest end, which is two lines.
@@ -102,7 +109,7 @@ pub fn valid(w: &[u32]) -> bool
     if w.len() != STATE_WORDS {
         return false;
     }
-    if 2 < w[STAGE] {
+    if CLOSED < w[STAGE] {
         return false;
     }
     if MAX_KEPT < w[LENGTH] {
@@ -111,7 +118,7 @@ pub fn valid(w: &[u32]) -> bool
     if !bytes_valid(w) {
         return false;
     }
-    if w[STAGE] != 1 {
+    if w[STAGE] != RUNNING {
         return true;
     }
     run_valid(w)
@@ -169,7 +176,7 @@ fn refuse(w: &mut [u32], out: &mut [u8], at: usize, x: Refusal) -> usize
     requires { ⌜ Ready (now w) (now out) at ⌝ }
     ensures { λ r. ⌜ Does (now (w .entry)) (now (out .entry)) at (record { now = closed; out = refusedLine x }) (now (w .exit)) (now (out .exit)) r ⌝ }
 {
-    w[STAGE] = 2;
+    w[STAGE] = CLOSED;
     language::put_refused(out, at, x)
 }
 
@@ -196,15 +203,15 @@ fn put_counts(w: &mut [u32], answered: u32, c: Counts)
 // The script runs, and nothing is answered yet.
 fn start(w: &mut [u32], c: Counts)
     requires { ⌜ length (now w) ≡ stateSize ⌝ }
-    ensures { λ _. ⌜ now (w .exit) ≡ withCounts (set (now (w .entry)) stageAt 1) 0 c ⌝ }
+    ensures { λ _. ⌜ now (w .exit) ≡ withCounts (set (now (w .entry)) stageAt stageRunning) 0 c ⌝ }
 {
-    w[STAGE] = 1;
+    w[STAGE] = RUNNING;
     put_counts(w, 0, c);
 }
 
 // The first line is a setting.
 fn begin(w: &mut [u32], out: &mut [u8], at: usize, s: Setting) -> usize
-    requires { ⌜ Ready (now w) (now out) at × (getD (now w) stageAt 0 ≡ 0) ⌝ }
+    requires { ⌜ Ready (now w) (now out) at × (getD (now w) stageAt 0 ≡ stageOpening) ⌝ }
     ensures { λ r. ⌜ Does (now (w .entry)) (now (out .entry)) at (opened (some s)) (now (w .exit)) (now (out .exit)) r ⌝ }
 {
     let begun = runs::new(&mut w[STATE_HEAD..STATE_WORDS], s);
@@ -219,7 +226,7 @@ fn begin(w: &mut [u32], out: &mut [u8], at: usize, s: Setting) -> usize
 
 // The first line.
 fn open(w: &mut [u32], out: &mut [u8], at: usize) -> usize
-    requires { ⌜ Ready (now w) (now out) at × (getD (now w) stageAt 0 ≡ 0) ⌝ }
+    requires { ⌜ Ready (now w) (now out) at × (getD (now w) stageAt 0 ≡ stageOpening) ⌝ }
     ensures { λ r. ⌜ Does (now (w .entry)) (now (out .entry)) at (opened (settingIn (view (now (w .entry)) .line))) (now (w .exit)) (now (out .exit)) r ⌝ }
 {
     let first = read_setting(w);
@@ -265,7 +272,7 @@ fn pass(w: &mut [u32], out: &mut [u8], at: usize, x: Refusal) -> usize
 
 // An event line.
 fn answer(w: &mut [u32], out: &mut [u8], at: usize) -> usize
-    requires { ⌜ Ready (now w) (now out) at × (getD (now w) stageAt 0 ≡ 1) ⌝ }
+    requires { ⌜ Ready (now w) (now out) at × (getD (now w) stageAt 0 ≡ stageRunning) ⌝ }
     ensures { λ r. ⌜ Does (now (w .entry)) (now (out .entry)) at (worked (view (now (w .entry)) .stage) (view (now (w .entry)) .line)) (now (w .exit)) (now (out .exit)) r ⌝ }
 {
     if MAX_LINES <= w[ANSWERED] {
@@ -284,10 +291,10 @@ fn work(w: &mut [u32], out: &mut [u8], at: usize) -> usize
     requires { ⌜ Ready (now w) (now out) at ⌝ }
     ensures { λ r. ⌜ Does (now (w .entry)) (now (out .entry)) at (worked (view (now (w .entry)) .stage) (view (now (w .entry)) .line)) (now (w .exit)) (now (out .exit)) r ⌝ }
 {
-    if w[STAGE] == 0 {
+    if w[STAGE] == OPENING {
         return open(w, out, at);
     }
-    if w[STAGE] == 1 {
+    if w[STAGE] == RUNNING {
         return answer(w, out, at);
     }
     at
@@ -375,10 +382,10 @@ fn end(w: &[u32], out: &mut [u8], at: usize) -> usize
     requires { ⌜ Ready (now w) (now out) at ⌝ }
     ensures { λ r. ⌜ (r ≡ at + length (ended (view (now (w .entry)) .stage))) × (now (out .exit) ≡ sets (now (out .entry)) at (ended (view (now (w .entry)) .stage))) ⌝ }
 {
-    if w[STAGE] == 0 {
+    if w[STAGE] == OPENING {
         return language::put_refused(out, at, Refusal::BadLine);
     }
-    if w[STAGE] == 1 {
+    if w[STAGE] == RUNNING {
         return language::put_end(
             out,
             at,
@@ -393,9 +400,9 @@ fn end(w: &[u32], out: &mut [u8], at: usize) -> usize
 // Nothing is read or printed any more.
 fn seal(w: &mut [u32])
     requires { ⌜ length (now w) ≡ stateSize ⌝ }
-    ensures { λ _. ⌜ now (w .exit) ≡ set (set (now (w .entry)) stageAt 2) lengthAt 0 ⌝ }
+    ensures { λ _. ⌜ now (w .exit) ≡ set (set (now (w .entry)) stageAt stageClosed) lengthAt 0 ⌝ }
 {
-    w[STAGE] = 2;
+    w[STAGE] = CLOSED;
     w[LENGTH] = 0;
 }
 
