@@ -41,6 +41,7 @@ use Rattle.layout.specs.Parts.{clientBlockOf, serverBlockOf, ClientIn, ServerIn
 use Rattle.layout.proofs.ValidLaws.{all-valid, block-here, block-other, from-facts}
 use Rattle.layout.proofs.PartLaws.{Is, itself-is, is-client-store, is-server-store, is-head-store, head-word, setting-is, view-is, settingIn, systemIn}
 use Rattle.layout.proofs.LendLaws.{client-block-long, server-block-long}
+use Rattle.system.specs.declared.Setting.{Setting}
 use Rattle.changes.specs.Opening.{Cleared, newClient, newServer, inTurn, Starts}
 use Rattle.changes.proofs.Stores.{sets-over, client-block-from, server-block-stored}
 use Rattle.system.specs.Limits.{systemClients, systemServers}
@@ -430,7 +431,7 @@ module _ (n m f clients : ℕ) (z : List ℕ) (long : length z ≡ simulationSiz
         noted = rw (w6, started-system, worst-none clients (record { living = true; state = fresh n; downs = [] }) refl) (omega arith);
       })
 
-  pub started : (w′ : List ℕ) → w′ ≡ inTurn (λ (i : ℕ). newServer n (serverNo i)) n (inTurn (λ (i : ℕ). newClient n m (clientNo i)) clients (set (set (set (set z 0 n) 1 m) 2 f) 3 clients)) → Starts n m f clients w′
+  pub started : (w′ : List ℕ) → w′ ≡ inTurn (λ (i : ℕ). newServer n (serverNo i)) n (inTurn (λ (i : ℕ). newClient n m (clientNo i)) clients (set (set (set (set z 0 n) 1 m) 2 f) 3 clients)) → Starts (record { n = n; m = m; f = f; clients = clients }) w′
   started w′ e = rw e (record { system = started-system; setting = started-setting; again = started-valid })
 
 length-turn : (f : ℕ → List ℕ → List ℕ) → ((k : ℕ) (l : List ℕ) → length (f k l) ≡ length l) → (i : ℕ) (w : List ℕ) → length (inTurn f i w) ≡ length w
@@ -439,7 +440,19 @@ length-turn f same zero w = refl
 length-turn f same (suc i) w = same (suc i) (inTurn f i w) ∙ length-turn f same i w
 
 -- `start`, call by call
-module _ (n m f clients : ℕ) (w z : List ℕ) (pre : (length w ≡ simulationSize) × (inRangeUpTo systemServers n m f ≡ true) × (within clients systemClients ≡ true)) (E : Cleared w z) where
+module _ (s : Setting) (w z : List ℕ) (pre : (length w ≡ simulationSize) × (inRangeUpTo systemServers (s .n) (s .m) (s .f) ≡ true) × (within (s .clients) systemClients ≡ true)) (E : Cleared w z) where
+  abbrev n : ℕ
+  n = s .n
+
+  abbrev m : ℕ
+  m = s .m
+
+  abbrev f : ℕ
+  f = s .f
+
+  abbrev clients : ℕ
+  clients = s .clients
+
   abbrev written : List ℕ
   written = set (set (set (set z 0 n) 1 m) 2 f) 3 clients
 
@@ -464,5 +477,5 @@ module _ (n m f clients : ℕ) (w z : List ℕ) (pre : (length w ≡ simulationS
       pub start-same : length w₃ ≡ length w
       start-same = ap length g ∙ (length-turn (λ (i : ℕ). newServer n (serverNo i)) (length-server n) n w₂ ∙ (start-servers .0 ∙ sym (pre .0)))
 
-      pub start-done : Starts n m f clients w₃
+      pub start-done : Starts s w₃
       start-done = started n m f clients z (E .same ∙ pre .0) (E .zeros) (pre .1) (pre .2) w₃ (g ∙ ap (λ (l : List ℕ). inTurn (λ (i : ℕ). newServer n (serverNo i)) n l) e)

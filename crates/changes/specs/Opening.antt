@@ -11,6 +11,7 @@ use Rattle.client.specs.Calls as client
 use Rattle.server.specs.Calls as server
 use Rattle.words.specs.Records.{clientWords, serverWords}
 use Rattle.responses.specs.Figure1.{enough}
+use Rattle.system.specs.declared.Setting.{Setting}
 use Rattle.system.specs.Runs.{start}
 use Rattle.layout.specs.Layout.{blank, settingOf, view, valid, serversFrom}
 use Rattle.layout.specs.Parts.{clientBlockOf, serverBlockOf, withClientBlock, withServerBlock}
@@ -32,8 +33,8 @@ unfoldable pub inTurn : (ℕ → List ℕ → List ℕ) → ℕ → List ℕ →
 inTurn f zero w = w
 inTurn f (suc i) w = f (suc i) (inTurn f i w)
 
--- w′ is a fresh start
-pub record Starts (n m f clients : ℕ) (w′ : List ℕ) : Type 0 where
-  pub system : view w′ ≡ start n (enough m) clients
-  pub setting : settingOf w′ ≡ record { n = n; m = m; f = f; clients = clients }
+-- w′ is a fresh start of the setting
+pub record Starts (s : Setting) (w′ : List ℕ) : Type 0 where
+  pub system : view w′ ≡ start (s .n) (enough (s .m)) (s .clients)
+  pub setting : settingOf w′ ≡ s
   pub again : valid w′ ≡ true

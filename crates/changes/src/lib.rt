@@ -33,6 +33,7 @@ use layout::SIMULATION_WORDS;
 use layout::THRESHOLD;
 use layout::TRANSIT_FROM;
 use places::CLIENT_BLOCK;
+use system::Setting;
 use votes::Mail;
 use wire::Message;
 
@@ -257,15 +258,15 @@ fn new_servers(w: &mut [u32], n: u16)
 }
 
 // The words are a fresh start of this setting, which is in range.
-pub fn start(w: &mut [u32], n: u32, m: u32, f: u32, clients: u32)
-    requires { ⌜ (length (now w) ≡ simulationSize) × (inRangeUpTo systemServers n m f ≡ true) × (within clients systemClients ≡ true) ⌝ }
-    ensures { λ _. ⌜ Starts n m f clients (now (w .exit)) ⌝ }
+pub fn start(w: &mut [u32], s: Setting)
+    requires { ⌜ (length (now w) ≡ simulationSize) × (inRangeUpTo systemServers (s .n) (s .m) (s .f) ≡ true) × (within (s .clients) systemClients ≡ true) ⌝ }
+    ensures { λ _. ⌜ Starts s (now (w .exit)) ⌝ }
 {
     clear_all(w);
-    w[SERVERS] = n;
-    w[THRESHOLD] = m;
-    w[FAULTS] = f;
-    w[CLIENTS] = clients;
-    new_clients(w, n as u16, m as u16, clients as u16);
-    new_servers(w, n as u16);
+    w[SERVERS] = s.n;
+    w[THRESHOLD] = s.m;
+    w[FAULTS] = s.f;
+    w[CLIENTS] = s.clients;
+    new_clients(w, s.n as u16, s.m as u16, s.clients as u16);
+    new_servers(w, s.n as u16);
 }

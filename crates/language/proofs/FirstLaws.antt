@@ -16,7 +16,7 @@ use Rattle.language.specs.Decimals.{number}
 use Rattle.language.specs.Words.{text, same, word, rest}
 use Rattle.language.specs.Lines.{next, fourIn, settingIn, firstOf, maxLine}
 use Rattle.language.specs.Answers.{readingOf, fieldAt}
-use Rattle.language.specs.declared.Setting.{Setting}
+use Rattle.system.specs.declared.Setting.{Setting}
 use Rattle.language.specs.declared.Reading.{Reading}
 use Rattle.language.specs.declared.Reading.the-variants.{Number, Nothing}
 use Rattle.language.specs.declared.Field.{Field}

@@ -12,7 +12,7 @@ use Rattle.wire.proofs.BytesLaws.{stored-on}
 use Rattle.language.specs.Decimals.{decimal}
 use Rattle.language.specs.Words.{text, spaced}
 use Rattle.language.specs.Printed.{printed, headerLine, okLine, noLine, endLine, refusedLine, wordOf, numberOf, eventLine, settingLine}
-use Rattle.language.specs.declared.Setting.{Setting}
+use Rattle.system.specs.declared.Setting.{Setting}
 use Rattle.language.proofs.DecimalLaws.{decimal-short}
 
 -- a space behind each word

@@ -15,7 +15,7 @@ use Rattle.language.specs.Decimals.{largest, digit, digits, number, deci
 use Rattle.language.specs.Words.{text, space, same, word, rest, spaced}
 use Rattle.language.specs.Lines.{short, next, fourIn, settingIn, maxLine}
 use Rattle.language.specs.Printed.{settingLine}
-use Rattle.language.specs.declared.Setting.{Setting}
+use Rattle.system.specs.declared.Setting.{Setting}
 use Rattle.language.proofs.FirstLaws.{fourth, third, second}
 use Rattle.language.proofs.NumberTrip.{digit-low, decimal-read, number-printed, through}
 use Rattle.language.proofs.EventTrip.{same-is, rest-joins}

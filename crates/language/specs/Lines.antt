@@ -13,7 +13,7 @@ use Rattle.language.specs.Decimals.{number}
 use Rattle.language.specs.Words.{text, same, word, rest}
 use Rattle.language.specs.declared.Command.{Command}
 use Rattle.language.specs.declared.Command.the-variants as command
-use Rattle.language.specs.declared.Setting.{Setting}
+use Rattle.system.specs.declared.Setting.{Setting}
 use Rattle.language.specs.declared.Line.{Line}
 use Rattle.language.specs.declared.Line.the-variants.{Event as Says, Unknown, Bad}
 use Rattle.language.specs.declared.First.{First}

@@ -7,7 +7,7 @@ use Rattle.system.specs.declared.Event.{Event}
 use Rattle.system.specs.declared.Event.the-variants.{Try, Exit, Fall, Down, Up, Take, Drop, Miss, Check}
 use Rattle.language.specs.Decimals.{decimal}
 use Rattle.language.specs.Words.{text, newline, spaced}
-use Rattle.language.specs.declared.Setting.{Setting}
+use Rattle.system.specs.declared.Setting.{Setting}
 
 abbrev pub printed : List (List ℕ) → List ℕ
 printed ws = spaced ws ++ (newline ∷ [])

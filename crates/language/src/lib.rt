@@ -14,6 +14,7 @@ use ids::Refusal;
 use ids::ServerId;
 use system::Event;
 use system::MessageNumber;
+use system::Setting;
 
 // The bytes of the longest line that is read, without its newline.
 pub const MAX_LINE: usize = 40;
@@ -30,14 +31,6 @@ pub enum Command {
     Miss,
     Check,
     Other,
-}
-
-// The first line's numbers as they were read; their ranges are judged elsewhere.
-pub struct Setting {
-    pub n: u32,
-    pub m: u32,
-    pub f: u32,
-    pub clients: u32,
 }
 
 // An event line: its event; an event of a client or server with a number too large for its type, so that there is none such;

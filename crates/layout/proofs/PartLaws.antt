@@ -10,7 +10,8 @@ use Rattle.regions.proofs.SetsLaws.{take-sets-after}
 use Rattle.system.specs.Places.{System}
 use Rattle.places.specs.Blocks.{clientBlock, serverBlock, clientPlace, serverPlace}
 use Rattle.transit.specs.Slots.{slots, transitSize}
-use Rattle.layout.specs.Layout.{simulationSize, Setting, settingOf, clientWords, serverWords, transitWords, view, clientsSize, serversSize, serversFrom, transitFrom, clientsFrom}
+use Rattle.system.specs.declared.Setting.{Setting}
+use Rattle.layout.specs.Layout.{simulationSize, settingOf, clientWords, serverWords, transitWords, view, clientsSize, serversSize, serversFrom, transitFrom, clientsFrom}
 use Rattle.layout.proofs.ViewLaws.{in-clients, clients-servers, clients-transit, servers-clients, in-servers, servers-transit, transit-clients, transit-servers, in-transit}
 
 -- w is these parts

@@ -9,6 +9,7 @@ use Rattle.ids.specs.Limits.{within}
 use Rattle.ids.specs.Lists.{every}
 use Rattle.quorum.specs.Check.{inRangeUpTo}
 use Rattle.system.specs.Limits.{systemClients, systemServers}
+use Rattle.system.specs.declared.Setting.{Setting}
 use Rattle.system.specs.Places.{System, worst}
 use Rattle.regions.specs.Blocks.{blocks, region}
 use Rattle.places.specs.Blocks.{clientBlock, serverBlock, clientPlace, serverPlace, validClientBlock, validServerBlock}
@@ -34,13 +35,7 @@ transitFrom = serversFrom + serversSize
 abbrev pub simulationSize : ℕ
 simulationSize = transitFrom + transitSize
 
--- the setting: n servers, threshold m, f faults, and the number of clients
-pub record Setting : Type 0 where
-  pub n : ℕ
-  pub m : ℕ
-  pub f : ℕ
-  pub clients : ℕ
-
+-- the setting
 unfoldable pub settingOf : List ℕ → Setting
 settingOf w = record { n = getD w 0 0; m = getD w 1 0; f = getD w 2 0; clients = getD w 3 0 }
 

@@ -2,7 +2,7 @@
 -- a call takes in some of the bytes it is given as `fed` does, and the next goes on behind them.
 use mathlib.Core.Path.{_≡_, refl, sym, ap, _∙_}
 use mathlib.Core.Logic.{⊎-elim}
-use Prim.Native.Nat.{ℕ, zero, suc, _+_, _-_, _≤_}
+use Prim.Native.Nat.{ℕ, _-_, _≤_}
 use native.Mathlib.Omega.{arith}
 use mathlib.Core.Bool.{true, false}
 use mathlib.Core.List.{List, [], _∷_, _++_, append-assoc, append-nil}
@@ -12,7 +12,7 @@ use lib.Seq.{take-take}
 use borrow.Author.Tests.{le-ltb}
 use Rattle.ids.proofs.Choice.{decided}
 use Rattle.output.specs.Output.{output}
-use Rattle.output.specs.Reader.{Reader, Printed, taken, fed, Fed, maxPrinted, followed, fedWithin, finished, empty, Call, Session, session}
+use Rattle.output.specs.Reader.{Reader, Printed, taken, fed, Fed, maxPrinted, fedWithin, finished, empty, Call, Session, session}
 use Rattle.output.proofs.Whole.{whole, in-parts}
 
 -- a call takes in what it uses as `fed` does

@@ -5,7 +5,7 @@ use Rattle.ids.specs.Requests.{same as equal}
 use Rattle.rows.specs.Queue.{timestampIn, insert, without}
 use Rattle.votes.specs.Figure1.{enqueue, promote, delete, inform, act, receive, suspect, check}
 use Rattle.responses.specs.Figure1.{enough, toAll, tries, exits, next, heard, reply, round, judge, responds, checked}
-use Rattle.quorum.specs.Check.{inRangeUpTo, inRange}
+use Rattle.quorum.specs.Check.{inRangeUpTo}
 use Rattle.system.specs.Numbered.{added}
 use Rattle.system.specs.Transit.{numbered, pending, replaced}
 use Rattle.system.specs.Places.{downFrom, worst}

@@ -1,7 +1,7 @@
 -- However a script comes in, what is printed for its bytes and at the end is `output` of the whole: bytes make lines, lines are
--- answered one by one, and the counts that the reader keeps are those of the run so far.
+-- answered one by one, and the counts that the run keeps are those of its events.
 use mathlib.Core.Path.{_≡_, refl, sym, ap, _∙_}
-use Prim.Native.Nat.{ℕ, zero, suc, _+_, _-_, _≤_, _<_, max}
+use Prim.Native.Nat.{ℕ, zero, suc, _-_, _≤_, _<_}
 use native.Mathlib.Omega.{arith}
 use mathlib.Core.Bool.{true, false}
 use mathlib.Core.Option.{Option, none, some}
@@ -11,19 +11,22 @@ use lib.Dec.{eqb, ltb, leb}
 use lib.ListN.{length, take, length-take}
 use lib.Seq.{take-nil, take-all}
 use borrow.Author.Tests.{leb-true, leb-false, lt-leb, ltb-true, ltb-false, lt-ltb, le-ltb, ne-eqb}
-use Rattle.ids.specs.Choice.{if_then_else_, maybe}
+use Rattle.ids.specs.Choice.{maybe}
 use Rattle.ids.specs.declared.Refusal.the-variants.{BadLine, ParameterOutOfRange}
 use Rattle.ids.proofs.Choice.{decided, Test}
 use Rattle.system.specs.declared.Event.{Event}
-use Rattle.system.specs.Places.{System, holders}
+use Rattle.system.specs.Places.{System}
 use Rattle.system.specs.Events.{Result}
-use Rattle.system.specs.Runs.{after, isStepped, runBy, acceptedEvents, mostHolders}
+use Rattle.system.specs.Runs.{after}
+use Rattle.simulation.specs.Opens.{inRange}
+use Rattle.runs.specs.Run.{Run, fresh, started, happens, next, plays}
+use Rattle.runs.proofs.Whole.{moved-setting, moved-system, plays-counted}
 use Rattle.language.specs.Words.{newline}
-use Rattle.language.specs.Lines.{eventIn, settingIn}
+use Rattle.language.specs.Lines.{maxLine, eventIn, settingIn}
 use Rattle.language.specs.Printed.{headerLine, noLine, endLine, refusedLine}
-use Rattle.language.specs.declared.Setting.{Setting}
-use Rattle.output.specs.Output.{maxLines, continued, linesOf, happens, answerLine, answers, eventsIn, fresh, endOf, runs, played, printedFor, output}
-use Rattle.output.specs.Reader.{Run, Stage, opening, running, closed, Reader, Printed, started, opened, moved, passed, lineTaken, worked, maxKept, behind, taken, fed, ended, finished, empty}
+use Rattle.system.specs.declared.Setting.{Setting}
+use Rattle.output.specs.Output.{maxLines, continued, linesOf, answerLine, answers, eventsIn, endOf, played, printedFor, output}
+use Rattle.output.specs.Reader.{Script, Stage, opening, running, closed, Reader, Printed, unanswered, opened, onward, lineTaken, worked, maxKept, behind, taken, fed, ended, finished, empty}
 
 -- lines one after another
 workedAll : Stage → List (List ℕ) → Printed Stage
@@ -54,29 +57,29 @@ told-cons : (st : Stage) (l : List ℕ) (ls : List (List ℕ)) → told st (l �
 unfolding workedAll
 told-cons st l ls = append-assoc (worked st l .out) (workedAll (worked st l .now) ls .out) (ended (workedAll (worked st l .now) ls .now))
 
--- of a line, the first 41 bytes decide
+-- of a line, the bytes that are kept decide
 clip-behind : (n : ℕ) (l r : List ℕ) → take n (take n l ++ r) ≡ take n (l ++ r)
 clip-behind zero l r = refl
 clip-behind (suc n) [] r = refl
 clip-behind (suc n) (a ∷ l) r = ap (λ (x : List ℕ). a ∷ x) (clip-behind n l r)
 
-clip-long : (l : List ℕ) → leb (length l) 40 ≡ false → leb (length (take maxKept l)) 40 ≡ false
-clip-long l e = lt-leb (length (take maxKept l)) 40 (omega (arith, length-take maxKept l, leb-false (length l) 40 e))
+clip-long : (l : List ℕ) → leb (length l) maxLine ≡ false → leb (length (take maxKept l)) maxLine ≡ false
+clip-long l e = lt-leb (length (take maxKept l)) maxLine (omega (arith, length-take maxKept l, leb-false (length l) maxLine e))
 
-long-event : (l : List ℕ) → leb (length l) 40 ≡ false → eventIn l ≡ none
+long-event : (l : List ℕ) → leb (length l) maxLine ≡ false → eventIn l ≡ none
 unfolding eventIn
 long-event l e = rw e
 
-long-setting : (l : List ℕ) → leb (length l) 40 ≡ false → settingIn l ≡ none
+long-setting : (l : List ℕ) → leb (length l) maxLine ≡ false → settingIn l ≡ none
 unfolding settingIn
 long-setting l e = rw e
 
-clipped : {A : Type 0} (f : List ℕ → Option A) → ((l : List ℕ) → leb (length l) 40 ≡ false → f l ≡ none) → (l : List ℕ) → f (take maxKept l) ≡ f l
+clipped : {A : Type 0} (f : List ℕ → Option A) → ((l : List ℕ) → leb (length l) maxLine ≡ false → f l ≡ none) → (l : List ℕ) → f (take maxKept l) ≡ f l
 clipped f long l =
     ⊎-elim
-    (λ (e : leb (length l) 40 ≡ true). ap f (take-all maxKept l (omega (arith, leb-true (length l) 40 e))))
-    (λ (e : leb (length l) 40 ≡ false). long (take maxKept l) (clip-long l e) ∙ sym (long l e))
-    (decided (leb (length l) 40))
+    (λ (e : leb (length l) maxLine ≡ true). ap f (take-all maxKept l (omega (arith, leb-true (length l) maxLine e))))
+    (λ (e : leb (length l) maxLine ≡ false). long (take maxKept l) (clip-long l e) ∙ sym (long l e))
+    (decided (leb (length l) maxLine))
 
 worked-clipped : (st : Stage) (l : List ℕ) → worked st (take maxKept l) ≡ worked st l
 unfolding worked lineTaken
@@ -134,32 +137,19 @@ bytes-told (b ∷ s) st l = rest-cons (reader st l) b s ∙ go (bytes-told s) (d
         (ap (λ (x : List ℕ). rest (record { stage = st; line = x }) s) (clip-behind maxKept l (b ∷ [])) ∙
         (f st (l ++ (b ∷ [])) ∙ (ap (λ (x : List (List ℕ)). told st x) (begun-more l b (linesOf s)) ∙ rw e)))
 
--- the run so far: the reader's counts and those of the events to come are the whole's
+-- the run so far, and the events to come
 module _ (s : Setting) where
-  end-here : (r : Run) → holders (r .system) ≤ r .holding → ended (running r) ≡
-      endLine (r .accepted + acceptedEvents (happens s) (r .system) []) (max (r .holding) (mostHolders (happens s) (r .system) [])) (runBy (happens s) (r .system) [] .most)
-  unfolding ended acceptedEvents mostHolders runBy
-  end-here r h =
-      let a : r .accepted ≡ r .accepted + 0 = omega arith in
-      let b : r .holding ≡ max (r .holding) (holders (r .system)) = omega arith in
-      ap (λ (x : ℕ). endLine x (r .holding) (r .system .most)) a ∙ ap (λ (x : ℕ). endLine (r .accepted + 0) x (r .system .most)) b
-
-  most-least : (w : System) (es : List Event) → holders w ≤ mostHolders (happens s) w es
-  unfolding mostHolders
-  most-least w [] = omega arith
-  most-least w (e ∷ es) = omega arith
-
   -- a line that is read, and what the whole says of it
-  line-bad : (r : Run) (l : List ℕ) → r .answered < maxLines → eventIn l ≡ none → lineTaken r l ≡ record { now = passed r; out = noLine (suc (r .answered)) BadLine }
+  line-bad : (r : Script) (l : List ℕ) → r .answered < maxLines → eventIn l ≡ none → lineTaken r l ≡ record { now = onward r (r .run); out = noLine (suc (r .answered)) BadLine }
   unfolding lineTaken
   line-bad r l lt e = rw (lt-ltb (r .answered) maxLines lt, e)
 
-  line-event : (r : Run) (l : List ℕ) (e : Event) → r .setting ≡ s → r .answered < maxLines → eventIn l ≡ some e →
-      lineTaken r l ≡ record { now = moved r (happens s (r .system) e); out = answerLine (suc (r .answered)) (r .system) (happens s (r .system) e) }
+  line-event : (r : Script) (l : List ℕ) (e : Event) → r .run .setting ≡ s → r .answered < maxLines → eventIn l ≡ some e →
+      lineTaken r l ≡ record { now = onward r (next (r .run) e); out = answerLine (suc (r .answered)) (r .run .system) (happens s (r .run .system) e) }
   unfolding lineTaken
   line-event r l e q lt x = rw (lt-ltb (r .answered) maxLines lt, x, q)
 
-  line-unread : (r : Run) (l : List ℕ) → maxLines ≤ r .answered → lineTaken r l ≡ record { now = r; out = [] }
+  line-unread : (r : Script) (l : List ℕ) → maxLines ≤ r .answered → lineTaken r l ≡ record { now = r; out = [] }
   unfolding lineTaken
   line-unread r l h = rw (le-ltb (r .answered) maxLines h)
 
@@ -180,36 +170,41 @@ module _ (s : Setting) where
   unfolding eventsIn
   events-event l ls e x = rw x
 
-  -- the end line of the events to come
-  abbrev endFrom : Run → List Event → List ℕ
-  endFrom r es =
-      endLine (r .accepted + acceptedEvents (happens s) (r .system) es) (max (r .holding) (mostHolders (happens s) (r .system) es)) (runBy (happens s) (r .system) es .most)
+  -- the end line of a run, and what is still to be printed of lines, by the definition of the whole
+  abbrev endRun : Run → List ℕ
+  endRun r = endLine (r .accepted) (r .holding) (r .system .most)
 
-  end-moved : (r : Run) (e : Event) (es : List Event) → holders (r .system) ≤ r .holding → endFrom r (e ∷ es) ≡ endFrom (moved r (happens s (r .system) e)) es
-  unfolding acceptedEvents mostHolders runBy
-  end-moved r e es h =
-      let o : Result = happens s (r .system) e in
-      let w : System = after (r .system) o in
-      let b : ℕ = if isStepped o then 1 else 0 in
-      let x : r .accepted + (b + acceptedEvents (happens s) w es) ≡ r .accepted + b + acceptedEvents (happens s) w es = omega arith in
-      let y : max (r .holding) (max (holders (r .system)) (mostHolders (happens s) w es)) ≡ max (max (r .holding) (holders w)) (mostHolders (happens s) w es) = omega (arith, most-least w es) in
-      ap (λ (i : ℕ). endLine i (max (r .holding) (max (holders (r .system)) (mostHolders (happens s) w es))) (runBy (happens s) w es .most)) x ∙
-      ap (λ (i : ℕ). endLine (r .accepted + b + acceptedEvents (happens s) w es) i (runBy (happens s) w es .most)) y
+  abbrev toCome : Script → List (List ℕ) → List ℕ
+  toCome r ls = answers s (suc (r .answered)) (r .run .system) ls ++ endRun (plays (r .run) (eventsIn ls))
 
-  -- what is still to be printed, by the definition of the whole, of k lines
-  abbrev toCome : Run → List (List ℕ) → List ℕ
-  toCome r ls = answers s (suc (r .answered)) (r .system) ls ++ endFrom r (eventsIn ls)
+  to-come-none : (r : Script) → ended (running r) ≡ toCome r []
+  unfolding answers eventsIn ended plays
+  to-come-none r = refl
 
-  to-come-none : (r : Run) → holders (r .system) ≤ r .holding → ended (running r) ≡ toCome r []
-  unfolding answers eventsIn
-  to-come-none r h = end-here r h
-
-  told-line : (r : Run) (l : List ℕ) (ls : List (List ℕ)) → told (running r) (l ∷ ls) ≡ lineTaken r l .out ++ told (running (lineTaken r l .now)) ls
+  told-line : (r : Script) (l : List ℕ) (ls : List (List ℕ)) → told (running r) (l ∷ ls) ≡ lineTaken r l .out ++ told (running (lineTaken r l .now)) ls
   unfolding worked
   told-line r l ls = told-cons (running r) l ls
 
-  module _ (ls : List (List ℕ)) (ih : (r : Run) → r .setting ≡ s → r .answered ≤ maxLines → holders (r .system) ≤ r .holding → told (running r) ls ≡ toCome r (take (maxLines - r .answered) ls))
-      (r : Run) (q : r .setting ≡ s) (h : holders (r .system) ≤ r .holding) (l : List ℕ) where
+  module _ (ls : List (List ℕ)) (ih : (r : Script) → r .run .setting ≡ s → r .answered ≤ maxLines → told (running r) ls ≡ toCome r (take (maxLines - r .answered) ls))
+      (r : Script) (q : r .run .setting ≡ s) (l : List ℕ) where
+    -- what the whole says of this line
+    bad-told : (tl : List (List ℕ)) → eventIn l ≡ none → noLine (suc (r .answered)) BadLine ++ toCome (onward r (r .run)) tl ≡ toCome r (l ∷ tl)
+    bad-told tl e =
+        sym (append-assoc (noLine (suc (r .answered)) BadLine) (answers s (suc (suc (r .answered))) (r .run .system) tl) _) ∙
+        (ap (λ (x : List ℕ). x ++ endRun (plays (r .run) (eventsIn tl))) (sym (answers-bad (suc (r .answered)) (r .run .system) l tl e)) ∙
+        ap (λ (es : List Event). answers s (suc (r .answered)) (r .run .system) (l ∷ tl) ++ endRun (plays (r .run) es)) (sym (events-bad l tl e)))
+
+    event-told : (tl : List (List ℕ)) (x : Event) → eventIn l ≡ some x →
+        answerLine (suc (r .answered)) (r .run .system) (happens s (r .run .system) x) ++ toCome (onward r (next (r .run) x)) tl ≡ toCome r (l ∷ tl)
+    unfolding plays
+    event-told tl x e =
+        let o : Result = happens s (r .run .system) x in
+        let w : next (r .run) x .system ≡ after (r .run .system) o = moved-system (r .run) _ ∙ ap (λ (t : Setting). after (r .run .system) (happens t (r .run .system) x)) q in
+        sym (append-assoc (answerLine (suc (r .answered)) (r .run .system) o) (answers s (suc (suc (r .answered))) (next (r .run) x .system) tl) _) ∙
+        (ap (λ (v : System). (answerLine (suc (r .answered)) (r .run .system) o ++ answers s (suc (suc (r .answered))) v tl) ++ endRun (plays (next (r .run) x) (eventsIn tl))) w ∙
+        (ap (λ (y : List ℕ). y ++ endRun (plays (next (r .run) x) (eventsIn tl))) (sym (answers-event (suc (r .answered)) (r .run .system) l tl x e)) ∙
+        ap (λ (es : List Event). answers s (suc (r .answered)) (r .run .system) (l ∷ tl) ++ endRun (plays (r .run) es)) (sym (events-event l tl x e))))
+
     -- the line is read
     read : r .answered < maxLines → told (running r) (l ∷ ls) ≡ toCome r (take (maxLines - r .answered) (l ∷ ls))
     read lt = told-line r l ls ∙ (go (eventIn l) refl ∙ sym (ap (λ (k : ℕ). toCome r (take k (l ∷ ls))) one-more))
@@ -219,36 +214,28 @@ module _ (s : Setting) where
 
         go : (o : Option Event) → eventIn l ≡ o → lineTaken r l .out ++ told (running (lineTaken r l .now)) ls ≡ toCome r (l ∷ take (maxLines - suc (r .answered)) ls)
         go none e =
-            ap (λ (p : Printed Run). p .out ++ told (running (p .now)) ls) (line-bad r l lt e) ∙
-            (ap (λ (x : List ℕ). noLine (suc (r .answered)) BadLine ++ x) (ih (passed r) q lt h) ∙
-            (sym (append-assoc (noLine (suc (r .answered)) BadLine) (answers s (suc (suc (r .answered))) (r .system) (take (maxLines - suc (r .answered)) ls)) _) ∙
-            (ap (λ (x : List ℕ). x ++ endFrom r (eventsIn (take (maxLines - suc (r .answered)) ls))) (sym (answers-bad (suc (r .answered)) (r .system) l (take (maxLines - suc (r .answered)) ls) e)) ∙
-            ap (λ (es : List Event). answers s (suc (r .answered)) (r .system) (l ∷ take (maxLines - suc (r .answered)) ls) ++ endFrom r es) (sym (events-bad l (take (maxLines - suc (r .answered)) ls) e)))))
+            ap (λ (p : Printed Script). p .out ++ told (running (p .now)) ls) (line-bad r l lt e) ∙
+            (ap (λ (x : List ℕ). noLine (suc (r .answered)) BadLine ++ x) (ih (onward r (r .run)) q lt) ∙ bad-told (take (maxLines - suc (r .answered)) ls) e)
         go (some x) e =
-            let o : Result = happens s (r .system) x in
-            let tl : List (List ℕ) = take (maxLines - suc (r .answered)) ls in
-            ap (λ (p : Printed Run). p .out ++ told (running (p .now)) ls) (line-event r l x q lt e) ∙
-            (ap (λ (y : List ℕ). answerLine (suc (r .answered)) (r .system) o ++ y) (ih (moved r o) q lt (omega arith)) ∙
-            (sym (append-assoc (answerLine (suc (r .answered)) (r .system) o) (answers s (suc (suc (r .answered))) (after (r .system) o) tl) _) ∙
-            (ap (λ (y : List ℕ). y ++ endFrom (moved r o) (eventsIn tl)) (sym (answers-event (suc (r .answered)) (r .system) l tl x e)) ∙
-            (ap (λ (y : List ℕ). answers s (suc (r .answered)) (r .system) (l ∷ tl) ++ y) (sym (end-moved r x (eventsIn tl) h)) ∙
-            ap (λ (es : List Event). answers s (suc (r .answered)) (r .system) (l ∷ tl) ++ endFrom r es) (sym (events-event l tl x e))))))
+            ap (λ (p : Printed Script). p .out ++ told (running (p .now)) ls) (line-event r l x q lt e) ∙
+            (ap (λ (y : List ℕ). answerLine (suc (r .answered)) (r .run .system) (happens s (r .run .system) x) ++ y) (ih (onward r (next (r .run) x)) (moved-setting (r .run) _ ∙ q) lt) ∙
+            event-told (take (maxLines - suc (r .answered)) ls) x e)
 
-    -- a million lines are answered: it is not
+    -- the last line that is read was answered: it is not
     unread : maxLines ≤ r .answered → r .answered ≤ maxLines → told (running r) (l ∷ ls) ≡ toCome r (take (maxLines - r .answered) (l ∷ ls))
     unread ge le =
         let z : maxLines - r .answered ≡ 0 = omega arith in
         told-line r l ls ∙
-        (ap (λ (p : Printed Run). p .out ++ told (running (p .now)) ls) (line-unread r l ge) ∙
-        (ih r q le h ∙ (ap (λ (k : ℕ). toCome r (take k ls)) z ∙ sym (ap (λ (k : ℕ). toCome r (take k (l ∷ ls))) z))))
+        (ap (λ (p : Printed Script). p .out ++ told (running (p .now)) ls) (line-unread r l ge) ∙
+        (ih r q le ∙ (ap (λ (k : ℕ). toCome r (take k ls)) z ∙ sym (ap (λ (k : ℕ). toCome r (take k (l ∷ ls))) z))))
 
-  running-told : (ls : List (List ℕ)) (r : Run) → r .setting ≡ s → r .answered ≤ maxLines → holders (r .system) ≤ r .holding → told (running r) ls ≡ toCome r (take (maxLines - r .answered) ls)
+  running-told : (ls : List (List ℕ)) (r : Script) → r .run .setting ≡ s → r .answered ≤ maxLines → told (running r) ls ≡ toCome r (take (maxLines - r .answered) ls)
   unfolding workedAll
-  running-told [] r q le h = to-come-none r h ∙ ap (λ (x : List (List ℕ)). toCome r x) (sym (take-nil (maxLines - r .answered)))
-  running-told (l ∷ ls) r q le h =
+  running-told [] r q le = to-come-none r ∙ ap (λ (x : List (List ℕ)). toCome r x) (sym (take-nil (maxLines - r .answered)))
+  running-told (l ∷ ls) r q le =
       ⊎-elim
-      (λ (t : ltb (r .answered) maxLines ≡ true). read ls (running-told ls) r q h l (ltb-true (r .answered) maxLines t))
-      (λ (t : ltb (r .answered) maxLines ≡ false). unread ls (running-told ls) r q h l (ltb-false (r .answered) maxLines t) le)
+      (λ (t : ltb (r .answered) maxLines ≡ true). read ls (running-told ls) r q l (ltb-true (r .answered) maxLines t))
+      (λ (t : ltb (r .answered) maxLines ≡ false). unread ls (running-told ls) r q l (ltb-false (r .answered) maxLines t) le)
       (decided (ltb (r .answered) maxLines))
 
 closed-told : (ls : List (List ℕ)) → told closed ls ≡ []
@@ -256,16 +243,12 @@ unfolding workedAll worked ended
 closed-told [] = refl
 closed-told (l ∷ ls) = closed-told ls
 
--- a script that runs
-whole-run : (s : Setting) (ls : List (List ℕ)) → told (running (started s)) ls ≡ answers s 1 (fresh s) (take maxLines ls) ++ endOf s (eventsIn (take maxLines ls))
+-- a script that runs: the counts that its run keeps are those of its events
+whole-run : (s : Setting) (ls : List (List ℕ)) → told (running (unanswered (started s))) ls ≡ answers s 1 (fresh s) (take maxLines ls) ++ endOf s (eventsIn (take maxLines ls))
 unfolding endOf
 whole-run s ls =
-    let es : List Event = eventsIn (take maxLines ls) in
-    let y : max (holders (fresh s)) (mostHolders (happens s) (fresh s) es) ≡ mostHolders (happens s) (fresh s) es = omega (arith, most-least s (fresh s) es) in
-    let x : 0 + acceptedEvents (happens s) (fresh s) es ≡ acceptedEvents (happens s) (fresh s) es = omega arith in
-    running-told s ls (started s) refl (omega arith) (omega arith) ∙
-    (ap (λ (i : ℕ). answers s 1 (fresh s) (take maxLines ls) ++ endLine i (max (holders (fresh s)) (mostHolders (happens s) (fresh s) es)) (runBy (happens s) (fresh s) es .most)) x ∙
-    ap (λ (i : ℕ). answers s 1 (fresh s) (take maxLines ls) ++ endLine (acceptedEvents (happens s) (fresh s) es) i (runBy (happens s) (fresh s) es .most)) y)
+    running-told s ls (unanswered (started s)) refl (omega arith) ∙
+    ap (λ (r : Run). answers s 1 (fresh s) (take maxLines ls) ++ endLine (r .accepted) (r .holding) (r .system .most)) (plays-counted s (eventsIn (take maxLines ls)))
 
 refused-told : (x : List ℕ) (ls : List (List ℕ)) → x ++ told closed ls ≡ x
 refused-told x ls = ap (λ (y : List ℕ). x ++ y) (closed-told ls) ∙ append-nil x
@@ -273,9 +256,9 @@ refused-told x ls = ap (λ (y : List ℕ). x ++ y) (closed-told ls) ∙ append-n
 opened-told : (o : Option Setting) (ls : List (List ℕ)) → opened o .out ++ told (opened o .now) ls ≡ maybe o (refusedLine BadLine) (λ s. played s ls)
 unfolding opened played
 opened-told none ls = refused-told (refusedLine BadLine) ls
-opened-told (some s) ls = go (decided (runs s))
+opened-told (some s) ls = go (decided (inRange s))
   where
-    go : Test (runs s) → opened (some s) .out ++ told (opened (some s) .now) ls ≡ played s ls
+    go : Test (inRange s) → opened (some s) .out ++ told (opened (some s) .now) ls ≡ played s ls
     go (inl e) = rw e (ap (λ (y : List ℕ). headerLine s ++ y) (whole-run s ls))
     go (inr e) = rw e (refused-told (refusedLine ParameterOutOfRange) ls)
 

@@ -1,25 +1,21 @@
 -- What the gallery program prints for a whole script: document 01, 'The gallery script'.
 use Prim.Native.Nat.{ℕ, suc}
-use mathlib.Core.Bool.{Bool, _&&_}
 use mathlib.Core.List.{List, [], _∷_, _++_}
 use lib.Dec.{eqb}
 use lib.ListN.{length, take}
 use Rattle.ids.specs.Choice.{if_then_else_, maybe}
-use Rattle.ids.specs.Limits.{within}
 use Rattle.ids.specs.declared.Refusal.the-variants.{BadLine, ParameterOutOfRange}
 use Rattle.wire.specs.Step.{refused, stepped}
-use Rattle.responses.specs.Figure1.{enough}
-use Rattle.quorum.specs.Check.{inRangeUpTo}
-use Rattle.system.specs.Limits.{systemClients, systemServers}
 use Rattle.system.specs.declared.Event.{Event}
 use Rattle.system.specs.Places.{System, holders}
 use Rattle.system.specs.Events.{Result}
-use Rattle.system.specs.Runs.{after, start, runBy, acceptedEvents, mostHolders}
-use Rattle.bounded.specs.Happens.{bounded}
+use Rattle.system.specs.Runs.{after, runBy, acceptedEvents, mostHolders}
+use Rattle.simulation.specs.Opens.{inRange}
+use Rattle.runs.specs.Run.{fresh, happens}
 use Rattle.language.specs.Words.{newline}
 use Rattle.language.specs.Lines.{eventIn, settingIn}
 use Rattle.language.specs.Printed.{headerLine, okLine, noLine, endLine, refusedLine}
-use Rattle.language.specs.declared.Setting.{Setting}
+use Rattle.system.specs.declared.Setting.{Setting}
 
 -- how many event lines of a script are read
 abbrev pub maxLines : ℕ
@@ -36,10 +32,6 @@ linesOf [] = []
 linesOf (b ∷ s) = if eqb b newline then [] ∷ linesOf s else continued b (linesOf s)
 
 -- event lines ---------------------------------------------------------------------------------------------------------------------
-
--- an event of the simulation: the system's, with refusal 19
-abbrev pub happens : Setting → System → Event → Result
-happens s w e = bounded (s .n) (s .m) w e
 
 -- the answer to event number i, which gave o
 unfoldable pub answerLine : ℕ → System → Result → List ℕ
@@ -60,22 +52,15 @@ eventsIn (l ∷ ls) = maybe (eventIn l) (eventsIn ls) (λ e. e ∷ eventsIn ls)
 
 -- the whole ---------------------------------------------------------------------------------------------------------------------------
 
-abbrev pub fresh : Setting → System
-fresh s = start (s .n) (enough (s .m)) (s .clients)
-
 -- the last line: counts over the run of these events
 unfoldable pub endOf : Setting → List Event → List ℕ
 endOf s es =
     endLine (acceptedEvents (happens s) (fresh s) es) (mostHolders (happens s) (fresh s) es) (runBy (happens s) (fresh s) es .most)
 
--- a setting in range; an unsafe or stalling one runs
-abbrev pub runs : Setting → Bool
-runs s = inRangeUpTo systemServers (s .n) (s .m) (s .f) && within (s .clients) systemClients
-
--- what a setting and the lines after it print
+-- what a setting and the lines after it print; an unsafe or stalling setting runs
 unfoldable pub played : Setting → List (List ℕ) → List ℕ
 played s ls =
-    if runs s then headerLine s ++ (answers s 1 (fresh s) (take maxLines ls) ++ endOf s (eventsIn (take maxLines ls)))
+    if inRange s then headerLine s ++ (answers s 1 (fresh s) (take maxLines ls) ++ endOf s (eventsIn (take maxLines ls)))
     else refusedLine ParameterOutOfRange
 
 unfoldable pub printedFor : List (List ℕ) → List ℕ

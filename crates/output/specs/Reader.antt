@@ -1,33 +1,29 @@
 -- The same byte by byte: what a reader of a script has taken in so far, and what it prints for each byte and at the end.
 -- proofs/Whole shows that it prints `output` of the whole script, however the script comes in.
-use Prim.Native.Nat.{ℕ, suc, _+_, _-_, max}
+use Prim.Native.Nat.{ℕ, suc, _+_, _-_}
 use mathlib.Core.Option.{Option}
 use mathlib.Core.List.{List, [], _∷_, _++_}
 use lib.Dec.{eqb, ltb}
 use lib.ListN.{length, take, drop}
 use Rattle.ids.specs.Choice.{if_then_else_, maybe}
 use Rattle.ids.specs.declared.Refusal.the-variants.{BadLine, ParameterOutOfRange}
-use Rattle.system.specs.Places.{System, holders}
-use Rattle.system.specs.Events.{Result}
-use Rattle.system.specs.Runs.{after, isStepped}
 use Rattle.language.specs.Words.{newline}
 use Rattle.language.specs.Lines.{maxLine, eventIn, settingIn}
 use Rattle.language.specs.Printed.{headerLine, noLine, endLine, refusedLine}
-use Rattle.language.specs.declared.Setting.{Setting}
-use Rattle.output.specs.Output.{maxLines, happens, answerLine, fresh, runs}
+use Rattle.system.specs.declared.Setting.{Setting}
+use Rattle.simulation.specs.Opens.{inRange}
+use Rattle.runs.specs.Run.{Run, started, happens, next}
+use Rattle.output.specs.Output.{maxLines, answerLine}
 
--- a script that runs: how many event lines are answered, how many of them were accepted, the most holders at once
-pub record Run : Type 0 where
-  pub setting : Setting
+-- a script that runs: how many event lines are answered, and the run of their events
+pub record Script : Type 0 where
   pub answered : ℕ
-  pub system : System
-  pub accepted : ℕ
-  pub holding : ℕ
+  pub run : Run
 
 pub data Stage : Type 0 where
   -- the first line is still to come
   opening : Stage
-  running : Run → Stage
+  running : Script → Stage
   -- the first line was refused
   closed : Stage
 
@@ -41,39 +37,27 @@ pub record Printed (A : Type 0) : Type 0 where
   pub now : A
   pub out : List ℕ
 
-abbrev pub started : Setting → Run
-started s = record { setting = s; answered = 0; system = fresh s; accepted = 0; holding = holders (fresh s) }
+abbrev pub unanswered : Run → Script
+unanswered r = record { answered = 0; run = r }
 
 -- the first line
 unfoldable pub opened : Option Setting → Printed Stage
 opened o =
     maybe o (record { now = closed; out = refusedLine BadLine })
-    (λ s. if runs s then record { now = running (started s); out = headerLine s } else record { now = closed; out = refusedLine ParameterOutOfRange })
+    (λ s. if inRange s then record { now = running (unanswered (started s)); out = headerLine s } else record { now = closed; out = refusedLine ParameterOutOfRange })
 
--- an event, which gave o
-abbrev pub moved : Run → Result → Run
-moved r o =
-    record {
-      setting = r .setting;
-      answered = suc (r .answered);
-      system = after (r .system) o;
-      accepted = r .accepted + (if isStepped o then 1 else 0);
-      holding = max (r .holding) (holders (after (r .system) o));
-    }
+-- one more line is answered, and this is the run now
+abbrev pub onward : Script → Run → Script
+onward r x = record { answered = suc (r .answered); run = x }
 
--- a bad line is answered too
-abbrev pub passed : Run → Run
-passed r =
-    record { setting = r .setting; answered = suc (r .answered); system = r .system; accepted = r .accepted; holding = r .holding }
-
--- an event line; behind the last one that is read nothing is printed
-unfoldable pub lineTaken : Run → List ℕ → Printed Run
+-- an event line, where a bad one leaves the run; behind the last one that is read nothing is printed
+unfoldable pub lineTaken : Script → List ℕ → Printed Script
 lineTaken r l =
     if ltb (r .answered) maxLines then
-    maybe (eventIn l) (record { now = passed r; out = noLine (suc (r .answered)) BadLine })
+    maybe (eventIn l) (record { now = onward r (r .run); out = noLine (suc (r .answered)) BadLine })
     (λ e. record {
-      now = moved r (happens (r .setting) (r .system) e);
-      out = answerLine (suc (r .answered)) (r .system) (happens (r .setting) (r .system) e);
+      now = onward r (next (r .run) e);
+      out = answerLine (suc (r .answered)) (r .run .system) (happens (r .run .setting) (r .run .system) e);
     })
     else record { now = r; out = [] }
 
@@ -120,7 +104,7 @@ fedWithin room r (b ∷ s) =
 -- at the end: a last line without its newline, and the end line
 unfoldable pub ended : Stage → List ℕ
 ended opening = refusedLine BadLine
-ended (running r) = endLine (r .accepted) (r .holding) (r .system .most)
+ended (running r) = endLine (r .run .accepted) (r .run .holding) (r .run .system .most)
 ended closed = []
 
 abbrev pub lastLine : Reader → Printed Stage

@@ -11,7 +11,7 @@ use Rattle.language.specs.Decimals.{decimal}
 use Rattle.language.specs.Printed.{eventLine, settingLine}
 use Rattle.sheet.specs.Sheet.{ends}
 use Rattle.language.specs.Words.{text, newline}
-use Rattle.language.specs.declared.Setting.{Setting}
+use Rattle.system.specs.declared.Setting.{Setting}
 use Rattle.quorum.specs.declared.Asked.{Asked}
 use Rattle.quorum.specs.declared.Asked.the-variants.{Event, Refused}
 use Rattle.quorum.specs.declared.Threshold.{Threshold}

@@ -9,11 +9,11 @@ ghost use Rattle.language.specs.Words.{newline, text};
 ghost use Rattle.sheet.specs.Sheet.{sheet as sheetOf, puts};
 ghost use Rattle.screen.specs.Screen.{signed, marginText, refusedText, verdictText, eventsText, thresholdText, report, openingText, askedText, scriptText};
 use ids::Refusal;
-use language::Setting;
 use quorum::Asked;
 use quorum::Threshold;
 use quorum::Verdict;
 use system::Event;
+use system::Setting;
 
 // The margin of a setting in range.
 fn put_margin(out: &mut [u8], at: usize, n: u32, m: u32, f: u32) -> usize

@@ -19,15 +19,16 @@ use Rattle.system.specs.declared.Event.{Event}
 use Rattle.system.specs.Places.{System, holders}
 use Rattle.system.specs.Runs.{after}
 use Rattle.system.specs.Events.{Result}
-use Rattle.language.specs.declared.Setting.{Setting}
+use Rattle.system.specs.declared.Setting.{Setting}
 use Rattle.language.specs.Words.{newline}
 use Rattle.language.specs.Lines.{eventIn, settingIn}
 use Rattle.language.proofs.PrintedLaws.{refused-short, no-short, ok-short, header-short, end-short}
-use Rattle.output.specs.Output.{maxLines, answerLine, runs}
+use Rattle.simulation.specs.Opens.{inRange}
+use Rattle.output.specs.Output.{maxLines, answerLine}
 use Rattle.script.specs.declared.Progress.{Progress}
 use Rattle.script.specs.declared.Progress.the-variants.{Took, Refused}
-use Rattle.output.specs.Reader.{Run, Stage, opening, running, closed, Reader, Printed, opened, lineTaken, worked, taken, Fed, maxPrinted, followed, fedWithin, ended, lastLine, finished, maxKept}
-use Rattle.script.specs.State.{keptIn, simulationIn, stageOf, view, valid, stateSize}
+use Rattle.output.specs.Reader.{Script, Stage, opening, running, closed, Reader, Printed, opened, lineTaken, worked, taken, Fed, maxPrinted, followed, fedWithin, ended, lastLine, finished, maxKept}
+use Rattle.script.specs.State.{stageClosed, stageAt, lengthAt, keptIn, simulationIn, stageOf, view, valid, stateSize}
 use Rattle.script.specs.Calls.{feedAnswer, FeedLeaves, finishAnswer, FinishLeaves, Sound, Ready, Does, Takes, FedAs, maxEnding}
 use Rattle.script.proofs.StateLaws.{itself-is, view-is, valid-is, store-stage, store-length, from-facts}
 use Rattle.script.proofs.LineLaws.{known, sound}
@@ -41,13 +42,13 @@ answer-short i u (stepped s) = omega (arith, ok-short i (length (s .sent)) (hold
 opened-short : (o : Option Setting) → length (opened o .out) ≤ maxPrinted
 unfolding opened
 opened-short none = omega (arith, refused-short BadLine)
-opened-short (some s) = by-range (decided (runs s))
+opened-short (some s) = by-range (decided (inRange s))
   where
-    by-range : Test (runs s) → length (opened (some s) .out) ≤ maxPrinted
+    by-range : Test (inRange s) → length (opened (some s) .out) ≤ maxPrinted
     by-range (inl e) = rw e (header-short s)
     by-range (inr e) = rw e (omega (arith, refused-short ParameterOutOfRange))
 
-line-short : (r : Run) (l : List ℕ) → length (lineTaken r l .out) ≤ maxPrinted
+line-short : (r : Script) (l : List ℕ) → length (lineTaken r l .out) ≤ maxPrinted
 unfolding lineTaken
 line-short r l = by-count (decided (ltb (r .answered) maxLines)) (eventIn l) refl
   where
@@ -73,7 +74,7 @@ taken-short r b = by-byte (decided (eqb b newline))
 ended-short : (st : Stage) → length (ended st) ≤ maxPrinted
 unfolding ended
 ended-short opening = omega (arith, refused-short BadLine)
-ended-short (running r) = omega (arith, end-short (r .accepted) (r .holding) (r .system .most))
+ended-short (running r) = omega (arith, end-short (r .run .accepted) (r .run .holding) (r .run .system .most))
 ended-short closed = omega arith
 
 -- behind what is printed and used so far
@@ -112,7 +113,7 @@ pub record Feeding (w₀ input out₀ w out : List ℕ) (used at : ℕ) : Type 0
   pub valid : valid w ≡ true
   pub long : length w ≡ stateSize
   pub begun : length w₀ ≡ stateSize
-  pub short : getD w 4 0 ≤ maxKept
+  pub short : getD w lengthAt 0 ≤ maxKept
   pub within : used ≤ length input
   pub fits : at ≤ length out
   pub size : length out ≡ length out₀
@@ -272,7 +273,7 @@ module _ (w out : List ℕ) (S : Sound w) (room : maxEnding ≤ length out) wher
         )
 
   -- a script that has ended
-  pub closed-words : (w₁ w₂ : List ℕ) → Sound w₁ → w₂ ≡ set (set w₁ 0 2) 4 0 → (view w₂ ≡ record { stage = closed; line = [] }) × (valid w₂ ≡ true)
+  pub closed-words : (w₁ w₂ : List ℕ) → Sound w₁ → w₂ ≡ set (set w₁ stageAt stageClosed) lengthAt 0 → (view w₂ ≡ record { stage = closed; line = [] }) × (valid w₂ ≡ true)
   unfolding stageOf
   closed-words w₁ w₂ K p =
       let I = store-length (store-stage (itself-is w₁ (K .long)) 2) 0 in

@@ -6,7 +6,7 @@ use mathlib.Core.Bool.{true, _&&_}
 use mathlib.Core.List.{List}
 use lib.Dec.{eqb, leb}
 use lib.ListN.{length, getD, set, take, drop, length-set, length-drop}
-use lib.Seq.{sets, length-sets, length-take-le, getD-set-same, getD-set-other, getD-take, take-set-lt, take-set-le, drop-set-lt, drop-set-add}
+use lib.Seq.{sets, length-sets, length-take-le, getD-set-same, getD-set-other, getD-take, take-set-lt, drop-set-lt, drop-set-add}
 use borrow.Author.Tests.{eqb-true, eq-eqb, leb-true, le-leb}
 use Rattle.ids.specs.Choice.{if_then_else_}
 use Rattle.ids.specs.Lists.{every}
@@ -18,8 +18,8 @@ use Rattle.layout.specs.Layout as layout
 use Rattle.system.specs.Limits.{systemClients}
 use Rattle.system.specs.Places.{holders}
 use Rattle.output.specs.Output.{maxLines}
-use Rattle.output.specs.Reader.{Reader, maxKept}
-use Rattle.script.specs.State.{stateSize, Head, headIn, keptIn, simulationIn, stageOf, lineOf, view, validRun, byteWord, validParts, valid, stateHead}
+use Rattle.output.specs.Reader.{maxKept}
+use Rattle.script.specs.State.{stageRunning, stageClosed, stageAt, answeredAt, acceptedAt, holdingAt, lengthAt, lineFrom, stateSize, Head, headIn, keptIn, simulationIn, stageOf, lineOf, view, validRun, byteWord, validParts, valid, stateHead}
 use Rattle.layout.specs.Layout.{simulationSize}
 
 -- w is these parts
@@ -34,7 +34,7 @@ itself-is w h = record { long = h; head = refl; kept = refl; simulation = refl }
 
 pub kept-long : (w : List ℕ) → length w ≡ stateSize → length (keptIn w) ≡ maxKept
 unfolding keptIn
-kept-long w e = length-take-le maxKept (drop 5 w) (omega (arith, length-drop 5 w))
+kept-long w e = length-take-le maxKept (drop lineFrom w) (omega (arith, length-drop lineFrom w))
 
 pub simulation-long : (w : List ℕ) → length w ≡ stateSize → length (simulationIn w) ≡ simulationSize
 unfolding simulationIn
@@ -50,101 +50,101 @@ module _ {w : List ℕ} {h : Head} {l s : List ℕ} (p : Is w h l s) where
   valid-is = rw (eq-eqb (length w) stateSize (p .long), p .head, p .kept, p .simulation)
 
   -- stores in the head leave the line and the simulation
-  behind-kept : (i v : ℕ) → i < 5 → keptIn (set w i v) ≡ l
+  behind-kept : (i v : ℕ) → i < lineFrom → keptIn (set w i v) ≡ l
   unfolding keptIn
-  behind-kept i v lt = ap (take maxKept) (drop-set-lt 5 w i v lt) ∙ p .kept
+  behind-kept i v lt = ap (take maxKept) (drop-set-lt lineFrom w i v lt) ∙ p .kept
 
   behind-simulation : (i v : ℕ) → i < stateHead → simulationIn (set w i v) ≡ s
   unfolding simulationIn
   behind-simulation i v lt = ap (take simulationSize) (drop-set-lt stateHead w i v lt) ∙ p .simulation
 
-  head-store : (i v : ℕ) (h′ : Head) → i < 5 → headIn (set w i v) ≡ h′ → Is (set w i v) h′ l s
+  head-store : (i v : ℕ) (h′ : Head) → i < lineFrom → headIn (set w i v) ≡ h′ → Is (set w i v) h′ l s
   head-store i v h′ lt e = record { long = length-set w i v ∙ p .long; head = e; kept = behind-kept i v lt; simulation = behind-simulation i v (omega arith) }
 
-  same : (i v : ℕ) → i < 5 → getD (set w i v) i 0 ≡ v
+  same : (i v : ℕ) → i < lineFrom → getD (set w i v) i 0 ≡ v
   same i v lt = getD-set-same w i v 0 (omega (arith, p .long))
 
   other : (i j v : ℕ) → (j ≡ i → ⊥) → getD (set w i v) j 0 ≡ getD w j 0
   other i j v ne = getD-set-other w i j v 0 ne
 
-  pub store-stage : (v : ℕ) → Is (set w 0 v) (record { stage = v; answered = h .answered; accepted = h .accepted; holding = h .holding; length = h .length }) l s
+  pub store-stage : (v : ℕ) → Is (set w stageAt v) (record { stage = v; answered = h .answered; accepted = h .accepted; holding = h .holding; length = h .length }) l s
   unfolding headIn
   store-stage v =
-      head-store 0 v _ (omega arith)
+      head-store stageAt v _ (omega arith)
       (let e = p .head in
-      let a = same 0 v (omega arith) in
-      let b = other 0 1 v (λ x. omega arith) ∙ ap (λ (y : Head). y .answered) e in
-      let c = other 0 2 v (λ x. omega arith) ∙ ap (λ (y : Head). y .accepted) e in
-      let d = other 0 3 v (λ x. omega arith) ∙ ap (λ (y : Head). y .holding) e in
-      let f = other 0 4 v (λ x. omega arith) ∙ ap (λ (y : Head). y .length) e in
+      let a = same stageAt v (omega arith) in
+      let b = other stageAt answeredAt v (λ x. omega arith) ∙ ap (λ (y : Head). y .answered) e in
+      let c = other stageAt acceptedAt v (λ x. omega arith) ∙ ap (λ (y : Head). y .accepted) e in
+      let d = other stageAt holdingAt v (λ x. omega arith) ∙ ap (λ (y : Head). y .holding) e in
+      let f = other stageAt lengthAt v (λ x. omega arith) ∙ ap (λ (y : Head). y .length) e in
       λ i. record { stage = a i; answered = b i; accepted = c i; holding = d i; length = f i })
 
-  pub store-answered : (v : ℕ) → Is (set w 1 v) (record { stage = h .stage; answered = v; accepted = h .accepted; holding = h .holding; length = h .length }) l s
+  pub store-answered : (v : ℕ) → Is (set w answeredAt v) (record { stage = h .stage; answered = v; accepted = h .accepted; holding = h .holding; length = h .length }) l s
   unfolding headIn
   store-answered v =
-      head-store 1 v _ (omega arith)
+      head-store answeredAt v _ (omega arith)
       (let e = p .head in
-      let a = other 1 0 v (λ x. omega arith) ∙ ap (λ (y : Head). y .stage) e in
-      let b = same 1 v (omega arith) in
-      let c = other 1 2 v (λ x. omega arith) ∙ ap (λ (y : Head). y .accepted) e in
-      let d = other 1 3 v (λ x. omega arith) ∙ ap (λ (y : Head). y .holding) e in
-      let f = other 1 4 v (λ x. omega arith) ∙ ap (λ (y : Head). y .length) e in
+      let a = other answeredAt stageAt v (λ x. omega arith) ∙ ap (λ (y : Head). y .stage) e in
+      let b = same answeredAt v (omega arith) in
+      let c = other answeredAt acceptedAt v (λ x. omega arith) ∙ ap (λ (y : Head). y .accepted) e in
+      let d = other answeredAt holdingAt v (λ x. omega arith) ∙ ap (λ (y : Head). y .holding) e in
+      let f = other answeredAt lengthAt v (λ x. omega arith) ∙ ap (λ (y : Head). y .length) e in
       λ i. record { stage = a i; answered = b i; accepted = c i; holding = d i; length = f i })
 
-  pub store-accepted : (v : ℕ) → Is (set w 2 v) (record { stage = h .stage; answered = h .answered; accepted = v; holding = h .holding; length = h .length }) l s
+  pub store-accepted : (v : ℕ) → Is (set w acceptedAt v) (record { stage = h .stage; answered = h .answered; accepted = v; holding = h .holding; length = h .length }) l s
   unfolding headIn
   store-accepted v =
-      head-store 2 v _ (omega arith)
+      head-store acceptedAt v _ (omega arith)
       (let e = p .head in
-      let a = other 2 0 v (λ x. omega arith) ∙ ap (λ (y : Head). y .stage) e in
-      let b = other 2 1 v (λ x. omega arith) ∙ ap (λ (y : Head). y .answered) e in
-      let c = same 2 v (omega arith) in
-      let d = other 2 3 v (λ x. omega arith) ∙ ap (λ (y : Head). y .holding) e in
-      let f = other 2 4 v (λ x. omega arith) ∙ ap (λ (y : Head). y .length) e in
+      let a = other acceptedAt stageAt v (λ x. omega arith) ∙ ap (λ (y : Head). y .stage) e in
+      let b = other acceptedAt answeredAt v (λ x. omega arith) ∙ ap (λ (y : Head). y .answered) e in
+      let c = same acceptedAt v (omega arith) in
+      let d = other acceptedAt holdingAt v (λ x. omega arith) ∙ ap (λ (y : Head). y .holding) e in
+      let f = other acceptedAt lengthAt v (λ x. omega arith) ∙ ap (λ (y : Head). y .length) e in
       λ i. record { stage = a i; answered = b i; accepted = c i; holding = d i; length = f i })
 
-  pub store-holding : (v : ℕ) → Is (set w 3 v) (record { stage = h .stage; answered = h .answered; accepted = h .accepted; holding = v; length = h .length }) l s
+  pub store-holding : (v : ℕ) → Is (set w holdingAt v) (record { stage = h .stage; answered = h .answered; accepted = h .accepted; holding = v; length = h .length }) l s
   unfolding headIn
   store-holding v =
-      head-store 3 v _ (omega arith)
+      head-store holdingAt v _ (omega arith)
       (let e = p .head in
-      let a = other 3 0 v (λ x. omega arith) ∙ ap (λ (y : Head). y .stage) e in
-      let b = other 3 1 v (λ x. omega arith) ∙ ap (λ (y : Head). y .answered) e in
-      let c = other 3 2 v (λ x. omega arith) ∙ ap (λ (y : Head). y .accepted) e in
-      let d = same 3 v (omega arith) in
-      let f = other 3 4 v (λ x. omega arith) ∙ ap (λ (y : Head). y .length) e in
+      let a = other holdingAt stageAt v (λ x. omega arith) ∙ ap (λ (y : Head). y .stage) e in
+      let b = other holdingAt answeredAt v (λ x. omega arith) ∙ ap (λ (y : Head). y .answered) e in
+      let c = other holdingAt acceptedAt v (λ x. omega arith) ∙ ap (λ (y : Head). y .accepted) e in
+      let d = same holdingAt v (omega arith) in
+      let f = other holdingAt lengthAt v (λ x. omega arith) ∙ ap (λ (y : Head). y .length) e in
       λ i. record { stage = a i; answered = b i; accepted = c i; holding = d i; length = f i })
 
-  pub store-length : (v : ℕ) → Is (set w 4 v) (record { stage = h .stage; answered = h .answered; accepted = h .accepted; holding = h .holding; length = v }) l s
+  pub store-length : (v : ℕ) → Is (set w lengthAt v) (record { stage = h .stage; answered = h .answered; accepted = h .accepted; holding = h .holding; length = v }) l s
   unfolding headIn
   store-length v =
-      head-store 4 v _ (omega arith)
+      head-store lengthAt v _ (omega arith)
       (let e = p .head in
-      let a = other 4 0 v (λ x. omega arith) ∙ ap (λ (y : Head). y .stage) e in
-      let b = other 4 1 v (λ x. omega arith) ∙ ap (λ (y : Head). y .answered) e in
-      let c = other 4 2 v (λ x. omega arith) ∙ ap (λ (y : Head). y .accepted) e in
-      let d = other 4 3 v (λ x. omega arith) ∙ ap (λ (y : Head). y .holding) e in
-      let f = same 4 v (omega arith) in
+      let a = other lengthAt stageAt v (λ x. omega arith) ∙ ap (λ (y : Head). y .stage) e in
+      let b = other lengthAt answeredAt v (λ x. omega arith) ∙ ap (λ (y : Head). y .answered) e in
+      let c = other lengthAt acceptedAt v (λ x. omega arith) ∙ ap (λ (y : Head). y .accepted) e in
+      let d = other lengthAt holdingAt v (λ x. omega arith) ∙ ap (λ (y : Head). y .holding) e in
+      let f = same lengthAt v (omega arith) in
       λ i. record { stage = a i; answered = b i; accepted = c i; holding = d i; length = f i })
 
   -- a store in the line
-  kept-head : (i v : ℕ) → headIn (set w (5 + i) v) ≡ h
+  kept-head : (i v : ℕ) → headIn (set w (lineFrom + i) v) ≡ h
   unfolding headIn
   kept-head i v =
-      let a = other (5 + i) 0 v (λ x. omega arith) in
-      let b = other (5 + i) 1 v (λ x. omega arith) in
-      let c = other (5 + i) 2 v (λ x. omega arith) in
-      let d = other (5 + i) 3 v (λ x. omega arith) in
-      let f = other (5 + i) 4 v (λ x. omega arith) in
+      let a = other (lineFrom + i) stageAt v (λ x. omega arith) in
+      let b = other (lineFrom + i) answeredAt v (λ x. omega arith) in
+      let c = other (lineFrom + i) acceptedAt v (λ x. omega arith) in
+      let d = other (lineFrom + i) holdingAt v (λ x. omega arith) in
+      let f = other (lineFrom + i) lengthAt v (λ x. omega arith) in
       (λ i. record { stage = a i; answered = b i; accepted = c i; holding = d i; length = f i }) ∙ p .head
 
-  kept-stored : (i v : ℕ) → i < maxKept → keptIn (set w (5 + i) v) ≡ set l i v
+  kept-stored : (i v : ℕ) → i < maxKept → keptIn (set w (lineFrom + i) v) ≡ set l i v
   unfolding keptIn
-  kept-stored i v lt = ap (take maxKept) (drop-set-add 5 w i v) ∙ (take-set-lt maxKept (drop 5 w) i v lt ∙ ap (λ (x : List ℕ). set x i v) (p .kept))
+  kept-stored i v lt = ap (take maxKept) (drop-set-add lineFrom w i v) ∙ (take-set-lt maxKept (drop lineFrom w) i v lt ∙ ap (λ (x : List ℕ). set x i v) (p .kept))
 
-  pub store-kept : (i v : ℕ) → i < maxKept → Is (set w (5 + i) v) h (set l i v) s
+  pub store-kept : (i v : ℕ) → i < maxKept → Is (set w (lineFrom + i) v) h (set l i v) s
   store-kept i v lt =
-      record { long = length-set w (5 + i) v ∙ p .long; head = kept-head i v; kept = kept-stored i v lt; simulation = behind-simulation (5 + i) v (omega arith) }
+      record { long = length-set w (lineFrom + i) v ∙ p .long; head = kept-head i v; kept = kept-stored i v lt; simulation = behind-simulation (lineFrom + i) v (omega arith) }
 
   -- the simulation, stored whole
   store-head : (v : List ℕ) → headIn (sets w stateHead v) ≡ h
@@ -152,16 +152,16 @@ module _ {w : List ℕ} {h : Head} {l s : List ℕ} (p : Is w h l s) where
   store-head v =
       let word : (i : ℕ) → i < stateHead → getD (sets w stateHead v) i 0 ≡ getD w i 0 = λ i lt.
       sym (getD-take stateHead (sets w stateHead v) i 0 lt) ∙ (ap (λ (x : List ℕ). getD x i 0) (take-sets-after stateHead w stateHead v (omega arith)) ∙ getD-take stateHead w i 0 lt) in
-      let a = word 0 (omega arith) in
-      let b = word 1 (omega arith) in
-      let c = word 2 (omega arith) in
-      let d = word 3 (omega arith) in
-      let f = word 4 (omega arith) in
+      let a = word stageAt (omega arith) in
+      let b = word answeredAt (omega arith) in
+      let c = word acceptedAt (omega arith) in
+      let d = word holdingAt (omega arith) in
+      let f = word lengthAt (omega arith) in
       (λ i. record { stage = a i; answered = b i; accepted = c i; holding = d i; length = f i }) ∙ p .head
 
   store-line : (v : List ℕ) → keptIn (sets w stateHead v) ≡ l
   unfolding keptIn
-  store-line v = region-behind 5 maxKept w 0 v ∙ p .kept
+  store-line v = region-behind lineFrom maxKept w 0 v ∙ p .kept
 
   store-all : (v : List ℕ) → length v ≡ simulationSize → simulationIn (sets w stateHead v) ≡ v
   unfolding simulationIn
@@ -174,18 +174,18 @@ module _ {w : List ℕ} {h : Head} {l s : List ℕ} (p : Is w h l s) where
 
 -- what a valid state says of its parts
 pub record Facts (h : Head) (l s : List ℕ) : Type 0 where
-  pub stage : h .stage ≤ 2
+  pub stage : h .stage ≤ stageClosed
   pub few : h .length ≤ maxKept
   pub bytes : every byteWord l ≡ true
-  pub runs : h .stage ≡ 1 → validRun h s ≡ true
+  pub runs : h .stage ≡ stageRunning → validRun h s ≡ true
 
 pub facts : (h : Head) (l s : List ℕ) → validParts h l s ≡ true → Facts h l s
 unfolding validParts
 facts h l s e =
-    let (a, x) = both (leb (h .stage) 2) (leb (h .length) maxKept && (every byteWord l && (if eqb (h .stage) 1 then validRun h s else true))) e in
-    let (b, y) = both (leb (h .length) maxKept) (every byteWord l && (if eqb (h .stage) 1 then validRun h s else true)) x in
-    let (c, z) = both (every byteWord l) (if eqb (h .stage) 1 then validRun h s else true) y in
-    record { stage = leb-true _ _ a; few = leb-true _ _ b; bytes = c; runs = λ q. rw (eq-eqb (h .stage) 1 q) at z }
+    let (a, x) = both (leb (h .stage) stageClosed) (leb (h .length) maxKept && (every byteWord l && (if eqb (h .stage) stageRunning then validRun h s else true))) e in
+    let (b, y) = both (leb (h .length) maxKept) (every byteWord l && (if eqb (h .stage) stageRunning then validRun h s else true)) x in
+    let (c, z) = both (every byteWord l) (if eqb (h .stage) stageRunning then validRun h s else true) y in
+    record { stage = leb-true _ _ a; few = leb-true _ _ b; bytes = c; runs = λ q. rw (eq-eqb (h .stage) stageRunning q) at z }
 
 pub record RunFacts (h : Head) (s : List ℕ) : Type 0 where
   pub simulation : layout.valid s ≡ true
@@ -208,10 +208,10 @@ unfolding validRun
 from-run h s f =
     rw (f .simulation, le-leb (h .answered) maxLines (f .answered), le-leb (h .accepted) (h .answered) (f .accepted), le-leb (holders (layout.view s)) (h .holding) (f .holding), le-leb (h .holding) systemClients (f .few))
 
-pub from-facts : (h : Head) (l s : List ℕ) → h .stage ≤ 2 → h .length ≤ maxKept → every byteWord l ≡ true → (h .stage ≡ 1 → validRun h s ≡ true) → validParts h l s ≡ true
+pub from-facts : (h : Head) (l s : List ℕ) → h .stage ≤ stageClosed → h .length ≤ maxKept → every byteWord l ≡ true → (h .stage ≡ stageRunning → validRun h s ≡ true) → validParts h l s ≡ true
 unfolding validParts
-from-facts h l s a b c d = rw (le-leb (h .stage) 2 a, le-leb (h .length) maxKept b, c) (by-stage (decided (eqb (h .stage) 1)))
+from-facts h l s a b c d = rw (le-leb (h .stage) stageClosed a, le-leb (h .length) maxKept b, c) (by-stage (decided (eqb (h .stage) stageRunning)))
   where
-    by-stage : Test (eqb (h .stage) 1) → (if eqb (h .stage) 1 then validRun h s else true) ≡ true
-    by-stage (inl e) = rw e (d (eqb-true (h .stage) 1 e))
+    by-stage : Test (eqb (h .stage) stageRunning) → (if eqb (h .stage) stageRunning then validRun h s else true) ≡ true
+    by-stage (inl e) = rw e (d (eqb-true (h .stage) stageRunning e))
     by-stage (inr e) = rw e

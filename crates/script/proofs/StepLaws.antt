@@ -1,41 +1,40 @@
 -- What a line does to the state: each store changes one of the counts or the simulation, and the stage is what the definition says.
 use mathlib.Core.Path.{_≡_, refl, sym, ap, _∙_}
-use Prim.Native.Nat.{ℕ, zero, suc, _+_, _-_, _≤_, _<_, max}
+use Prim.Native.Nat.{ℕ, suc, _+_, _-_, _≤_, _<_, max}
 use native.Mathlib.Numerals.{add-one}
 use native.Mathlib.Omega.{arith}
-use mathlib.Core.Bool.{Bool, true, false, _&&_}
+use mathlib.Core.Bool.{Bool, true, false}
 use mathlib.Core.List.{List, [], _∷_, map}
 use mathlib.Core.Option.{Option, none, some}
-use mathlib.Core.Logic.{inl, inr}
-use lib.Dec.{eqb, leb}
+use lib.Dec.{leb}
 use lib.ListN.{length, getD, set, take, drop, replicate, length-map, length-set}
-use lib.Seq.{sets, length-sets, getD-take, getD-drop}
+use lib.Seq.{sets, length-sets}
 use borrow.Rule.Slice.PartMut.{putMid}
-use borrow.Author.Tests.{eq-eqb, eqb-true, eqb-false, ne-eqb, le-leb, lt-leb, leb-true, leb-false, lt-ltb, le-ltb}
-use Rattle.ids.specs.Choice.{if_then_else_, maybe}
+use borrow.Author.Tests.{eq-eqb, ne-eqb, le-leb, lt-leb, leb-false, lt-ltb, le-ltb}
+use Rattle.ids.specs.Choice.{if_then_else_}
 use Rattle.ids.specs.Limits.{within}
 use Rattle.ids.specs.declared.Refusal.{Refusal}
 use Rattle.ids.specs.declared.Refusal.the-variants.{BadLine, ParameterOutOfRange, NoSuchParty}
-use Rattle.ids.proofs.Choice.{both, decided, Test}
 use Rattle.ids.proofs.LimitsLaws.{within-range}
-use Rattle.responses.specs.Figure1.{enough, count, fresh as freshClient}
+use Rattle.responses.specs.Figure1.{count}
 use Rattle.quorum.proofs.CheckLaws.{range}
 use Rattle.system.specs.declared.Event.{Event}
 use Rattle.system.specs.declared.Event.the-variants.{Try, Exit, Fall, Down, Up, Take, Drop, Miss, Check}
 use Rattle.system.specs.Numbered.{has}
-use Rattle.system.specs.Places.{System, ClientPlace, isInside, holders}
+use Rattle.system.specs.Places.{System, isInside, holders}
 use Rattle.system.specs.Events.{Result, withPlaces}
-use Rattle.system.specs.Runs.{after, isStepped, start}
+use Rattle.system.specs.Runs.{after, isStepped}
 use Rattle.regions.specs.Blocks.{blocks}
 use Rattle.regions.proofs.BlockLaws.{length-blocks}
 use Rattle.places.specs.Blocks.{clientPlace, clientBlock}
 use Rattle.wire.specs.Step.{refused, stepped}
-use Rattle.language.specs.declared.Setting.{Setting}
+use Rattle.system.specs.declared.Setting.{Setting}
 use Rattle.language.specs.declared.First.the-variants.{Setting as Opens, Bad as NotOpening}
 use Rattle.language.specs.declared.Line.the-variants.{Event as Says, Unknown, Bad}
+use Rattle.language.specs.Words.{newline}
 use Rattle.language.specs.Lines.{eventIn, sixteenBits, lineOf, firstOf, settingIn as line-setting}
 use Rattle.language.specs.Printed.{headerLine, noLine, okLine, endLine, refusedLine}
-use Rattle.language.proofs.PrintedLaws.{refused-short, no-short, ok-short, header-short, end-short}
+use Rattle.language.proofs.PrintedLaws.{no-short, ok-short, header-short, end-short}
 use Rattle.places.proofs.Fronts.{Clearing, clearing-more}
 use Rattle.layout.specs.Layout as layout
 use Rattle.layout.proofs.ValidLaws as layout-laws
@@ -43,38 +42,44 @@ use Rattle.layout.proofs.LendLaws.{came-back}
 use Rattle.layout.proofs.PlaceLaws.{client-there, server-there}
 use Rattle.bounded.proofs.Answers.{no-client-tries, no-client-exits, no-client-falls, no-server-downs, no-server-ups, no-server-misses, no-server-checks}
 use Rattle.bounded.specs.Happens as bounded
-use Rattle.simulation.specs.Opens as simulation
+use Rattle.simulation.specs.Opens.{inRange, opens}
+use Rattle.bounded.specs.declared.Reply.{Reply}
 use Rattle.bounded.specs.declared.Reply.the-variants as reply
-use Rattle.bounded.specs.declared.Moved.the-variants as made
-use Rattle.output.specs.Output.{maxLines, happens, answerLine, fresh, runs}
-use Rattle.output.specs.Reader.{Run, Stage, opening, running, closed, Reader, Printed, started, opened, moved, passed, lineTaken, worked, behind, taken, ended, lastLine, maxKept, maxPrinted}
-use Rattle.script.specs.State.{stateSize, Head, headIn, keptIn, simulationIn, settingIn, runIn, stageOf, view, validRun, byteWord, validParts, valid, stateHead}
+use Rattle.runs.specs.declared.Counts.{Counts}
+use Rattle.runs.specs.declared.Went.{Went}
+use Rattle.runs.specs.declared.Begun.{Begun}
+use Rattle.runs.specs.declared.Begun.the-variants as begun
+use Rattle.runs.specs.Run.{Run, fresh, started, moved, next}
+use Rattle.runs.specs.Calls.{maxAccepted, runIn, countsOf, newAnswer, NewLeaves, Goes}
+use Rattle.runs.proofs.Whole.{moved-system, moved-accepted, moved-holding}
+use Rattle.output.specs.Output.{maxLines, answerLine}
+use Rattle.output.specs.Reader.{Script, Stage, opening, running, closed, Reader, Printed, unanswered, opened, onward, lineTaken, worked, behind, taken, ended, lastLine, maxKept, maxPrinted}
+use Rattle.script.specs.State.{stageOpening, stageRunning, stageClosed, stageAt, answeredAt, acceptedAt, holdingAt, lengthAt, stateSize, Head, headIn, keptIn, simulationIn, countsIn, scriptIn, stageOf, view, validRun, valid, stateHead}
 use Rattle.script.specs.declared.Progress.the-variants.{Took, Refused}
-use Rattle.script.specs.Calls.{newAnswer, newWords, Sound, Ready, Reads, Does, Takes, happened, passing}
+use Rattle.script.specs.Calls.{newAnswer as newScript, newWords, Sound, Ready, Reads, Does, Takes, happened, passing, replyLine, withCounts}
 use Rattle.script.proofs.StateLaws.{Is, itself-is, view-is, valid-is, store-length, store-stage, store-answered, store-accepted, store-holding, store-simulation, Facts, RunFacts, run-facts, from-run, from-facts}
 use Rattle.script.proofs.TestLaws.{few-clients, part-long}
 use Rattle.script.proofs.LineLaws.{known, sound, line-long, line-parsed}
-use Rattle.changes.specs.Opening.{Starts}
 use Rattle.system.specs.Limits.{systemClients, systemServers}
 use Rattle.layout.specs.Layout.{simulationSize}
 
 -- the line, parsed
 pub line-read : {A : Type 0} (f : List ℕ → A) (w : List ℕ) → Sound w → (o l : List ℕ) → length o ≡ maxKept → l ≡ sets o 0 (view w .line) →
-    (r : A) → r ≡ f (take (getD w 4 0 - 0) (drop 0 l)) → r ≡ f (view w .line)
+    (r : A) → r ≡ f (take (getD w lengthAt 0 - 0) (drop 0 l)) → r ≡ f (view w .line)
 line-read f w S o l e q r p = p ∙ ap f (line-parsed w S o l e q)
 
 -- the stage, by its word
-pub stage-opening : (w : List ℕ) → getD w 0 0 ≡ 0 → view w .stage ≡ opening
+pub stage-opening : (w : List ℕ) → getD w stageAt 0 ≡ stageOpening → view w .stage ≡ opening
 unfolding view stageOf headIn
 stage-opening w e = rw e
 
-pub stage-running : (w : List ℕ) → getD w 0 0 ≡ 1 → view w .stage ≡ running (runIn (headIn w) (simulationIn w))
+pub stage-running : (w : List ℕ) → getD w stageAt 0 ≡ stageRunning → view w .stage ≡ running (scriptIn (headIn w) (simulationIn w))
 unfolding view stageOf headIn
 stage-running w e = rw e
 
-pub stage-closed : (w : List ℕ) → (getD w 0 0 ≡ 0 → ⊥) → (getD w 0 0 ≡ 1 → ⊥) → view w .stage ≡ closed
+pub stage-closed : (w : List ℕ) → (getD w stageAt 0 ≡ stageOpening → ⊥) → (getD w stageAt 0 ≡ stageRunning → ⊥) → view w .stage ≡ closed
 unfolding view stageOf headIn
-stage-closed w a b = rw (ne-eqb (getD w 0 0) 0 a, ne-eqb (getD w 0 0) 1 b)
+stage-closed w a b = rw (ne-eqb (getD w stageAt 0) stageOpening a, ne-eqb (getD w stageAt 0) stageRunning b)
 
 -- a count of at most one, and the holders of a simulation
 one-or-none : (b : Bool) → (if b then 1 else 0) ≤ 1
@@ -93,26 +98,22 @@ few-holders s v =
     let c = length-map (blocks clientBlock clientPlace (getD s 3 0) (layout.clientWords s)) isInside in
     omega (arith, a, b, c, count-few (map isInside (blocks clientBlock clientPlace (getD s 3 0) (layout.clientWords s))))
 
--- what the simulation replied, turned round
-pub reply-refused : (u : System) (o : Result) (x : Refusal) → reply.Refused x ≡ bounded.replyOf u o → o ≡ refused x
-unfolding bounded.replyOf
-reply-refused u (refused y) x e = let z : y ≡ x = cc in ap refused z
-reply-refused u (stepped s) x e = let z : _≡_ {A = ℕ} 0 1 = cc in absurd (omega arith)
+-- the line of a reply is the line of the event's outcome
+reply-line : (i : ℕ) (u : System) (o : Result) → replyLine i (bounded.replyOf u o) ≡ answerLine i u o
+unfolding bounded.replyOf replyLine answerLine
+reply-line i u (refused x) = refl
+reply-line i u (stepped s) = refl
 
-pub record Accepts (u : System) (o : Result) (sent holding : ℕ) : Type 0 where
-  pub stepped : isStepped o ≡ true
-  pub line : (i : ℕ) → answerLine i u o ≡ okLine i sent holding
-  pub holders : holders (after u o) ≡ holding
+module _ (out out′ : List ℕ) (at r i : ℕ) (p : Reply) where
+  pub replied-no : (x : Refusal) → p ≡ reply.Refused x → (r ≡ at + length (noLine i x)) × (out′ ≡ sets out at (noLine i x)) → (r ≡ at + length (replyLine i p)) × (out′ ≡ sets out at (replyLine i p))
+  unfolding replyLine
+  replied-no x e b = rw e b
 
-pub reply-accepted : (u : System) (o : Result) (sent holding : ℕ) → reply.Accepted sent holding ≡ bounded.replyOf u o → Accepts u o sent holding
-unfolding bounded.replyOf answerLine
-reply-accepted u (refused y) sent holding e = let z : _≡_ {A = ℕ} 0 1 = cc in absurd (omega arith)
-reply-accepted u (stepped s) sent holding e =
-    let a : length (s .sent) ≡ sent = cc in
-    let b : holders (after u (stepped s)) ≡ holding = cc in
-    record { stepped = refl; line = λ i. rw (a, b); holders = b }
+  pub replied-ok : (sent k : ℕ) → p ≡ reply.Accepted sent k → (r ≡ at + length (okLine i sent k)) × (out′ ≡ sets out at (okLine i sent k)) → (r ≡ at + length (replyLine i p)) × (out′ ≡ sets out at (replyLine i p))
+  unfolding replyLine
+  replied-ok sent k e b = rw e b
 
-stage-without : (w : List ℕ) → stageOf (record { stage = getD w 0 0; answered = getD w 1 0; accepted = getD w 2 0; holding = getD w 3 0; length = 0 }) (simulationIn w) ≡ view w .stage
+stage-without : (w : List ℕ) → stageOf (record { stage = getD w stageAt 0; answered = getD w answeredAt 0; accepted = getD w acceptedAt 0; holding = getD w holdingAt 0; length = 0 }) (simulationIn w) ≡ view w .stage
 unfolding view stageOf headIn
 stage-without w = refl
 
@@ -123,7 +124,7 @@ module _ (w out : List ℕ) (at : ℕ) (R : Ready w out at) where
 
   -- the general form: h has the length of w's line
   pub does : (p : Printed Stage) (w′ : List ℕ) (h : Head) (s : List ℕ) → Is w′ h (keptIn w) s → h .length ≡ headIn w .length → stageOf h s ≡ p .now →
-      h .stage ≤ 2 → (h .stage ≡ 1 → validRun h s ≡ true) → (out′ : List ℕ) (r : ℕ) → (r ≡ at + length (p .out)) × (out′ ≡ sets out at (p .out)) → Does w out at p w′ out′ r
+      h .stage ≤ stageClosed → (h .stage ≡ stageRunning → validRun h s ≡ true) → (out′ : List ℕ) (r : ℕ) → (r ≡ at + length (p .out)) × (out′ ≡ sets out at (p .out)) → Does w out at p w′ out′ r
   unfolding view
   does p w′ h s I e q few run out′ r b =
       record {
@@ -136,9 +137,9 @@ module _ (w out : List ℕ) (at : ℕ) (R : Ready w out at) where
 
   -- the first line is refused
   pub refused-does : (x : Refusal) (out′ : List ℕ) (r : ℕ) → (r ≡ at + length (refusedLine x)) × (out′ ≡ sets out at (refusedLine x)) →
-      Does w out at (record { now = closed; out = refusedLine x }) (set w 0 2) out′ r
+      Does w out at (record { now = closed; out = refusedLine x }) (set w stageAt stageClosed) out′ r
   unfolding stageOf
-  refused-does x out′ r b = does (record { now = closed; out = refusedLine x }) (set w 0 2) _ (simulationIn w) (store-stage (itself-is w (R .long)) 2) refl refl (omega arith) (λ e. absurd (omega (arith, e))) out′ r b
+  refused-does x out′ r b = does (record { now = closed; out = refusedLine x }) (set w stageAt stageClosed) _ (simulationIn w) (store-stage (itself-is w (R .long)) 2) refl refl (omega arith) (λ e. absurd (omega (arith, e))) out′ r b
 
   -- nothing is done and nothing printed
   pub stays : (p : Printed Stage) → p .now ≡ view w .stage → p .out ≡ [] → Does w out at p w out at
@@ -157,71 +158,97 @@ module _ (w out : List ℕ) (at : ℕ) (R : Ready w out at) where
     run-known = run-facts (headIn w) (simulationIn w) (its .runs (N .runs))
 
     -- a line that changes nothing
-    pub passing-does : (x : Refusal) (out′ : List ℕ) (r : ℕ) → (r ≡ at + length (noLine (getD w 1 0 + 1) x)) × (out′ ≡ sets out at (noLine (getD w 1 0 + 1) x)) →
-        Does w out at (passing (runIn (headIn w) (simulationIn w)) x) (set w 1 (getD w 1 0 + 1)) out′ r
+    pub passing-does : (x : Refusal) (out′ : List ℕ) (r : ℕ) → (r ≡ at + length (noLine (getD w answeredAt 0 + 1) x)) × (out′ ≡ sets out at (noLine (getD w answeredAt 0 + 1) x)) →
+        Does w out at (passing (scriptIn (headIn w) (simulationIn w)) x) (set w answeredAt (getD w answeredAt 0 + 1)) out′ r
     unfolding stageOf headIn
     passing-does x out′ r b =
         let F = run-known in
-        let z : getD w 1 0 + 1 ≡ suc (getD w 1 0) = add-one (getD w 1 0) in
-        does (passing (runIn (headIn w) (simulationIn w)) x) (set w 1 (getD w 1 0 + 1)) _ (simulationIn w) (store-answered (itself-is w (R .long)) (getD w 1 0 + 1)) refl
+        let z : getD w answeredAt 0 + 1 ≡ suc (getD w answeredAt 0) = add-one (getD w answeredAt 0) in
+        does (passing (scriptIn (headIn w) (simulationIn w)) x) (set w answeredAt (getD w answeredAt 0 + 1)) _ (simulationIn w) (store-answered (itself-is w (R .long)) (getD w answeredAt 0 + 1)) refl
         (rw (N .runs, z))
         (omega (arith, N .runs))
         (λ e. from-run _ (simulationIn w) (record { simulation = F .simulation; answered = omega (arith, N .more); accepted = omega (arith, F .accepted); holding = F .holding; few = F .few }))
         out′ r (rw z at b)
 
-    -- an event, which left the simulation s′
-    module _ (e : Event) (s′ : List ℕ) (L : bounded.Leaves (simulationIn w) e s′) (acc hold : ℕ)
-        (acc-is : acc ≡ getD w 2 0 + (if isStepped (bounded.happens (simulationIn w) e) then 1 else 0))
-        (hold-is : hold ≡ max (getD w 3 0) (holders (after (layout.view (simulationIn w)) (bounded.happens (simulationIn w) e)))) where
-      now-holding : holders (layout.view s′) ≡ holders (after (layout.view (simulationIn w)) (bounded.happens (simulationIn w) e))
-      now-holding = ap holders (L .system)
+    -- an event, which left the simulation s′ and these counts
+    module _ (e : Event) (s′ : List ℕ) (went : Went) (G : Goes (countsIn (headIn w)) (simulationIn w) e s′ went) where
+      abbrev before : Run
+      before = runIn (countsIn (headIn w)) (simulationIn w)
 
-      counts-in-range : RunFacts (record { stage = getD w 0 0; answered = getD w 1 0 + 1; accepted = acc; holding = hold; length = getD w 4 0 }) s′
+      abbrev outcome : Result
+      outcome = bounded.happens (simulationIn w) e
+
+      abbrev head : Head
+      head = record { stage = getD w stageAt 0; answered = getD w answeredAt 0 + 1; accepted = went .counts .accepted; holding = went .counts .holding; length = getD w lengthAt 0 }
+
+      now-holding : holders (layout.view s′) ≡ holders (after (layout.view (simulationIn w)) outcome)
+      now-holding = ap holders (ap (λ (r : Run). r .system) (G .run) ∙ moved-system before outcome)
+
+      accepted-is : went .counts .accepted ≡ headIn w .accepted + (if isStepped outcome then 1 else 0)
+      accepted-is = ap (λ (r : Run). r .accepted) (G .run) ∙ moved-accepted before outcome
+
+      holding-is : went .counts .holding ≡ max (headIn w .holding) (holders (after (layout.view (simulationIn w)) outcome))
+      holding-is = ap (λ (r : Run). r .holding) (G .run) ∙ moved-holding before (run-known .holding) outcome
+
+      counts-in-range : RunFacts head s′
       unfolding headIn
       counts-in-range =
           let F = run-known in
           record {
-            simulation = L .again;
+            simulation = G .again;
             answered = omega (arith, N .more);
-            accepted = omega (arith, acc-is, F .accepted, one-or-none (isStepped (bounded.happens (simulationIn w) e)));
-            holding = omega (arith, hold-is, now-holding);
-            few = omega (arith, hold-is, now-holding, F .few, few-holders s′ (L .again));
+            accepted = omega (arith, accepted-is, F .accepted, one-or-none (isStepped outcome));
+            holding = omega (arith, holding-is, now-holding);
+            few = omega (arith, holding-is, now-holding, F .few, few-holders s′ (G .again));
           }
 
-      moved-on : _≡_ {A = Run} (record { setting = settingIn s′; answered = getD w 1 0 + 1; system = layout.view s′; accepted = acc; holding = hold }) (moved (runIn (headIn w) (simulationIn w)) (bounded.happens (simulationIn w) e))
+      went-on : _≡_ {A = Script} (scriptIn head s′) (onward (scriptIn (headIn w) (simulationIn w)) (next before e))
       unfolding headIn
-      moved-on =
-          let z : getD w 1 0 + 1 ≡ suc (getD w 1 0) = add-one (getD w 1 0) in
-          let t : settingIn s′ ≡ settingIn (simulationIn w) = ap (λ (x : layout.Setting). record { n = x .n; m = x .m; f = x .f; clients = x .clients }) (L .setting) in
-          let u = L .system in
-          λ i. record { setting = t i; answered = z i; system = u i; accepted = acc-is i; holding = hold-is i }
+      went-on =
+          let z : getD w answeredAt 0 + 1 ≡ suc (getD w answeredAt 0) = add-one (getD w answeredAt 0) in
+          λ i. record { answered = z i; run = G .run i }
 
-      pub happened-does : (w′ : List ℕ) → Is w′ (record { stage = getD w 0 0; answered = getD w 1 0 + 1; accepted = acc; holding = hold; length = getD w 4 0 }) (keptIn w) s′ → (out′ : List ℕ) (r : ℕ) →
-          (r ≡ at + length (answerLine (suc (getD w 1 0)) (layout.view (simulationIn w)) (bounded.happens (simulationIn w) e))) × (out′ ≡ sets out at (answerLine (suc (getD w 1 0)) (layout.view (simulationIn w)) (bounded.happens (simulationIn w) e))) →
-          Does w out at (happened (runIn (headIn w) (simulationIn w)) e) w′ out′ r
+      answered-line : replyLine (getD w answeredAt 0 + 1) (went .reply) ≡ happened (scriptIn (headIn w) (simulationIn w)) e .out
+      unfolding headIn
+      answered-line = rw (G .reply, add-one (getD w answeredAt 0)) (reply-line _ _ _)
+
+      pub happened-does : (w′ : List ℕ) → Is w′ head (keptIn w) s′ → (out′ : List ℕ) (r : ℕ) →
+          (r ≡ at + length (replyLine (getD w answeredAt 0 + 1) (went .reply))) × (out′ ≡ sets out at (replyLine (getD w answeredAt 0 + 1) (went .reply))) →
+          Does w out at (happened (scriptIn (headIn w) (simulationIn w)) e) w′ out′ r
       unfolding stageOf headIn
       happened-does w′ I out′ r b =
-          does (happened (runIn (headIn w) (simulationIn w)) e) w′ _ s′ I refl (rw (N .runs) (ap running moved-on)) (omega (arith, N .runs))
-          (λ q. from-run _ s′ counts-in-range) out′ r b
+          does (happened (scriptIn (headIn w) (simulationIn w)) e) w′ head s′ I refl (rw (N .runs) (ap running went-on)) (omega (arith, N .runs))
+          (λ q. from-run head s′ counts-in-range) out′ r (rw answered-line at b)
+
+pub end-valid : (w : List ℕ) → valid w ≡ true → getD w stageAt 0 ≡ stageRunning → layout.valid (take simulationSize (drop stateHead w)) ≡ true
+unfolding simulationIn headIn
+end-valid w v one = run-facts (headIn w) (simulationIn w) (known w v .runs one) .simulation
+
+-- room for each line
+pub no-fits : (out : List ℕ) (at i : ℕ) (x : Refusal) → at + maxPrinted ≤ length out → at + length (noLine i x) ≤ length out
+no-fits out at i x h = omega (arith, no-short i x, h)
+
+pub ok-fits : (out : List ℕ) (at i sent k : ℕ) → at + maxPrinted ≤ length out → at + length (okLine i sent k) ≤ length out
+ok-fits out at i sent k h = omega (arith, ok-short i sent k, h)
+
+pub end-fits : (out : List ℕ) (at a h k : ℕ) → at + maxPrinted ≤ length out → at + length (endLine a h k) ≤ length out
+end-fits out at a h k r = omega (arith, end-short a h k, r)
 
 -- what the end prints
 module _ (w : List ℕ) (at : ℕ) (o : List ℕ) where
   abbrev Ends : List ℕ → ℕ → Type 0
   Ends o′ r = (r ≡ at + length (ended (view w .stage))) × (o′ ≡ sets o at (ended (view w .stage)))
 
-  pub end-opening : getD w 0 0 ≡ 0 → (o′ : List ℕ) (r : ℕ) → (r ≡ at + length (refusedLine BadLine)) × (o′ ≡ sets o at (refusedLine BadLine)) → Ends o′ r
+  pub end-opening : getD w stageAt 0 ≡ stageOpening → (o′ : List ℕ) (r : ℕ) → (r ≡ at + length (refusedLine BadLine)) × (o′ ≡ sets o at (refusedLine BadLine)) → Ends o′ r
   unfolding ended
   end-opening e o′ r b = rw (stage-opening w e) b
 
-  most-word : length w ≡ stateSize → layout.view (simulationIn w) .most ≡ getD w maxPrinted 0
-  unfolding layout.view simulationIn
-  most-word long = getD-take simulationSize (drop stateHead w) 6 0 (omega arith) ∙ getD-drop stateHead w 6 0
+  pub end-running : getD w stageAt 0 ≡ stageRunning → (k : ℕ) → k ≡ layout.view (take simulationSize (drop stateHead w)) .most → (o′ : List ℕ) (r : ℕ) →
+      (r ≡ at + length (endLine (getD w acceptedAt 0) (getD w holdingAt 0) k)) × (o′ ≡ sets o at (endLine (getD w acceptedAt 0) (getD w holdingAt 0) k)) → Ends o′ r
+  unfolding ended headIn simulationIn
+  end-running e k q o′ r b = rw (stage-running w e) (rw q at b)
 
-  pub end-running : length w ≡ stateSize → getD w 0 0 ≡ 1 → (o′ : List ℕ) (r : ℕ) → (r ≡ at + length (endLine (getD w 2 0) (getD w 3 0) (getD w maxPrinted 0))) × (o′ ≡ sets o at (endLine (getD w 2 0) (getD w 3 0) (getD w maxPrinted 0))) → Ends o′ r
-  unfolding ended headIn
-  end-running long e o′ r b = rw (stage-running w e, most-word long) b
-
-  pub end-closed : (getD w 0 0 ≡ 0 → ⊥) → (getD w 0 0 ≡ 1 → ⊥) → Ends o at
+  pub end-closed : (getD w stageAt 0 ≡ stageOpening → ⊥) → (getD w stageAt 0 ≡ stageRunning → ⊥) → Ends o at
   unfolding ended
   end-closed a b = rw (stage-closed w a b) (omega arith, refl)
 
@@ -233,40 +260,32 @@ pub newly : (w w′ : List ℕ) → length w ≡ stateSize → w′ ≡ sets w 0
 unfolding newWords
 newly w w′ e p = rw (eq-eqb (length w) stateSize e) p
 
-pub newly-answered : (w : List ℕ) → length w ≡ stateSize → Took 0 0 ≡ newAnswer w
-unfolding newAnswer
+pub newly-answered : (w : List ℕ) → length w ≡ stateSize → Took 0 0 ≡ newScript w
+unfolding newScript
 newly-answered w e = rw (eq-eqb (length w) stateSize e)
 
-pub not-new : (w : List ℕ) → (length w ≡ stateSize → ⊥) → (Refused ParameterOutOfRange ≡ newAnswer w) × (w ≡ newWords w)
-unfolding newAnswer newWords
+pub not-new : (w : List ℕ) → (length w ≡ stateSize → ⊥) → (Refused ParameterOutOfRange ≡ newScript w) × (w ≡ newWords w)
+unfolding newScript newWords
 not-new w ne = (rw (ne-eqb (length w) stateSize ne), rw (ne-eqb (length w) stateSize ne))
 
 -- the first line ---------------------------------------------------------------------------------------------------------------
 
-holders-fresh : (n : ℕ) (c : ℕ) → count (map isInside (replicate c (record { living = true; state = freshClient n; downs = [] }))) ≡ 0
-holders-fresh n zero = refl
-holders-fresh n (suc c) = omega (arith, holders-fresh n c)
+-- a new run is made or refused as the setting is in range
+opens-range : (s : Setting) (l : ℕ) → l ≡ simulationSize → opens l s ≡ inRange s
+unfolding opens
+opens-range s l e = rw (eq-eqb l simulationSize e)
 
-no-holders : (s : Setting) → holders (fresh s) ≡ 0
-unfolding start
-no-holders s = holders-fresh (s .n) (s .clients)
+begun-refused : (b : Bool) (s : Setting) (x : Refusal) → begun.Refused x ≡ newAnswer b s → (b ≡ false) × (x ≡ ParameterOutOfRange)
+unfolding newAnswer
+begun-refused true s x e = let z : _≡_ {A = ℕ} 0 1 = cc in absurd (omega arith)
+begun-refused false s x e = (refl, (cc))
 
--- a new simulation is made or refused as the setting is in range
-pub opens-runs : (s : Setting) (l : ℕ) → l ≡ simulationSize → simulation.opens l (s .n) (s .m) (s .f) (s .clients) ≡ runs s
-unfolding simulation.opens
-opens-runs s l e = rw (eq-eqb l simulationSize e)
+begun-run : (b : Bool) (s : Setting) (c : Counts) → begun.Run c ≡ newAnswer b s → (b ≡ true) × (c ≡ countsOf (started s))
+unfolding newAnswer
+begun-run true s c e = (refl, (cc))
+begun-run false s c e = let z : _≡_ {A = ℕ} 0 1 = cc in absurd (omega arith)
 
-pub made-refused : (b : Bool) (x : Refusal) → made.Refused x ≡ simulation.newReply b → (b ≡ false) × (x ≡ ParameterOutOfRange)
-unfolding simulation.newReply
-made-refused true x e = let z : _≡_ {A = ℕ} 0 1 = cc in absurd (omega arith)
-made-refused false x e = (refl, (cc))
-
-pub made-new : (b : Bool) (i : ℕ) → made.Sent i ≡ simulation.newReply b → b ≡ true
-unfolding simulation.newReply
-made-new true i e = refl
-made-new false i e = let z : _≡_ {A = ℕ} 0 1 = cc in absurd (omega arith)
-
-module _ (w out : List ℕ) (at : ℕ) (R : Ready w out at) (zeroth : getD w 0 0 ≡ 0) where
+module _ (w out : List ℕ) (at : ℕ) (R : Ready w out at) (zeroth : getD w stageAt 0 ≡ stageOpening) where
   module _ (s′ : List ℕ) (long : length s′ ≡ simulationSize) where
     lent-is : Is (sets w stateHead s′) (headIn w) (keptIn w) s′
     lent-is = store-simulation (itself-is w (R .long)) s′ long
@@ -285,26 +304,23 @@ module _ (w out : List ℕ) (at : ℕ) (R : Ready w out at) (zeroth : getD w 0 0
     lent-line = ap (λ (x : Reader). x .line) (view-is lent-is)
 
   -- the setting is out of range
-  pub open-refused : (s : Setting) (s′ : List ℕ) → length s′ ≡ simulationSize → runs s ≡ false → (x : Refusal) → x ≡ ParameterOutOfRange → (w′ out′ : List ℕ) (r : ℕ) →
+  pub open-refused : (s : Setting) (s′ : List ℕ) → length s′ ≡ simulationSize → inRange s ≡ false → (x : Refusal) → x ≡ ParameterOutOfRange → (w′ out′ : List ℕ) (r : ℕ) →
       Does (sets w stateHead s′) out at (record { now = closed; out = refusedLine x }) w′ out′ r → Does w out at (opened (some s)) w′ out′ r
   unfolding opened
   open-refused s s′ long out-of x q w′ out′ r D =
       rw (out-of, ← q) (record { stage = D .stage; line = D .line ∙ lent-line s′ long; again = D .again; place = D .place; bytes = D .bytes })
 
   -- the setting is in range: the script runs
-  pub open-running : (s : Setting) (s′ : List ℕ) → runs s ≡ true → Starts (s .n) (s .m) (s .f) (s .clients) s′ → length s′ ≡ simulationSize → (out′ : List ℕ) (r : ℕ) →
-      (r ≡ at + length (headerLine s)) × (out′ ≡ sets out at (headerLine s)) → Does w out at (opened (some s)) (set (set (set (set (sets w stateHead s′) 0 1) 1 0) 2 0) 3 0) out′ r
+  pub open-running : (s : Setting) (s′ : List ℕ) → inRange s ≡ true → runIn (countsOf (started s)) s′ ≡ started s → layout.valid s′ ≡ true → length s′ ≡ simulationSize → (out′ : List ℕ) (r : ℕ) →
+      (r ≡ at + length (headerLine s)) × (out′ ≡ sets out at (headerLine s)) → Does w out at (opened (some s)) (withCounts (set (sets w stateHead s′) stageAt stageRunning) 0 (countsOf (started s))) out′ r
   unfolding opened stageOf
-  open-running s s′ in-it B long out′ r b =
-      let I = store-holding (store-accepted (store-answered (store-stage (lent-is s′ long) 1) 0) 0) 0 in
-      let none-in : holders (layout.view s′) ≡ 0 = ap holders (B .system) ∙ no-holders s in
-      let t : settingIn s′ ≡ s = ap (λ (x : layout.Setting). record { n = x .n; m = x .m; f = x .f; clients = x .clients }) (B .setting) in
-      let u = B .system in
-      let k = no-holders s in
-      let q : _≡_ {A = Run} (record { setting = settingIn s′; answered = 0; system = layout.view s′; accepted = 0; holding = 0 }) (started s) = λ i. record { setting = t i; answered = 0; system = u i; accepted = 0; holding = sym k i } in
+  open-running s s′ in-it u v long out′ r b =
+      let I = store-holding (store-accepted (store-answered (store-stage (lent-is s′ long) 1) 0) 0) (holders (fresh s)) in
+      let k : holders (layout.view s′) ≡ holders (fresh s) = ap (λ (x : Run). holders (x .system)) u in
+      let q : _≡_ {A = Script} (unanswered (runIn (countsOf (started s)) s′)) (unanswered (started s)) = ap unanswered u in
       rw in-it
-      (does w out at R (record { now = running (started s); out = headerLine s }) _ _ s′ I refl (ap running q) (omega arith)
-      (λ e. from-run _ s′ (record { simulation = B .again; answered = omega arith; accepted = omega arith; holding = omega (arith, none-in); few = omega arith }))
+      (does w out at R (record { now = running (unanswered (started s)); out = headerLine s }) _ _ s′ I refl (ap running q) (omega arith)
+      (λ e. from-run _ s′ (record { simulation = v; answered = omega arith; accepted = omega arith; holding = omega (arith, k); few = omega (arith, k, few-holders s′ v) }))
       out′ r b)
 
 -- the line by its stage ----------------------------------------------------------------------------------------------------------
@@ -313,37 +329,33 @@ module _ (w : List ℕ) where
   abbrev Line : Printed Stage
   Line = worked (view w .stage) (view w .line)
 
-  pub opening-line : getD w 0 0 ≡ 0 → worked (view w .stage) (view w .line) ≡ opened (line-setting (view w .line))
+  pub opening-line : getD w stageAt 0 ≡ stageOpening → worked (view w .stage) (view w .line) ≡ opened (line-setting (view w .line))
   unfolding worked
   opening-line e = rw (stage-opening w e)
 
-  pub closed-line : (getD w 0 0 ≡ 0 → ⊥) → (getD w 0 0 ≡ 1 → ⊥) → worked (view w .stage) (view w .line) ≡ record { now = closed; out = [] }
+  pub closed-line : (getD w stageAt 0 ≡ stageOpening → ⊥) → (getD w stageAt 0 ≡ stageRunning → ⊥) → worked (view w .stage) (view w .line) ≡ record { now = closed; out = [] }
   unfolding worked
   closed-line a b = rw (stage-closed w a b)
 
-  module _ (one : getD w 0 0 ≡ 1) where
-    pub unread-line : maxLines ≤ getD w 1 0 → worked (view w .stage) (view w .line) ≡ record { now = view w .stage; out = [] }
+  module _ (one : getD w stageAt 0 ≡ stageRunning) where
+    pub unread-line : maxLines ≤ getD w answeredAt 0 → worked (view w .stage) (view w .line) ≡ record { now = view w .stage; out = [] }
     unfolding worked lineTaken headIn
-    unread-line h = rw (stage-running w one, le-ltb (getD w 1 0) maxLines h)
+    unread-line h = rw (stage-running w one, le-ltb (getD w answeredAt 0) maxLines h)
 
-    module _ (more : getD w 1 0 < maxLines) where
-      pub bad-line : eventIn (view w .line) ≡ none → worked (view w .stage) (view w .line) ≡ passing (runIn (headIn w) (simulationIn w)) BadLine
+    module _ (more : getD w answeredAt 0 < maxLines) where
+      pub bad-line : eventIn (view w .line) ≡ none → worked (view w .stage) (view w .line) ≡ passing (scriptIn (headIn w) (simulationIn w)) BadLine
       unfolding worked lineTaken headIn
-      bad-line e = rw (stage-running w one, lt-ltb (getD w 1 0) maxLines more, e)
+      bad-line e = rw (stage-running w one, lt-ltb (getD w answeredAt 0) maxLines more, e)
 
-      pub event-line : (e : Event) → eventIn (view w .line) ≡ some e → worked (view w .stage) (view w .line) ≡ happened (runIn (headIn w) (simulationIn w)) e
+      pub event-line : (e : Event) → eventIn (view w .line) ≡ some e → worked (view w .stage) (view w .line) ≡ happened (scriptIn (headIn w) (simulationIn w)) e
       unfolding worked lineTaken headIn
-      event-line e q = rw (stage-running w one, lt-ltb (getD w 1 0) maxLines more, q)
+      event-line e q = rw (stage-running w one, lt-ltb (getD w answeredAt 0) maxLines more, q)
 
       -- an event of a party whose number is too large for its type
-      pub unknown-line : (e : Event) → eventIn (view w .line) ≡ some e → happens (settingIn (simulationIn w)) (layout.view (simulationIn w)) e ≡ refused NoSuchParty → holders (layout.view (simulationIn w)) ≤ getD w 3 0 →
-          worked (view w .stage) (view w .line) ≡ passing (runIn (headIn w) (simulationIn w)) NoSuchParty
-      unfolding headIn answerLine after
-      unknown-line e q nobody h =
-          event-line e q ∙
-          (let a : getD w 2 0 + 0 ≡ getD w 2 0 = omega arith in
-          let b : max (getD w 3 0) (holders (layout.view (simulationIn w))) ≡ getD w 3 0 = omega (arith, h) in
-          rw (nobody, a, b))
+      pub unknown-line : (e : Event) → eventIn (view w .line) ≡ some e → bounded.happens (simulationIn w) e ≡ refused NoSuchParty →
+          worked (view w .stage) (view w .line) ≡ passing (scriptIn (headIn w) (simulationIn w)) NoSuchParty
+      unfolding headIn answerLine moved
+      unknown-line e q nobody = event-line e q ∙ rw nobody
 
 -- what the parser said of the line
 pub parsed-bad : (o : Option Event) → Bad ≡ lineOf o → o ≡ none
@@ -404,6 +416,14 @@ module _ (s : List ℕ) (v : layout.valid s ≡ true) where
   nobody-such (Miss j) h = rw (no-server-misses _ _ (layout.view s) j (no-server (j .0) h))
   nobody-such (Check j) h = rw (no-server-checks _ _ (layout.view s) j (no-server (j .0) h))
 
+-- the counts stored leave as many words
+pub counts-same : (w : List ℕ) (i : ℕ) (c : Counts) → length (withCounts w i c) ≡ length w
+counts-same w i c =
+    length-set (set (set w answeredAt i) acceptedAt (c .accepted)) holdingAt (c .holding) ∙ (length-set (set w answeredAt i) acceptedAt (c .accepted) ∙ length-set w answeredAt i)
+
+pub started-same : (w w′ : List ℕ) (c : Counts) → w′ ≡ withCounts (set w stageAt stageRunning) 0 c → length w′ ≡ length w
+started-same w w′ c p = ap length p ∙ (counts-same (set w stageAt stageRunning) 0 c ∙ length-set w stageAt stageRunning)
+
 -- the simulation, lent and come back -----------------------------------------------------------------------------------------------
 
 pub back : (w s′ : List ℕ) → length w ≡ stateSize → length s′ ≡ simulationSize → putMid stateHead simulationSize w s′ ≡ sets w stateHead s′
@@ -419,110 +439,82 @@ pub simulation-valid : (w out : List ℕ) (at : ℕ) (R : Ready w out at) → Re
 unfolding simulationIn
 simulation-valid w out at R N = run-known w out at R N .simulation
 
--- the event's two ends
-module _ (w out : List ℕ) (at : ℕ) (R : Ready w out at) (N : Reads w) (e : Event) (s′ : List ℕ) (L : bounded.Leaves (take simulationSize (drop stateHead w)) e s′) where
+-- the counts are small enough to be counted on
+pub counts-small : (w : List ℕ) → Reads w → (c : Counts) → c ≡ countsIn (headIn w) → c .accepted < maxAccepted
+unfolding headIn
+counts-small w N c e = omega (arith, ap (λ (x : Counts). x .accepted) e, N .fewer, N .more)
+
+-- an event's end: the simulation is back, and the counts are stored
+module _ (w out : List ℕ) (at : ℕ) (R : Ready w out at) (N : Reads w) (e : Event) (s′ : List ℕ) (counts : Counts) (c : counts ≡ countsIn (headIn w)) (went : Went) (L : Goes counts (take simulationSize (drop stateHead w)) e s′ went) where
   long′ : length s′ ≡ simulationSize
   long′ = valid-long s′ (L .again)
 
-  leaves : bounded.Leaves (simulationIn w) e s′
+  leaves : Goes (countsIn (headIn w)) (simulationIn w) e s′ went
   unfolding simulationIn
-  leaves = L
+  leaves = rw c at L
 
-  words : Is (set (putMid stateHead simulationSize w s′) 1 (getD w 1 0 + 1)) (record { stage = getD w 0 0; answered = getD w 1 0 + 1; accepted = getD w 2 0; holding = getD w 3 0; length = getD w 4 0 }) (keptIn w) s′
-  unfolding headIn
-  words = rw (back w s′ (R .long) long′) (store-answered (store-simulation (itself-is w (R .long)) s′ long′) (getD w 1 0 + 1))
+  pub event-long : length (putMid stateHead simulationSize w s′) ≡ stateSize
+  event-long = back-long w s′ (R .long) long′
 
-  pub counted-long : length (set (putMid stateHead simulationSize w s′) 1 (getD w 1 0 + 1)) ≡ stateSize
-  counted-long = length-set (putMid stateHead simulationSize w s′) 1 (getD w 1 0 + 1) ∙ back-long w s′ (R .long) long′
+  module _ (w′ : List ℕ) (p : w′ ≡ withCounts (putMid stateHead simulationSize w s′) (getD w answeredAt 0 + 1) (went .counts)) where
+    words : Is w′ (head w out at R N e s′ went leaves) (keptIn w) s′
+    unfolding headIn
+    words =
+        rw (p, back w s′ (R .long) long′)
+        (store-holding (store-accepted (store-answered (store-simulation (itself-is w (R .long)) s′ long′) (getD w answeredAt 0 + 1)) (went .counts .accepted)) (went .counts .holding))
 
-  word-two : getD (set (putMid stateHead simulationSize w s′) 1 (getD w 1 0 + 1)) 2 0 ≡ getD w 2 0
-  unfolding headIn
-  word-two = ap (λ (h : Head). h .accepted) (words .head)
+    pub event-same : length w′ ≡ length w
+    event-same = words .long ∙ sym (R .long)
 
-  word-three : getD (set (putMid stateHead simulationSize w s′) 1 (getD w 1 0 + 1)) 3 0 ≡ getD w 3 0
-  unfolding headIn
-  word-three = ap (λ (h : Head). h .holding) (words .head)
+    pub event-happened : (out′ : List ℕ) (r : ℕ) →
+        (r ≡ at + length (replyLine (getD w answeredAt 0 + 1) (went .reply))) × (out′ ≡ sets out at (replyLine (getD w answeredAt 0 + 1) (went .reply))) →
+        Does w out at (happened (scriptIn (headIn w) (simulationIn w)) e) w′ out′ r
+    event-happened out′ r b = happened-does w out at R N e s′ went leaves w′ words out′ r b
 
-  pub counted-few : getD (set (putMid stateHead simulationSize w s′) 1 (getD w 1 0 + 1)) 2 0 ≤ maxLines
-  counted-few = omega (arith, word-two, N .fewer, N .more)
-
-  pub accepted-same : (k : ℕ) (w′ : List ℕ) →
-      w′ ≡ set (set (set (putMid stateHead simulationSize w s′) 1 (getD w 1 0 + 1)) 2 (getD (set (putMid stateHead simulationSize w s′) 1 (getD w 1 0 + 1)) 2 0 + 1)) 3 (max (getD (set (putMid stateHead simulationSize w s′) 1 (getD w 1 0 + 1)) 3 0) k) → length w′ ≡ length w
-  accepted-same k w′ p =
-      let x : List ℕ = set (putMid stateHead simulationSize w s′) 1 (getD w 1 0 + 1) in
-      ap length p ∙ (length-set (set x 2 (getD x 2 0 + 1)) 3 (max (getD x 3 0) k) ∙ (length-set x 2 (getD x 2 0 + 1) ∙ (counted-long ∙ sym (R .long))))
-
-  holding-word : RunFacts (headIn w) (simulationIn w) → holders (layout.view (simulationIn w)) ≤ getD w 3 0
-  unfolding headIn
-  holding-word F = F .holding
-
-  pub event-refused : (x : Refusal) → reply.Refused x ≡ bounded.replyOf (layout.view (take simulationSize (drop stateHead w))) (bounded.happens (take simulationSize (drop stateHead w)) e) → (out′ : List ℕ) (r : ℕ) →
-      (r ≡ at + length (noLine (getD w 1 0 + 1) x)) × (out′ ≡ sets out at (noLine (getD w 1 0 + 1) x)) →
-      Does w out at (happened (runIn (headIn w) (simulationIn w)) e) (set (putMid stateHead simulationSize w s′) 1 (getD w 1 0 + 1)) out′ r
-  unfolding simulationIn answerLine after
-  event-refused x q out′ r b =
-      let o : bounded.happens (simulationIn w) e ≡ refused x = reply-refused _ _ x q in
-      let F = run-known w out at R N in
-      let z : getD w 1 0 + 1 ≡ suc (getD w 1 0) = add-one (getD w 1 0) in
-      happened-does w out at R N e s′ leaves (getD w 2 0) (getD w 3 0) (rw o (omega arith)) (rw o (omega (arith, holding-word F))) _ words out′ r (rw (o, ← z) b)
-
-  pub event-accepted : (sent k : ℕ) → reply.Accepted sent k ≡ bounded.replyOf (layout.view (take simulationSize (drop stateHead w))) (bounded.happens (take simulationSize (drop stateHead w)) e) → (w′ : List ℕ) →
-      w′ ≡ set (set (set (putMid stateHead simulationSize w s′) 1 (getD w 1 0 + 1)) 2 (getD (set (putMid stateHead simulationSize w s′) 1 (getD w 1 0 + 1)) 2 0 + 1)) 3 (max (getD (set (putMid stateHead simulationSize w s′) 1 (getD w 1 0 + 1)) 3 0) k) → (out′ : List ℕ) (r : ℕ) →
-      (r ≡ at + length (okLine (getD w 1 0 + 1) sent k)) × (out′ ≡ sets out at (okLine (getD w 1 0 + 1) sent k)) →
-      Does w out at (happened (runIn (headIn w) (simulationIn w)) e) w′ out′ r
-  unfolding simulationIn
-  event-accepted sent k q w′ p out′ r b =
-      let A = reply-accepted _ _ sent k q in
-      let z : getD w 1 0 + 1 ≡ suc (getD w 1 0) = add-one (getD w 1 0) in
-      let I = store-holding (store-accepted words (getD w 2 0 + 1)) (max (getD w 3 0) k) in
-      let J : Is w′ (record { stage = getD w 0 0; answered = getD w 1 0 + 1; accepted = getD w 2 0 + 1; holding = max (getD w 3 0) k; length = getD w 4 0 }) (keptIn w) s′ = rw (p, word-two, word-three) I in
-      happened-does w out at R N e s′ leaves (getD w 2 0 + 1) (max (getD w 3 0) k) (rw (A .stepped)) (rw (A .holders)) w′ J out′ r (rw (A .line (suc (getD w 1 0)), ← z) b)
-
--- a new simulation's two ends
-module _ (w out : List ℕ) (at : ℕ) (R : Ready w out at) (zeroth : getD w 0 0 ≡ 0) (s : Setting) (s′ : List ℕ) (N : simulation.NewLeaves (s .n) (s .m) (s .f) (s .clients) (take simulationSize (drop stateHead w)) s′) where
+-- a new run's two ends
+module _ (w out : List ℕ) (at : ℕ) (R : Ready w out at) (zeroth : getD w stageAt 0 ≡ stageOpening) (s : Setting) (s′ : List ℕ) (made : Begun)
+    (N : NewLeaves s (take simulationSize (drop stateHead w)) s′ × (made ≡ newAnswer (opens (length (take simulationSize (drop stateHead w))) s) s)) where
   abbrev opens-it : Bool
-  opens-it = simulation.opens (length (take simulationSize (drop stateHead w))) (s .n) (s .m) (s .f) (s .clients)
+  opens-it = opens (length (take simulationSize (drop stateHead w))) s
 
   lent-long : length (take simulationSize (drop stateHead w)) ≡ simulationSize
   lent-long = part-long w (R .long)
 
-  as-runs : opens-it ≡ runs s
-  as-runs = opens-runs s (length (take simulationSize (drop stateHead w))) lent-long
+  as-range : opens-it ≡ inRange s
+  as-range = opens-range s (length (take simulationSize (drop stateHead w))) lent-long
 
-  module _ (x : Refusal) (e : made.Refused x ≡ simulation.newReply opens-it) where
+  module _ (x : Refusal) (e : made ≡ begun.Refused x) where
+    refusing : (opens-it ≡ false) × (x ≡ ParameterOutOfRange)
+    refusing = begun-refused opens-it s x (sym e ∙ N .1)
+
     kept-long′ : length s′ ≡ simulationSize
-    kept-long′ = ap length (N .kept (made-refused opens-it x e .0)) ∙ lent-long
+    kept-long′ = ap length (N .0 .kept (refusing .0)) ∙ lent-long
 
     pub begin-ready : Ready (putMid stateHead simulationSize w s′) out at
     begin-ready = rw (back w s′ (R .long) kept-long′) (lent-ready w out at R zeroth s′ kept-long′)
 
     pub begin-refused : (w′ out′ : List ℕ) (r : ℕ) → Does (putMid stateHead simulationSize w s′) out at (record { now = closed; out = refusedLine x }) w′ out′ r → Does w out at (opened (some s)) w′ out′ r
-    begin-refused w′ out′ r D =
-        let q = made-refused opens-it x e in
-        open-refused w out at R zeroth s s′ kept-long′ (sym as-runs ∙ q .0) x (q .1) w′ out′ r (rw (back w s′ (R .long) kept-long′) at D)
+    begin-refused w′ out′ r D = open-refused w out at R zeroth s s′ kept-long′ (sym as-range ∙ refusing .0) x (refusing .1) w′ out′ r (rw (back w s′ (R .long) kept-long′) at D)
 
-  module _ (i : ℕ) (e : made.Sent i ≡ simulation.newReply opens-it) where
-    fresh-start : Starts (s .n) (s .m) (s .f) (s .clients) s′
-    fresh-start = N .starts (made-new opens-it i e)
+  module _ (c : Counts) (e : made ≡ begun.Run c) where
+    running-it : (opens-it ≡ true) × (c ≡ countsOf (started s))
+    running-it = begun-run opens-it s c (sym e ∙ N .1)
 
     fresh-long : length s′ ≡ simulationSize
-    fresh-long = valid-long s′ (fresh-start .again)
+    fresh-long = valid-long s′ (N .0 .again (running-it .0))
 
     pub begin-long : length (putMid stateHead simulationSize w s′) ≡ stateSize
     begin-long = back-long w s′ (R .long) fresh-long
 
-    pub begin-running : (w′ : List ℕ) → w′ ≡ set (set (set (set (putMid stateHead simulationSize w s′) 0 1) 1 0) 2 0) 3 0 → (out′ : List ℕ) (r : ℕ) → (r ≡ at + length (headerLine s)) × (out′ ≡ sets out at (headerLine s)) →
-        Does w out at (opened (some s)) w′ out′ r
-    begin-running w′ p out′ r b = rw (p, back w s′ (R .long) fresh-long) (open-running w out at R zeroth s s′ (sym as-runs ∙ made-new opens-it i e) fresh-start fresh-long out′ r b)
+    module _ (w′ : List ℕ) (p : w′ ≡ withCounts (set (putMid stateHead simulationSize w s′) stageAt stageRunning) 0 c) where
+      pub begin-same : length w′ ≡ length w
+      begin-same = ap length p ∙ (counts-same (set (putMid stateHead simulationSize w s′) stageAt stageRunning) 0 c ∙ (length-set (putMid stateHead simulationSize w s′) stageAt stageRunning ∙ (begin-long ∙ sym (R .long))))
 
--- room for each line
+      pub begin-running : (out′ : List ℕ) (r : ℕ) → (r ≡ at + length (headerLine s)) × (out′ ≡ sets out at (headerLine s)) → Does w out at (opened (some s)) w′ out′ r
+      begin-running out′ r b =
+          rw (p, running-it .1, back w s′ (R .long) fresh-long) (open-running w out at R zeroth s s′ (sym as-range ∙ running-it .0) (N .0 .run (running-it .0)) (N .0 .again (running-it .0)) fresh-long out′ r b)
+
 module _ (w out : List ℕ) (at : ℕ) (R : Ready w out at) where
-  pub no-room : (i : ℕ) (x : Refusal) → at + length (noLine i x) ≤ length out
-  no-room i x = omega (arith, no-short i x, R .room)
-
-  pub ok-room : (i sent k : ℕ) → at + length (okLine i sent k) ≤ length out
-  ok-room i sent k = omega (arith, ok-short i sent k, R .room)
-
   pub header-room : (s : Setting) → at + length (headerLine s) ≤ length out
   header-room s = omega (arith, header-short s, R .room)
 
@@ -548,43 +540,43 @@ module _ (w out : List ℕ) (at : ℕ) (R : Ready w out at) where
     pub setting-first : (s : Setting) → Opens s ≡ firstOf (line-setting (view w .line)) → Does w out at (opened (some s)) w′ out′ r → Does w out at (opened (line-setting (view w .line))) w′ out′ r
     setting-first s e D = rw (first-setting (line-setting (view w .line)) s e) D
 
-    pub opening-does : getD w 0 0 ≡ 0 → Does w out at (opened (line-setting (view w .line))) w′ out′ r → Does w out at (worked (view w .stage) (view w .line)) w′ out′ r
+    pub opening-does : getD w stageAt 0 ≡ stageOpening → Does w out at (opened (line-setting (view w .line))) w′ out′ r → Does w out at (worked (view w .stage) (view w .line)) w′ out′ r
     opening-does e D = rw (opening-line w e) D
 
-    module _ (one : getD w 0 0 ≡ 1) (more : getD w 1 0 < maxLines) where
-      pub bad-does : Bad ≡ lineOf (eventIn (view w .line)) → Does w out at (passing (runIn (headIn w) (simulationIn w)) BadLine) w′ out′ r → Does w out at (worked (view w .stage) (view w .line)) w′ out′ r
+    module _ (one : getD w stageAt 0 ≡ stageRunning) (more : getD w answeredAt 0 < maxLines) where
+      pub bad-does : Bad ≡ lineOf (eventIn (view w .line)) → Does w out at (passing (scriptIn (headIn w) (simulationIn w)) BadLine) w′ out′ r → Does w out at (worked (view w .stage) (view w .line)) w′ out′ r
       bad-does e D = rw (bad-line w one more (parsed-bad (eventIn (view w .line)) e)) D
 
-      pub event-does : (x : Event) → Says x ≡ lineOf (eventIn (view w .line)) → Does w out at (happened (runIn (headIn w) (simulationIn w)) x) w′ out′ r → Does w out at (worked (view w .stage) (view w .line)) w′ out′ r
+      pub event-does : (x : Event) → Says x ≡ lineOf (eventIn (view w .line)) → Does w out at (happened (scriptIn (headIn w) (simulationIn w)) x) w′ out′ r → Does w out at (worked (view w .stage) (view w .line)) w′ out′ r
       event-does x e D = rw (event-line w one more x (parsed-event (eventIn (view w .line)) x e)) D
 
-      pub unknown-does : Unknown ≡ lineOf (eventIn (view w .line)) → Does w out at (passing (runIn (headIn w) (simulationIn w)) NoSuchParty) w′ out′ r → Does w out at (worked (view w .stage) (view w .line)) w′ out′ r
+      pub unknown-does : Unknown ≡ lineOf (eventIn (view w .line)) → Does w out at (passing (scriptIn (headIn w) (simulationIn w)) NoSuchParty) w′ out′ r → Does w out at (worked (view w .stage) (view w .line)) w′ out′ r
       unfolding headIn
       unknown-does e D =
           let K : IsUnknown (eventIn (view w .line)) = parsed-unknown (eventIn (view w .line)) e in
           let F = run-facts (headIn w) (simulationIn w) (known w (R .valid) .runs one) in
-          rw (unknown-line w one more (K .event) (K .read) (nobody-such (simulationIn w) (F .simulation) (K .event) (K .wide)) (F .holding)) D
+          rw (unknown-line w one more (K .event) (K .read) (nobody-such (simulationIn w) (F .simulation) (K .event) (K .wide))) D
 
-  pub reading : getD w 0 0 ≡ 1 → getD w 1 0 < maxLines → Reads w
+  pub reading : getD w stageAt 0 ≡ stageRunning → getD w answeredAt 0 < maxLines → Reads w
   unfolding headIn
   reading one more = record { runs = one; more = more; fewer = run-facts (headIn w) (simulationIn w) (known w (R .valid) .runs one) .accepted }
 
-  pub unread-does : getD w 0 0 ≡ 1 → maxLines ≤ getD w 1 0 → Does w out at (worked (view w .stage) (view w .line)) w out at
+  pub unread-does : getD w stageAt 0 ≡ stageRunning → maxLines ≤ getD w answeredAt 0 → Does w out at (worked (view w .stage) (view w .line)) w out at
   unread-does one h = let e = unread-line w one h in stays w out at R _ (ap (λ (p : Printed Stage). p .now) e) (ap (λ (p : Printed Stage). p .out) e)
 
-  pub closed-does : (getD w 0 0 ≡ 0 → ⊥) → (getD w 0 0 ≡ 1 → ⊥) → Does w out at (worked (view w .stage) (view w .line)) w out at
+  pub closed-does : (getD w stageAt 0 ≡ stageOpening → ⊥) → (getD w stageAt 0 ≡ stageRunning → ⊥) → Does w out at (worked (view w .stage) (view w .line)) w out at
   closed-does a b =
       let e = closed-line w a b in
       stays w out at R _ (ap (λ (p : Printed Stage). p .now) e ∙ sym (stage-closed w a b)) (ap (λ (p : Printed Stage). p .out) e)
 
   -- a byte ----------------------------------------------------------------------------------------------------------------------------
 
-  pub line-taken : (b : ℕ) → b ≡ 10 → (w′ out′ : List ℕ) (r : ℕ) → Does w out at (worked (view w .stage) (view w .line)) w′ out′ r → Takes out at (taken (view w) b) (set w′ 4 0) out′ r
+  pub line-taken : (b : ℕ) → b ≡ newline → (w′ out′ : List ℕ) (r : ℕ) → Does w out at (worked (view w .stage) (view w .line)) w′ out′ r → Takes out at (taken (view w) b) (set w′ lengthAt 0) out′ r
   unfolding taken headIn validRun
   line-taken b e w′ out′ r D =
       let S = sound w′ (D .again) in
       let I = store-length (itself-is w′ (S .long)) 0 in
-      rw (eq-eqb b 10 e)
+      rw (eq-eqb b newline e)
       (record {
         reader = view-is I ∙ (λ i. record { stage = kept-stage i; line = [] });
         again = valid-is I ∙ from-facts _ (keptIn w′) (simulationIn w′) (known w′ (D .again) .stage) (omega arith) (known w′ (D .again) .bytes) (known w′ (D .again) .runs);
@@ -592,19 +584,19 @@ module _ (w out : List ℕ) (at : ℕ) (R : Ready w out at) where
         bytes = D .bytes;
       })
     where
-      kept-stage : stageOf (record { stage = getD w′ 0 0; answered = getD w′ 1 0; accepted = getD w′ 2 0; holding = getD w′ 3 0; length = 0 }) (simulationIn w′) ≡ worked (view w .stage) (view w .line) .now
+      kept-stage : stageOf (record { stage = getD w′ stageAt 0; answered = getD w′ answeredAt 0; accepted = getD w′ acceptedAt 0; holding = getD w′ holdingAt 0; length = 0 }) (simulationIn w′) ≡ worked (view w .stage) (view w .line) .now
       kept-stage = stage-without w′ ∙ D .stage
 
-  pub byte-taken : (b : ℕ) → (b ≡ 10 → ⊥) → (w′ : List ℕ) → (view w′ ≡ record { stage = view w .stage; line = behind (view w .line) b }) × (valid w′ ≡ true) → Takes out at (taken (view w) b) w′ out at
+  pub byte-taken : (b : ℕ) → (b ≡ newline → ⊥) → (w′ : List ℕ) → (view w′ ≡ record { stage = view w .stage; line = behind (view w .line) b }) × (valid w′ ≡ true) → Takes out at (taken (view w) b) w′ out at
   unfolding taken
-  byte-taken b ne w′ e = rw (ne-eqb b 10 ne) (record { reader = e .0; again = e .1; place = omega arith; bytes = refl })
+  byte-taken b ne w′ e = rw (ne-eqb b newline ne) (record { reader = e .0; again = e .1; place = omega arith; bytes = refl })
 
   -- the last line
-  pub last-none : getD w 4 0 ≡ 0 → Does w out at (lastLine (view w)) w out at
+  pub last-none : getD w lengthAt 0 ≡ 0 → Does w out at (lastLine (view w)) w out at
   last-none e =
       let z : length (view w .line) ≡ 0 = line-long w (sound w (R .valid)) ∙ e in
       rw (eq-eqb (length (view w .line)) 0 z) (stays w out at R (record { now = view w .stage; out = [] }) refl refl)
 
-  pub last-line : (getD w 4 0 ≡ 0 → ⊥) → (w′ out′ : List ℕ) (r : ℕ) → Does w out at (worked (view w .stage) (view w .line)) w′ out′ r → Does w out at (lastLine (view w)) w′ out′ r
+  pub last-line : (getD w lengthAt 0 ≡ 0 → ⊥) → (w′ out′ : List ℕ) (r : ℕ) → Does w out at (worked (view w .stage) (view w .line)) w′ out′ r → Does w out at (lastLine (view w)) w′ out′ r
   last-line ne w′ out′ r D =
       rw (ne-eqb (length (view w .line)) 0 (λ z. ne (sym (line-long w (sound w (R .valid))) ∙ z))) D

@@ -1,21 +1,19 @@
 -- The test whether words are a script's state: each return is one case of the definition.
-use mathlib.Core.Path.{_≡_, refl, sym, ap, _∙_}
+use mathlib.Core.Path.{_≡_, sym, _∙_}
 use Prim.Native.Nat.{ℕ, _≤_, _<_}
 use native.Mathlib.Omega.{arith}
 use mathlib.Core.Bool.{Bool, true, false, not}
-use mathlib.Core.List.{List, map}
-use lib.Dec.{eqb, leb}
+use mathlib.Core.List.{List}
+use lib.Dec.{leb}
 use lib.ListN.{length, getD, take, drop}
-use borrow.Author.Tests.{le-leb, lt-leb, eq-eqb, ne-eqb, leb-true, not-true, not-false}
+use borrow.Author.Tests.{le-leb, lt-leb, eq-eqb, ne-eqb, not-true, not-false}
 use Rattle.ids.specs.Lists.{every}
 use Rattle.ids.proofs.LimitsLaws.{within-range}
 use Rattle.responses.specs.Figure1.{count}
-use Rattle.system.specs.Places.{isInside, holders}
-use Rattle.regions.specs.Blocks.{blocks}
-use Rattle.places.specs.Blocks.{clientPlace, clientBlock}
+use Rattle.system.specs.Places.{holders}
 use Rattle.layout.specs.Layout as layout
 use Rattle.layout.proofs.ValidLaws as layout-laws
-use Rattle.script.specs.State.{stateSize, headIn, keptIn, simulationIn, validRun, byteWord, validParts, valid, stateHead}
+use Rattle.script.specs.State.{stageRunning, stageClosed, stageAt, answeredAt, acceptedAt, holdingAt, lengthAt, stateSize, headIn, keptIn, simulationIn, validRun, byteWord, validParts, valid, stateHead}
 use Rattle.script.proofs.StateLaws.{simulation-long}
 use Rattle.system.specs.Limits.{systemClients}
 use Rattle.layout.specs.Layout.{simulationSize}
@@ -41,29 +39,25 @@ module _ (w : List ℕ) (long : length w ≡ stateSize) where
       pub simulation-good : layout.valid (take simulationSize (drop stateHead w)) ≡ true
       simulation-good = sym e ∙ not-false x n
 
-      pub lines-many : maxLines < getD w 1 0 → false ≡ validRun (headIn w) (simulationIn w)
+      pub lines-many : maxLines < getD w answeredAt 0 → false ≡ validRun (headIn w) (simulationIn w)
       unfolding validRun simulationIn headIn
-      lines-many g = rw (simulation-good, lt-leb (getD w 1 0) maxLines g)
+      lines-many g = rw (simulation-good, lt-leb (getD w answeredAt 0) maxLines g)
 
-      module _ (l : getD w 1 0 ≤ maxLines) where
-        pub accepted-many : getD w 1 0 < getD w 2 0 → false ≡ validRun (headIn w) (simulationIn w)
+      module _ (l : getD w answeredAt 0 ≤ maxLines) where
+        pub accepted-many : getD w answeredAt 0 < getD w acceptedAt 0 → false ≡ validRun (headIn w) (simulationIn w)
         unfolding validRun simulationIn headIn
-        accepted-many g = rw (simulation-good, le-leb (getD w 1 0) maxLines l, lt-leb (getD w 2 0) (getD w 1 0) g)
+        accepted-many g = rw (simulation-good, le-leb (getD w answeredAt 0) maxLines l, lt-leb (getD w acceptedAt 0) (getD w answeredAt 0) g)
 
-        module _ (a : getD w 2 0 ≤ getD w 1 0) (c : ℕ) (q : c ≡ count (map isInside (blocks clientBlock clientPlace (getD (take simulationSize (drop stateHead w)) 3 0) (layout.clientWords (take simulationSize (drop stateHead w)))))) where
-          counted : c ≡ holders (layout.view (take simulationSize (drop stateHead w)))
-          unfolding layout.view layout.settingOf
-          counted = q
-
-          pub holders-many : getD w 3 0 < c → false ≡ validRun (headIn w) (simulationIn w)
+        module _ (a : getD w acceptedAt 0 ≤ getD w answeredAt 0) (c : ℕ) (q : c ≡ holders (layout.view (take simulationSize (drop stateHead w)))) where
+          pub holders-many : getD w holdingAt 0 < c → false ≡ validRun (headIn w) (simulationIn w)
           unfolding validRun simulationIn headIn
           holders-many g =
-              rw (simulation-good, le-leb (getD w 1 0) maxLines l, le-leb (getD w 2 0) (getD w 1 0) a, lt-leb (holders (layout.view (take simulationSize (drop stateHead w)))) (getD w 3 0) (omega (arith, g, counted)))
+              rw (simulation-good, le-leb (getD w answeredAt 0) maxLines l, le-leb (getD w acceptedAt 0) (getD w answeredAt 0) a, lt-leb (holders (layout.view (take simulationSize (drop stateHead w)))) (getD w holdingAt 0) (omega (arith, g, q)))
 
-          pub holders-few : c ≤ getD w 3 0 → (r : Bool) → r ≡ leb (getD w 3 0) systemClients → r ≡ validRun (headIn w) (simulationIn w)
+          pub holders-few : c ≤ getD w holdingAt 0 → (r : Bool) → r ≡ leb (getD w holdingAt 0) systemClients → r ≡ validRun (headIn w) (simulationIn w)
           unfolding validRun simulationIn headIn
           holders-few g r p =
-              rw (simulation-good, le-leb (getD w 1 0) maxLines l, le-leb (getD w 2 0) (getD w 1 0) a, le-leb (holders (layout.view (take simulationSize (drop stateHead w)))) (getD w 3 0) (omega (arith, g, counted))) p
+              rw (simulation-good, le-leb (getD w answeredAt 0) maxLines l, le-leb (getD w acceptedAt 0) (getD w answeredAt 0) a, le-leb (holders (layout.view (take simulationSize (drop stateHead w)))) (getD w holdingAt 0) (omega (arith, g, q))) p
 
 -- the whole
 module _ (w : List ℕ) where
@@ -72,25 +66,25 @@ module _ (w : List ℕ) where
   size-wrong ne = rw (ne-eqb (length w) stateSize ne)
 
   module _ (long : length w ≡ stateSize) where
-    pub stage-wrong : 2 < getD w 0 0 → false ≡ valid w
+    pub stage-wrong : stageClosed < getD w stageAt 0 → false ≡ valid w
     unfolding valid validParts headIn
-    stage-wrong g = rw (eq-eqb (length w) stateSize long, lt-leb (getD w 0 0) 2 g)
+    stage-wrong g = rw (eq-eqb (length w) stateSize long, lt-leb (getD w stageAt 0) stageClosed g)
 
-    module _ (a : getD w 0 0 ≤ 2) where
-      pub line-wrong : maxKept < getD w 4 0 → false ≡ valid w
+    module _ (a : getD w stageAt 0 ≤ stageClosed) where
+      pub line-wrong : maxKept < getD w lengthAt 0 → false ≡ valid w
       unfolding valid validParts headIn
-      line-wrong g = rw (eq-eqb (length w) stateSize long, le-leb (getD w 0 0) 2 a, lt-leb (getD w 4 0) maxKept g)
+      line-wrong g = rw (eq-eqb (length w) stateSize long, le-leb (getD w stageAt 0) stageClosed a, lt-leb (getD w lengthAt 0) maxKept g)
 
-      module _ (b : getD w 4 0 ≤ maxKept) (x : Bool) (e : x ≡ every byteWord (keptIn w)) where
+      module _ (b : getD w lengthAt 0 ≤ maxKept) (x : Bool) (e : x ≡ every byteWord (keptIn w)) where
         pub bytes-wrong : not x ≡ true → false ≡ valid w
         unfolding valid validParts headIn
-        bytes-wrong n = rw (eq-eqb (length w) stateSize long, le-leb (getD w 0 0) 2 a, le-leb (getD w 4 0) maxKept b, sym e ∙ not-true x n)
+        bytes-wrong n = rw (eq-eqb (length w) stateSize long, le-leb (getD w stageAt 0) stageClosed a, le-leb (getD w lengthAt 0) maxKept b, sym e ∙ not-true x n)
 
         module _ (n : not x ≡ false) where
-          pub no-run : (getD w 0 0 ≡ 1 → ⊥) → true ≡ valid w
+          pub no-run : (getD w stageAt 0 ≡ stageRunning → ⊥) → true ≡ valid w
           unfolding valid validParts headIn
-          no-run ne = rw (eq-eqb (length w) stateSize long, le-leb (getD w 0 0) 2 a, le-leb (getD w 4 0) maxKept b, sym e ∙ not-false x n, ne-eqb (getD w 0 0) 1 ne)
+          no-run ne = rw (eq-eqb (length w) stateSize long, le-leb (getD w stageAt 0) stageClosed a, le-leb (getD w lengthAt 0) maxKept b, sym e ∙ not-false x n, ne-eqb (getD w stageAt 0) stageRunning ne)
 
-          pub run-decides : getD w 0 0 ≡ 1 → (r : Bool) → r ≡ validRun (headIn w) (simulationIn w) → r ≡ valid w
+          pub run-decides : getD w stageAt 0 ≡ stageRunning → (r : Bool) → r ≡ validRun (headIn w) (simulationIn w) → r ≡ valid w
           unfolding valid validParts headIn
-          run-decides q r p = rw (eq-eqb (length w) stateSize long, le-leb (getD w 0 0) 2 a, le-leb (getD w 4 0) maxKept b, sym e ∙ not-false x n, eq-eqb (getD w 0 0) 1 q) p
+          run-decides q r p = rw (eq-eqb (length w) stateSize long, le-leb (getD w stageAt 0) stageClosed a, le-leb (getD w lengthAt 0) maxKept b, sym e ∙ not-false x n, eq-eqb (getD w stageAt 0) stageRunning q) p

@@ -4,7 +4,7 @@ use mathlib.Core.Path.{_≡_}
 use mathlib.Core.Bool.{Bool, true, false, _&&_}
 use mathlib.Core.List.{List, []}
 use lib.Dec.{eqb, ltb, leb}
-use lib.ListN.{length, getD, replicate}
+use lib.ListN.{length, getD, set, replicate}
 use lib.Seq.{sets}
 use Rattle.ids.specs.Choice.{if_then_else_}
 use Rattle.ids.specs.declared.Refusal.{Refusal}
@@ -12,10 +12,14 @@ use Rattle.ids.specs.declared.Refusal.the-variants.{RoomShort, InvalidRecord, P
 use Rattle.script.specs.declared.Progress.{Progress}
 use Rattle.script.specs.declared.Progress.the-variants.{Took, Refused}
 use Rattle.system.specs.declared.Event.{Event}
-use Rattle.language.specs.Printed.{noLine}
-use Rattle.output.specs.Output.{happens, answerLine, maxLines}
-use Rattle.output.specs.Reader.{Run, Stage, running, closed, Reader, Printed, moved, passed, maxPrinted, fedWithin, finished, maxKept}
-use Rattle.script.specs.State.{stateSize, view, valid, stateHead}
+use Rattle.bounded.specs.declared.Reply.{Reply}
+use Rattle.bounded.specs.declared.Reply.the-variants as reply
+use Rattle.runs.specs.declared.Counts.{Counts}
+use Rattle.runs.specs.Run.{happens, next}
+use Rattle.language.specs.Printed.{noLine, okLine}
+use Rattle.output.specs.Output.{answerLine, maxLines}
+use Rattle.output.specs.Reader.{Script, Stage, running, closed, Reader, Printed, onward, maxPrinted, fedWithin, finished, maxKept}
+use Rattle.script.specs.State.{stageRunning, stageAt, answeredAt, acceptedAt, holdingAt, lengthAt, stateSize, view, valid, stateHead}
 
 -- a new script: 7 if the words are too few or too many
 unfoldable pub newAnswer : List ℕ → Progress
@@ -63,20 +67,20 @@ pub record FinishLeaves (w out w′ out′ : List ℕ) : Type 0 where
 pub record Sound (w : List ℕ) : Type 0 where
   pub valid : valid w ≡ true
   pub long : length w ≡ stateSize
-  pub short : getD w 4 0 ≤ maxKept
+  pub short : getD w lengthAt 0 ≤ maxKept
 
 -- and there is room for one line from place `at` on
 pub record Ready (w out : List ℕ) (at : ℕ) : Type 0 where
   pub valid : valid w ≡ true
   pub long : length w ≡ stateSize
-  pub short : getD w 4 0 ≤ maxKept
+  pub short : getD w lengthAt 0 ≤ maxKept
   pub room : at + maxPrinted ≤ length out
 
 -- a script that runs, with an event line still to be read
 pub record Reads (w : List ℕ) : Type 0 where
-  pub runs : getD w 0 0 ≡ 1
-  pub more : getD w 1 0 < maxLines
-  pub fewer : getD w 2 0 ≤ getD w 1 0
+  pub runs : getD w stageAt 0 ≡ stageRunning
+  pub more : getD w answeredAt 0 < maxLines
+  pub fewer : getD w acceptedAt 0 ≤ getD w answeredAt 0
 
 -- the stage became and printed this, from place `at` on, and r is the place behind it; the line is as it was
 pub record Does (w out : List ℕ) (at : ℕ) (p : Printed Stage) (w′ out′ : List ℕ) (r : ℕ) : Type 0 where
@@ -101,12 +105,20 @@ pub record FedAs (w input out w′ out′ : List ℕ) (r : Progress) : Type 0 wh
   pub bytes : out′ ≡ sets out 0 (fedWithin (length out) (view w) input .out)
 
 -- an event of a script that runs, and a line that changes nothing
-abbrev pub happened : Run → Event → Printed Stage
+abbrev pub happened : Script → Event → Printed Stage
 happened r e =
     record {
-      now = running (moved r (happens (r .setting) (r .system) e));
-      out = answerLine (suc (r .answered)) (r .system) (happens (r .setting) (r .system) e);
+      now = running (onward r (next (r .run) e));
+      out = answerLine (suc (r .answered)) (r .run .system) (happens (r .run .setting) (r .run .system) e);
     }
 
-abbrev pub passing : Run → Refusal → Printed Stage
-passing r x = record { now = running (passed r); out = noLine (suc (r .answered)) x }
+abbrev pub passing : Script → Refusal → Printed Stage
+passing r x = record { now = running (onward r (r .run)); out = noLine (suc (r .answered)) x }
+
+-- the line of a reply, and the words with the lines answered and the counts stored
+unfoldable pub replyLine : ℕ → Reply → List ℕ
+replyLine i (reply.Refused x) = noLine i x
+replyLine i (reply.Accepted sent holders) = okLine i sent holders
+
+abbrev pub withCounts : List ℕ → ℕ → Counts → List ℕ
+withCounts w answered c = set (set (set w answeredAt answered) acceptedAt (c .accepted)) holdingAt (c .holding)

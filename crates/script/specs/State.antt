@@ -1,7 +1,6 @@
 -- The state of a script as words: what a reader of it has taken in so far. 0 is none.
--- Word 0 is the stage: 0 before the first line, 1 while the script runs, 2 when its first line was refused or it has ended. Words 1 to 3
--- are the event lines answered, those accepted and the most holders at once, word 4 the bytes of the line so far and words 5 to 45 those
--- bytes, one each. The simulation's words follow.
+-- First the head: the stage, the event lines answered, those accepted, the most holders at once, and the bytes of the line so far. Then those bytes, a word for each, and
+-- the simulation's words.
 use Prim.Native.Nat.{ℕ, _+_}
 use mathlib.Core.Bool.{Bool, true, _&&_}
 use mathlib.Core.List.{List}
@@ -11,11 +10,38 @@ use Rattle.ids.specs.Choice.{if_then_else_}
 use Rattle.ids.specs.Lists.{every}
 use Rattle.regions.specs.Blocks.{region}
 use Rattle.system.specs.Places.{holders}
-use Rattle.language.specs.declared.Setting.{Setting}
 use Rattle.system.specs.Limits.{systemClients}
 use Rattle.layout.specs.Layout as layout
+use Rattle.runs.specs.declared.Counts.{Counts}
+use Rattle.runs.specs.Calls.{runIn}
 use Rattle.output.specs.Output.{maxLines}
-use Rattle.output.specs.Reader.{Run, Stage, opening, running, closed, Reader, maxKept}
+use Rattle.output.specs.Reader.{Script, Stage, opening, running, closed, Reader, maxKept}
+
+-- where each word of the head stands
+abbrev pub stageAt : ℕ
+stageAt = 0
+
+abbrev pub answeredAt : ℕ
+answeredAt = 1
+
+abbrev pub acceptedAt : ℕ
+acceptedAt = 2
+
+abbrev pub holdingAt : ℕ
+holdingAt = 3
+
+abbrev pub lengthAt : ℕ
+lengthAt = 4
+
+-- the stages: before the first line, while the script runs, when its first line was refused or it has ended
+abbrev pub stageOpening : ℕ
+stageOpening = 0
+
+abbrev pub stageRunning : ℕ
+stageRunning = 1
+
+abbrev pub stageClosed : ℕ
+stageClosed = 2
 
 -- the words before the line, before the simulation, and all
 abbrev pub lineFrom : ℕ
@@ -27,7 +53,7 @@ stateHead = lineFrom + maxKept
 abbrev pub stateSize : ℕ
 stateSize = stateHead + layout.simulationSize
 
--- the parts: the five words before the line, the line's words, the simulation's
+-- the parts: the head, the line's words, the simulation's
 pub record Head : Type 0 where
   pub stage : ℕ
   pub answered : ℕ
@@ -36,7 +62,14 @@ pub record Head : Type 0 where
   pub length : ℕ
 
 unfoldable pub headIn : List ℕ → Head
-headIn w = record { stage = getD w 0 0; answered = getD w 1 0; accepted = getD w 2 0; holding = getD w 3 0; length = getD w 4 0 }
+headIn w =
+    record {
+      stage = getD w stageAt 0;
+      answered = getD w answeredAt 0;
+      accepted = getD w acceptedAt 0;
+      holding = getD w holdingAt 0;
+      length = getD w lengthAt 0;
+    }
 
 unfoldable pub keptIn : List ℕ → List ℕ
 keptIn w = region lineFrom maxKept w
@@ -45,15 +78,14 @@ unfoldable pub simulationIn : List ℕ → List ℕ
 simulationIn w = region stateHead layout.simulationSize w
 
 -- the reader that the parts are
-abbrev pub settingIn : List ℕ → Setting
-settingIn s =
-    record { n = layout.settingOf s .n; m = layout.settingOf s .m; f = layout.settingOf s .f; clients = layout.settingOf s .clients }
+abbrev pub countsIn : Head → Counts
+countsIn h = record { accepted = h .accepted; holding = h .holding }
 
-abbrev pub runIn : Head → List ℕ → Run
-runIn h s = record { setting = settingIn s; answered = h .answered; system = layout.view s; accepted = h .accepted; holding = h .holding }
+abbrev pub scriptIn : Head → List ℕ → Script
+scriptIn h s = record { answered = h .answered; run = runIn (countsIn h) s }
 
 unfoldable pub stageOf : Head → List ℕ → Stage
-stageOf h s = if eqb (h .stage) 0 then opening else if eqb (h .stage) 1 then running (runIn h s) else closed
+stageOf h s = if eqb (h .stage) stageOpening then opening else if eqb (h .stage) stageRunning then running (scriptIn h s) else closed
 
 abbrev pub lineOf : Head → List ℕ → List ℕ
 lineOf h l = take (h .length) l
@@ -73,7 +105,7 @@ byteWord x = leb x 255
 
 unfoldable pub validParts : Head → List ℕ → List ℕ → Bool
 validParts h l s =
-    leb (h .stage) 2 && (leb (h .length) maxKept && (every byteWord l && (if eqb (h .stage) 1 then validRun h s else true)))
+    leb (h .stage) stageClosed && (leb (h .length) maxKept && (every byteWord l && (if eqb (h .stage) stageRunning then validRun h s else true)))
 
 unfoldable pub valid : List ℕ → Bool
 valid w = eqb (length w) stateSize && validParts (headIn w) (keptIn w) (simulationIn w)

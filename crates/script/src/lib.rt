@@ -3,7 +3,7 @@
 // caller lends.
 ghost use mathlib.Core.Path.{_≡_};
 ghost use mathlib.Core.Bool.{true};
-ghost use Prim.Native.Nat.{_≤_, _<_, _+_, max};
+ghost use Prim.Native.Nat.{_≤_, _+_};
 ghost use mathlib.Core.List.{[]};
 ghost use lib.ListN.{length, getD, set, replicate};
 ghost use mathlib.Core.Option.{some};
@@ -11,17 +11,17 @@ ghost use lib.Seq.{sets};
 ghost use Rattle.ids.specs.Lists.{every};
 ghost use Rattle.language.specs.Lines.{eventIn, lineOf, settingIn, firstOf};
 ghost use Rattle.language.specs.Printed.{refusedLine};
-ghost use Rattle.output.specs.Reader.{closed, opened, worked, behind, taken, ended, lastLine, finished, maxKept};
-ghost use Rattle.script.specs.State.{headIn, keptIn, simulationIn, runIn, byteWord, validRun, view, valid as isValid, stateSize, stateHead};
-ghost use Rattle.script.specs.Calls.{newAnswer, newWords, feedAnswer, FeedLeaves, finishAnswer, FinishLeaves, Sound, Ready, Reads, Does, Takes, FedAs, happened, passing, maxEnding};
-ghost use Rattle.output.specs.Output.{maxLines};
+ghost use Rattle.output.specs.Reader.{closed, opened, worked, behind, taken, ended, lastLine, finished, maxKept, maxPrinted};
+ghost use Rattle.script.specs.State.{headIn, keptIn, simulationIn, countsIn, scriptIn, byteWord, validRun, view, valid as isValid, stateSize, stateHead, stageAt, lengthAt, stageOpening, stageRunning, stageClosed};
+ghost use Rattle.script.specs.Calls.{newAnswer, newWords, feedAnswer, FeedLeaves, finishAnswer, FinishLeaves, Sound, Ready, Reads, Does, Takes, FedAs, happened, passing, maxEnding, withCounts, replyLine};
 use ids::Refusal;
 use language::First;
 use language::Line;
-use language::Setting;
-use simulation::Moved;
-use simulation::Reply;
+use runs::Begun;
+use runs::Counts;
+use runs::Reply;
 use system::Event;
+use system::Setting;
 
 // The words of the head: the stage, the event lines answered and those accepted, the most holders at once, and the bytes of the line so far.
 // Then the line, a word for each byte, and the simulation.
@@ -40,6 +40,13 @@ const LINE_FROM: usize = 5;
 pub const STATE_HEAD: usize = LINE_FROM + LINE;
 
 pub const STATE_WORDS: usize = STATE_HEAD + layout::SIMULATION_WORDS;
+
+// The stages: before the first line, while the script runs, and when its first line was refused or it has ended.
+pub const OPENING: u32 = 0;
+
+pub const RUNNING: u32 = 1;
+
+pub const CLOSED: u32 = 2;
 
 // The bytes of a line that are kept, one more than a line may have; the event lines that are answered; the longest printed line, and the
 // longest end, which is two lines.
@@ -102,7 +109,7 @@ pub fn valid(w: &[u32]) -> bool
     if w.len() != STATE_WORDS {
         return false;
     }
-    if 2 < w[STAGE] {
+    if CLOSED < w[STAGE] {
         return false;
     }
     if MAX_KEPT < w[LENGTH] {
@@ -111,7 +118,7 @@ pub fn valid(w: &[u32]) -> bool
     if !bytes_valid(w) {
         return false;
     }
-    if w[STAGE] != 1 {
+    if w[STAGE] != RUNNING {
         return true;
     }
     run_valid(w)
@@ -169,31 +176,49 @@ fn refuse(w: &mut [u32], out: &mut [u8], at: usize, x: Refusal) -> usize
     requires { ⌜ Ready (now w) (now out) at ⌝ }
     ensures { λ r. ⌜ Does (now (w .entry)) (now (out .entry)) at (record { now = closed; out = refusedLine x }) (now (w .exit)) (now (out .exit)) r ⌝ }
 {
-    w[STAGE] = 2;
+    w[STAGE] = CLOSED;
     language::put_refused(out, at, x)
 }
 
-// The script runs, and nothing is counted yet.
-fn start_counts(w: &mut [u32])
+// The counts of the run, read and stored, with the event lines answered.
+fn counts_in(w: &[u32]) -> Counts
     requires { ⌜ length (now w) ≡ stateSize ⌝ }
-    ensures { λ _. ⌜ now (w .exit) ≡ set (set (set (set (now (w .entry)) 0 1) 1 0) 2 0) 3 0 ⌝ }
+    ensures { λ r. ⌜ r ≡ countsIn (headIn (now (w .entry))) ⌝ }
 {
-    w[STAGE] = 1;
-    w[ANSWERED] = 0;
-    w[ACCEPTED] = 0;
-    w[HOLDING] = 0;
+    Counts {
+        accepted: w[ACCEPTED],
+        holding: w[HOLDING],
+    }
+}
+
+fn put_counts(w: &mut [u32], answered: u32, c: Counts)
+    requires { ⌜ length (now w) ≡ stateSize ⌝ }
+    ensures { λ _. ⌜ now (w .exit) ≡ withCounts (now (w .entry)) answered c ⌝ }
+{
+    w[ANSWERED] = answered;
+    w[ACCEPTED] = c.accepted;
+    w[HOLDING] = c.holding;
+}
+
+// The script runs, and nothing is answered yet.
+fn start(w: &mut [u32], c: Counts)
+    requires { ⌜ length (now w) ≡ stateSize ⌝ }
+    ensures { λ _. ⌜ now (w .exit) ≡ withCounts (set (now (w .entry)) stageAt stageRunning) 0 c ⌝ }
+{
+    w[STAGE] = RUNNING;
+    put_counts(w, 0, c);
 }
 
 // The first line is a setting.
 fn begin(w: &mut [u32], out: &mut [u8], at: usize, s: Setting) -> usize
-    requires { ⌜ Ready (now w) (now out) at × (getD (now w) 0 0 ≡ 0) ⌝ }
+    requires { ⌜ Ready (now w) (now out) at × (getD (now w) stageAt 0 ≡ stageOpening) ⌝ }
     ensures { λ r. ⌜ Does (now (w .entry)) (now (out .entry)) at (opened (some s)) (now (w .exit)) (now (out .exit)) r ⌝ }
 {
-    let made = simulation::new(&mut w[STATE_HEAD..STATE_WORDS], s.n, s.m, s.f, s.clients);
-    match made {
-        Moved::Refused(x) => refuse(w, out, at, x),
-        Moved::Sent(_) => {
-            start_counts(w);
+    let begun = runs::new(&mut w[STATE_HEAD..STATE_WORDS], s);
+    match begun {
+        Begun::Refused(x) => refuse(w, out, at, x),
+        Begun::Run(counts) => {
+            start(w, counts);
             language::put_header(out, at, s)
         }
     }
@@ -201,7 +226,7 @@ fn begin(w: &mut [u32], out: &mut [u8], at: usize, s: Setting) -> usize
 
 // The first line.
 fn open(w: &mut [u32], out: &mut [u8], at: usize) -> usize
-    requires { ⌜ Ready (now w) (now out) at × (getD (now w) 0 0 ≡ 0) ⌝ }
+    requires { ⌜ Ready (now w) (now out) at × (getD (now w) stageAt 0 ≡ stageOpening) ⌝ }
     ensures { λ r. ⌜ Does (now (w .entry)) (now (out .entry)) at (opened (settingIn (view (now (w .entry)) .line))) (now (w .exit)) (now (out .exit)) r ⌝ }
 {
     let first = read_setting(w);
@@ -211,38 +236,34 @@ fn open(w: &mut [u32], out: &mut [u8], at: usize) -> usize
     }
 }
 
-// An accepted event is counted, and the living holders after it.
-fn count_accepted(w: &mut [u32], holders: u32)
-    requires { ⌜ (length (now w) ≡ stateSize) × (getD (now w) 2 0 ≤ maxLines) ⌝ }
-    ensures { λ _. ⌜ now (w .exit) ≡ set (set (now (w .entry)) 2 (getD (now (w .entry)) 2 0 + 1)) 3 (max (getD (now (w .entry)) 3 0) holders) ⌝ }
+// The answer to event number `number`.
+fn put_reply(out: &mut [u8], at: usize, number: u32, reply: Reply) -> usize
+    requires { ⌜ at + maxPrinted ≤ length (now out) ⌝ }
+    ensures { λ r. ⌜ (r ≡ at + length (replyLine number reply)) × (now (out .exit) ≡ sets (now (out .entry)) at (replyLine number reply)) ⌝ }
 {
-    let accepted = w[ACCEPTED] + 1;
-    let most = layout::larger(w[HOLDING], holders);
-    w[ACCEPTED] = accepted;
-    w[HOLDING] = most;
+    match reply {
+        Reply::Refused(x) => language::put_no(out, at, number, x),
+        Reply::Accepted(sent, holders) => language::put_ok(out, at, number, sent, holders),
+    }
 }
 
 // An event of a script that runs.
 fn happen(w: &mut [u32], out: &mut [u8], at: usize, e: Event) -> usize
     requires { ⌜ Ready (now w) (now out) at × Reads (now w) ⌝ }
-    ensures { λ r. ⌜ Does (now (w .entry)) (now (out .entry)) at (happened (runIn (headIn (now (w .entry))) (simulationIn (now (w .entry)))) e) (now (w .exit)) (now (out .exit)) r ⌝ }
+    ensures { λ r. ⌜ Does (now (w .entry)) (now (out .entry)) at (happened (scriptIn (headIn (now (w .entry))) (simulationIn (now (w .entry)))) e) (now (w .exit)) (now (out .exit)) r ⌝ }
 {
     let number = w[ANSWERED] + 1;
-    let reply = simulation::happen(&mut w[STATE_HEAD..STATE_WORDS], e);
-    w[ANSWERED] = number;
-    match reply {
-        Reply::Refused(x) => language::put_no(out, at, number, x),
-        Reply::Accepted(sent, holders) => {
-            count_accepted(w, holders);
-            language::put_ok(out, at, number, sent, holders)
-        }
-    }
+    let counts = counts_in(w);
+    let went = runs::event(&mut w[STATE_HEAD..STATE_WORDS], counts, e);
+    put_counts(w, number, went.counts);
+    let reply = went.reply;
+    put_reply(out, at, number, reply)
 }
 
 // A line that changes nothing.
 fn pass(w: &mut [u32], out: &mut [u8], at: usize, x: Refusal) -> usize
     requires { ⌜ Ready (now w) (now out) at × Reads (now w) ⌝ }
-    ensures { λ r. ⌜ Does (now (w .entry)) (now (out .entry)) at (passing (runIn (headIn (now (w .entry))) (simulationIn (now (w .entry)))) x) (now (w .exit)) (now (out .exit)) r ⌝ }
+    ensures { λ r. ⌜ Does (now (w .entry)) (now (out .entry)) at (passing (scriptIn (headIn (now (w .entry))) (simulationIn (now (w .entry)))) x) (now (w .exit)) (now (out .exit)) r ⌝ }
 {
     let number = w[ANSWERED] + 1;
     w[ANSWERED] = number;
@@ -251,7 +272,7 @@ fn pass(w: &mut [u32], out: &mut [u8], at: usize, x: Refusal) -> usize
 
 // An event line.
 fn answer(w: &mut [u32], out: &mut [u8], at: usize) -> usize
-    requires { ⌜ Ready (now w) (now out) at × (getD (now w) 0 0 ≡ 1) ⌝ }
+    requires { ⌜ Ready (now w) (now out) at × (getD (now w) stageAt 0 ≡ stageRunning) ⌝ }
     ensures { λ r. ⌜ Does (now (w .entry)) (now (out .entry)) at (worked (view (now (w .entry)) .stage) (view (now (w .entry)) .line)) (now (w .exit)) (now (out .exit)) r ⌝ }
 {
     if MAX_LINES <= w[ANSWERED] {
@@ -270,10 +291,10 @@ fn work(w: &mut [u32], out: &mut [u8], at: usize) -> usize
     requires { ⌜ Ready (now w) (now out) at ⌝ }
     ensures { λ r. ⌜ Does (now (w .entry)) (now (out .entry)) at (worked (view (now (w .entry)) .stage) (view (now (w .entry)) .line)) (now (w .exit)) (now (out .exit)) r ⌝ }
 {
-    if w[STAGE] == 0 {
+    if w[STAGE] == OPENING {
         return open(w, out, at);
     }
-    if w[STAGE] == 1 {
+    if w[STAGE] == RUNNING {
         return answer(w, out, at);
     }
     at
@@ -361,10 +382,10 @@ fn end(w: &[u32], out: &mut [u8], at: usize) -> usize
     requires { ⌜ Ready (now w) (now out) at ⌝ }
     ensures { λ r. ⌜ (r ≡ at + length (ended (view (now (w .entry)) .stage))) × (now (out .exit) ≡ sets (now (out .entry)) at (ended (view (now (w .entry)) .stage))) ⌝ }
 {
-    if w[STAGE] == 0 {
+    if w[STAGE] == OPENING {
         return language::put_refused(out, at, Refusal::BadLine);
     }
-    if w[STAGE] == 1 {
+    if w[STAGE] == RUNNING {
         return language::put_end(
             out,
             at,
@@ -379,9 +400,9 @@ fn end(w: &[u32], out: &mut [u8], at: usize) -> usize
 // Nothing is read or printed any more.
 fn seal(w: &mut [u32])
     requires { ⌜ length (now w) ≡ stateSize ⌝ }
-    ensures { λ _. ⌜ now (w .exit) ≡ set (set (now (w .entry)) 0 2) 4 0 ⌝ }
+    ensures { λ _. ⌜ now (w .exit) ≡ set (set (now (w .entry)) stageAt stageClosed) lengthAt 0 ⌝ }
 {
-    w[STAGE] = 2;
+    w[STAGE] = CLOSED;
     w[LENGTH] = 0;
 }
 

@@ -12,44 +12,45 @@ use Rattle.changes.specs.Opening.{Starts}
 use Rattle.simulation.specs.Opens.{opens, newReply, NewLeaves}
 use Rattle.bounded.specs.declared.Moved.the-variants as moved
 use Rattle.ids.specs.declared.Refusal.the-variants.{ParameterOutOfRange}
+use Rattle.system.specs.declared.Setting.{Setting}
 use Rattle.layout.specs.Layout.{simulationSize}
 use Rattle.system.specs.Limits.{systemClients, systemServers}
 
-module _ (n m f clients : ℕ) (w : List ℕ) where
-  refuses : opens (length w) n m f clients ≡ false → NewLeaves n m f clients w w × (moved.Refused ParameterOutOfRange ≡ newReply (opens (length w) n m f clients))
+module _ (s : Setting) (w : List ℕ) where
+  refuses : opens (length w) s ≡ false → NewLeaves s w w × (moved.Refused ParameterOutOfRange ≡ newReply (opens (length w) s))
   unfolding newReply
-  refuses h = (record { starts = λ y. clash (opens (length w) n m f clients) y h; kept = λ y. refl }, rw h)
+  refuses h = (record { starts = λ y. clash (opens (length w) s) y h; kept = λ y. refl }, rw h)
 
-  wrong-size : (length w ≡ simulationSize → ⊥) → opens (length w) n m f clients ≡ false
+  wrong-size : (length w ≡ simulationSize → ⊥) → opens (length w) s ≡ false
   unfolding opens
   wrong-size ne = rw (ne-eqb (length w) simulationSize ne)
 
-  pub new-size : (length w ≡ simulationSize → ⊥) → NewLeaves n m f clients w w × (moved.Refused ParameterOutOfRange ≡ newReply (opens (length w) n m f clients))
+  pub new-size : (length w ≡ simulationSize → ⊥) → NewLeaves s w w × (moved.Refused ParameterOutOfRange ≡ newReply (opens (length w) s))
   new-size ne = refuses (wrong-size ne)
 
-  module _ (l : length w ≡ simulationSize) (a : Bool) (p : a ≡ inRangeUpTo systemServers n m f) where
-    wrong-range : not a ≡ true → opens (length w) n m f clients ≡ false
+  module _ (l : length w ≡ simulationSize) (a : Bool) (p : a ≡ inRangeUpTo systemServers (s .n) (s .m) (s .f)) where
+    wrong-range : not a ≡ true → opens (length w) s ≡ false
     unfolding opens
-    wrong-range t = rw (eq-eqb (length w) simulationSize l, fails a (inRangeUpTo systemServers n m f) p t)
+    wrong-range t = rw (eq-eqb (length w) simulationSize l, fails a (inRangeUpTo systemServers (s .n) (s .m) (s .f)) p t)
 
-    pub new-range : not a ≡ true → NewLeaves n m f clients w w × (moved.Refused ParameterOutOfRange ≡ newReply (opens (length w) n m f clients))
+    pub new-range : not a ≡ true → NewLeaves s w w × (moved.Refused ParameterOutOfRange ≡ newReply (opens (length w) s))
     new-range t = refuses (wrong-range t)
 
-    module _ (t : not a ≡ false) (b : Bool) (q : b ≡ within clients systemClients) where
-      wrong-clients : not b ≡ true → opens (length w) n m f clients ≡ false
+    module _ (t : not a ≡ false) (b : Bool) (q : b ≡ within (s .clients) systemClients) where
+      wrong-clients : not b ≡ true → opens (length w) s ≡ false
       unfolding opens
-      wrong-clients u = rw (eq-eqb (length w) simulationSize l, holds a (inRangeUpTo systemServers n m f) p t, fails b (within clients systemClients) q u)
+      wrong-clients u = rw (eq-eqb (length w) simulationSize l, holds a (inRangeUpTo systemServers (s .n) (s .m) (s .f)) p t, fails b (within (s .clients) systemClients) q u)
 
-      pub new-clients : not b ≡ true → NewLeaves n m f clients w w × (moved.Refused ParameterOutOfRange ≡ newReply (opens (length w) n m f clients))
+      pub new-clients : not b ≡ true → NewLeaves s w w × (moved.Refused ParameterOutOfRange ≡ newReply (opens (length w) s))
       new-clients u = refuses (wrong-clients u)
 
-      pub new-asks : not b ≡ false → (length w ≡ simulationSize) × (inRangeUpTo systemServers n m f ≡ true) × (within clients systemClients ≡ true)
-      new-asks u = (l, holds a (inRangeUpTo systemServers n m f) p t, holds b (within clients systemClients) q u)
+      pub new-asks : not b ≡ false → (length w ≡ simulationSize) × (inRangeUpTo systemServers (s .n) (s .m) (s .f) ≡ true) × (within (s .clients) systemClients ≡ true)
+      new-asks u = (l, holds a (inRangeUpTo systemServers (s .n) (s .m) (s .f)) p t, holds b (within (s .clients) systemClients) q u)
 
-      all-right : not b ≡ false → opens (length w) n m f clients ≡ true
+      all-right : not b ≡ false → opens (length w) s ≡ true
       unfolding opens
-      all-right u = rw (eq-eqb (length w) simulationSize l, holds a (inRangeUpTo systemServers n m f) p t, holds b (within clients systemClients) q u)
+      all-right u = rw (eq-eqb (length w) simulationSize l, holds a (inRangeUpTo systemServers (s .n) (s .m) (s .f)) p t, holds b (within (s .clients) systemClients) q u)
 
-      pub new-starts : not b ≡ false → (w′ : List ℕ) → Starts n m f clients w′ → NewLeaves n m f clients w w′ × (moved.Sent 0 ≡ newReply (opens (length w) n m f clients))
+      pub new-starts : not b ≡ false → (w′ : List ℕ) → Starts s w′ → NewLeaves s w w′ × (moved.Sent 0 ≡ newReply (opens (length w) s))
       unfolding newReply
-      new-starts u w′ S = (record { starts = λ y. S; kept = λ y. clash (opens (length w) n m f clients) (all-right u) y }, rw (all-right u))
+      new-starts u w′ S = (record { starts = λ y. S; kept = λ y. clash (opens (length w) s) (all-right u) y }, rw (all-right u))

@@ -10,18 +10,23 @@ use Rattle.ids.specs.Limits.{within}
 use Rattle.ids.specs.declared.Refusal.the-variants.{ParameterOutOfRange}
 use Rattle.quorum.specs.Check.{inRangeUpTo}
 use Rattle.system.specs.Limits.{systemClients, systemServers}
+use Rattle.system.specs.declared.Setting.{Setting}
 use Rattle.layout.specs.Layout.{simulationSize}
 use Rattle.changes.specs.Opening.{Starts}
 use Rattle.bounded.specs.declared.Moved.{Moved}
 use Rattle.bounded.specs.declared.Moved.the-variants as moved
 
+-- a setting in range; an unsafe or stalling one is
+abbrev pub inRange : Setting → Bool
+inRange s = inRangeUpTo systemServers (s .n) (s .m) (s .f) && within (s .clients) systemClients
+
 -- a new simulation: all words are there, and the setting is in range
-unfoldable pub opens : ℕ → ℕ → ℕ → ℕ → ℕ → Bool
-opens long n m f clients = eqb long simulationSize && (inRangeUpTo systemServers n m f && within clients systemClients)
+unfoldable pub opens : ℕ → Setting → Bool
+opens long s = eqb long simulationSize && inRange s
 
 unfoldable pub newReply : Bool → Moved
 newReply b = if b then moved.Sent 0 else moved.Refused ParameterOutOfRange
 
-pub record NewLeaves (n m f clients : ℕ) (w w′ : List ℕ) : Type 0 where
-  pub starts : opens (length w) n m f clients ≡ true → Starts n m f clients w′
-  pub kept : opens (length w) n m f clients ≡ false → w′ ≡ w
+pub record NewLeaves (s : Setting) (w w′ : List ℕ) : Type 0 where
+  pub starts : opens (length w) s ≡ true → Starts s w′
+  pub kept : opens (length w) s ≡ false → w′ ≡ w

@@ -11,6 +11,7 @@ pub use bounded::Reply;
 use ids::Refusal;
 use layout::SIMULATION_WORDS;
 use system::Event;
+use system::Setting;
 
 fn work(w: &mut [u32], e: Event) -> Moved
     requires { ⌜ valid (now w) ≡ true ⌝ }
@@ -54,20 +55,20 @@ pub fn event(w: &mut [u32], e: Event) -> Reply
     happen(w, e)
 }
 
-// A new simulation with `n` servers, threshold `m`, `f` faults and so many clients. Refused 7.
-pub fn new(w: &mut [u32], n: u32, m: u32, f: u32, clients: u32) -> Moved
-    ensures { λ r. ⌜ NewLeaves n m f clients (now (w .entry)) (now (w .exit)) × (r ≡ newReply (opens (length (now (w .entry))) n m f clients)) ⌝ }
+// A new simulation of a setting. Refused 7.
+pub fn new(w: &mut [u32], s: Setting) -> Moved
+    ensures { λ r. ⌜ NewLeaves s (now (w .entry)) (now (w .exit)) × (r ≡ newReply (opens (length (now (w .entry))) s)) ⌝ }
 {
     if w.len() != SIMULATION_WORDS {
         return Moved::Refused(Refusal::ParameterOutOfRange);
     }
-    if !quorum::in_range_up_to(system::MAX_SERVERS, n, m, f) {
+    if !quorum::in_range_up_to(system::MAX_SERVERS, s.n, s.m, s.f) {
         return Moved::Refused(Refusal::ParameterOutOfRange);
     }
-    if !ids::within_limit(clients, system::MAX_CLIENTS) {
+    if !ids::within_limit(s.clients, system::MAX_CLIENTS) {
         return Moved::Refused(Refusal::ParameterOutOfRange);
     }
-    changes::start(w, n, m, f, clients);
+    changes::start(w, s);
     Moved::Sent(0)
 }
 

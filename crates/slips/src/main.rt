@@ -39,7 +39,7 @@ fn put_all(out: &mut [u8], w: &[u32], mail: bool) -> usize
 fn show(w: &[u32], out: &mut [u8], mail: bool) -> bool
     requires { ⌜ valid (now w) ≡ true ⌝ }
 {
-    if w[script::STAGE] != 1 {
+    if w[script::STAGE] != script::RUNNING {
         return true;
     }
     if w[script::ANSWERED] == 0 {

@@ -12,8 +12,8 @@ use borrow.Author.Tests.{le-ltb, leb-true}
 use Rattle.ids.proofs.Choice.{decided, Test}
 use Rattle.language.specs.Words.{newline}
 use Rattle.output.specs.Output.{maxLines}
-use Rattle.output.specs.Reader.{Run, Stage, running, closed, Reader, lineTaken, worked, taken, fed, ended, finished}
-use Rattle.script.specs.State.{headIn, stageOf, view, valid}
+use Rattle.output.specs.Reader.{Script, Stage, running, closed, Reader, lineTaken, worked, taken, fed, ended, finished}
+use Rattle.script.specs.State.{stageAt, answeredAt, stageOpening, stageRunning, stageClosed, headIn, stageOf, view, valid}
 use Rattle.script.proofs.LineLaws.{known}
 use Rattle.stream.specs.Over.{Over}
 
@@ -24,7 +24,7 @@ closed-spent : Spent closed
 unfolding worked
 closed-spent l = refl
 
-running-spent : (r : Run) → maxLines ≤ r .answered → Spent (running r)
+running-spent : (r : Script) → maxLines ≤ r .answered → Spent (running r)
 unfolding worked lineTaken
 running-spent r h l = rw (le-ltb (r .answered) maxLines h)
 
@@ -60,17 +60,17 @@ module _ (t : Stage) (p : Spent t) where
   over-on r e = record { silent = λ s. fed-on s r e .0; same = λ s. ended-on (fed r s .now) (fed-on s r e .1) ∙ sym (ended-on r e) }
 
 module _ (w : List ℕ) where
-  pub over-closed : getD w 0 0 ≡ 2 → Over (view w)
+  pub over-closed : getD w stageAt 0 ≡ stageClosed → Over (view w)
   unfolding view stageOf headIn
   over-closed e = over-on closed closed-spent (view w) (rw e)
 
-  read-all : getD w 0 0 ≡ 1 → maxLines ≤ getD w 1 0 → Over (view w)
+  read-all : getD w stageAt 0 ≡ stageRunning → maxLines ≤ getD w answeredAt 0 → Over (view w)
   unfolding view stageOf headIn
   read-all e h = over-on (view w .stage) (rw e (running-spent _ h)) (view w) refl
 
-  pub over-read : valid w ≡ true → (getD w 0 0 ≡ 2 → ⊥) → (getD w 0 0 ≡ 0 → ⊥) → leb maxLines (getD w 1 0) ≡ true → Over (view w)
+  pub over-read : valid w ≡ true → (getD w stageAt 0 ≡ stageClosed → ⊥) → (getD w stageAt 0 ≡ stageOpening → ⊥) → leb maxLines (getD w answeredAt 0) ≡ true → Over (view w)
   unfolding headIn
   over-read v a b h =
       let s = known w v .stage in
-      let e : getD w 0 0 ≡ 1 = omega (arith, a, b, s) in
-      read-all e (leb-true maxLines (getD w 1 0) h)
+      let e : getD w stageAt 0 ≡ stageRunning = omega (arith, a, b, s) in
+      read-all e (leb-true maxLines (getD w answeredAt 0) h)

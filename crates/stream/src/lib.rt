@@ -84,10 +84,10 @@ fn over(w: &[u32]) -> bool
     requires { ⌜ valid (now w) ≡ true ⌝ }
     ensures { λ r. ⌜ (r ≡ true → Over (view (now (w .entry)))) ⌝ }
 {
-    if w[script::STAGE] == 2 {
+    if w[script::STAGE] == script::CLOSED {
         return true;
     }
-    if w[script::STAGE] == 0 {
+    if w[script::STAGE] == script::OPENING {
         return false;
     }
     script::MAX_LINES <= w[script::ANSWERED]

@@ -10,61 +10,61 @@ slice-write-w-3 : tie.Need-slice-write-w-3
 slice-write-w-3 c =
     let d = c .before .before .before .before .before in
     let a = d .args in
-    start-two (a .n) (a .m) (a .f) (a .clients) (now (a .w)) _ (d .pre) (c .before .before .clear-all .ensures)
+    start-two (a .s) (now (a .w)) _ (d .pre) (c .before .before .clear-all .ensures)
 
 slice-write-w-4 : tie.Need-slice-write-w-4
 slice-write-w-4 c =
     let d = c .before .before .before .before .before in
     let a = d .args in
-    start-three (a .n) (a .m) (a .f) (a .clients) (now (a .w)) _ (d .pre) (c .before .before .clear-all .ensures)
+    start-three (a .s) (now (a .w)) _ (d .pre) (c .before .before .clear-all .ensures)
 
 cast-new-clients : tie.Need-cast-new-clients
 cast-new-clients c =
-    let d = c .before .before .before .before .before .before in
+    let d = c .before .before .before .before .before .before .before in
     let a = d .args in
-    record { fits = omega (arith, start-fits (a .n) (a .m) (a .f) (a .clients) (now (a .w)) _ (d .pre) (c .before .before .before .clear-all .ensures) .0) }
+    record { fits = omega (arith, start-fits (a .s) (now (a .w)) _ (d .pre) (c .before .before .before .before .clear-all .ensures) .0) }
 
 cast-new-clients-2 : tie.Need-cast-new-clients-2
 cast-new-clients-2 c =
-    let d = c .before .before .before .before .before .before in
+    let d = c .before .before .before .before .before .before .before .before in
     let a = d .args in
-    record { fits = omega (arith, start-fits (a .n) (a .m) (a .f) (a .clients) (now (a .w)) _ (d .pre) (c .before .before .before .clear-all .ensures) .1) }
+    record { fits = omega (arith, start-fits (a .s) (now (a .w)) _ (d .pre) (c .before .before .before .before .before .clear-all .ensures) .1) }
 
 cast-new-clients-3 : tie.Need-cast-new-clients-3
 cast-new-clients-3 c =
-    let d = c .before .before .before .before .before .before in
+    let d = c .before .before .before .before .before .before .before .before .before in
     let a = d .args in
-    record { fits = omega (arith, start-fits (a .n) (a .m) (a .f) (a .clients) (now (a .w)) _ (d .pre) (c .before .before .before .clear-all .ensures) .2) }
+    record { fits = omega (arith, start-fits (a .s) (now (a .w)) _ (d .pre) (c .before .before .before .before .before .before .clear-all .ensures) .2) }
 
 new-clients-requires : tie.Need-new-clients-requires
 new-clients-requires c κs =
-    let d = c .before .before .before .before .before .before in
+    let d = c .before .before .before .before .before .before .before .before .before in
     let a = d .args in
-    start-clients (a .n) (a .m) (a .f) (a .clients) (now (a .w)) _ (d .pre) (c .before .before .before .clear-all .ensures)
+    start-clients (a .s) (now (a .w)) _ (d .pre) (c .before .before .before .before .before .before .clear-all .ensures)
 
 cast-new-servers : tie.Need-cast-new-servers
 cast-new-servers c =
-    let d = c .before .before .before .before .before .before .before .before .before .before in
+    let d = c .before .before .before .before .before .before .before .before .before .before .before .before .before .before in
     let a = d .args in
-    record { fits = omega (arith, start-fits (a .n) (a .m) (a .f) (a .clients) (now (a .w)) _ (d .pre) (c .before .before .before .before .before .before .before .clear-all .ensures) .0) }
+    record { fits = omega (arith, start-fits (a .s) (now (a .w)) _ (d .pre) (c .before .before .before .before .before .before .before .before .before .before .before .clear-all .ensures) .0) }
 
 new-servers-requires : tie.Need-new-servers-requires
 new-servers-requires c κs =
-    let d = c .before .before .before .before .before .before .before .before .before .before in
+    let d = c .before .before .before .before .before .before .before .before .before .before .before .before .before .before in
     let a = d .args in
-    start-servers (a .n) (a .m) (a .f) (a .clients) (now (a .w)) _ (d .pre) (c .before .before .before .before .before .before .before .clear-all .ensures) _ (c .before .before .before .new-clients .ensures)
+    start-servers (a .s) (now (a .w)) _ (d .pre) (c .before .before .before .before .before .before .before .before .before .before .before .clear-all .ensures) _ (c .before .before .before .before .new-clients .ensures)
 
 same-length : tie.Need-same-length
 same-length c =
-    let d = c .before .before .before .before .before .before .before .before .before .before .before .before .before in
+    let d = c .before .before .before .before .before .before .before .before .before .before .before .before .before .before .before .before .before in
     let a = d .args in
-    start-same (a .n) (a .m) (a .f) (a .clients) (now (a .w)) _ (d .pre) (c .before .before .before .before .before .before .before .before .before .before .clear-all .ensures) _ (c .before .before .before .before .before .before .new-clients .ensures) _ (c .before .before .new-servers .ensures)
+    start-same (a .s) (now (a .w)) _ (d .pre) (c .before .before .before .before .before .before .before .before .before .before .before .before .before .before .clear-all .ensures) _ (c .before .before .before .before .before .before .before .new-clients .ensures) _ (c .before .before .new-servers .ensures)
 
 returns : tie.Need-returns
 returns c =
-    let d = c .before .before .before .before .before .before .before .before .before .before .before .before .before in
+    let d = c .before .before .before .before .before .before .before .before .before .before .before .before .before .before .before .before .before in
     let a = d .args in
-    start-done (a .n) (a .m) (a .f) (a .clients) (now (a .w)) _ (d .pre) (c .before .before .before .before .before .before .before .before .before .before .clear-all .ensures) _ (c .before .before .before .before .before .before .new-clients .ensures) _ (c .before .before .new-servers .ensures)
+    start-done (a .s) (now (a .w)) _ (d .pre) (c .before .before .before .before .before .before .before .before .before .before .before .before .before .before .clear-all .ensures) _ (c .before .before .before .before .before .before .before .new-clients .ensures) _ (c .before .before .new-servers .ensures)
 
 pub start-spec : {M : Type 1} → statement M
 start-spec =

@@ -1,7 +1,6 @@
 -- `script::answer` meets its contract: what the parser said of the line decides, and after a million lines nothing is done.
 use denote.Ref.{now}
 use mathlib.Core.Path.{sym, _∙_}
-use native.Mathlib.Omega.{arith}
 use Rattle.script.proofs.StepLaws.{reading, unread-does, bad-does, unknown-does, event-does}
 use borrow.Author.Needs.{needs}
 use Rattle.script.proofs.answer.Statement.{statement}

@@ -1,31 +1,45 @@
--- `script::happen` meets its contract: the simulation is lent for the event, then the line is counted and answered.
+-- `script::happen` meets its contract: the simulation is lent for the event of its run, then the counts are stored and the reply printed.
 use denote.Ref.{now}
-use mathlib.Core.Path.{sym, _∙_}
-use Rattle.script.proofs.StepLaws.{simulation-valid, no-room, ok-room, counted-long, counted-few, event-refused, event-accepted, accepted-same}
+use Rattle.script.proofs.StepLaws.{simulation-valid, counts-small, event-long, event-same, event-happened}
 use borrow.Author.Needs.{needs}
 use Rattle.script.proofs.happen.Statement.{statement}
 use Rattle.script.proofs.happen.Tie as tie
 
-happen-requires : tie.Need-happen-requires
-happen-requires c κs = simulation-valid (now (c .before .before .before .before .args .w)) (now (c .before .before .before .before .args .out)) (c .before .before .before .before .args .at) (c .before .before .before .before .pre .0) (c .before .before .before .before .pre .1)
+event-requires : tie.Need-event-requires
+event-requires c κs =
+    let k = c .before in
+    let d = k .before .before .before .before .before in
+    let a = d .args in
+    (simulation-valid (now (a .w)) (now (a .out)) (a .at) (d .pre .0) (d .pre .1), counts-small (now (a .w)) (d .pre .1) _ (k .counts-in .ensures))
 
-put-no-requires : tie.Need-put-no-requires
-put-no-requires c κs = no-room (now (c .before .before .before .before .before .before .before .before .before .before .before .args .w)) (now (c .before .before .before .before .before .before .before .before .before .before .before .args .out)) (c .before .before .before .before .before .before .before .before .before .before .before .args .at) (c .before .before .before .before .before .before .before .before .before .before .before .pre .0) _ _
+put-counts-requires : tie.Need-put-counts-requires
+put-counts-requires c κs =
+    let h = c .before .before .before in
+    let k = h .before .before in
+    let d = k .before .before .before .before .before in
+    let a = d .args in
+    event-long (now (a .w)) (now (a .out)) (a .at) (d .pre .0) (d .pre .1) (a .e) _ _ (k .counts-in .ensures) _ (h .event .ensures)
 
-count-accepted-requires : tie.Need-count-accepted-requires
-count-accepted-requires c κs = (counted-long (now (c .before .before .before .before .before .before .before .before .before .before .before .args .w)) (now (c .before .before .before .before .before .before .before .before .before .before .before .args .out)) (c .before .before .before .before .before .before .before .before .before .before .before .args .at) (c .before .before .before .before .before .before .before .before .before .before .before .pre .0) (c .before .before .before .before .before .before .before .before .before .before .before .pre .1) (c .before .before .before .before .before .before .before .before .before .before .before .args .e) _ (c .before .before .before .before .before .before .happen .ensures .0), counted-few (now (c .before .before .before .before .before .before .before .before .before .before .before .args .w)) (now (c .before .before .before .before .before .before .before .before .before .before .before .args .out)) (c .before .before .before .before .before .before .before .before .before .before .before .args .at) (c .before .before .before .before .before .before .before .before .before .before .before .pre .0) (c .before .before .before .before .before .before .before .before .before .before .before .pre .1) (c .before .before .before .before .before .before .before .before .before .before .before .args .e) _ (c .before .before .before .before .before .before .happen .ensures .0))
+put-reply-requires : tie.Need-put-reply-requires
+put-reply-requires c κs = c .before .before .before .before .before .before .before .before .before .before .before .before .before .before .pre .0 .room
 
-put-ok-requires : tie.Need-put-ok-requires
-put-ok-requires c κs = ok-room (now (c .before .before .before .before .before .before .before .before .before .before .before .before .before .before .before .args .w)) (now (c .before .before .before .before .before .before .before .before .before .before .before .before .before .before .before .args .out)) (c .before .before .before .before .before .before .before .before .before .before .before .before .before .before .before .args .at) (c .before .before .before .before .before .before .before .before .before .before .before .before .before .before .before .pre .0) _ _ _
+same-length : tie.Need-same-length
+same-length c =
+    let s = c .before .before .before .before .before .before in
+    let h = s .before .before .before .before in
+    let k = h .before .before in
+    let d = k .before .before .before .before .before in
+    let a = d .args in
+    event-same (now (a .w)) (now (a .out)) (a .at) (d .pre .0) (d .pre .1) (a .e) _ _ (k .counts-in .ensures) _ (h .event .ensures) _ (s .put-counts .ensures)
 
 returns : tie.Need-returns
-returns c = event-refused (now (c .before .before .before .before .before .before .before .before .before .before .before .before .before .before .args .w)) (now (c .before .before .before .before .before .before .before .before .before .before .before .before .before .before .args .out)) (c .before .before .before .before .before .before .before .before .before .before .before .before .before .before .args .at) (c .before .before .before .before .before .before .before .before .before .before .before .before .before .before .pre .0) (c .before .before .before .before .before .before .before .before .before .before .before .before .before .before .pre .1) (c .before .before .before .before .before .before .before .before .before .before .before .before .before .before .args .e) _ (c .before .before .before .before .before .before .before .before .before .happen .ensures .0) _ (sym (c .before .before .before .before .before .reply .given .1) ∙ c .before .before .before .before .before .before .before .before .before .happen .ensures .1) _ _ (c .before .before .put-no .ensures)
-
-same-length-3 : tie.Need-same-length-3
-same-length-3 c = accepted-same (now (c .before .before .before .before .before .before .before .before .before .before .before .before .before .before .before .before .before .before .args .w)) (now (c .before .before .before .before .before .before .before .before .before .before .before .before .before .before .before .before .before .before .args .out)) (c .before .before .before .before .before .before .before .before .before .before .before .before .before .before .before .before .before .before .args .at) (c .before .before .before .before .before .before .before .before .before .before .before .before .before .before .before .before .before .before .pre .0) (c .before .before .before .before .before .before .before .before .before .before .before .before .before .before .before .before .before .before .pre .1) (c .before .before .before .before .before .before .before .before .before .before .before .before .before .before .before .before .before .before .args .e) _ (c .before .before .before .before .before .before .before .before .before .before .before .before .before .happen .ensures .0) _ _ (c .before .before .before .before .before .before .count-accepted .ensures)
-
-returns-2 : tie.Need-returns-2
-returns-2 c = event-accepted (now (c .before .before .before .before .before .before .before .before .before .before .before .before .before .before .before .before .before .before .args .w)) (now (c .before .before .before .before .before .before .before .before .before .before .before .before .before .before .before .before .before .before .args .out)) (c .before .before .before .before .before .before .before .before .before .before .before .before .before .before .before .before .before .before .args .at) (c .before .before .before .before .before .before .before .before .before .before .before .before .before .before .before .before .before .before .pre .0) (c .before .before .before .before .before .before .before .before .before .before .before .before .before .before .before .before .before .before .pre .1) (c .before .before .before .before .before .before .before .before .before .before .before .before .before .before .before .before .before .before .args .e) _ (c .before .before .before .before .before .before .before .before .before .before .before .before .before .happen .ensures .0) _ _ (sym (c .before .before .before .before .before .before .before .before .before .reply2 .given .1) ∙ c .before .before .before .before .before .before .before .before .before .before .before .before .before .happen .ensures .1) _ (c .before .before .before .before .before .before .count-accepted .ensures) _ _ (c .before .before .put-ok .ensures)
+returns c =
+    let s = c .before .before .before .before .before .before in
+    let h = s .before .before .before .before in
+    let k = h .before .before in
+    let d = k .before .before .before .before .before in
+    let a = d .args in
+    event-happened (now (a .w)) (now (a .out)) (a .at) (d .pre .0) (d .pre .1) (a .e) _ _ (k .counts-in .ensures) _ (h .event .ensures) _ (s .put-counts .ensures) _ _ (c .before .before .put-reply .ensures)
 
 pub happen-spec : {M : Type 1} → statement M
 happen-spec =
@@ -33,19 +47,13 @@ happen-spec =
     (tie.spec
     (λ c. search needs)
     (λ c. search needs)
+    (λ c κs. search needs)
     (λ c. search needs)
     (λ c. search needs)
     (λ c. search needs)
-    happen-requires
+    event-requires
+    put-counts-requires
+    put-reply-requires
+    same-length
     (λ c. search needs)
-    (λ c. search needs)
-    put-no-requires
-    (λ c. search needs)
-    count-accepted-requires
-    put-ok-requires
-    (λ c. search needs)
-    (λ c. search needs)
-    returns
-    same-length-3
-    (λ c. search needs)
-    returns-2)
+    returns)

@@ -1,0 +1,3 @@
+pub mod EventLaws
+pub mod NewLaws
+pub mod Whole

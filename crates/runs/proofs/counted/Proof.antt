@@ -1,0 +1,22 @@
+-- `runs::counted` meets its contract: each kind of reply is one case of the definition.
+use Rattle.runs.proofs.EventLaws.{counted-refused, counted-accepted}
+use borrow.Author.Needs.{needs}
+use Rattle.runs.proofs.counted.Statement.{statement}
+use Rattle.runs.proofs.counted.Tie as tie
+
+returns : tie.Need-returns
+returns c = search (needs, counted-refused)
+
+returns-2 : tie.Need-returns-2
+returns-2 c = search (needs, counted-accepted)
+
+pub counted-spec : {M : Type 1} → statement M
+counted-spec =
+    tie.close
+    (tie.spec
+    (λ c. search needs)
+    (λ c. search needs)
+    (λ c. search needs)
+    (λ c κs. search needs)
+    returns
+    returns-2)
