@@ -1,5 +1,4 @@
--- A used slot of a valid simulation holds what the code reads of it, so its line is that message's; the mail of the first i slots and the
--- line of slot i are the mail of one slot more.
+-- The mail of the first i slots and the line of slot i are the mail of one slot more.
 use mathlib.Core.Path.{_≡_, refl, sym}
 use Prim.Native.Nat.{ℕ, suc, _+_, _*_, _<_}
 use native.Mathlib.Omega.{arith}
@@ -19,21 +18,6 @@ use Rattle.sheet.specs.Sheet.{Sheet, puts}
 use Rattle.sheet.proofs.SheetLaws.{then as behind}
 use Rattle.knowledge.specs.Mail.{inTransitText, mailText}
 use Rattle.system.specs.Limits.{systemMessages}
-
--- slot i, a used one, as the code lends and reads it
-module _ (w : List ℕ) (i : ℕ) (ok : valid w ≡ true) (h : i < lengthOf w) where
-  pub slot-lent : (length (take transitSize (drop transitFrom w)) ≡ transitSize) × (i < systemMessages)
-  slot-lent = let s = lent-sized w ok in (s .size, omega (arith, s .few, h))
-
-  pub slot-read : (number : ℕ) (delivered : Bool) (m : Message)
-      → number ≡ slotAt (take transitSize (drop transitFrom w)) i .number
-      → delivered ≡ slotAt (take transitSize (drop transitFrom w)) i .delivered
-      → IsAt i (take transitSize (drop transitFrom w)) m
-      → slotAt (transitWords w) i ≡ record { number = number; delivered = delivered; message = m }
-  unfolding transitWords
-  slot-read number delivered m e f A =
-      let g : m ≡ slotAt (transitWords w) i .message = A (settingOf w .n) (settingOf w .clients) (sentOf w) (lengthOf w) (facts w ok .transit) h in
-      λ j. record { number = sym e j; delivered = sym f j; message = sym g j }
 
 -- the mail, one message more
 mail-append : (a b : List InTransit) → mailText (a ++ b) ≡ mailText a ++ mailText b

@@ -10,6 +10,8 @@ use Prim.Native.Nat.{ℕ, zero, suc}
 use mathlib.Core.List.{List, [], _∷_, _++_}
 use Rattle.ids.specs.Choice.{if_then_else_}
 use Rattle.ids.specs.Requests.{isRequest, byOwner}
+use Rattle.ids.specs.declared.ClientId.{ClientId}
+use Rattle.ids.specs.declared.ServerId.{ServerId}
 use Rattle.ids.specs.declared.Owner.{Owner}
 use Rattle.ids.specs.declared.Request.{Request}
 use Rattle.language.specs.Decimals.{decimal}
@@ -39,13 +41,13 @@ unfoldable pub votesText : votes.State → List (List ℕ)
 votesText q = byOwner (q .owner) (text " free" ∷ []) (λ o. text " owner " ∷ (requestText o ++ queueText (q .queue)))
 
 -- server j
-unfoldable pub serverText : ℕ → ServerPlace → List (List ℕ)
-serverText j p = text "keeper " ∷ decimal j ∷ ((if p .up then votesText (p .state) else text " down" ∷ []) ++ ends)
+unfoldable pub serverText : ServerId → ServerPlace → List (List ℕ)
+serverText j p = text "keeper " ∷ decimal (j .0) ∷ ((if p .up then votesText (p .state) else text " down" ∷ []) ++ ends)
 
 -- the servers, from number j, whose response is r
-unfoldable pub supportText : Request → ℕ → List Owner → List (List ℕ)
+unfoldable pub supportText : Request → ServerId → List Owner → List (List ℕ)
 supportText r j [] = []
-supportText r j (o ∷ l) = (if isRequest r o then text " " ∷ decimal j ∷ [] else []) ++ supportText r (suc j) l
+supportText r j (o ∷ l) = (if isRequest r o then text " " ∷ decimal (j .0) ∷ [] else []) ++ supportText r (serverNo (suc (j .0))) l
 
 abbrev pub sectionText : Section → List ℕ
 sectionText Remainder = text " remainder ticket "
@@ -59,22 +61,22 @@ supportersText Trying l = text " keepers" ∷ l
 supportersText Critical l = text " keepers" ∷ l
 
 -- client k of a state
-unfoldable pub stateText : ℕ → client.State → List (List ℕ)
+unfoldable pub stateText : ClientId → client.State → List (List ℕ)
 stateText k c =
     sectionText (c .section) ∷ decimal (c .timestamp .0)
-    ∷ supportersText (c .section) (supportText (record { client = record { 0 = k }; timestamp = c .timestamp }) 1 (c .responses))
+    ∷ supportersText (c .section) (supportText (record { client = k; timestamp = c .timestamp }) (serverNo 1) (c .responses))
 
-unfoldable pub clientText : ℕ → ClientPlace → List (List ℕ)
-clientText k p = text "kiosk " ∷ decimal k ∷ ((if p .living then stateText k (p .state) else text " fallen" ∷ []) ++ ends)
+unfoldable pub clientText : ClientId → ClientPlace → List (List ℕ)
+clientText k p = text "kiosk " ∷ decimal (k .0) ∷ ((if p .living then stateText k (p .state) else text " fallen" ∷ []) ++ ends)
 
 -- places 1 to n
 unfoldable pub serversText : System → ℕ → List (List ℕ)
 serversText u zero = []
-serversText u (suc j) = serversText u j ++ serverText (suc j) (serverAt u (serverNo (suc j)))
+serversText u (suc j) = serversText u j ++ serverText (serverNo (suc j)) (serverAt u (serverNo (suc j)))
 
 unfoldable pub clientsText : System → ℕ → List (List ℕ)
 clientsText u zero = []
-clientsText u (suc k) = clientsText u k ++ clientText (suc k) (clientAt u (clientNo (suc k)))
+clientsText u (suc k) = clientsText u k ++ clientText (clientNo (suc k)) (clientAt u (clientNo (suc k)))
 
 -- all slips of a system with n servers and so many clients
 abbrev pub slipsText : System → ℕ → ℕ → List (List ℕ)

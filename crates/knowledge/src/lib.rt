@@ -5,29 +5,28 @@ ghost use mathlib.Core.Bool.{true};
 ghost use mathlib.Core.List.{[], _∷_, _++_};
 ghost use Prim.Native.Nat.{_≤_, _<_};
 ghost use Rattle.changes.specs.Changes.{HasClient, HasServer};
-ghost use Rattle.responses.specs.Row.{shown};
-ghost use Rattle.client.specs.Record.{view as clientView};
+ghost use Rattle.responses.specs.Row.{shown, responsesIn};
+ghost use Rattle.client.specs.Record.{clientOf, view as clientView};
 ghost use Rattle.ids.specs.Choice.{if_then_else_};
 ghost use Rattle.language.specs.Decimals.{decimal};
 ghost use Rattle.language.specs.Words.{text};
 ghost use Rattle.layout.specs.Layout.{valid, view as systemOf, settingOf, lengthOf, transitWords};
 ghost use Rattle.sheet.specs.Sheet.{sheet as sheetOf, puts};
-ghost use Rattle.votes.specs.Queues.{listOf, view as votesView};
+ghost use Rattle.rows.specs.Rows.{queueOf, Padded};
+ghost use Rattle.votes.specs.Queues.{view as votesView};
 ghost use Rattle.system.specs.Places.{clientAt, serverAt};
 ghost use Rattle.transit.specs.Slots.{slotAt};
 ghost use Rattle.wire.specs.declared.Message.the-variants.{Response, Check};
 ghost use Rattle.knowledge.specs.Knowledge.{requestText, requestsText, queueText, votesText, serverText, supportText, sectionText, supportersText, stateText, clientText, serversText, clientsText, slipsText};
 ghost use Rattle.knowledge.specs.Mail.{timestampText, toServerText, toClientText, ownerText, messageText, inTransitText, mailText, slipsMailText};
-ghost use Rattle.system.specs.Limits.{systemServers};
-ghost use Rattle.system.specs.Numbered.{clientNo, serverNo};
-use client::Client;
-use client::Section;
+ghost use Rattle.system.specs.Numbered.{serverNo};
+use client::Head;
 use ids::ClientId;
 use ids::Owner;
 use ids::Request;
 use ids::ServerId;
 use ids::Timestamp;
-use votes::Queue;
+use responses::Section;
 use votes::Votes;
 use wire::Message;
 
@@ -47,70 +46,67 @@ fn put_next(out: &mut [u8], at: usize, r: Request) -> usize
     put_request(out, p, r)
 }
 
-fn put_requests(out: &mut [u8], at: usize, q: Queue) -> usize
-    requires { ⌜ q .len ≤ maxQueue ⌝ }
-    ensures { λ r. ⌜ sheetOf (now (out .exit)) r ≡ puts (requestsText (listOf q)) (sheetOf (now (out .entry)) at) ⌝ }
+// Those who wait, in the first `len` places of a row.
+fn put_requests(out: &mut [u8], at: usize, row: &[u32], len: usize) -> usize
+    requires { ⌜ Padded (now row) len ⌝ }
+    ensures { λ r. ⌜ sheetOf (now (out .exit)) r ≡ puts (requestsText (queueOf (now (row .entry)) len)) (sheetOf (now (out .entry)) at) ⌝ }
 {
-    votes::sized(q);
-    let places = q.places;
-    let len = q.len;
     let mut end = at;
     let mut i: usize = 0;
     while i < len {
-        end = put_next(out, end, places[i]);
+        end = put_next(out, end, rows::request_at(row, i));
         i += 1;
     }
     end
 }
 
-fn put_queue(out: &mut [u8], at: usize, q: Queue) -> usize
-    requires { ⌜ q .len ≤ maxQueue ⌝ }
-    ensures { λ r. ⌜ sheetOf (now (out .exit)) r ≡ puts (queueText (listOf q)) (sheetOf (now (out .entry)) at) ⌝ }
+fn put_queue(out: &mut [u8], at: usize, row: &[u32], len: usize) -> usize
+    requires { ⌜ Padded (now row) len ⌝ }
+    ensures { λ r. ⌜ sheetOf (now (out .exit)) r ≡ puts (queueText (queueOf (now (row .entry)) len)) (sheetOf (now (out .entry)) at) ⌝ }
 {
-    votes::sized(q);
-    if q.len == 0 {
+    if len == 0 {
         return at;
     }
     let p = sheet::put(out, at, b" line");
-    put_requests(out, p, q)
+    put_requests(out, p, row, len)
 }
 
-fn put_votes(out: &mut [u8], at: usize, v: Votes) -> usize
-    requires { ⌜ v .queue .len ≤ maxQueue ⌝ }
-    ensures { λ r. ⌜ sheetOf (now (out .exit)) r ≡ puts (votesText (votesView v)) (sheetOf (now (out .entry)) at) ⌝ }
+fn put_votes(out: &mut [u8], at: usize, v: Votes, row: &[u32]) -> usize
+    requires { ⌜ Padded (now row) (v .len) ⌝ }
+    ensures { λ r. ⌜ sheetOf (now (out .exit)) r ≡ puts (votesText (votesView v (now (row .entry)))) (sheetOf (now (out .entry)) at) ⌝ }
 {
     let owner = v.owner;
-    let q = v.queue;
     match owner {
         Owner::Nobody => sheet::put(out, at, b" free"),
         Owner::Of(o) => {
             let p = sheet::put(out, at, b" owner ");
             let e = put_request(out, p, o);
-            put_queue(out, e, q)
+            put_queue(out, e, row, v.len)
         }
     }
 }
 
 // What a server that is up, or down, knows.
-fn put_knowledge(out: &mut [u8], at: usize, up: bool, v: Votes) -> usize
-    requires { ⌜ v .queue .len ≤ maxQueue ⌝ }
-    ensures { λ r. ⌜ sheetOf (now (out .exit)) r ≡ puts (if up then votesText (votesView v) else text " down" ∷ []) (sheetOf (now (out .entry)) at) ⌝ }
+fn put_knowledge(out: &mut [u8], at: usize, up: bool, v: Votes, row: &[u32]) -> usize
+    requires { ⌜ Padded (now row) (v .len) ⌝ }
+    ensures { λ r. ⌜ sheetOf (now (out .exit)) r ≡ puts (if up then votesText (votesView v (now (row .entry))) else text " down" ∷ []) (sheetOf (now (out .entry)) at) ⌝ }
 {
     if up {
-        return put_votes(out, at, v);
+        return put_votes(out, at, v, row);
     }
     sheet::put(out, at, b" down")
 }
 
-fn put_server(out: &mut [u8], at: usize, w: &[u32], j: u16) -> usize
-    requires { ⌜ HasServer (now w) (serverNo j) ⌝ }
-    ensures { λ r. ⌜ sheetOf (now (out .exit)) r ≡ puts (serverText j (serverAt (systemOf (now (w .entry))) (serverNo j))) (sheetOf (now (out .entry)) at) ⌝ }
+fn put_server(out: &mut [u8], at: usize, w: &[u32], j: ServerId) -> usize
+    requires { ⌜ HasServer (now w) j ⌝ }
+    ensures { λ r. ⌜ sheetOf (now (out .exit)) r ≡ puts (serverText j (serverAt (systemOf (now (w .entry))) j)) (sheetOf (now (out .entry)) at) ⌝ }
 {
     let up = layout::is_up(w, j);
-    let s = layout::server_record(w, j);
-    let v = s.votes;
-    let p = sheet::put_with(out, at, b"keeper ", j as u32);
-    let e = put_knowledge(out, p, up, v);
+    let mut row = [0u32; server::ROW_WORDS];
+    layout::server_row(w, j, &mut row);
+    let h = layout::server_head(w, j);
+    let p = sheet::put_with(out, at, b"keeper ", j.0 as u32);
+    let e = put_knowledge(out, p, up, h.votes, &row);
     sheet::put(out, e, b"\n")
 }
 
@@ -122,99 +118,99 @@ fn put_servers(out: &mut [u8], at: usize, w: &[u32], n: u16) -> usize
     let mut j: u16 = 0;
     while j < n {
         j += 1;
-        end = put_server(out, end, w, j);
+        end = put_server(out, end, w, ServerId(j));
     }
     end
 }
 
 // Server `j`'s number, if its response is `r`.
-fn put_support(out: &mut [u8], at: usize, r: Request, j: u16, q: Request) -> usize
+fn put_support(out: &mut [u8], at: usize, r: Request, j: ServerId, q: Request) -> usize
     ensures { λ e. ⌜ sheetOf (now (out .exit)) e ≡ puts (supportText r j (shown q ∷ [])) (sheetOf (now (out .entry)) at) ⌝ }
 {
-    if client::is_own(r, q) {
-        return sheet::put_with(out, at, b" ", j as u32);
+    if responses::is_own(r, q) {
+        return sheet::put_with(out, at, b" ", j.0 as u32);
     }
     at
 }
 
-fn put_supports(out: &mut [u8], at: usize, r: Request, c: Client) -> usize
-    requires { ⌜ c .n ≤ systemServers ⌝ }
-    ensures { λ e. ⌜ sheetOf (now (out .exit)) e ≡ puts (supportText r 1 (clientView c .responses)) (sheetOf (now (out .entry)) at) ⌝ }
+// The servers whose response is `r`, of the `n` whose responses stand in a row.
+fn put_supports(out: &mut [u8], at: usize, r: Request, row: &[u32], n: u16) -> usize
+    requires { ⌜ Padded (now row) n ⌝ }
+    ensures { λ e. ⌜ sheetOf (now (out .exit)) e ≡ puts (supportText r (serverNo 1) (responsesIn (now (row .entry)) n)) (sheetOf (now (out .entry)) at) ⌝ }
 {
-    client::sized(c);
-    let places = c.places;
-    let n = c.n;
     let mut end = at;
     let mut i: u16 = 0;
     while i < n {
-        end = put_support(out, end, r, i + 1, places[i as usize]);
+        let q = rows::request_at(row, i as usize);
         i += 1;
+        end = put_support(out, end, r, ServerId(i), q);
     }
     end
 }
 
 // The section and the timestamp.
-fn put_section(out: &mut [u8], at: usize, s: Section, t: u32) -> usize
-    ensures { λ r. ⌜ sheetOf (now (out .exit)) r ≡ puts (sectionText s ∷ decimal t ∷ []) (sheetOf (now (out .entry)) at) ⌝ }
+fn put_section(out: &mut [u8], at: usize, s: Section, t: Timestamp) -> usize
+    ensures { λ r. ⌜ sheetOf (now (out .exit)) r ≡ puts (sectionText s ∷ decimal (t .0) ∷ []) (sheetOf (now (out .entry)) at) ⌝ }
 {
     match s {
-        Section::Remainder => sheet::put_with(out, at, b" remainder ticket ", t),
-        Section::Trying => sheet::put_with(out, at, b" trying ticket ", t),
-        Section::Critical => sheet::put_with(out, at, b" holding ticket ", t),
+        Section::Remainder => sheet::put_with(out, at, b" remainder ticket ", t.0),
+        Section::Trying => sheet::put_with(out, at, b" trying ticket ", t.0),
+        Section::Critical => sheet::put_with(out, at, b" holding ticket ", t.0),
     }
 }
 
-fn put_supporters(out: &mut [u8], at: usize, r: Request, c: Client) -> usize
-    requires { ⌜ c .n ≤ systemServers ⌝ }
-    ensures { λ e. ⌜ sheetOf (now (out .exit)) e ≡ puts (text " keepers" ∷ supportText r 1 (clientView c .responses)) (sheetOf (now (out .entry)) at) ⌝ }
+fn put_supporters(out: &mut [u8], at: usize, r: Request, row: &[u32], n: u16) -> usize
+    requires { ⌜ Padded (now row) n ⌝ }
+    ensures { λ e. ⌜ sheetOf (now (out .exit)) e ≡ puts (text " keepers" ∷ supportText r (serverNo 1) (responsesIn (now (row .entry)) n)) (sheetOf (now (out .entry)) at) ⌝ }
 {
     let p = sheet::put(out, at, b" keepers");
-    put_supports(out, p, r, c)
+    put_supports(out, p, r, row, n)
 }
 
-fn put_supporters_of(out: &mut [u8], at: usize, r: Request, c: Client) -> usize
-    requires { ⌜ c .n ≤ systemServers ⌝ }
-    ensures { λ e. ⌜ sheetOf (now (out .exit)) e ≡ puts (supportersText (c .section) (supportText r 1 (clientView c .responses))) (sheetOf (now (out .entry)) at) ⌝ }
+fn put_supporters_of(out: &mut [u8], at: usize, s: Section, r: Request, row: &[u32], n: u16) -> usize
+    requires { ⌜ Padded (now row) n ⌝ }
+    ensures { λ e. ⌜ sheetOf (now (out .exit)) e ≡ puts (supportersText s (supportText r (serverNo 1) (responsesIn (now (row .entry)) n))) (sheetOf (now (out .entry)) at) ⌝ }
 {
-    let section = c.section;
-    match section {
+    match s {
         Section::Remainder => at,
-        Section::Trying => put_supporters(out, at, r, c),
-        Section::Critical => put_supporters(out, at, r, c),
+        Section::Trying => put_supporters(out, at, r, row, n),
+        Section::Critical => put_supporters(out, at, r, row, n),
     }
 }
 
-fn put_state(out: &mut [u8], at: usize, k: u16, c: Client) -> usize
-    requires { ⌜ c .n ≤ systemServers ⌝ }
-    ensures { λ e. ⌜ sheetOf (now (out .exit)) e ≡ puts (stateText k (clientView c)) (sheetOf (now (out .entry)) at) ⌝ }
+fn put_state(out: &mut [u8], at: usize, k: ClientId, h: Head, row: &[u32]) -> usize
+    requires { ⌜ Padded (now row) (h .n) ⌝ }
+    ensures { λ e. ⌜ sheetOf (now (out .exit)) e ≡ puts (stateText k (clientView (clientOf h (now (row .entry))))) (sheetOf (now (out .entry)) at) ⌝ }
 {
-    let client = ClientId(k);
-    let timestamp = c.timestamp;
+    let client = k;
+    let timestamp = h.timestamp;
     let r = Request { client, timestamp };
-    let section = c.section;
-    let p = put_section(out, at, section, timestamp.0);
-    put_supporters_of(out, p, r, c)
+    let section = h.section;
+    let p = put_section(out, at, section, timestamp);
+    put_supporters_of(out, p, section, r, row, h.n)
 }
 
 // What a client that lives, or has fallen, knows.
-fn put_life(out: &mut [u8], at: usize, k: u16, living: bool, c: Client) -> usize
-    requires { ⌜ c .n ≤ systemServers ⌝ }
-    ensures { λ r. ⌜ sheetOf (now (out .exit)) r ≡ puts (if living then stateText k (clientView c) else text " fallen" ∷ []) (sheetOf (now (out .entry)) at) ⌝ }
+fn put_life(out: &mut [u8], at: usize, k: ClientId, living: bool, h: Head, row: &[u32]) -> usize
+    requires { ⌜ Padded (now row) (h .n) ⌝ }
+    ensures { λ r. ⌜ sheetOf (now (out .exit)) r ≡ puts (if living then stateText k (clientView (clientOf h (now (row .entry)))) else text " fallen" ∷ []) (sheetOf (now (out .entry)) at) ⌝ }
 {
     if living {
-        return put_state(out, at, k, c);
+        return put_state(out, at, k, h, row);
     }
     sheet::put(out, at, b" fallen")
 }
 
-fn put_client(out: &mut [u8], at: usize, w: &[u32], k: u16) -> usize
-    requires { ⌜ HasClient (now w) (clientNo k) ⌝ }
-    ensures { λ r. ⌜ sheetOf (now (out .exit)) r ≡ puts (clientText k (clientAt (systemOf (now (w .entry))) (clientNo k))) (sheetOf (now (out .entry)) at) ⌝ }
+fn put_client(out: &mut [u8], at: usize, w: &[u32], k: ClientId) -> usize
+    requires { ⌜ HasClient (now w) k ⌝ }
+    ensures { λ r. ⌜ sheetOf (now (out .exit)) r ≡ puts (clientText k (clientAt (systemOf (now (w .entry))) k)) (sheetOf (now (out .entry)) at) ⌝ }
 {
     let living = layout::is_living(w, k);
-    let c = layout::client_record(w, k);
-    let p = sheet::put_with(out, at, b"kiosk ", k as u32);
-    let e = put_life(out, p, k, living, c);
+    let mut row = [0u32; client::ROW_WORDS];
+    layout::client_row(w, k, &mut row);
+    let h = layout::client_head(w, k);
+    let p = sheet::put_with(out, at, b"kiosk ", k.0 as u32);
+    let e = put_life(out, p, k, living, h, &row);
     sheet::put(out, e, b"\n")
 }
 
@@ -226,7 +222,7 @@ fn put_clients(out: &mut [u8], at: usize, w: &[u32], clients: u16) -> usize
     let mut k: u16 = 0;
     while k < clients {
         k += 1;
-        end = put_client(out, end, w, k);
+        end = put_client(out, end, w, ClientId(k));
     }
     end
 }
@@ -327,7 +323,7 @@ fn put_in_transit(out: &mut [u8], at: usize, w: &[u32], i: usize) -> usize
     let number = layout::number_at(w, i);
     let delivered = layout::is_delivered(w, i);
     let m = layout::message_at(w, i);
-    let p = sheet::put_with(out, at, b"mail ", number);
+    let p = sheet::put_with(out, at, b"mail ", number.0);
     let q = put_message(out, p, m);
     put_standing(out, q, delivered)
 }
