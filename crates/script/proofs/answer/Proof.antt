@@ -7,25 +7,46 @@ use Rattle.script.proofs.answer.Statement.{statement}
 use Rattle.script.proofs.answer.Tie as tie
 
 returns : tie.Need-returns
-returns c = unread-does (now (c .before .before .before .before .args .w)) (now (c .before .before .before .before .args .out)) (c .before .before .before .before .args .at) (c .before .before .before .before .pre .0) (c .before .before .before .before .pre .1) (c .if1 .taken)
+returns c =
+    let d = c .before .before .before .before in
+    let a = d .args in
+    unread-does (now (a .w)) (now (a .out)) (a .at) (d .pre .0) (d .pre .1) (c .if1 .taken)
 
 pass-requires : tie.Need-pass-requires
-pass-requires c κs = (c .before .before .before .before .before .before .before .before .before .before .pre .0, reading (now (c .before .before .before .before .before .before .before .before .before .before .args .w)) (now (c .before .before .before .before .before .before .before .before .before .before .args .out)) (c .before .before .before .before .before .before .before .before .before .before .args .at) (c .before .before .before .before .before .before .before .before .before .before .pre .0) (c .before .before .before .before .before .before .before .before .before .before .pre .1) (c .before .before .before .before .before .before .if1 .left))
+pass-requires c κs =
+    let d = c .before .before .before .before .before .before .before .before .before .before in
+    let a = d .args in
+    (d .pre .0, reading (now (a .w)) (now (a .out)) (a .at) (d .pre .0) (d .pre .1) (c .before .before .before .before .before .before .if1 .left))
 
 pass-requires-2 : tie.Need-pass-requires-2
-pass-requires-2 c κs = (c .before .before .before .before .before .before .before .before .before .before .pre .0, reading (now (c .before .before .before .before .before .before .before .before .before .before .args .w)) (now (c .before .before .before .before .before .before .before .before .before .before .args .out)) (c .before .before .before .before .before .before .before .before .before .before .args .at) (c .before .before .before .before .before .before .before .before .before .before .pre .0) (c .before .before .before .before .before .before .before .before .before .before .pre .1) (c .before .before .before .before .before .before .if1 .left))
+pass-requires-2 c κs =
+    let d = c .before .before .before .before .before .before .before .before .before .before in
+    let a = d .args in
+    (d .pre .0, reading (now (a .w)) (now (a .out)) (a .at) (d .pre .0) (d .pre .1) (c .before .before .before .before .before .before .if1 .left))
 
 happen-requires : tie.Need-happen-requires
-happen-requires c κs = (c .before .before .before .before .before .before .before .before .before .before .before .pre .0, reading (now (c .before .before .before .before .before .before .before .before .before .before .before .args .w)) (now (c .before .before .before .before .before .before .before .before .before .before .before .args .out)) (c .before .before .before .before .before .before .before .before .before .before .before .args .at) (c .before .before .before .before .before .before .before .before .before .before .before .pre .0) (c .before .before .before .before .before .before .before .before .before .before .before .pre .1) (c .before .before .before .before .before .before .before .if1 .left))
+happen-requires c κs =
+    let d = c .before .before .before .before .before .before .before .before .before .before .before in
+    let a = d .args in
+    (d .pre .0, reading (now (a .w)) (now (a .out)) (a .at) (d .pre .0) (d .pre .1) (c .before .before .before .before .before .before .before .if1 .left))
 
 returns-2 : tie.Need-returns-2
-returns-2 c = bad-does (now (c .before .before .before .before .before .before .before .before .before .before .before .before .before .before .before .args .w)) (now (c .before .before .before .before .before .before .before .before .before .before .before .before .before .before .before .args .out)) (c .before .before .before .before .before .before .before .before .before .before .before .before .before .before .before .args .at) (c .before .before .before .before .before .before .before .before .before .before .before .before .before .before .before .pre .0) _ _ _ (c .before .before .before .before .before .before .before .before .before .before .before .before .before .before .before .pre .1) (c .before .before .before .before .before .before .before .before .before .before .before .if1 .left) (sym (c .before .before .before .before .before .before .before .enum-told .given .1) ∙ c .before .before .before .before .before .before .before .before .before .read-event .ensures) (c .before .before .before .before .pass .ensures)
+returns-2 c =
+    let d = c .before .before .before .before .before .before .before .before .before .before .before .before .before .before .before in
+    let a = d .args in
+    bad-does (now (a .w)) (now (a .out)) (a .at) (d .pre .0) _ _ _ (d .pre .1) (c .before .before .before .before .before .before .before .before .before .before .before .if1 .left) (sym (c .before .before .before .before .before .before .before .enum-told .given .1) ∙ c .before .before .before .before .before .before .before .before .before .read-event .ensures) (c .before .before .before .before .pass .ensures)
 
 returns-3 : tie.Need-returns-3
-returns-3 c = unknown-does (now (c .before .before .before .before .before .before .before .before .before .before .before .before .before .before .before .args .w)) (now (c .before .before .before .before .before .before .before .before .before .before .before .before .before .before .before .args .out)) (c .before .before .before .before .before .before .before .before .before .before .before .before .before .before .before .args .at) (c .before .before .before .before .before .before .before .before .before .before .before .before .before .before .before .pre .0) _ _ _ (c .before .before .before .before .before .before .before .before .before .before .before .before .before .before .before .pre .1) (c .before .before .before .before .before .before .before .before .before .before .before .if1 .left) (sym (c .before .before .before .before .before .before .before .enum-told2 .given .1) ∙ c .before .before .before .before .before .before .before .before .before .read-event .ensures) (c .before .before .before .before .pass2 .ensures)
+returns-3 c =
+    let d = c .before .before .before .before .before .before .before .before .before .before .before .before .before .before .before in
+    let a = d .args in
+    unknown-does (now (a .w)) (now (a .out)) (a .at) (d .pre .0) _ _ _ (d .pre .1) (c .before .before .before .before .before .before .before .before .before .before .before .if1 .left) (sym (c .before .before .before .before .before .before .before .enum-told2 .given .1) ∙ c .before .before .before .before .before .before .before .before .before .read-event .ensures) (c .before .before .before .before .pass2 .ensures)
 
 returns-4 : tie.Need-returns-4
-returns-4 c = event-does (now (c .before .before .before .before .before .before .before .before .before .before .before .before .before .before .before .before .args .w)) (now (c .before .before .before .before .before .before .before .before .before .before .before .before .before .before .before .before .args .out)) (c .before .before .before .before .before .before .before .before .before .before .before .before .before .before .before .before .args .at) (c .before .before .before .before .before .before .before .before .before .before .before .before .before .before .before .before .pre .0) _ _ _ (c .before .before .before .before .before .before .before .before .before .before .before .before .before .before .before .before .pre .1) (c .before .before .before .before .before .before .before .before .before .before .before .before .if1 .left) _ (sym (c .before .before .before .before .before .before .before .before .line .given .1) ∙ c .before .before .before .before .before .before .before .before .before .before .read-event .ensures) (c .before .before .before .before .happen .ensures)
+returns-4 c =
+    let d = c .before .before .before .before .before .before .before .before .before .before .before .before .before .before .before .before in
+    let a = d .args in
+    event-does (now (a .w)) (now (a .out)) (a .at) (d .pre .0) _ _ _ (d .pre .1) (c .before .before .before .before .before .before .before .before .before .before .before .before .if1 .left) _ (sym (c .before .before .before .before .before .before .before .before .line .given .1) ∙ c .before .before .before .before .before .before .before .before .before .before .read-event .ensures) (c .before .before .before .before .happen .ensures)
 
 pub answer-spec : {M : Type 1} → statement M
 answer-spec =

@@ -7,10 +7,16 @@ use Rattle.script.proofs.close.Statement.{statement}
 use Rattle.script.proofs.close.Tie as tie
 
 last-requires : tie.Need-last-requires
-last-requires c κs = closing-ready (now (c .before .before .before .before .args .w)) (now (c .before .before .before .before .args .out)) (c .before .before .before .before .pre .0) (c .before .before .before .before .pre .1)
+last-requires c κs =
+    let d = c .before .before .before .before in
+    let a = d .args in
+    closing-ready (now (a .w)) (now (a .out)) (d .pre .0) (d .pre .1)
 
 end-requires : tie.Need-end-requires
-end-requires c κs = ending-ready (now (c .before .before .before .before .before .before .before .before .before .before .before .args .w)) (now (c .before .before .before .before .before .before .before .before .before .before .before .args .out)) (c .before .before .before .before .before .before .before .before .before .before .before .pre .0) (c .before .before .before .before .before .before .before .before .before .before .before .pre .1) _ _ _ (c .before .before .before .before .before .before .last .ensures)
+end-requires c κs =
+    let d = c .before .before .before .before .before .before .before .before .before .before .before in
+    let a = d .args in
+    ending-ready (now (a .w)) (now (a .out)) (d .pre .0) (d .pre .1) _ _ _ (c .before .before .before .before .before .before .last .ensures)
 
 seal-requires : tie.Need-seal-requires
 seal-requires c κs = sound _ (c .before .before .before .before .before .before .before .before .before .before .last .ensures .again) .long

@@ -6,16 +6,28 @@ use Rattle.script.proofs.finish.Statement.{statement}
 use Rattle.script.proofs.finish.Tie as tie
 
 returns : tie.Need-returns
-returns c = finish-invalid (now (c .before .before .before .before .before .args .w)) (now (c .before .before .before .before .before .args .out)) _ (c .before .valid .ensures) (c .if1 .taken)
+returns c =
+    let d = c .before .before .before .before .before in
+    let a = d .args in
+    finish-invalid (now (a .w)) (now (a .out)) _ (c .before .valid .ensures) (c .if1 .taken)
 
 returns-2 : tie.Need-returns-2
-returns-2 c = finish-short (now (c .before .before .before .before .before .before .args .w)) (now (c .before .before .before .before .before .before .args .out)) _ (c .before .before .valid .ensures) (c .before .if1 .left) (c .if2 .taken)
+returns-2 c =
+    let d = c .before .before .before .before .before .before in
+    let a = d .args in
+    finish-short (now (a .w)) (now (a .out)) _ (c .before .before .valid .ensures) (c .before .if1 .left) (c .if2 .taken)
 
 close-requires : tie.Need-close-requires
-close-requires c κs = (finish-sound (now (c .before .before .before .before .before .before .before .before .args .w)) (now (c .before .before .before .before .before .before .before .before .args .out)) _ (c .before .before .before .before .valid .ensures) (c .before .before .before .if1 .left), c .before .before .if2 .left)
+close-requires c κs =
+    let d = c .before .before .before .before .before .before .before .before in
+    let a = d .args in
+    (finish-sound (now (a .w)) (now (a .out)) _ (c .before .before .before .before .valid .ensures) (c .before .before .before .if1 .left), c .before .before .if2 .left)
 
 returns-3 : tie.Need-returns-3
-returns-3 c = finish-done (now (c .before .before .before .before .before .before .before .before .before .before .before .before .before .args .w)) (now (c .before .before .before .before .before .before .before .before .before .before .before .before .before .args .out)) _ (c .before .before .before .before .before .before .before .before .before .valid .ensures) (c .before .before .before .before .before .before .before .before .if1 .left) (c .before .before .before .before .before .before .before .if2 .left) _ _ _ (c .before .before .before .before .close .ensures)
+returns-3 c =
+    let d = c .before .before .before .before .before .before .before .before .before .before .before .before .before in
+    let a = d .args in
+    finish-done (now (a .w)) (now (a .out)) _ (c .before .before .before .before .before .before .before .before .before .valid .ensures) (c .before .before .before .before .before .before .before .before .if1 .left) (c .before .before .before .before .before .before .before .if2 .left) _ _ _ (c .before .before .before .before .close .ensures)
 
 pub finish-spec : {M : Type 1} → statement M
 finish-spec =

@@ -9,7 +9,10 @@ slice-read-if1 : tie.Need-slice-read-if1
 slice-read-if1 c = search needs
 
 returns : tie.Need-returns
-returns c = last-none (now (c .before .before .before .before .args .w)) (now (c .before .before .before .before .args .out)) 0 (c .before .before .before .before .pre) (c .if1 .taken)
+returns c =
+    let d = c .before .before .before .before in
+    let a = d .args in
+    last-none (now (a .w)) (now (a .out)) 0 (d .pre) (c .if1 .taken)
 
 work-requires : tie.Need-work-requires
 work-requires c κs = search needs
@@ -21,7 +24,10 @@ same-length-2 : tie.Need-same-length-2
 same-length-2 c = search needs
 
 returns-2 : tie.Need-returns-2
-returns-2 c = last-line (now (c .before .before .before .before .before .before .before .before .before .before .before .args .w)) (now (c .before .before .before .before .before .before .before .before .before .before .before .args .out)) 0 (c .before .before .before .before .before .before .before .before .before .before .before .pre) (c .before .before .before .before .before .before .before .if1 .left) _ _ _ (c .before .before .before .before .work .ensures)
+returns-2 c =
+    let d = c .before .before .before .before .before .before .before .before .before .before .before in
+    let a = d .args in
+    last-line (now (a .w)) (now (a .out)) 0 (d .pre) (c .before .before .before .before .before .before .before .if1 .left) _ _ _ (c .before .before .before .before .work .ensures)
 
 pub last-spec : {M : Type 1} → statement M
 last-spec =

@@ -7,10 +7,16 @@ use Rattle.script.proofs.open.Statement.{statement}
 use Rattle.script.proofs.open.Tie as tie
 
 returns : tie.Need-returns
-returns c = bad-first (now (c .before .before .before .before .before .before .before .before .before .before .before .before .before .args .w)) (now (c .before .before .before .before .before .before .before .before .before .before .before .before .before .args .out)) (c .before .before .before .before .before .before .before .before .before .before .before .before .before .args .at) (c .before .before .before .before .before .before .before .before .before .before .before .before .before .pre .0) _ _ _ (sym (c .before .before .before .before .before .before .before .enum-told .given .1) ∙ c .before .before .before .before .before .before .before .before .before .read-setting .ensures) (c .before .before .before .before .refuse .ensures)
+returns c =
+    let d = c .before .before .before .before .before .before .before .before .before .before .before .before .before in
+    let a = d .args in
+    bad-first (now (a .w)) (now (a .out)) (a .at) (d .pre .0) _ _ _ (sym (c .before .before .before .before .before .before .before .enum-told .given .1) ∙ c .before .before .before .before .before .before .before .before .before .read-setting .ensures) (c .before .before .before .before .refuse .ensures)
 
 returns-2 : tie.Need-returns-2
-returns-2 c = setting-first (now (c .before .before .before .before .before .before .before .before .before .before .before .before .before .before .args .w)) (now (c .before .before .before .before .before .before .before .before .before .before .before .before .before .before .args .out)) (c .before .before .before .before .before .before .before .before .before .before .before .before .before .before .args .at) (c .before .before .before .before .before .before .before .before .before .before .before .before .before .before .pre .0) _ _ _ _ (sym (c .before .before .before .before .before .before .before .before .first .given .1) ∙ c .before .before .before .before .before .before .before .before .before .before .read-setting .ensures) (c .before .before .before .before .begin .ensures)
+returns-2 c =
+    let d = c .before .before .before .before .before .before .before .before .before .before .before .before .before .before in
+    let a = d .args in
+    setting-first (now (a .w)) (now (a .out)) (a .at) (d .pre .0) _ _ _ _ (sym (c .before .before .before .before .before .before .before .before .first .given .1) ∙ c .before .before .before .before .before .before .before .before .before .before .read-setting .ensures) (c .before .before .before .before .begin .ensures)
 
 pub open-spec : {M : Type 1} → statement M
 open-spec =

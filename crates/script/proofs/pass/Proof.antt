@@ -13,7 +13,10 @@ put-no-requires : tie.Need-put-no-requires
 put-no-requires c κs = omega (arith, no-short (getD (now (c .before .before .before .before .args .w)) 1 0 + 1) (c .before .before .before .before .args .x), c .before .before .before .before .pre .0 .room)
 
 returns : tie.Need-returns
-returns c = passing-does (now (c .before .before .before .before .before .before .before .args .w)) (now (c .before .before .before .before .before .before .before .args .out)) (c .before .before .before .before .before .before .before .args .at) (c .before .before .before .before .before .before .before .pre .0) (c .before .before .before .before .before .before .before .pre .1) (c .before .before .before .before .before .before .before .args .x) _ _ (c .before .before .put-no .ensures)
+returns c =
+    let d = c .before .before .before .before .before .before .before in
+    let a = d .args in
+    passing-does (now (a .w)) (now (a .out)) (a .at) (d .pre .0) (d .pre .1) (a .x) _ _ (c .before .before .put-no .ensures)
 
 pub pass-spec : {M : Type 1} → statement M
 pass-spec =

@@ -20,7 +20,10 @@ same-length-2 : tie.Need-same-length-2
 same-length-2 c = search needs
 
 returns : tie.Need-returns
-returns c = refused-does (now (c .before .before .before .before .before .before .args .w)) (now (c .before .before .before .before .before .before .args .out)) (c .before .before .before .before .before .before .args .at) (c .before .before .before .before .before .before .pre) (c .before .before .before .before .before .before .args .x) _ _ (c .before .before .put-refused .ensures)
+returns c =
+    let d = c .before .before .before .before .before .before in
+    let a = d .args in
+    refused-does (now (a .w)) (now (a .out)) (a .at) (d .pre) (a .x) _ _ (c .before .before .put-refused .ensures)
 
 pub refuse-spec : {M : Type 1} → statement M
 refuse-spec =

@@ -6,10 +6,16 @@ use Rattle.script.proofs.take.Statement.{statement}
 use Rattle.script.proofs.take.Tie as tie
 
 returns : tie.Need-returns
-returns c = line-taken (now (c .before .before .before .before .before .before .before .before .before .before .args .w)) (now (c .before .before .before .before .before .before .before .before .before .before .args .out)) (c .before .before .before .before .before .before .before .before .before .before .args .at) (c .before .before .before .before .before .before .before .before .before .before .pre) _ (c .before .before .before .before .before .before .before .if1 .taken) _ _ _ (c .before .before .before .before .work .ensures)
+returns c =
+    let d = c .before .before .before .before .before .before .before .before .before .before in
+    let a = d .args in
+    line-taken (now (a .w)) (now (a .out)) (a .at) (d .pre) _ (c .before .before .before .before .before .before .before .if1 .taken) _ _ _ (c .before .before .before .before .work .ensures)
 
 returns-2 : tie.Need-returns-2
-returns-2 c = byte-taken (now (c .before .before .before .before .before .before .before .args .w)) (now (c .before .before .before .before .before .before .before .args .out)) (c .before .before .before .before .before .before .before .args .at) (c .before .before .before .before .before .before .before .pre) _ (c .before .before .before .before .if1 .left) _ (c .before .before .keep .ensures)
+returns-2 c =
+    let d = c .before .before .before .before .before .before .before in
+    let a = d .args in
+    byte-taken (now (a .w)) (now (a .out)) (a .at) (d .pre) _ (c .before .before .before .before .if1 .left) _ (c .before .before .keep .ensures)
 
 pub take-spec : {M : Type 1} → statement M
 take-spec =

@@ -6,13 +6,19 @@ use Rattle.script.proofs.work.Statement.{statement}
 use Rattle.script.proofs.work.Tie as tie
 
 returns : tie.Need-returns
-returns c = opening-does (now (c .before .before .before .before .before .before .before .before .before .before .before .args .w)) (now (c .before .before .before .before .before .before .before .before .before .before .before .args .out)) (c .before .before .before .before .before .before .before .before .before .before .before .args .at) (c .before .before .before .before .before .before .before .before .before .before .before .pre) _ _ _ (c .before .before .before .before .before .before .before .if1 .taken) (c .before .before .before .before .«open» .ensures)
+returns c =
+    let d = c .before .before .before .before .before .before .before .before .before .before .before in
+    let a = d .args in
+    opening-does (now (a .w)) (now (a .out)) (a .at) (d .pre) _ _ _ (c .before .before .before .before .before .before .before .if1 .taken) (c .before .before .before .before .«open» .ensures)
 
 returns-2 : tie.Need-returns-2
 returns-2 c = c .before .before .before .before .answer .ensures
 
 returns-3 : tie.Need-returns-3
-returns-3 c = closed-does (now (c .before .before .before .before .before .before .args .w)) (now (c .before .before .before .before .before .before .args .out)) (c .before .before .before .before .before .before .args .at) (c .before .before .before .before .before .before .pre) (c .before .before .if1 .left) (c .if2 .left)
+returns-3 c =
+    let d = c .before .before .before .before .before .before in
+    let a = d .args in
+    closed-does (now (a .w)) (now (a .out)) (a .at) (d .pre) (c .before .before .if1 .left) (c .if2 .left)
 
 pub work-spec : {M : Type 1} → statement M
 work-spec =
