@@ -7,8 +7,7 @@ use mathlib.Core.List.{List}
 use lib.ListN.{length}
 use Prim.Native.Nat.{ℕ, _-_, _≤_}
 use Rattle.changes.proofs.Messages.{lent-sized, its-transit}
-use Rattle.changes.proofs.Parties.{words-long}
-use Rattle.layout.specs.Layout.{lengthOf, transitWords, simulationSize}
+use Rattle.layout.specs.Layout.{lengthOf, transitWords}
 use Rattle.sheet.specs.Sheet.{sheet, puts}
 use Rattle.transit.specs.Slots.{slots}
 use Rattle.knowledge.specs.Mail.{mailText}
@@ -30,9 +29,6 @@ module _ (c : tie.Start Inv-loop μ-loop) where
   abbrev words : List ℕ
   words = now (c .args .w)
 
-  long : length words ≡ simulationSize
-  long = words-long words (c .pre)
-
   few : lengthOf words ≤ systemMessages
   few = lent-sized words (c .pre) .few
 
@@ -45,12 +41,6 @@ module _ (c : tie.At-loop Inv-loop μ-loop) where
 module _ (c : tie.After-put-in-transit Inv-loop μ-loop) where
   abbrev turn : tie.At-loop Inv-loop μ-loop
   turn = c .before .before .before
-
-shared-slice-read-len : tie.Need-shared-slice-read-len Inv-loop μ-loop
-shared-slice-read-len c = omega (arith, long (c .before .before .before))
-
-cast-len : tie.Need-cast-len Inv-loop μ-loop
-cast-len c = omega (arith, few (c .before .before .before))
 
 loop-holds : tie.Need-loop-holds Inv-loop μ-loop
 loop-holds c = (mail-none _ _, omega arith, refl)
@@ -83,8 +73,7 @@ put-mail-spec =
     (tie.spec
     Inv-loop
     μ-loop
-    shared-slice-read-len
-    cast-len
+    (λ c κs. search needs)
     loop-holds
     put-in-transit-requires
     add-i

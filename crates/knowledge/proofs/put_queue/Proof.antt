@@ -1,7 +1,7 @@
 -- `knowledge::put_queue` meets its contract: a queue without requests has no text.
 use Rattle.sheet.proofs.SheetLaws.{then}
-use Rattle.knowledge.proofs.KnowledgeLaws.{queue-none, queue-some}
 use Rattle.sheet.specs.Sheet.{puts}
+use Rattle.knowledge.proofs.KnowledgeLaws.{queue-none, queue-some}
 use borrow.Author.Needs.{needs}
 use Rattle.knowledge.proofs.put_queue.Statement.{statement}
 use Rattle.knowledge.proofs.put_queue.Tie as tie
@@ -12,15 +12,12 @@ returns c = rw (queue-none _ _ (c .if1 .taken))
 
 returns-2 : tie.Need-returns-2
 returns-2 c =
-    let d₂ = c .before .before in
-    let d₁ = d₂ .before .before .before .before in
-    rw (queue-some _ _ (c .before .before .before .before .before .before .before .before .before .before .before .sized .ensures) (c .before .before .before .before .before .before .before .before .before .if1 .left)) (then _ _ _ (d₁ .put .ensures) (d₂ .put-requests .ensures))
+    rw (queue-some _ _ (c .before .before .before .before .before .before .before .before .before .before .before .before .pre) (c .before .before .before .before .before .before .before .before .before .if1 .left)) (then _ _ _ (c .before .before .before .before .before .before .put .ensures) (c .before .before .put-requests .ensures))
 
 pub put-queue-spec : {M : Type 1} → statement M
 put-queue-spec =
     tie.close
     (tie.spec
-    (λ c κs. search needs)
     returns
     (λ c. search needs)
     (λ c κs. search needs)
