@@ -11,7 +11,7 @@ use Rattle.ids.specs.declared.Owner.the-variants.{Nobody, Of}
 use Rattle.ids.specs.declared.Refusal.the-variants.{NoSuchParty, PartyDown, NoOwner, OwnerLives, WrongSection, TimestampsSpent}
 use Rattle.wire.specs.Step.{refused, stepped}
 use Rattle.wire.specs.declared.Message.{Message}
-use Rattle.responses.specs.Figure1.{Quorum, isRemainder, isCritical, lastTry}
+use Rattle.responses.specs.Figure1.{Quorum, isRemainder, isCritical, mayTry}
 use Rattle.system.specs.declared.MessageNumber.{MessageNumber}
 use Rattle.system.specs.declared.Event.the-variants.{Try, Exit, Fall, Down, Up, Take, Drop, Miss, Check}
 use Rattle.system.specs.Numbered.{has}
@@ -63,11 +63,11 @@ module _ (n : ℕ) (wins : Quorum) (u : System) where
         unfolding event
         tries-twice h = rw (there, lives, h)
 
-        pub tries-spent : isRemainder (clientAt u k .state .section) ≡ true → leb (clientAt u k .state .timestamp .0) lastTry ≡ false → event n wins u (Try k) ≡ refused TimestampsSpent
+        pub tries-spent : isRemainder (clientAt u k .state .section) ≡ true → mayTry (clientAt u k .state) ≡ false → event n wins u (Try k) ≡ refused TimestampsSpent
         unfolding event
         tries-spent h t = rw (there, lives, h, t)
 
-        pub tries : isRemainder (clientAt u k .state .section) ≡ true → leb (clientAt u k .state .timestamp .0) lastTry ≡ true → event n wins u (Try k) ≡ stepped (tried n u k)
+        pub tries : isRemainder (clientAt u k .state .section) ≡ true → mayTry (clientAt u k .state) ≡ true → event n wins u (Try k) ≡ stepped (tried n u k)
         unfolding event
         tries h t = rw (there, lives, h, t)
 

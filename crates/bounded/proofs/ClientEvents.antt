@@ -17,7 +17,7 @@ use Rattle.wire.specs.Step.{Step, Outcome, refused, stepped, withRoom, answerOf
 use Rattle.wire.specs.declared.Answer.{Answer}
 use Rattle.wire.specs.declared.Answer.the-variants as answer
 use Rattle.responses.specs.Figure1 as client
-use Rattle.responses.specs.Figure1.{enough, isRemainder, isCritical, lastTry}
+use Rattle.responses.specs.Figure1.{enough, isRemainder, isCritical, mayTry}
 use Rattle.client.specs.Record.{store, view as shown, clientOf}
 use Rattle.client.specs.Calls.{clientAfter, result, beginOutcome, exitOutcome}
 use Rattle.client.specs.declared.Client.{Client}
@@ -147,7 +147,7 @@ module _ (w : List ℕ) (k : ClientId) (H : HasClient w k) where
   unfolding beginOutcome
   begin-elsewhere h = rw (its-facts .valid, its-state, h)
 
-  begin-spent : isRemainder (state .section) ≡ true → leb (state .timestamp .0) lastTry ≡ false → beginOutcome its ≡ refused TimestampsSpent
+  begin-spent : isRemainder (state .section) ≡ true → mayTry state ≡ false → beginOutcome its ≡ refused TimestampsSpent
   unfolding beginOutcome
   begin-spent h t = rw (its-facts .valid, its-state, h, t)
 
@@ -156,7 +156,7 @@ module _ (w : List ℕ) (k : ClientId) (H : HasClient w k) where
     begin-answer : r .answer ≡ answerOf (withRoom (length bytes) (beginOutcome its))
     begin-answer = ap (λ (x : Stepped). x .answer) (rw q at f)
 
-    begin-called : isRemainder (state .section) ≡ true → leb (state .timestamp .0) lastTry ≡ true
+    begin-called : isRemainder (state .section) ≡ true → mayTry state ≡ true
         → ClientCalled w (Try k) k 0 (view w .transit) (downFrom 1 (view w .servers)) (client.tries (settingOf w .n) k state) r bytes′
     begin-called h t =
         let n = settingOf w .n in
@@ -165,7 +165,7 @@ module _ (w : List ℕ) (k : ClientId) (H : HasClient w k) where
         let b = clientBlockOf w k in
         let ok = client-block w (k .0) H in
         let e = place-state in
-        let u = subst (λ (c : client.State). leb (c .timestamp .0) lastTry ≡ true) (sym e) t in
+        let u = subst (λ (c : client.State). mayTry c ≡ true) (sym e) t in
         client-called lives (Try k) 0 (view w .transit) (downFrom 1 (view w .servers)) (beginOutcome its) (client.tries n k state) (tries n (enough m) (view w) k client-there-in lives h t) (view-all w)
         (subst (λ (c : client.State). beginOutcome its ≡ stepped (client.tries n k c)) e (begin-outcome n m clients (k .0) b ok (subst (λ (c : client.State). isRemainder (c .section) ≡ true) (sym e) h) u))
         (subst (λ (c : client.State). Sends n clients (client.tries n k c .sent)) e (tries-sends n m clients (k .0) b ok (H .first) (H .last) u)) r bytes bytes′ long (rw q at f) (rw q at g)
@@ -175,11 +175,11 @@ module _ (w : List ℕ) (k : ClientId) (H : HasClient w k) where
         ⊎-elim
         (λ (h : isRemainder (state .section) ≡ true).
         ⊎-elim
-        (λ (t : leb (state .timestamp .0) lastTry ≡ true). call-refused (begin-called h t .call) x a)
-        (λ (t : leb (state .timestamp .0) lastTry ≡ false).
+        (λ (t : mayTry state ≡ true). call-refused (begin-called h t .call) x a)
+        (λ (t : mayTry state ≡ false).
         let y : x ≡ TimestampsSpent = answer-refused (length bytes) (beginOutcome its) TimestampsSpent x (begin-spent h t) (r .answer) begin-answer a in
         rw y (leaves-refused w (Try k) TimestampsSpent (H .valid) (tries-spent (settingOf w .n) (enough (settingOf w .m)) (view w) k client-there-in lives h t)))
-        (decided (leb (state .timestamp .0) lastTry)))
+        (decided (mayTry state)))
         (λ (h : isRemainder (state .section) ≡ false).
         let y : x ≡ WrongSection = answer-refused (length bytes) (beginOutcome its) WrongSection x (begin-elsewhere h) (r .answer) begin-answer a in
         rw y (leaves-refused w (Try k) WrongSection (H .valid) (tries-twice (settingOf w .n) (enough (settingOf w .m)) (view w) k client-there-in lives h)))
@@ -193,11 +193,11 @@ module _ (w : List ℕ) (k : ClientId) (H : HasClient w k) where
           (λ (h : isRemainder (state .section) ≡ false). answer-never (length bytes) (beginOutcome its) WrongSection (begin-elsewhere h) (r .answer) begin-answer count size a)
           (decided (isRemainder (state .section)))
 
-      unspent : leb (state .timestamp .0) lastTry ≡ true
+      unspent : mayTry state ≡ true
       unspent =
-          ⊎-elim (λ (t : leb (state .timestamp .0) lastTry ≡ true). t)
-          (λ (t : leb (state .timestamp .0) lastTry ≡ false). answer-never (length bytes) (beginOutcome its) TimestampsSpent (begin-spent remainder t) (r .answer) begin-answer count size a)
-          (decided (leb (state .timestamp .0) lastTry))
+          ⊎-elim (λ (t : mayTry state ≡ true). t)
+          (λ (t : mayTry state ≡ false). answer-never (length bytes) (beginOutcome its) TimestampsSpent (begin-spent remainder t) (r .answer) begin-answer count size a)
+          (decided (mayTry state))
 
       pub begin-accepted : ClientCalled w (Try k) k 0 (view w .transit) (downFrom 1 (view w .servers)) (client.tries (settingOf w .n) k (clientAt (view w) k .state)) r bytes′
       begin-accepted = begin-called remainder unspent

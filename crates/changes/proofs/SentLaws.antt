@@ -26,7 +26,7 @@ use Rattle.votes.specs.declared.Tag.{Tag}
 use Rattle.votes.specs.Figure1 as votes
 use Rattle.server.specs.Record as server
 use Rattle.responses.specs.Figure1 as client
-use Rattle.responses.specs.Figure1.{isCritical, lastTry}
+use Rattle.responses.specs.Figure1.{isCritical, lastTry, mayTry}
 use Rattle.client.proofs.KeepsValid.{Fits}
 use Rattle.places.specs.Blocks.{clientPlace, serverPlace, namedPair, validClientBlock, validServerBlock}
 use Rattle.places.proofs.Facts.{client-facts, client-fits, ServerBlock, server-facts, server-sizes, server-good}
@@ -66,7 +66,7 @@ module _ (n m clients k : ℕ) (b : List ℕ) (ok : validClientBlock n m clients
   few : n ≤ systemServers
   few = fits .ranges .few
 
-  pub tries-sends : leb (clientPlace b .state .timestamp .0) lastTry ≡ true → Sends n clients (client.tries n (record { 0 = k }) (clientPlace b .state) .sent)
+  pub tries-sends : mayTry (clientPlace b .state) ≡ true → Sends n clients (client.tries n (record { 0 = k }) (clientPlace b .state) .sent)
   unfolding names fieldsOf
   tries-sends h =
       few-sends n clients _ few (of-client.tries-valid n m me at fits (leb-true (at .timestamp .0) lastTry h))

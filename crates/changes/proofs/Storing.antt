@@ -21,7 +21,7 @@ use Rattle.votes.specs.Figure1 as votes
 use Rattle.server.specs.declared.Server.{Server}
 use Rattle.responses.specs.Figure1 as client
 use Rattle.client.specs.Record.{store}
-use Rattle.responses.specs.Figure1.{isRemainder, lastTry}
+use Rattle.responses.specs.Figure1.{isRemainder, mayTry}
 use Rattle.client.specs.declared.Client.{Client}
 use Rattle.words.specs.Records.{serverWords, clientWords, serverFrom, holdsServer, serverHeadFrom}
 use Rattle.system.specs.Places.{clientAt, serverAt, worst}
@@ -130,7 +130,7 @@ module _ (w : List ℕ) (k : ℕ) (H : HasClient w (clientNo k)) where
     client-stores s B e =
         rw (f, e, client-is) (client-becomes w (H .valid) k (written (settingOf w .n) (settingOf w .m) k part s) (placed part s) (H .first) (H .last) B downs-noted)
 
-    pub tries-stored : isRemainder (clientAt (view w) (clientNo k) .state .section) ≡ true → leb (clientAt (view w) (clientNo k) .state .timestamp .0) lastTry ≡ true
+    pub tries-stored : isRemainder (clientAt (view w) (clientNo k) .state .section) ≡ true → mayTry (clientAt (view w) (clientNo k) .state) ≡ true
         → c ≡ store (settingOf w .n) (settingOf w .m) (record { 0 = k }) (client.tries (settingOf w .n) (record { 0 = k }) (clientAt (view w) (clientNo k) .state) .state)
         → Becomes w w′ (withClient (view w) (clientNo k) (record { living = clientAt (view w) (clientNo k) .living; state = client.tries (settingOf w .n) (record { 0 = k }) (clientAt (view w) (clientNo k) .state) .state; downs = clientAt (view w) (clientNo k) .downs }))
     tries-stored h g e =

@@ -24,7 +24,7 @@ use Rattle.wire.specs.declared.Message.the-variants.{Response, Check}
 use Rattle.client.specs.declared.Client.{Client}
 use Rattle.responses.specs.declared.Section.{Section}
 use Rattle.responses.specs.declared.Section.the-variants.{Remainder, Trying, Critical}
-use Rattle.responses.specs.Figure1.{State, fresh, Quorum, filled, enough, tries, exits, heard, judge, responds, checked, isRemainder, isCritical, lastTry}
+use Rattle.responses.specs.Figure1.{State, fresh, Quorum, filled, enough, tries, exits, heard, judge, responds, checked, isRemainder, isCritical, lastTry, mayTry}
 use Rattle.client.specs.Record as client
 use Rattle.client.specs.Calls.{clientAfter, beginOutcome, exitOutcome, messageOutcome, forClient, messageOutcomeUpTo}
 use Rattle.client.proofs.KeepsValid.{InRange, remainder-fits, Fits, tries-fits, exits-fits, responds-fits, checked-state, heard-every, after-stored}
@@ -120,7 +120,7 @@ module _ (n m clients k : ℕ) (b : List ℕ) (ok : validClientBlock n m clients
   times = refl
 
   -- what the calls do
-  pub begin-outcome : isRemainder (clientPlace b .state .section) ≡ true → leb (clientPlace b .state .timestamp .0) lastTry ≡ true → beginOutcome (clientFrom (clientRecord b)) ≡ stepped (tries n (record { 0 = k }) (clientPlace b .state))
+  pub begin-outcome : isRemainder (clientPlace b .state .section) ≡ true → mayTry (clientPlace b .state) ≡ true → beginOutcome (clientFrom (clientRecord b)) ≡ stepped (tries n (record { 0 = k }) (clientPlace b .state))
   unfolding beginOutcome
   begin-outcome h g =
       rw (B .valid, shows, h, g, B .servers, B .number)
@@ -147,7 +147,7 @@ module _ (n m clients k : ℕ) (b : List ℕ) (ok : validClientBlock n m clients
   client-after p = rw (← B .servers, ← B .threshold, ← B .number) (after-stored its p row-long)
 
   -- what they leave
-  pub tries-block : isRemainder (clientPlace b .state .section) ≡ true → leb (clientPlace b .state .timestamp .0) lastTry ≡ true
+  pub tries-block : isRemainder (clientPlace b .state .section) ≡ true → mayTry (clientPlace b .state) ≡ true
       → ClientIs n m clients k (written n m k b (tries n (record { 0 = k }) (clientPlace b .state) .state)) (placed b (tries n (record { 0 = k }) (clientPlace b .state) .state))
   unfolding tries
   tries-block h g =

@@ -15,7 +15,7 @@ use Rattle.ids.specs.Lists.{every}
 use Rattle.ids.specs.declared.ServerId.{ServerId}
 use Rattle.ids.proofs.Choice.{both, decided}
 use Rattle.wire.proofs.BytesLaws.{stored-on}
-use Rattle.responses.specs.Figure1.{tries, exits, isRemainder, lastTry}
+use Rattle.responses.specs.Figure1.{tries, exits, isRemainder, mayTry}
 use Rattle.client.specs.Record as client
 use Rattle.words.specs.Records.{clientFrom, clientSize}
 use Rattle.regions.proofs.SetsLaws.{region-inside, region-behind}
@@ -219,7 +219,7 @@ module _ (n m clients k : ℕ) (b : List ℕ) (ok : validClientBlock n m clients
 
 -- the record of a try is written, and the flags of the servers are put
 pub tried-block : (n m clients k : ℕ) (b : List ℕ) → validClientBlock n m clients (clientNo k) b ≡ true → clientPlace b .living ≡ true → isRemainder (clientPlace b .state .section) ≡ true
-    → leb (clientPlace b .state .timestamp .0) lastTry ≡ true → (qs : List ServerPlace) → length qs ≡ n
+    → mayTry (clientPlace b .state) ≡ true → (qs : List ServerPlace) → length qs ≡ n
     → ClientIs n m clients k (sets (written n m k b (tries n (record { 0 = k }) (clientPlace b .state) .state)) flagsFrom (map downBit qs)) (record { living = true; state = tries n (record { 0 = k }) (clientPlace b .state) .state; downs = downFrom 1 qs })
 unfolding tries
 tried-block n m clients k b ok alive h g qs all =

@@ -18,7 +18,7 @@ use Rattle.ids.specs.declared.Owner.the-variants.{Nobody, Of}
 use Rattle.wire.specs.Step.{Step, refused, stepped}
 use Rattle.wire.specs.declared.Message.{Message}
 use Rattle.wire.specs.declared.Message.the-variants.{Request, Yield, Release, Inquiry, Response, Check as CHECK}
-use Rattle.responses.specs.Figure1.{Quorum, enough, isRemainder, isCritical, lastTry}
+use Rattle.responses.specs.Figure1.{Quorum, enough, isRemainder, isCritical, mayTry}
 use Rattle.votes.specs.declared.Tag.the-variants as tag
 use Rattle.system.specs.Limits.{lastNumber, systemMessages}
 use Rattle.system.specs.declared.Event.{Event}
@@ -92,7 +92,7 @@ module _ (n : ℕ) (wins : Quorum) (u : System) where
   event-never (Try k) =
       party-need (has (u .clients) (k .0)) (clientAt u k .living) _
       (need-never (isRemainder (clientAt u k .state .section)) WrongSection _ section-never
-      (need-never (leb (clientAt u k .state .timestamp .0) lastTry) TimestampsSpent (stepped (tried n u k)) spent-never (step-never (tried n u k))))
+      (need-never (mayTry (clientAt u k .state)) TimestampsSpent (stepped (tried n u k)) spent-never (step-never (tried n u k))))
   event-never (Exit k) =
       party-need (has (u .clients) (k .0)) (clientAt u k .living) _
       (need-never (isCritical (clientAt u k .state .section)) WrongSection (stepped (exited n u k)) section-never (step-never (exited n u k)))

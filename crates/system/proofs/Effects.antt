@@ -17,7 +17,7 @@ use Rattle.wire.specs.declared.Message.{Message}
 use Rattle.wire.specs.declared.Message.the-variants.{Request as REQUEST, Yield as YIELD, Release as RELEASE, Inquiry as INQUIRY, Response as RESPONSE, Check as CHECK}
 use Rattle.votes.specs.declared.Tag.{Tag}
 use Rattle.votes.specs.declared.Tag.the-variants.{Request as Asks, Yield as Yields, Release as Releases, Inquiry as Inquires}
-use Rattle.responses.specs.Figure1.{Quorum, isRemainder, isCritical, lastTry}
+use Rattle.responses.specs.Figure1.{Quorum, isRemainder, isCritical, mayTry}
 use Rattle.system.specs.declared.MessageNumber.{MessageNumber}
 use Rattle.system.specs.declared.Event.{Event}
 use Rattle.system.specs.declared.Event.the-variants.{Try, Exit, Fall, Down, Up, Take, Drop, Miss, Check}
@@ -67,7 +67,7 @@ module _ (n : ℕ) (wins : Quorum) (w : System) where
   effect (Try k) =
       let E = Effect (Try k) in
       branch E (has (w .clients) (k .0)) (λ _. branch E (clientAt w k .living) (λ a. branch E (isRemainder (clientAt w k .state .section)) (λ b.
-      branch E (leb (clientAt w k .state .timestamp .0) lastTry) (λ _. begins a b) (λ _. refuses)) (λ _. refuses)) (λ _. refuses)) (λ _. refuses)
+      branch E (mayTry (clientAt w k .state)) (λ _. begins a b) (λ _. refuses)) (λ _. refuses)) (λ _. refuses)) (λ _. refuses)
   effect (Exit k) =
       let E = Effect (Exit k) in
       branch E (has (w .clients) (k .0)) (λ _. branch E (clientAt w k .living) (λ a. branch E (isCritical (clientAt w k .state .section)) (λ b. leaves a b)

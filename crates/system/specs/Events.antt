@@ -12,7 +12,7 @@ use Rattle.ids.specs.declared.ServerId.{ServerId}
 use Rattle.ids.specs.declared.Timestamp.{Timestamp}
 use Rattle.ids.specs.declared.Owner.{Owner}
 use Rattle.ids.specs.declared.Refusal.{Refusal}
-use Rattle.ids.specs.declared.Refusal.the-variants.{NoSuchParty, PartyDown, NoOwner, OwnerLives, WrongSection, TimestampsSpent, SystemFull}
+use Rattle.ids.specs.declared.Refusal.the-variants.{NoSuchParty, PartyDown, NoOwner, OwnerLives, SystemFull}
 use Rattle.wire.specs.Step.{Step, stay, Outcome, refused, stepped}
 use Rattle.wire.specs.declared.Message.{Message}
 use Rattle.wire.specs.declared.Message.the-variants.{Request as REQUEST, Yield as YIELD, Release as RELEASE, Inquiry as INQUIRY, Response as RESPONSE, Check as CHECK}
@@ -20,7 +20,7 @@ use Rattle.votes.specs.Figure1 as votes
 use Rattle.votes.specs.declared.Tag.{Tag}
 use Rattle.votes.specs.declared.Tag.the-variants as tag
 use Rattle.responses.specs.Figure1 as client
-use Rattle.responses.specs.Figure1.{Quorum, isRemainder, isCritical, lastTry}
+use Rattle.responses.specs.Figure1.{Quorum, tryChecked, exitChecked}
 use Rattle.system.specs.declared.Event.{Event}
 use Rattle.system.specs.declared.Event.the-variants.{Try, Exit, Fall, Down, Up, Take, Drop, Miss, Check}
 use Rattle.system.specs.Numbered.{put, has}
@@ -165,13 +165,12 @@ module _ (n : ℕ) (wins : Quorum) where
   event w (Try k) = do
     need (has (w .clients) (k .0)) NoSuchParty
     need (clientAt w k .living) PartyDown
-    need (isRemainder (clientAt w k .state .section)) WrongSection
-    need (leb (clientAt w k .state .timestamp .0) lastTry) TimestampsSpent
+    tryChecked (clientAt w k .state)
     stepped (tried n w k)
   event w (Exit k) = do
     need (has (w .clients) (k .0)) NoSuchParty
     need (clientAt w k .living) PartyDown
-    need (isCritical (clientAt w k .state .section)) WrongSection
+    exitChecked (clientAt w k .state)
     stepped (exited n w k)
   event w (Fall k) = do
     need (has (w .clients) (k .0)) NoSuchParty
