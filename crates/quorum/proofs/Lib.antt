@@ -1,4 +1,5 @@
 pub mod Listing
 pub mod CheckLaws
+pub mod Settings
 pub mod ReturnLaws
 pub mod ThresholdLaws

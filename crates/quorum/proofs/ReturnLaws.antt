@@ -17,7 +17,7 @@ use Rattle.system.specs.declared.Event.{Event as Happening}
 use Rattle.system.specs.declared.Event.the-variants.{Try, Down, Up}
 use Rattle.system.specs.Setting as setting
 use Rattle.system.specs.Setting.{takes, lost, unsafeRun}
-use Rattle.system.proofs.Settings.{shows-unsafe, unsafe-iff, stalls-iff}
+use Rattle.quorum.proofs.Settings.{shows-unsafe, unsafe-iff, stalls-iff}
 use Rattle.quorum.specs.declared.Verdict.{Verdict}
 use Rattle.quorum.specs.declared.Verdict.the-variants.{Accepted, Unsafe, Stalls, OutOfRange}
 use Rattle.quorum.specs.declared.Asked.{Asked}
