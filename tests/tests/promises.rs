@@ -6,9 +6,8 @@ use std::collections::{BTreeMap, BTreeSet};
 use std::fs;
 use std::path::{Path, PathBuf};
 
-/// Public calls that can give no wrong answer. `write_out` has no contract, for none can speak of what a system call does; the other
-/// two answer and change nothing: they are called for a fact.
-const NO_ANSWER: [&str; 3] = ["console::write_out", "votes::sized", "client::sized"];
+/// The public call that can give no wrong answer: `write_out` has no contract, for none can speak of what a system call does.
+const NO_ANSWER: [&str; 1] = ["console::write_out"];
 
 /// A row of the table: its calls as crate::call (none where it is of laws), and its edits as crate/name.
 struct Row {

@@ -415,7 +415,8 @@ pub fn holders(w: &[u32]) -> u32
     requires { ⌜ isValid (now w) ≡ true ⌝ }
     ensures { λ r. ⌜ r ≡ holdersOf (view (now (w .entry))) ⌝ }
 {
-    count_inside(w, clients(w))
+    let all = clients(w);
+    count_inside(w, all)
 }
 
 // The most servers ever down within one epoch.
