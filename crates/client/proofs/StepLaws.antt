@@ -9,7 +9,7 @@ use lib.ListN.{length, replicate}
 use lib.Seq.{sets}
 use borrow.Author.Tests.{lt-ltb, le-ltb, le-leb, lt-leb, eq-eqb, ne-eqb, eqb-true, leb-true}
 use Rattle.ids.specs.Choice.{if_then_else_}
-use Rattle.ids.specs.Limits.{maxTimestamp, validClient, validOwner, validParties, validServer}
+use Rattle.ids.specs.Limits.{maxTimestamp, validClient, validOwner, validParties, validPartiesUpTo, validServer}
 use Rattle.ids.specs.declared.ClientId.{ClientId}
 use Rattle.ids.specs.declared.ServerId.{ServerId}
 use Rattle.ids.specs.declared.Timestamp.{Timestamp}
@@ -20,7 +20,7 @@ use Rattle.ids.specs.declared.Refusal.the-variants.{WrongSection, TimestampsSpe
 use Rattle.ids.proofs.Choice.{both, fails, holds}
 use Rattle.ids.proofs.LimitsLaws.{server-range}
 use Rattle.wire.specs.Format as format
-use Rattle.wire.specs.Format.{sizeOf, bytesOf, bytesOfAll, sizeOfAll, validResponse}
+use Rattle.wire.specs.Format.{sizeOf, bytesOf, bytesOfAll, sizeOfAll, validResponseUpTo}
 use Rattle.wire.specs.Step.{Step, Outcome, refused, stepped, stay, tell, withRoom, sentInto}
 use Rattle.wire.specs.declared.Answer.the-variants.{Sent}
 use Rattle.wire.specs.declared.Message.{Message}
@@ -332,7 +332,7 @@ module _ (h : Head) (row : List ℕ) (k : ClientId) (j : ServerId) (x : Bool) (p
     check-taken s = rw (holds x (forClient h k j) p t, its-client)
 
 pub response-range : (k : ClientId) (j : ServerId) (o : Owner) → format.valid (Response k j o) ≡ true → (1 ≤ j .0) × (validOwner o ≡ true)
-unfolding format.valid validResponse validParties
+unfolding format.validUpTo validResponseUpTo validPartiesUpTo
 response-range k j o h =
     let (a, b) = both (validParties k j) (validOwner o) h in
     let (d, e) = both (validClient k) (validServer j) a in

@@ -8,7 +8,7 @@ use lib.Dec.{leb, ltb}
 use lib.ListN.{length, length-drop}
 use borrow.Author.Tests.{eq-eqb, le-ltb}
 use Rattle.ids.specs.Lists.{every}
-use Rattle.ids.specs.Limits.{validRequest, validStamped, validParties, validClient, validServer, validTimestamp}
+use Rattle.ids.specs.Limits.{validRequest, validStamped, validStampedUpTo, validParties, validPartiesUpTo, validClient, validServer, validTimestamp}
 use Rattle.ids.specs.declared.ClientId.{ClientId}
 use Rattle.ids.specs.declared.ServerId.{ServerId}
 use Rattle.ids.specs.declared.Timestamp.{Timestamp}
@@ -67,14 +67,14 @@ module _ (clients : ℕ) where
 
 -- the request of a valid message
 stamped-request : (k : ClientId) (j : ServerId) (t : Timestamp) → validStamped k j t ≡ true → validRequest (record { client = k; timestamp = t }) ≡ true
-unfolding validStamped validParties validRequest
+unfolding validStampedUpTo validPartiesUpTo validRequest
 stamped-request k j t w =
     let (a, b) = both (validParties k j) (validTimestamp t) w in
     let (c, d) = both (validClient k) (validServer j) a in
     rw c b
 
 pub message-request : (tag : Tag) (k : ClientId) (j : ServerId) (t : Timestamp) → format.valid (message tag k j t) ≡ true → validRequest (record { client = k; timestamp = t }) ≡ true
-unfolding format.valid
+unfolding format.validUpTo
 message-request Asks k j t w = stamped-request k j t w
 message-request Yields k j t w = stamped-request k j t w
 message-request Releases k j t w = stamped-request k j t w

@@ -11,7 +11,7 @@ use lib.ListN.{length}
 use borrow.Author.Tests.{ltb-false, eqb-true, eqb-false, eq-eqb, ne-eqb}
 use Rattle.ids.specs.Choice.{if_then_else_, maybe}
 use Rattle.ids.specs.Order.{before}
-use Rattle.ids.specs.Limits.{maxServers, validRequest, validOwner, validStamped, validParties, validClient, validServer, validTimestamp}
+use Rattle.ids.specs.Limits.{maxServers, validRequest, validOwner, validStamped, validStampedUpTo, validParties, validPartiesUpTo, validClient, validServer, validTimestamp}
 use Rattle.ids.specs.declared.Refusal.{Refusal}
 use Rattle.ids.specs.declared.Refusal.the-variants.{QueueFull, NotForServer, NumberOutOfRange, NoOwner}
 use Rattle.ids.specs.Requests.{same, isRequest, byOwner}
@@ -385,7 +385,7 @@ module _ (limit : ℕ) (s : Server) (v : validUpTo limit s ≡ true) where
       (decided (ltb (length (s .row)) (2 * length (x .state .queue))))
 
   pub taken-keeps-valid : (tag : Tag) (k : ClientId) (j : ServerId) (t : Timestamp) (p : Step State) → validStamped k j t ≡ true → taken s tag k j t ≡ stepped p → validUpTo limit (serverAfter s (stepped p)) ≡ true
-  unfolding validStamped validParties validRequest
+  unfolding validStampedUpTo validPartiesUpTo validRequest
   taken-keeps-valid tag k j t p w e =
       let (a, b) = both (validParties k j) (validTimestamp t) w in
       let c : validClient k ≡ true = both (validClient k) (validServer j) a .0 in
@@ -396,7 +396,7 @@ module _ (limit : ℕ) (s : Server) (v : validUpTo limit s ≡ true) where
       (decided (eqb (j .0) (s .head .id .0)))
 
   received-keeps : (m : Message) (p : Step State) → format.valid m ≡ true → received s m ≡ stepped p → validUpTo limit (serverAfter s (stepped p)) ≡ true
-  unfolding format.valid
+  unfolding format.validUpTo
   received-keeps (Request k j t) p w e = taken-keeps-valid REQUEST k j t p w e
   received-keeps (Yield k j t) p w e = taken-keeps-valid YIELD k j t p w e
   received-keeps (Release k j t) p w e = taken-keeps-valid RELEASE k j t p w e

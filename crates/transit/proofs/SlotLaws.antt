@@ -15,7 +15,7 @@ use Rattle.ids.specs.Limits.{within}
 use Rattle.ids.specs.declared.ServerId.{ServerId}
 use Rattle.ids.proofs.Choice.{both, decided}
 use Rattle.ids.proofs.LimitsLaws.{within-range}
-use Rattle.wire.specs.Format.{known, words, fieldsOf, messageOf, valid, validNumbers, validFields}
+use Rattle.wire.specs.Format.{known, words, fieldsOf, messageOf, valid, validNumbers, validFields, validFieldsUpTo}
 use Rattle.wire.specs.declared.Fields.{Fields}
 use Rattle.wire.specs.declared.Message.{Message}
 use Rattle.wire.proofs.NumbersLaws.{valid-sound, message-fields, valid-message, fields-again}
@@ -90,7 +90,7 @@ module _ (n clients : ℕ) (x : InTransit) (v : valid (x .message) ≡ true) whe
       flag false = refl
 
   fields-range : validFields (fieldsOf (x .message)) ≡ true
-  unfolding validFields
+  unfolding validFieldsUpTo
   fields-range =
       let s = valid-sound (x .message) v in
       rw (s .kind, valid-message (fieldsOf (x .message)) (s .kind) (s .alone), message-fields (x .message) v) v
@@ -221,7 +221,7 @@ module _ (n clients : ℕ) (t : List ℕ) (i : ℕ) (size : length t ≡ transit
     numbers-found f r q x = slot-numbers n clients (take slotSize (drop (slotSize * i) t)) (rw flag-at h) g from-row f r q x
 
 known-kind : (f : Fields) → validFields f ≡ true → known (f .kind) ≡ true
-unfolding validFields
+unfolding validFieldsUpTo
 known-kind f v = both (known (f .kind)) (validNumbers f) v .0
 
 -- server j has gone down

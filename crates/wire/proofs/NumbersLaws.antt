@@ -6,7 +6,7 @@ use mathlib.Core.Bool.{Bool, true, false, not, _&&_}
 use mathlib.Core.List.{List}
 use lib.Dec.{leb, eqb}
 use borrow.Author.Tests.{le-leb, ne-eqb, eqb-true, eqb-false}
-use Rattle.ids.specs.Limits.{validRequest, validClient, validServer, validTimestamp, validOwner, validParties, validStamped}
+use Rattle.ids.specs.Limits.{validRequest, validClient, validServer, validTimestamp, validOwner, validParties, validPartiesUpTo, validStamped, validStampedUpTo}
 use Rattle.ids.specs.declared.Owner.{Owner}
 use Rattle.ids.specs.declared.Owner.the-variants.{Nobody, Of}
 use Rattle.ids.specs.declared.ClientId.{ClientId}
@@ -15,7 +15,7 @@ use Rattle.ids.specs.declared.Timestamp.{Timestamp}
 use Rattle.ids.proofs.Choice.{both, and-true}
 use Rattle.ids.proofs.LimitsLaws.{within-range, client-range, server-range, timestamp-range, request-range}
 use Rattle.wire.specs.Bytes.{decode}
-use Rattle.wire.specs.Format.{validRest, validNumbers, validFields, known, plain, answer, ownerClient, ownerTimestamp, fieldsOf, messageOf, ownerOf, valid, validResponse, kindIn, fieldIn, fieldsIn}
+use Rattle.wire.specs.Format.{validRest, validNumbers, validNumbersUpTo, validFields, validFieldsUpTo, known, plain, answer, ownerClient, ownerTimestamp, fieldsOf, messageOf, ownerOf, valid, validUpTo, validResponse, validResponseUpTo, kindIn, fieldIn, fieldsIn}
 use Rattle.wire.specs.declared.Fields.{Fields}
 use Rattle.wire.specs.declared.Message.{Message}
 use Rattle.wire.specs.declared.Message.the-variants.{Request, Yield, Release, Inquiry, Response, Check}
@@ -30,13 +30,13 @@ pub record Sound (f : Fields) : Type 0 where
   pub alone : (f .kind ≡ 5 → ⊥) → f .owner ≡ 0
 
 parties : (k : ClientId) (j : ServerId) → validParties k j ≡ true → (k .0 ≤ 65535) × (j .0 ≤ 31)
-unfolding validParties
+unfolding validPartiesUpTo
 parties k j v =
     let (a, b) = both (validClient k) (validServer j) v in
     (client-range k a .1, server-range j b .1)
 
 plain-sound : (kind : ℕ) (k : ClientId) (j : ServerId) (t : Timestamp) → known kind ≡ true → validStamped k j t ≡ true → Sound (plain kind k j t)
-unfolding validStamped
+unfolding validStampedUpTo
 plain-sound kind k j t e v =
     let (a, b) = both (validParties k j) (validTimestamp t) v in
     let (kk, jj) = parties k j a in
@@ -51,7 +51,7 @@ owner-sound (Of q) v =
     (client-range (q .client) a .1, timestamp-range (q .timestamp) b .1)
 
 response-sound : (k : ClientId) (j : ServerId) (o : Owner) → validResponse k j o ≡ true → Sound (answer k j o)
-unfolding validResponse
+unfolding validResponseUpTo
 response-sound k j o v =
     let (a, b) = both (validParties k j) (validOwner o) v in
     let (kk, jj) = parties k j a in
@@ -59,7 +59,7 @@ response-sound k j o v =
     record { kind = refl; client = omega arith; server = omega arith; timestamp = omega arith; owner = omega arith; alone = λ n. absurd (n refl) }
 
 pub valid-sound : (m : Message) → valid m ≡ true → Sound (fieldsOf m)
-unfolding valid fieldsOf
+unfolding validUpTo fieldsOf
 valid-sound (Request k j t) v = plain-sound 1 k j t refl v
 valid-sound (Yield k j t) v = plain-sound 2 k j t refl v
 valid-sound (Release k j t) v = plain-sound 3 k j t refl v
@@ -77,7 +77,7 @@ owner-again (Of q) v =
     simp (ne-eqb _ _ n)
 
 pub message-fields : (m : Message) → valid m ≡ true → messageOf (fieldsOf m) ≡ m
-unfolding valid fieldsOf messageOf validResponse
+unfolding validUpTo fieldsOf messageOf validResponseUpTo
 message-fields (Request k j t) v = refl
 message-fields (Yield k j t) v = refl
 message-fields (Release k j t) v = refl
@@ -122,7 +122,7 @@ module _ (f : Fields) where
 
   -- such numbers are in range exactly if their message is
   pub valid-message : known (f .kind) ≡ true → Alone f → validNumbers f ≡ valid (messageOf f)
-  unfolding validNumbers validRest valid validStamped validResponse messageOf
+  unfolding validNumbersUpTo validRest validUpTo validStampedUpTo validResponseUpTo messageOf
   valid-message =
       kinds (λ kind. Alone (of-kind kind) → validNumbers (of-kind kind) ≡ valid (messageOf (of-kind kind)))
       (λ a. rw (a (λ n. omega arith), and-true)) (λ a. rw (a (λ n. omega arith), and-true)) (λ a. rw (a (λ n. omega arith), and-true)) (λ a. rw (a (λ n. omega arith), and-true))
@@ -173,11 +173,11 @@ module _ (kind timestamp owner : ℕ) where
 -- numbers in range are a valid message's: only a RESPONSE has an owner, and the message has just these numbers
 module _ (f : Fields) (v : validFields f ≡ true) where
   its-tests : (known (f .kind) ≡ true) × (validNumbers f ≡ true)
-  unfolding validFields
+  unfolding validFieldsUpTo
   its-tests = both (known (f .kind)) (validNumbers f) v
 
   its-rest : validRest (f .kind) (f .timestamp) (f .owner) ≡ true
-  unfolding validNumbers
+  unfolding validNumbersUpTo
   its-rest = both (validParties (record { 0 = f .client }) (record { 0 = f .server })) (validRest (f .kind) (f .timestamp) (f .owner)) (its-tests .1) .1
 
   its-owner : Alone f

@@ -15,7 +15,7 @@ use Rattle.ids.proofs.Choice.{decided, passed}
 use Rattle.ids.proofs.LimitsLaws.{within-range}
 use Rattle.wire.specs.Bytes.{encode, decode}
 use Rattle.wire.specs.Format.{known, widths, lengthOf, words, fieldsOf, messageOf, bytesOf, bytesOfFields, sizeOf, valid, lengthIn, kindIn, fieldIn, fieldsIn}
-use Rattle.wire.specs.Calls.{readOf}
+use Rattle.wire.specs.Calls.{readOf, readUpTo}
 use Rattle.wire.specs.declared.Fields.{Fields}
 use Rattle.wire.specs.declared.Message.{Message}
 use Rattle.wire.specs.declared.Parsed.the-variants.{Accepted, Refused as NotRead}
@@ -69,7 +69,7 @@ module _ (f : Fields) (sound : Sound f) (rest : List ℕ) where
 
 -- what is written is read as the same message, with the same count, whatever stands behind it
 pub written-is-read : (m : Message) (rest : List ℕ) → valid m ≡ true → readOf (bytesOf m ++ rest) ≡ Accepted m (sizeOf m)
-unfolding readOf bytesOf sizeOf
+unfolding readUpTo bytesOf sizeOf
 written-is-read m rest v =
     let f = fieldsOf m in
     let s = valid-sound m v in
@@ -98,7 +98,7 @@ pub record Took (s : List ℕ) (m : Message) (n : ℕ) : Type 0 where
   pub range : valid m ≡ true
 
 pub took : (s : List ℕ) (m : Message) (n : ℕ) → readOf s ≡ Accepted m n → Took s m n
-unfolding readOf
+unfolding readUpTo
 took s m n e =
     let r₁ = passed (ltb (length s) 4) (accepted-not-refused HeaderShort m n) e in
     let r₂ = passed (not (known (kindIn s))) (accepted-not-refused KindUnknown m n) (r₁ .1) in
