@@ -7,6 +7,7 @@ use mathlib.Core.List.{List}
 use lib.ListN.{length, take, drop}
 use lib.Seq.{sets}
 use borrow.Author.Tests.{lt-ltb, le-ltb, eq-eqb, ne-eqb, le-leb, lt-leb}
+use Rattle.ids.specs.Limits.{maxServers}
 use Rattle.ids.specs.declared.Refusal.{Refusal}
 use Rattle.ids.specs.declared.Refusal.the-variants.{HeaderShort, KindUnknown, LengthWrong, MessageCut, NumberOutOfRange, RoomShort}
 use Rattle.wire.specs.Bytes.{number}
@@ -56,7 +57,7 @@ module _ (s : List ℕ) where
           in-range =
               let e : known kind ≡ true = cc in
               let q : known (kindIn s) ≡ true = rw its-kind e in
-              rw (p, q) at w ∙ valid-message (fieldsIn s) q (alone-in s)
+              rw (p, q) at w ∙ valid-message (fieldsIn s) maxServers q (alone-in s)
 
           pub read-invalid : v ≡ false → NotRead NumberOutOfRange ≡ readOf s
           unfolding readUpTo
@@ -83,7 +84,7 @@ module _ (s : List ℕ) (p : Numbers) where
   again : (q : Parsed) (f : Fields) (m : Message) (n : ℕ) → readOf s ≡ q → p ≡ numbersOf q → p ≡ Fitting f n → m ≡ messageOf f → Accepted m n ≡ q
   again (NotRead e) f m n a b c d = let z : _≡_ {A = ℕ} 0 1 = cc in absurd (omega arith)
   again (Accepted m′ n′) f m n a b c d =
-      let g : messageOf (fieldsOf m′) ≡ m′ = message-fields m′ (took s m′ n′ a .range) in
+      let g : messageOf (fieldsOf m′) ≡ m′ = message-fields maxServers m′ (took maxServers s m′ n′ a .range) in
       let h : fieldsOf m′ ≡ f = cc in
       let k : n′ ≡ n = cc in
       let l : messageOf f ≡ m′ = rw h at g in
@@ -127,7 +128,7 @@ module _ (f : Fields) (o : List ℕ) (v : Bool) (w : v ≡ validFields f) where
 -- what is written of numbers in range is what is written of their message
 module _ (f : Fields) (o : List ℕ) (v : validFields f ≡ true) where
   message-written : (writeNumbers f (length o) ≡ writeOf (messageOf f) (length o)) × (numbersAfter f o ≡ bufferAfter (messageOf f) o)
-  message-written = rw v (write-laid (messageOf f) o true (sym (fields-valid f v)) refl f _ _ (sym (fields-again f v)) refl refl)
+  message-written = rw v (write-laid (messageOf f) o true (sym (fields-valid maxServers f v)) refl f _ _ (sym (fields-again maxServers f v)) refl refl)
 
   pub written-as-message : writeOf (messageOf f) (length o) ≡ writeNumbers f (length o)
   written-as-message = sym (message-written .0)

@@ -8,6 +8,7 @@ use lib.Dec.{ltb}
 use lib.ListN.{length, take, drop}
 use lib.Seq.{sets-eq}
 use borrow.Author.Tests.{le-leb, ltb-false, not-false}
+use Rattle.ids.specs.Limits.{maxServers}
 use Rattle.ids.specs.declared.Refusal.{Refusal}
 use Rattle.ids.specs.declared.Refusal.the-variants.{NumberOutOfRange, RoomShort}
 use Rattle.ids.proofs.Choice.{passed}
@@ -43,5 +44,5 @@ module _ (m : Message) (o : List ℕ) where
 
   pub accepted-is-written-again : (s : List ℕ) (n : ℕ) → AllBytes s → readOf s ≡ Accepted m n → n ≤ length o → bufferAfter m o ≡ take n s ++ drop n o
   accepted-is-written-again s n a e h =
-      let (v, z, b) = read-is-written s m n a e in
+      let (v, z, b) = read-is-written maxServers s m n a e in
       rw (laid v (omega arith), z, b)

@@ -58,6 +58,16 @@ fieldsOf (Inquiry k j t) = plain 4 k j t
 fieldsOf (Response k j o) = answer k j o
 fieldsOf (Check k j t) = plain 6 k j t
 
+-- a message's head, which every kind has: its kind, and the client and the server that it names
+abbrev pub kindOf : Message → ℕ
+kindOf m = fieldsOf m .kind
+
+abbrev pub clientNamed : Message → ClientId
+clientNamed m = record { 0 = fieldsOf m .client }
+
+abbrev pub serverNamed : Message → ServerId
+serverNamed m = record { 0 = fieldsOf m .server }
+
 -- the numbers in their order
 abbrev pub words : Fields → List ℕ
 words f = f .kind ∷ f .client ∷ f .server ∷ f .timestamp ∷ f .owner ∷ []
