@@ -11,7 +11,7 @@ use lib.ListN.{length}
 use borrow.Author.Tests.{ltb-false, eqb-true, eqb-false, eq-eqb, ne-eqb}
 use Rattle.ids.specs.Choice.{if_then_else_, maybe}
 use Rattle.ids.specs.Order.{before}
-use Rattle.ids.specs.Limits.{maxServers, validRequest, validOwner, validStampedUpTo, validClient, validServer, validTimestamp}
+use Rattle.ids.specs.Limits.{maxServers, validRequest, validOwner, validStampedUpTo, validClient, validTimestamp}
 use Rattle.ids.specs.declared.Refusal.{Refusal}
 use Rattle.ids.specs.declared.Refusal.the-variants.{QueueFull, NotForServer, NumberOutOfRange, NoOwner}
 use Rattle.ids.specs.Requests.{same, isRequest, byOwner}
