@@ -8,6 +8,7 @@ use mathlib.Core.Logic.{⊎-elim}
 use lib.ListN.{length}
 use lib.Seq.{sets}
 use borrow.Author.Tests.{lt-ltb, le-ltb}
+use Rattle.ids.specs.Limits.{maxServers}
 use Rattle.ids.specs.Refusals.{code}
 use Rattle.ids.specs.declared.Refusal.{Refusal}
 use Rattle.ids.specs.declared.Refusal.the-variants.{NumberOutOfRange, RoomShort}
@@ -48,7 +49,7 @@ module _ (s ws : List ℕ) (p : Read) (e : p ≡ numbersOf (readOf s)) where
     read-from = from (readOf s) f n refl e a
 
     pub used-small : n < 65536
-    used-small = let m = read-from in let k = took s (m .message) n (m .accepted) in rw (k .used) at (short (kindIn s))
+    used-small = let m = read-from in let k = took maxServers s (m .message) n (m .accepted) in rw (k .used) at (short (kindIn s))
 
     pub read-room : (r : ℕ) → length ws < 6 → r ≡ code RoomShort → (r ≡ readCode (readOf s) (length ws)) × (ws ≡ readWords (readOf s) ws)
     read-room r h c = let m = read-from in (rw (m .accepted, lt-ltb _ _ h, c), rw (m .accepted, lt-ltb _ _ h))

@@ -22,7 +22,7 @@ use Rattle.wire.specs.Step.{Step, Outcome, refused, stepped, withRoom, answerOf
 use Rattle.wire.specs.declared.Answer.{Answer}
 use Rattle.wire.specs.declared.Answer.the-variants.{Sent, Refused}
 use Rattle.wire.specs.declared.Message.{Message}
-use Rattle.ids.specs.Limits.{maxServers, validStamped, validParties}
+use Rattle.ids.specs.Limits.{maxServers, validStampedUpTo, validPartiesUpTo}
 use Rattle.votes.specs.Figure1 as votes
 use Rattle.votes.specs.Places.{mails}
 use Rattle.votes.specs.declared.Mail.{Mail}
@@ -299,13 +299,13 @@ module _ (ws : List ℕ) (b : Bool) (e : b ≡ holdsClient ws) where
 
 -- words that are no message: the step refuses what stands for them
 server-takes : (x : Option Message) (s : Server) → server-calls.messageOutcome s (messageOr x) ≡ serverTakes x s
-unfolding server-calls.messageOutcomeUpTo format.valid validStamped validParties
+unfolding server-calls.messageOutcomeUpTo format.validUpTo validStampedUpTo validPartiesUpTo
 server-takes (some m) s = refl
 server-takes none s =
     ⊎-elim (λ (v : server.valid s ≡ true). rw v) (λ (v : server.valid s ≡ false). rw v) (decided (server.valid s))
 
 client-takes : (x : Option Message) (c : Client) → client-calls.messageOutcome c (messageOr x) ≡ clientTakes x c
-unfolding client-calls.messageOutcomeUpTo format.valid validStamped validParties
+unfolding client-calls.messageOutcomeUpTo format.validUpTo validStampedUpTo validPartiesUpTo
 client-takes (some m) c = refl
 client-takes none c =
     ⊎-elim (λ (v : client.valid c ≡ true). rw v) (λ (v : client.valid c ≡ false). rw v) (decided (client.valid c))

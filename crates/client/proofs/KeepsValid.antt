@@ -354,7 +354,7 @@ module _ (limit : ℕ) (c : Client) (s : Step State) (v : validUpTo limit c ≡ 
       let g = known-padded limit c known in
       rw (← e, g .places .even) (kept-valid limit (c .head .n) (c .head .m) (c .head .id) (x .state) F (length (requestsIn (c .row))) (g .within))
 
-  received-valid : (m : Message) → format.valid m ≡ true → received c m ≡ stepped s → validUpTo limit (clientAfter c (stepped s)) ≡ true
+  received-valid : (m : Message) → format.validUpTo limit m ≡ true → received c m ≡ stepped s → validUpTo limit (clientAfter c (stepped s)) ≡ true
   received-valid (REQUEST k j t) w h = absurd (never NotForClient s h)
   received-valid (Yield k j t) w h = absurd (never NotForClient s h)
   received-valid (Release k j t) w h = absurd (never NotForClient s h)
@@ -362,7 +362,7 @@ module _ (limit : ℕ) (c : Client) (s : Step State) (v : validUpTo limit c ≡ 
   received-valid (Response k j o) w h =
       let (a, e) = taken (forClient (c .head) k j) (never NotForClient s) h in
       let i = its-client (c .head) (c .row) k j true (sym a) refl in
-      let F = responds-fits (c .head .n) (c .head .m) (c .head .id) j o (response-range k j o w .1) (view c) (view-fits c known) in
+      let F = responds-fits (c .head .n) (c .head .m) (c .head .id) j o (response-range limit k j o w .1) (view c) (view-fits c known) in
       after (responds (enough (c .head .m)) (c .head .n) k j o (view c)) (cc) (rw i F)
   received-valid (Check k j t) w h =
       let (a, e) = taken (forClient (c .head) k j) (never NotForClient s) h in
@@ -372,8 +372,8 @@ module _ (limit : ℕ) (c : Client) (s : Step State) (v : validUpTo limit c ≡ 
   unfolding messageOutcomeUpTo
   message-valid-up-to m h =
       let (a, h₁) = passed (not (validUpTo limit c)) (never InvalidRecord s) h in
-      let (b, h₂) = passed (not (format.valid m)) (never NumberOutOfRange s) h₁ in
-      received-valid m (not-false (format.valid m) b) h₂
+      let (b, h₂) = passed (not (format.validUpTo limit m)) (never NumberOutOfRange s) h₁ in
+      received-valid m (not-false (format.validUpTo limit m) b) h₂
 
 module _ (c : Client) (s : Step State) (v : valid c ≡ true) where
   ranges : InRange (c .head .n) (c .head .m) (c .head .id)

@@ -9,7 +9,7 @@ use lib.ListN.{length, replicate}
 use lib.Seq.{sets}
 use borrow.Author.Tests.{lt-ltb, le-ltb, le-leb, lt-leb, eq-eqb, ne-eqb, eqb-true, leb-true}
 use Rattle.ids.specs.Choice.{if_then_else_}
-use Rattle.ids.specs.Limits.{maxTimestamp, validClient, validOwner, validParties, validServer}
+use Rattle.ids.specs.Limits.{maxTimestamp, validClient, validOwner, validPartiesUpTo}
 use Rattle.ids.specs.declared.ClientId.{ClientId}
 use Rattle.ids.specs.declared.ServerId.{ServerId}
 use Rattle.ids.specs.declared.Timestamp.{Timestamp}
@@ -18,9 +18,10 @@ use Rattle.ids.specs.declared.Owner.{Owner}
 use Rattle.ids.specs.declared.Refusal.{Refusal}
 use Rattle.ids.specs.declared.Refusal.the-variants.{WrongSection, TimestampsSpent, RoomShort, NotForClient, NumberOutOfRange, InvalidRecord}
 use Rattle.ids.proofs.Choice.{both, fails, holds}
-use Rattle.ids.proofs.LimitsLaws.{server-range}
+use Rattle.ids.proofs.LimitsLaws.{within-range, parties-range}
 use Rattle.wire.specs.Format as format
-use Rattle.wire.specs.Format.{sizeOf, bytesOf, bytesOfAll, sizeOfAll, validResponse}
+use Rattle.wire.specs.Format.{sizeOf, bytesOf, bytesOfAll, sizeOfAll, fieldsOf, validNamed, validResponseUpTo}
+use Rattle.wire.proofs.NumbersLaws.{valid-head}
 use Rattle.wire.specs.Step.{Step, Outcome, refused, stepped, stay, tell, withRoom, sentInto}
 use Rattle.wire.specs.declared.Answer.the-variants.{Sent}
 use Rattle.wire.specs.declared.Message.{Message}
@@ -331,12 +332,11 @@ module _ (h : Head) (row : List ℕ) (k : ClientId) (j : ServerId) (x : Bool) (p
     pub check-taken : (s : Timestamp) → received (clientOf h row) (Check k j s) ≡ stepped (checked (h .id) j s (view (clientOf h row)))
     check-taken s = rw (holds x (forClient h k j) p t, its-client)
 
-pub response-range : (k : ClientId) (j : ServerId) (o : Owner) → format.valid (Response k j o) ≡ true → (1 ≤ j .0) × (validOwner o ≡ true)
-unfolding format.valid validResponse validParties
-response-range k j o h =
-    let (a, b) = both (validParties k j) (validOwner o) h in
-    let (d, e) = both (validClient k) (validServer j) a in
-    (server-range j e .0, b)
+pub response-range : (limit : ℕ) (k : ClientId) (j : ServerId) (o : Owner) → format.validUpTo limit (Response k j o) ≡ true → (1 ≤ j .0) × (validOwner o ≡ true)
+unfolding format.validUpTo validResponseUpTo fieldsOf
+response-range limit k j o h =
+    let (c, s) = parties-range limit k j (valid-head limit (Response k j o) h) in
+    (within-range (j .0) limit s .0, both (validPartiesUpTo limit k j) (validNamed o) h .1)
 
 -- `new`
 module _ (n m : ℕ) (k : ClientId) (x : Bool) (p : x ≡ validSizes n m) where

@@ -62,7 +62,7 @@ received c (Check k j t) =
 unfoldable pub messageOutcomeUpTo : ℕ → Client → Message → Outcome State
 messageOutcomeUpTo limit c m =
     if not (validUpTo limit c) then refused InvalidRecord
-    else if not (format.valid m) then refused NumberOutOfRange
+    else if not (format.validUpTo limit m) then refused NumberOutOfRange
     else received c m
 
 abbrev pub messageOutcome : Client → Message → Outcome State

@@ -230,7 +230,7 @@ module _ (w : List ℕ) (i : ℕ) (k : ClientId) (j : ServerId) (o : Owner) (P :
   response-client = record { valid = P .slot .valid; first = answered .some-client; last = answered .client }
 
   owner-valid : validOwner o ≡ true
-  owner-valid = response-range k j o (in-range w i (Response k j o) P) .1
+  owner-valid = response-range maxServers k j o (in-range w i (Response k j o) P) .1
 
   response-goes : event (settingOf w .n) (enough (settingOf w .m)) (view w) (Take (numberAt w i)) ≡ need (clientAt (view w) k .living) PartyDown (stepped (responseTook (settingOf w .n) (enough (settingOf w .m)) (view w) (numberAt w i .0) k j o))
   unfolding deliver

@@ -8,7 +8,7 @@ use lib.Dec.{leb, ltb}
 use lib.ListN.{length, length-drop}
 use borrow.Author.Tests.{eq-eqb, le-ltb}
 use Rattle.ids.specs.Lists.{every}
-use Rattle.ids.specs.Limits.{validRequest, validStamped, validParties, validClient, validServer, validTimestamp}
+use Rattle.ids.specs.Limits.{maxServers, validRequest}
 use Rattle.ids.specs.declared.ClientId.{ClientId}
 use Rattle.ids.specs.declared.ServerId.{ServerId}
 use Rattle.ids.specs.declared.Timestamp.{Timestamp}
@@ -17,6 +17,7 @@ use Rattle.ids.specs.declared.Owner.{Owner}
 use Rattle.ids.specs.declared.Owner.the-variants.{Nobody, Of}
 use Rattle.ids.proofs.Choice.{both}
 use Rattle.wire.specs.Step.{Step, stepped}
+use Rattle.ids.proofs.LimitsLaws.{stamped-request}
 use Rattle.wire.specs.Format as format
 use Rattle.votes.specs.declared.Tag.{Tag}
 use Rattle.votes.specs.declared.Tag.the-variants.{Request as Asks, Yield as Yields, Release as Releases, Inquiry as Inquires}
@@ -66,19 +67,12 @@ module _ (clients : ℕ) where
   holds-named q h = names-by (q .owner) (q .queue) h
 
 -- the request of a valid message
-stamped-request : (k : ClientId) (j : ServerId) (t : Timestamp) → validStamped k j t ≡ true → validRequest (record { client = k; timestamp = t }) ≡ true
-unfolding validStamped validParties validRequest
-stamped-request k j t w =
-    let (a, b) = both (validParties k j) (validTimestamp t) w in
-    let (c, d) = both (validClient k) (validServer j) a in
-    rw c b
-
 pub message-request : (tag : Tag) (k : ClientId) (j : ServerId) (t : Timestamp) → format.valid (message tag k j t) ≡ true → validRequest (record { client = k; timestamp = t }) ≡ true
-unfolding format.valid
-message-request Asks k j t w = stamped-request k j t w
-message-request Yields k j t w = stamped-request k j t w
-message-request Releases k j t w = stamped-request k j t w
-message-request Inquires k j t w = stamped-request k j t w
+unfolding format.validUpTo
+message-request Asks k j t w = stamped-request maxServers k j t w
+message-request Yields k j t w = stamped-request maxServers k j t w
+message-request Releases k j t w = stamped-request maxServers k j t w
+message-request Inquires k j t w = stamped-request maxServers k j t w
 
 received-as : (s : Server) (tag : Tag) (k : ClientId) (j : ServerId) (t : Timestamp) → received s (message tag k j t) ≡ taken s tag k j t
 received-as s Asks k j t = refl

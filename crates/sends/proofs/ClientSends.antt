@@ -11,7 +11,7 @@ use lib.ListN.{length, length-map, length-take, length-replicate}
 use borrow.Author.Tests.{not-false, le-leb}
 use Rattle.ids.specs.Choice.{if_then_else_}
 use Rattle.ids.specs.Lists.{every}
-use Rattle.ids.specs.Limits.{maxServers, maxTimestamp, validClient, validParties, validStamped}
+use Rattle.ids.specs.Limits.{maxServers, maxTimestamp, validClient, validPartiesUpTo, validStamped, validStampedUpTo}
 use Rattle.ids.specs.Order.{before}
 use Rattle.ids.specs.Requests.{isRequest}
 use Rattle.ids.specs.declared.ClientId.{ClientId}
@@ -254,7 +254,7 @@ module _ (f : Message → Bool) where
 
 -- every number that a client in a fitting state sends is in its range
 stamped : (k : ClientId) (j : ℕ) (t : Timestamp) → validClient k ≡ true → 1 ≤ j → j ≤ maxServers → 1 ≤ t .0 → t .0 ≤ maxTimestamp → validStamped k (record { 0 = j }) t ≡ true
-unfolding validStamped validParties
+unfolding validStampedUpTo validPartiesUpTo
 stamped k j t v a b c d = rw (v, le-leb 1 j a, le-leb j maxServers b, le-leb 1 (t .0) c, le-leb (t .0) maxTimestamp d)
 
 in-critical : (s : Section) (t : Timestamp) → isCritical s ≡ true → fitsTimestamp s t ≡ true → (1 ≤ t .0) × (t .0 < maxTimestamp)
@@ -269,18 +269,18 @@ in-trying Critical t e h = absurd (false≢true e)
 
 module _ (n m : ℕ) (k : ClientId) (s : State) (F : Fits n m k s) where
   pub tries-valid : s .timestamp .0 ≤ lastTry → every format.valid (tries n k s .sent) ≡ true
-  unfolding format.valid next
+  unfolding format.validUpTo next
   tries-valid h =
       tries-passes format.valid n k s (λ j a b. stamped k j (next (s .timestamp)) (F .ranges .client) a (omega (arith, F .ranges .few)) (omega arith) (omega arith))
 
   pub exits-valid : isCritical (s .section) ≡ true → every format.valid (exits n k s .sent) ≡ true
-  unfolding format.valid
+  unfolding format.validUpTo
   exits-valid h =
       let (c, d) = in-critical (s .section) (s .timestamp) h (F .timestamp) in
       exits-passes format.valid n k s (λ j a b. stamped k j (s .timestamp) (F .ranges .client) a (omega (arith, F .ranges .few)) c (omega arith))
 
   pub responds-valid : (wins : Quorum) (j : ServerId) (o : Owner) → every format.valid (responds wins n k j o s .sent) ≡ true
-  unfolding format.valid
+  unfolding format.validUpTo
   responds-valid wins j o =
       responds-passes format.valid wins n k j o s (omega (arith, F .long)) (λ t i a b.
       let (c, d) = in-trying (s .section) (s .timestamp) t (F .timestamp) in
@@ -288,5 +288,5 @@ module _ (n m : ℕ) (k : ClientId) (s : State) (F : Fits n m k s) where
       (v, v, v))
 
 pub checked-valid : (k : ClientId) (j : ServerId) (t : Timestamp) (s : State) → format.valid (Check k j t) ≡ true → every format.valid (checked k j t s .sent) ≡ true
-unfolding format.valid
+unfolding format.validUpTo
 checked-valid k j t s v = checked-passes format.valid k j t s v

@@ -13,7 +13,7 @@ use borrow.Author.Tests.{ltb-false, not-false}
 use Rattle.ids.specs.Lists.{every}
 use Rattle.ids.specs.Choice.{if_then_else_, maybe}
 use Rattle.ids.specs.Order.{before}
-use Rattle.ids.specs.Limits.{maxServers, validServer, validRequest, validOwner, validParties, validStamped}
+use Rattle.ids.specs.Limits.{maxServers, validServer, validRequest, validOwner, validPartiesUpTo, validStampedUpTo}
 use Rattle.ids.specs.Requests.{isRequest, isClient, byOwner}
 use Rattle.ids.specs.declared.ClientId.{ClientId}
 use Rattle.ids.specs.declared.ServerId.{ServerId}
@@ -328,11 +328,11 @@ good-knows q G = record { owner = owner-known (q .owner) (G .owner); queue = G .
 
 module _ (j : ServerId) (v : validServer j ≡ true) where
   tells-valid : (r : Pair) (o : Owner) → validRequest r ≡ true → byOwner o true validRequest ≡ true → format.valid (Response (r .client) j o) ≡ true
-  unfolding format.valid format.validResponse validParties
+  unfolding format.validUpTo format.validResponseUpTo validPartiesUpTo
   tells-valid r o a h = rw (request-range r a .0, v, known-owner o h)
 
   asks-valid : (r : Pair) → validRequest r ≡ true → format.valid (Check (r .client) j (r .timestamp)) ≡ true
-  unfolding format.valid validStamped validParties
+  unfolding format.validUpTo validStampedUpTo validPartiesUpTo
   asks-valid r a = let (k, t) = request-range r a in rw (k, v, t)
 
   pub receive-valid : (tag : Tag) (r : Pair) (q : State) → validRequest r ≡ true → Good q → every format.valid (receive j tag r q .sent) ≡ true

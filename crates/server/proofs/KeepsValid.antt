@@ -11,7 +11,7 @@ use lib.ListN.{length}
 use borrow.Author.Tests.{ltb-false, eqb-true, eqb-false, eq-eqb, ne-eqb}
 use Rattle.ids.specs.Choice.{if_then_else_, maybe}
 use Rattle.ids.specs.Order.{before}
-use Rattle.ids.specs.Limits.{maxServers, validRequest, validOwner, validStamped, validParties, validClient, validServer, validTimestamp}
+use Rattle.ids.specs.Limits.{maxServers, validRequest, validOwner, validStampedUpTo, validClient, validTimestamp}
 use Rattle.ids.specs.declared.Refusal.{Refusal}
 use Rattle.ids.specs.declared.Refusal.the-variants.{QueueFull, NotForServer, NumberOutOfRange, NoOwner}
 use Rattle.ids.specs.Requests.{same, isRequest, byOwner}
@@ -28,6 +28,7 @@ use Rattle.ids.proofs.RequestLaws.{same-true}
 use Rattle.wire.specs.Step.{Step, Outcome, refused, stepped, stay, tell, _then_}
 use Rattle.wire.specs.declared.Message.{Message}
 use Rattle.wire.specs.declared.Message.the-variants.{Request, Yield, Release, Inquiry, Response, Check}
+use Rattle.ids.proofs.LimitsLaws.{stamped-request}
 use Rattle.wire.specs.Format as format
 use Rattle.votes.specs.declared.Tag.{Tag}
 use Rattle.votes.specs.declared.Tag.the-variants.{Request as REQUEST, Yield as YIELD, Release as RELEASE, Inquiry as INQUIRY}
@@ -384,19 +385,16 @@ module _ (limit : ℕ) (s : Server) (v : validUpTo limit s ≡ true) where
       rw (← h) (kept x (ltb-false _ _ t) g))
       (decided (ltb (length (s .row)) (2 * length (x .state .queue))))
 
-  pub taken-keeps-valid : (tag : Tag) (k : ClientId) (j : ServerId) (t : Timestamp) (p : Step State) → validStamped k j t ≡ true → taken s tag k j t ≡ stepped p → validUpTo limit (serverAfter s (stepped p)) ≡ true
-  unfolding validStamped validParties validRequest
+  pub taken-keeps-valid : (tag : Tag) (k : ClientId) (j : ServerId) (t : Timestamp) (p : Step State) → validStampedUpTo limit k j t ≡ true → taken s tag k j t ≡ stepped p → validUpTo limit (serverAfter s (stepped p)) ≡ true
   taken-keeps-valid tag k j t p w e =
-      let (a, b) = both (validParties k j) (validTimestamp t) w in
-      let c : validClient k ≡ true = both (validClient k) (validServer j) a .0 in
-      let r : validRequest (record { client = k; timestamp = t }) ≡ true = rw c b in
+      let r = stamped-request limit k j t w in
       ⊎-elim
       (λ (d : eqb (j .0) (s .head .id .0) ≡ true). held-keeps _ p (receive-good (s .head .id) tag (record { client = k; timestamp = t }) (view s) r its-good) (rw d at e))
       (λ (d : eqb (j .0) (s .head .id .0) ≡ false). not-stepped NotForServer p (rw d at e))
       (decided (eqb (j .0) (s .head .id .0)))
 
-  received-keeps : (m : Message) (p : Step State) → format.valid m ≡ true → received s m ≡ stepped p → validUpTo limit (serverAfter s (stepped p)) ≡ true
-  unfolding format.valid
+  received-keeps : (m : Message) (p : Step State) → format.validUpTo limit m ≡ true → received s m ≡ stepped p → validUpTo limit (serverAfter s (stepped p)) ≡ true
+  unfolding format.validUpTo
   received-keeps (Request k j t) p w e = taken-keeps-valid REQUEST k j t p w e
   received-keeps (Yield k j t) p w e = taken-keeps-valid YIELD k j t p w e
   received-keeps (Release k j t) p w e = taken-keeps-valid RELEASE k j t p w e
@@ -408,9 +406,9 @@ module _ (limit : ℕ) (s : Server) (v : validUpTo limit s ≡ true) where
   unfolding messageOutcomeUpTo
   message-keeps m p e =
       ⊎-elim
-      (λ (w : format.valid m ≡ true). received-keeps m p w (rw (v, w) at e))
-      (λ (w : format.valid m ≡ false). not-stepped NumberOutOfRange p (rw (v, w) at e))
-      (decided (format.valid m))
+      (λ (w : format.validUpTo limit m ≡ true). received-keeps m p w (rw (v, w) at e))
+      (λ (w : format.validUpTo limit m ≡ false). not-stepped NumberOutOfRange p (rw (v, w) at e))
+      (decided (format.validUpTo limit m))
 
   pub suspect-keeps : validUpTo limit (serverAfter s (stepped (suspect (s .head .id) (view s)))) ≡ true
   suspect-keeps = kept (suspect (s .head .id) (view s)) (omega (arith, suspect-shortens (s .head .id) (view s), its-room)) (suspect-good (s .head .id) (view s) its-good)

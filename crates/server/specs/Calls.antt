@@ -60,7 +60,7 @@ received s (Check k j t) = refused NotForServer
 unfoldable pub messageOutcomeUpTo : ℕ → Server → Message → Outcome State
 messageOutcomeUpTo limit s m =
     if not (validUpTo limit s) then refused InvalidRecord
-    else if not (format.valid m) then refused NumberOutOfRange
+    else if not (format.validUpTo limit m) then refused NumberOutOfRange
     else received s m
 
 abbrev pub messageOutcome : Server → Message → Outcome State

@@ -9,6 +9,7 @@ use lib.Dec.{eqb}
 use lib.ListN.{length, take, drop, length-drop, take-append-drop}
 use lib.Seq.{drop-drop, length-take-le}
 use borrow.Author.Tests.{eqb-true}
+use Rattle.ids.specs.Limits.{maxServers}
 use Rattle.ids.specs.Choice.{if_then_else_}
 use Rattle.ids.proofs.Choice.{both}
 use Rattle.wire.specs.declared.Fields.{Fields}
@@ -29,7 +30,7 @@ unfolding slotOf slotWords
 row-again n clients (seven a b c d e f g) v =
     let F = slot-fitting n clients (a ∷ (b ∷ (c ∷ (d ∷ (e ∷ (f ∷ (g ∷ []))))))) v in
     let its : Fields = record { kind = c; client = d; server = e; timestamp = f; owner = g } in
-    rw (flag-again b (F .flag), fields-again its (F .range))
+    rw (flag-again b (F .flag), fields-again maxServers its (F .range))
 
 rows-again : (n clients k : ℕ) (t : List ℕ) → slotSize * k ≤ length t → every (validSlot n clients) (rows k t) ≡ true → map slotWords (slots k t) ≡ rows k t
 unfolding rows slots

@@ -7,7 +7,7 @@ use mathlib.Core.List.{List, [], _∷_, _++_}
 use lib.Dec.{eqb, leb}
 use lib.ListN.{length, take, drop, replicate, length-map}
 use borrow.Author.Tests.{leb-true, le-leb}
-use Rattle.ids.specs.Limits.{within}
+use Rattle.ids.specs.Limits.{maxServers, within}
 use Rattle.ids.proofs.Choice.{both}
 use Rattle.ids.proofs.LimitsLaws.{within-range}
 use Rattle.wire.specs.Format.{fieldsOf, valid}
@@ -62,7 +62,7 @@ row-kept : (n clients sent : ℕ) (ws : List ℕ) → validSlot n clients ws ≡
 unfolding slotOf
 row-kept n clients sent ws v a b =
     let F = slot-fitting n clients ws v in
-    record { range = fields-valid (fieldsFrom (drop 2 ws)) (F .range); named = F .named; first = a; last = b }
+    record { range = fields-valid maxServers (fieldsFrom (drop 2 ws)) (F .range); named = F .named; first = a; last = b }
 
 kept-from : (n clients sent last k : ℕ) (t : List ℕ) → every (validSlot n clients) (rows k t) ≡ true → ascending last sent (slots k t) ≡ true → All (Kept n clients sent) (slots k t)
 unfolding rows slots

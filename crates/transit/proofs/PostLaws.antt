@@ -8,6 +8,7 @@ use mathlib.Core.List.{List, [], _∷_, _++_, append-assoc, append-nil}
 use lib.Dec.{eqb}
 use lib.ListN.{length, getD, take, drop, length-append, length-drop, take-append-drop}
 use lib.Seq.{sets, sets-eq, length-sets, take-at, drop-at, drop-drop, length-take-le, take-all, take-suc, getD-drop}
+use Rattle.ids.specs.Limits.{maxServers}
 use Rattle.ids.proofs.Choice.{both}
 use Rattle.ids.specs.Lists.{every}
 use Rattle.wire.specs.Format.{words, fieldsOf, bytesOf, bytesOfAll, sizeOf, sizeOfAll, valid}
@@ -84,7 +85,7 @@ module _ (at number from : ℕ) (bytes t : List ℕ) (p : Numbers) (e : p ≡ nu
   pub fitting-inside : (f : Fields) (used : ℕ) → p ≡ Fitting f used → from + used ≤ length bytes
   fitting-inside f used q =
       let T = fitting-took f used q in
-      let k = took (drop from bytes) (T .message) used (T .read) in
+      let k = took maxServers (drop from bytes) (T .message) used (T .read) in
       omega (arith, k .whole, k .used, length-drop from bytes)
 
   pub one-posted : (f : Fields) (used : ℕ) (t′ : List ℕ) → p ≡ Fitting f used → t′ ≡ sets t at (number ∷ (0 ∷ words f)) → PostsOne at number from bytes t t′ (from + used)
@@ -227,7 +228,7 @@ module _ (len sent count : ℕ) (bytes o : List ℕ) where
         posted = record { number = number + 1; delivered = false; message = m }
 
         in-range : valid m ≡ true
-        in-range = took (drop from bytes) m used read .range
+        in-range = took maxServers (drop from bytes) m used read .range
 
         long : length t ≡ transitSize
         long = P .size ∙ P .room .size

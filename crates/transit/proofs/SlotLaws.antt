@@ -11,11 +11,11 @@ use lib.ListN.{length, getD, set, take, drop, length-drop}
 use lib.Seq.{take-add, drop-at, length-take-le, getD-take, getD-drop, drop-drop}
 use borrow.Author.Tests.{le-leb, lt-leb, leb-true, not-true, not-false}
 use Rattle.ids.specs.Choice.{if_then_else_, maybe}
-use Rattle.ids.specs.Limits.{within}
+use Rattle.ids.specs.Limits.{within, maxServers}
 use Rattle.ids.specs.declared.ServerId.{ServerId}
 use Rattle.ids.proofs.Choice.{both, decided}
 use Rattle.ids.proofs.LimitsLaws.{within-range}
-use Rattle.wire.specs.Format.{known, words, fieldsOf, messageOf, valid, validNumbers, validFields}
+use Rattle.wire.specs.Format.{known, words, fieldsOf, messageOf, valid, validNumbers, validFields, validFieldsUpTo}
 use Rattle.wire.specs.declared.Fields.{Fields}
 use Rattle.wire.specs.declared.Message.{Message}
 use Rattle.wire.proofs.NumbersLaws.{valid-sound, message-fields, valid-message, fields-again}
@@ -82,7 +82,7 @@ module _ (n clients : ℕ) (x : InTransit) (v : valid (x .message) ≡ true) whe
   unfolding slotOf slotWords
   slot-again =
       let d : eqb (if x .delivered then 1 else 0) 1 ≡ x .delivered = flag (x .delivered) in
-      let m : messageOf (fieldsOf (x .message)) ≡ x .message = message-fields (x .message) v in
+      let m : messageOf (fieldsOf (x .message)) ≡ x .message = message-fields maxServers (x .message) v in
       λ i. record { number = x .number; delivered = d i; message = m i }
     where
       flag : (b : Bool) → eqb (if b then 1 else 0) 1 ≡ b
@@ -90,10 +90,10 @@ module _ (n clients : ℕ) (x : InTransit) (v : valid (x .message) ≡ true) whe
       flag false = refl
 
   fields-range : validFields (fieldsOf (x .message)) ≡ true
-  unfolding validFields
+  unfolding validFieldsUpTo
   fields-range =
       let s = valid-sound (x .message) v in
-      rw (s .kind, valid-message (fieldsOf (x .message)) (s .kind) (s .alone), message-fields (x .message) v) v
+      rw (s .kind, valid-message (fieldsOf (x .message)) maxServers (s .kind) (s .alone), message-fields maxServers (x .message) v) v
 
   crossing-words : crossing (words (fieldsOf (x .message))) ≡ Numbers (fieldsOf (x .message))
   unfolding crossing fits
@@ -108,7 +108,7 @@ module _ (n clients : ℕ) (x : InTransit) (v : valid (x .message) ≡ true) whe
 
   pub words-valid : names n clients (x .message) ≡ true → validSlot n clients (slotWords x) ≡ true
   unfolding validSlot slotWords
-  words-valid m = rw (crossing-words, fields-range, message-fields (x .message) v, m) (flag (x .delivered))
+  words-valid m = rw (crossing-words, fields-range, message-fields maxServers (x .message) v, m) (flag (x .delivered))
     where
       flag : (b : Bool) → (leb (if b then 1 else 0) 1 && true) ≡ true
       flag true = refl
@@ -161,7 +161,7 @@ module _ (t : List ℕ) (i : ℕ) (size : length t ≡ transitSize) (used : i < 
 module _ (n clients : ℕ) (f : Fields) where
   pub named-names : validFields f ≡ true → namedFields n clients f ≡ names n clients (messageOf f)
   unfolding namedFields names
-  named-names v = rw (v, fields-again f v)
+  named-names v = rw (v, fields-again maxServers f v)
 
   module _ (v : Bool) (e : v ≡ validFields f) where
     pub named-range : not v ≡ true → false ≡ namedFields n clients f
@@ -221,7 +221,7 @@ module _ (n clients : ℕ) (t : List ℕ) (i : ℕ) (size : length t ≡ transit
     numbers-found f r q x = slot-numbers n clients (take slotSize (drop (slotSize * i) t)) (rw flag-at h) g from-row f r q x
 
 known-kind : (f : Fields) → validFields f ≡ true → known (f .kind) ≡ true
-unfolding validFields
+unfolding validFieldsUpTo
 known-kind f v = both (known (f .kind)) (validNumbers f) v .0
 
 -- server j has gone down

@@ -7,11 +7,12 @@ use mathlib.Core.List.{List}
 use lib.ListN.{length, take, drop}
 use lib.Seq.{sets}
 use borrow.Author.Tests.{lt-ltb, le-ltb, eq-eqb, ne-eqb, le-leb, lt-leb}
+use Rattle.ids.specs.Limits.{maxServers}
 use Rattle.ids.specs.declared.Refusal.{Refusal}
 use Rattle.ids.specs.declared.Refusal.the-variants.{HeaderShort, KindUnknown, LengthWrong, MessageCut, NumberOutOfRange, RoomShort}
 use Rattle.wire.specs.Bytes.{number}
-use Rattle.wire.specs.Format.{known, fieldsOf, lengthOf, messageOf, lengthIn, kindIn, fieldsIn, valid, validFields, sizeOf, bytesOf, bytesOfFields}
-use Rattle.wire.specs.Calls.{readOf, numbersOf, writeOf, bufferAfter, layOf, laidIn, writeNumbers, numbersAfter}
+use Rattle.wire.specs.Format.{known, fieldsOf, lengthOf, messageOf, lengthIn, kindIn, fieldsIn, valid, validFields, validFieldsUpTo, sizeOf, bytesOf, bytesOfFields}
+use Rattle.wire.specs.Calls.{readOf, readUpTo, numbersOf, writeOf, writeUpTo, bufferAfter, bufferAfterUpTo, layOf, laidIn, writeNumbers, numbersAfter}
 use Rattle.wire.specs.declared.Fields.{Fields}
 use Rattle.wire.specs.declared.Message.{Message}
 use Rattle.wire.specs.declared.Parsed.the-variants.{Accepted, Refused as NotRead}
@@ -26,7 +27,7 @@ use Rattle.wire.proofs.FormatLaws.{length-in, kind-in}
 
 module _ (s : List ℕ) where
   pub read-short : length s < 4 → NotRead HeaderShort ≡ readOf s
-  unfolding readOf
+  unfolding readUpTo
   read-short h = simp (lt-ltb _ _ h)
 
   module _ (kind : ℕ) (ok : Bool) (h : 4 ≤ length s) (k : kind ≡ number (take 2 (drop 2 s))) (o : ok ≡ known kind) where
@@ -34,7 +35,7 @@ module _ (s : List ℕ) where
     its-kind = sym (kind-in s) ∙ sym k
 
     pub read-unknown : ok ≡ false → NotRead KindUnknown ≡ readOf s
-    unfolding readOf
+    unfolding readUpTo
     read-unknown f = let e : known kind ≡ false = cc in simp (le-ltb _ _ h, its-kind, e)
 
     module _ (size len : ℕ) (t : ok ≡ true) (z : size ≡ lengthOf kind) (l : len ≡ number (take 2 (drop 0 s))) where
@@ -42,31 +43,31 @@ module _ (s : List ℕ) where
       its-length = sym (length-in s) ∙ sym l
 
       pub read-wrong : (len ≡ size → ⊥) → NotRead LengthWrong ≡ readOf s
-      unfolding readOf
+      unfolding readUpTo
       read-wrong n = let e : known kind ≡ true = cc in simp (le-ltb _ _ h, its-kind, e, its-length, ← z, ne-eqb _ _ n)
 
       module _ (n : len ≡ size) where
         pub read-cut : length s < size → NotRead MessageCut ≡ readOf s
-        unfolding readOf
+        unfolding readUpTo
         read-cut c = let e : known kind ≡ true = cc in simp (le-ltb _ _ h, its-kind, e, its-length, ← z, eq-eqb _ _ n, lt-ltb _ _ c)
 
         module _ (f : Fields) (v : Bool) (c : size ≤ length s) (p : f ≡ fieldsIn s) (w : v ≡ validFields f) where
           in-range : v ≡ valid (messageOf (fieldsIn s))
-          unfolding validFields fieldsIn
+          unfolding validFieldsUpTo fieldsIn
           in-range =
               let e : known kind ≡ true = cc in
               let q : known (kindIn s) ≡ true = rw its-kind e in
-              rw (p, q) at w ∙ valid-message (fieldsIn s) q (alone-in s)
+              rw (p, q) at w ∙ valid-message (fieldsIn s) maxServers q (alone-in s)
 
           pub read-invalid : v ≡ false → NotRead NumberOutOfRange ≡ readOf s
-          unfolding readOf
+          unfolding readUpTo
           read-invalid b =
               let e : known kind ≡ true = cc in
               let i : valid (messageOf (fieldsIn s)) ≡ false = cc in-range in
               simp (le-ltb _ _ h, its-kind, e, its-length, ← z, eq-eqb _ _ n, le-ltb _ _ c, i)
 
           accepted : v ≡ true → readOf s ≡ Accepted (messageOf (fieldsIn s)) size
-          unfolding readOf
+          unfolding readUpTo
           accepted b =
               let e : known kind ≡ true = cc in
               let i : valid (messageOf (fieldsIn s)) ≡ true = cc in-range in
@@ -83,7 +84,7 @@ module _ (s : List ℕ) (p : Numbers) where
   again : (q : Parsed) (f : Fields) (m : Message) (n : ℕ) → readOf s ≡ q → p ≡ numbersOf q → p ≡ Fitting f n → m ≡ messageOf f → Accepted m n ≡ q
   again (NotRead e) f m n a b c d = let z : _≡_ {A = ℕ} 0 1 = cc in absurd (omega arith)
   again (Accepted m′ n′) f m n a b c d =
-      let g : messageOf (fieldsOf m′) ≡ m′ = message-fields m′ (took s m′ n′ a .range) in
+      let g : messageOf (fieldsOf m′) ≡ m′ = message-fields maxServers m′ (took maxServers s m′ n′ a .range) in
       let h : fieldsOf m′ ≡ f = cc in
       let k : n′ ≡ n = cc in
       let l : messageOf f ≡ m′ = rw h at g in
@@ -110,11 +111,11 @@ module _ (f : Fields) (o : List ℕ) (size : ℕ) (z : size ≡ lengthOf (f .kin
 
 module _ (m : Message) (o : List ℕ) (v : Bool) (w : v ≡ valid m) where
   pub write-invalid : v ≡ false → (NotWritten NumberOutOfRange ≡ writeOf m (length o)) × (o ≡ bufferAfter m o)
-  unfolding writeOf bufferAfter
+  unfolding writeUpTo bufferAfterUpTo
   write-invalid b = let i : valid m ≡ false = cc in (simp i, simp i)
 
   pub write-laid : v ≡ true → (f : Fields) (r : Written) (l : List ℕ) → f ≡ fieldsOf m → r ≡ layOf f (length o) → l ≡ laidIn f o → (r ≡ writeOf m (length o)) × (l ≡ bufferAfter m o)
-  unfolding writeOf bufferAfter layOf laidIn sizeOf bytesOf
+  unfolding writeUpTo bufferAfterUpTo layOf laidIn sizeOf bytesOf
   write-laid t f r l e p q = let i : valid m ≡ true = cc in (simp i (rw e at p), simp i (rw e at q))
 
 module _ (f : Fields) (o : List ℕ) (v : Bool) (w : v ≡ validFields f) where
@@ -127,7 +128,7 @@ module _ (f : Fields) (o : List ℕ) (v : Bool) (w : v ≡ validFields f) where
 -- what is written of numbers in range is what is written of their message
 module _ (f : Fields) (o : List ℕ) (v : validFields f ≡ true) where
   message-written : (writeNumbers f (length o) ≡ writeOf (messageOf f) (length o)) × (numbersAfter f o ≡ bufferAfter (messageOf f) o)
-  message-written = rw v (write-laid (messageOf f) o true (sym (fields-valid f v)) refl f _ _ (sym (fields-again f v)) refl refl)
+  message-written = rw v (write-laid (messageOf f) o true (sym (fields-valid maxServers f v)) refl f _ _ (sym (fields-again maxServers f v)) refl refl)
 
   pub written-as-message : writeOf (messageOf f) (length o) ≡ writeNumbers f (length o)
   written-as-message = sym (message-written .0)

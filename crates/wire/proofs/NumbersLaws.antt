@@ -6,16 +6,16 @@ use mathlib.Core.Bool.{Bool, true, false, not, _&&_}
 use mathlib.Core.List.{List}
 use lib.Dec.{leb, eqb}
 use borrow.Author.Tests.{le-leb, ne-eqb, eqb-true, eqb-false}
-use Rattle.ids.specs.Limits.{validRequest, validClient, validServer, validTimestamp, validOwner, validParties, validStamped}
+use Rattle.ids.specs.Limits.{maxClient, maxServers, validRequest, validTimestamp, validOwner, validParties, validPartiesUpTo, validStamped, validStampedUpTo}
 use Rattle.ids.specs.declared.Owner.{Owner}
 use Rattle.ids.specs.declared.Owner.the-variants.{Nobody, Of}
 use Rattle.ids.specs.declared.ClientId.{ClientId}
 use Rattle.ids.specs.declared.ServerId.{ServerId}
 use Rattle.ids.specs.declared.Timestamp.{Timestamp}
 use Rattle.ids.proofs.Choice.{both, and-true}
-use Rattle.ids.proofs.LimitsLaws.{within-range, client-range, server-range, timestamp-range, request-range}
+use Rattle.ids.proofs.LimitsLaws.{within-range, client-range, server-range, timestamp-range, request-range, parties-range, stamped-range}
 use Rattle.wire.specs.Bytes.{decode}
-use Rattle.wire.specs.Format.{validRest, validNumbers, validFields, known, plain, answer, ownerClient, ownerTimestamp, fieldsOf, messageOf, ownerOf, valid, validResponse, kindIn, fieldIn, fieldsIn}
+use Rattle.wire.specs.Format.{validRest, validNamed, validNumbersUpTo, validFieldsUpTo, clientNamed, serverNamed, known, plain, answer, ownerClient, ownerTimestamp, fieldsOf, messageOf, ownerOf, valid, validUpTo, validResponse, validResponseUpTo, kindIn, fieldIn, fieldsIn}
 use Rattle.wire.specs.declared.Fields.{Fields}
 use Rattle.wire.specs.declared.Message.{Message}
 use Rattle.wire.specs.declared.Message.the-variants.{Request, Yield, Release, Inquiry, Response, Check}
@@ -29,16 +29,24 @@ pub record Sound (f : Fields) : Type 0 where
   pub owner : f .owner < 65536
   pub alone : (f .kind ≡ 5 → ⊥) → f .owner ≡ 0
 
-parties : (k : ClientId) (j : ServerId) → validParties k j ≡ true → (k .0 ≤ 65535) × (j .0 ≤ 31)
-unfolding validParties
+-- a valid message names a client and a server in their ranges, whatever its kind
+pub valid-head : (limit : ℕ) (m : Message) → validUpTo limit m ≡ true → validPartiesUpTo limit (clientNamed m) (serverNamed m) ≡ true
+unfolding validUpTo fieldsOf validResponseUpTo
+valid-head limit (Request k j t) v = stamped-range limit k j t v .0
+valid-head limit (Yield k j t) v = stamped-range limit k j t v .0
+valid-head limit (Release k j t) v = stamped-range limit k j t v .0
+valid-head limit (Inquiry k j t) v = stamped-range limit k j t v .0
+valid-head limit (Response k j o) v = both (validPartiesUpTo limit k j) (validNamed o) v .0
+valid-head limit (Check k j t) v = stamped-range limit k j t v .0
+
+parties : (k : ClientId) (j : ServerId) → validParties k j ≡ true → (k .0 ≤ maxClient) × (j .0 ≤ maxServers)
 parties k j v =
-    let (a, b) = both (validClient k) (validServer j) v in
+    let (a, b) = parties-range maxServers k j v in
     (client-range k a .1, server-range j b .1)
 
 plain-sound : (kind : ℕ) (k : ClientId) (j : ServerId) (t : Timestamp) → known kind ≡ true → validStamped k j t ≡ true → Sound (plain kind k j t)
-unfolding validStamped
 plain-sound kind k j t e v =
-    let (a, b) = both (validParties k j) (validTimestamp t) v in
+    let (a, b) = stamped-range maxServers k j t v in
     let (kk, jj) = parties k j a in
     let tt′ = timestamp-range t b in
     record { kind = e; client = omega arith; server = omega arith; timestamp = omega arith; owner = omega arith; alone = λ n. refl }
@@ -51,15 +59,15 @@ owner-sound (Of q) v =
     (client-range (q .client) a .1, timestamp-range (q .timestamp) b .1)
 
 response-sound : (k : ClientId) (j : ServerId) (o : Owner) → validResponse k j o ≡ true → Sound (answer k j o)
-unfolding validResponse
+unfolding validResponseUpTo
 response-sound k j o v =
-    let (a, b) = both (validParties k j) (validOwner o) v in
+    let (a, b) = both (validParties k j) (validNamed o) v in
     let (kk, jj) = parties k j a in
     let (oo, tt′) = owner-sound o b in
     record { kind = refl; client = omega arith; server = omega arith; timestamp = omega arith; owner = omega arith; alone = λ n. absurd (n refl) }
 
 pub valid-sound : (m : Message) → valid m ≡ true → Sound (fieldsOf m)
-unfolding valid fieldsOf
+unfolding validUpTo fieldsOf
 valid-sound (Request k j t) v = plain-sound 1 k j t refl v
 valid-sound (Yield k j t) v = plain-sound 2 k j t refl v
 valid-sound (Release k j t) v = plain-sound 3 k j t refl v
@@ -76,14 +84,14 @@ owner-again (Of q) v =
     let n : q .client .0 ≡ 0 → ⊥ = omega arith in
     simp (ne-eqb _ _ n)
 
-pub message-fields : (m : Message) → valid m ≡ true → messageOf (fieldsOf m) ≡ m
-unfolding valid fieldsOf messageOf validResponse
-message-fields (Request k j t) v = refl
-message-fields (Yield k j t) v = refl
-message-fields (Release k j t) v = refl
-message-fields (Inquiry k j t) v = refl
-message-fields (Response k j o) v = ap (Response k j) (owner-again o (both (validParties k j) (validOwner o) v .1))
-message-fields (Check k j t) v = refl
+pub message-fields : (limit : ℕ) (m : Message) → validUpTo limit m ≡ true → messageOf (fieldsOf m) ≡ m
+unfolding validUpTo fieldsOf messageOf validResponseUpTo
+message-fields limit (Request k j t) v = refl
+message-fields limit (Yield k j t) v = refl
+message-fields limit (Release k j t) v = refl
+message-fields limit (Inquiry k j t) v = refl
+message-fields limit (Response k j o) v = ap (Response k j) (owner-again o (both (validPartiesUpTo limit k j) (validNamed o) v .1))
+message-fields limit (Check k j t) v = refl
 
 -- a message with known numbers has these numbers
 owner-numbers : (o t : ℕ) (b : Bool) → eqb o 0 && eqb t 0 ≡ b → (ownerClient (ownerOf o t) ≡ o) × (ownerTimestamp (ownerOf o t) ≡ t)
@@ -121,10 +129,10 @@ module _ (f : Fields) where
       (λ a. let (p, q) = owner-numbers (f .owner) (f .timestamp) _ refl in rw (p, q)) (λ a. rw (a (λ n. omega arith))) (f .kind)
 
   -- such numbers are in range exactly if their message is
-  pub valid-message : known (f .kind) ≡ true → Alone f → validNumbers f ≡ valid (messageOf f)
-  unfolding validNumbers validRest valid validStamped validResponse messageOf
-  valid-message =
-      kinds (λ kind. Alone (of-kind kind) → validNumbers (of-kind kind) ≡ valid (messageOf (of-kind kind)))
+  pub valid-message : (limit : ℕ) → known (f .kind) ≡ true → Alone f → validNumbersUpTo limit f ≡ validUpTo limit (messageOf f)
+  unfolding validNumbersUpTo validRest validUpTo validStampedUpTo validResponseUpTo messageOf
+  valid-message limit =
+      kinds (λ kind. Alone (of-kind kind) → validNumbersUpTo limit (of-kind kind) ≡ validUpTo limit (messageOf (of-kind kind)))
       (λ a. rw (a (λ n. omega arith), and-true)) (λ a. rw (a (λ n. omega arith), and-true)) (λ a. rw (a (λ n. omega arith), and-true)) (λ a. rw (a (λ n. omega arith), and-true))
       (λ a. refl) (λ a. rw (a (λ n. omega arith), and-true)) (f .kind)
 
@@ -171,14 +179,14 @@ module _ (kind timestamp owner : ℕ) where
   rest-plain r n p = rw (ne-eqb kind 5 n) p
 
 -- numbers in range are a valid message's: only a RESPONSE has an owner, and the message has just these numbers
-module _ (f : Fields) (v : validFields f ≡ true) where
-  its-tests : (known (f .kind) ≡ true) × (validNumbers f ≡ true)
-  unfolding validFields
-  its-tests = both (known (f .kind)) (validNumbers f) v
+module _ (limit : ℕ) (f : Fields) (v : validFieldsUpTo limit f ≡ true) where
+  its-tests : (known (f .kind) ≡ true) × (validNumbersUpTo limit f ≡ true)
+  unfolding validFieldsUpTo
+  its-tests = both (known (f .kind)) (validNumbersUpTo limit f) v
 
   its-rest : validRest (f .kind) (f .timestamp) (f .owner) ≡ true
-  unfolding validNumbers
-  its-rest = both (validParties (record { 0 = f .client }) (record { 0 = f .server })) (validRest (f .kind) (f .timestamp) (f .owner)) (its-tests .1) .1
+  unfolding validNumbersUpTo
+  its-rest = both (validPartiesUpTo limit (record { 0 = f .client }) (record { 0 = f .server })) (validRest (f .kind) (f .timestamp) (f .owner)) (its-tests .1) .1
 
   its-owner : Alone f
   unfolding validRest
@@ -187,5 +195,5 @@ module _ (f : Fields) (v : validFields f ≡ true) where
   pub fields-again : fieldsOf (messageOf f) ≡ f
   fields-again = fields-message f (its-tests .0) its-owner
 
-  pub fields-valid : valid (messageOf f) ≡ true
-  fields-valid = rw (valid-message f (its-tests .0) its-owner) at (its-tests .1)
+  pub fields-valid : validUpTo limit (messageOf f) ≡ true
+  fields-valid = rw (valid-message f limit (its-tests .0) its-owner) at (its-tests .1)

@@ -13,7 +13,7 @@ use Rattle.ids.specs.declared.Refusal.the-variants.{HeaderShort, MessageCut}
 use Rattle.ids.proofs.Choice.{decided}
 use Rattle.wire.specs.Bytes.{decode, total}
 use Rattle.wire.specs.Format.{known, widths, header, lengthOf, lengthIn, kindIn, fieldIn, fieldsIn}
-use Rattle.wire.specs.Calls.{readOf}
+use Rattle.wire.specs.Calls.{readUpTo}
 use Rattle.wire.specs.declared.Parsed.the-variants.{Refused as NotRead}
 
 decode-prefix : (ws s t : List ℕ) → total ws ≤ length s → decode ws (s ++ t) ≡ decode ws s
@@ -40,9 +40,9 @@ module _ (s t : List ℕ) (four : 4 ≤ length s) where
   longer : (n : ℕ) → n ≤ length s → n ≤ length (s ++ t)
   longer n h = omega (arith, length-append s t)
 
-pub read-prefix : (s t : List ℕ) → (readOf s ≡ NotRead HeaderShort → ⊥) → (readOf s ≡ NotRead MessageCut → ⊥) → readOf (s ++ t) ≡ readOf s
-unfolding readOf
-read-prefix s t short cut =
+pub read-prefix : (limit : ℕ) (s t : List ℕ) → (readUpTo limit s ≡ NotRead HeaderShort → ⊥) → (readUpTo limit s ≡ NotRead MessageCut → ⊥) → readUpTo limit (s ++ t) ≡ readUpTo limit s
+unfolding readUpTo
+read-prefix limit s t short cut =
     let too-few : Bool = ltb (length s) 4 in
     let unknown : Bool = not (known (kindIn s)) in
     let wrong : Bool = not (eqb (lengthIn s) (lengthOf (kindIn s))) in

@@ -9,13 +9,14 @@ use lib.Dec.{eqb, ltb}
 use lib.ListN.{length, take, drop, getD, length-append}
 use borrow.Author.Tests.{le-ltb, eq-eqb, eqb-true, eqb-false, not-false, ltb-false}
 use Rattle.ids.specs.Choice.{if_then_else_}
+use Rattle.ids.specs.Limits.{maxServers}
 use Rattle.ids.specs.declared.Refusal.{Refusal}
 use Rattle.ids.specs.declared.Refusal.the-variants.{HeaderShort, KindUnknown, LengthWrong, MessageCut, NumberOutOfRange}
 use Rattle.ids.proofs.Choice.{decided, passed}
 use Rattle.ids.proofs.LimitsLaws.{within-range}
 use Rattle.wire.specs.Bytes.{encode, decode}
-use Rattle.wire.specs.Format.{known, widths, lengthOf, words, fieldsOf, messageOf, bytesOf, bytesOfFields, sizeOf, valid, lengthIn, kindIn, fieldIn, fieldsIn}
-use Rattle.wire.specs.Calls.{readOf}
+use Rattle.wire.specs.Format.{known, widths, lengthOf, words, fieldsOf, messageOf, bytesOf, bytesOfFields, sizeOf, valid, validUpTo, lengthIn, kindIn, fieldIn, fieldsIn}
+use Rattle.wire.specs.Calls.{readOf, readUpTo}
 use Rattle.wire.specs.declared.Fields.{Fields}
 use Rattle.wire.specs.declared.Message.{Message}
 use Rattle.wire.specs.declared.Parsed.the-variants.{Accepted, Refused as NotRead}
@@ -69,13 +70,13 @@ module _ (f : Fields) (sound : Sound f) (rest : List ℕ) where
 
 -- what is written is read as the same message, with the same count, whatever stands behind it
 pub written-is-read : (m : Message) (rest : List ℕ) → valid m ≡ true → readOf (bytesOf m ++ rest) ≡ Accepted m (sizeOf m)
-unfolding readOf bytesOf sizeOf
+unfolding readUpTo bytesOf sizeOf
 written-is-read m rest v =
     let f = fieldsOf m in
     let s = valid-sound m v in
     let enough : lengthOf (f .kind) ≤ length (bytesOfFields f ++ rest) = omega (arith, length-append (bytesOfFields f) rest, length-fields f) in
     let four : 4 ≤ length (bytesOfFields f ++ rest) = omega (arith, at-least (f .kind)) in
-    simp (le-ltb _ _ four, kind-read f s rest, s .kind, length-read f s rest, eq-eqb (lengthOf (f .kind)) (lengthOf (f .kind)) refl, le-ltb _ _ enough, fields-read f s rest, message-fields m v, v)
+    simp (le-ltb _ _ four, kind-read f s rest, s .kind, length-read f s rest, eq-eqb (lengthOf (f .kind)) (lengthOf (f .kind)) refl, le-ltb _ _ enough, fields-read f s rest, message-fields maxServers m v, v)
 
 -- no two different messages have the same bytes, nor does one begin with another's
 pub bytes-differ : (m m′ : Message) (s s′ : List ℕ) → valid m ≡ true → valid m′ ≡ true → bytesOf m ++ s ≡ bytesOf m′ ++ s′ → m ≡ m′
@@ -88,23 +89,23 @@ bytes-differ m m′ s s′ v v′ e =
 accepted-not-refused : (e : Refusal) (m : Message) (n : ℕ) → NotRead e ≡ Accepted m n → ⊥
 accepted-not-refused e m n h = let z : _≡_ {A = ℕ} 0 1 = cc in omega arith
 
--- the tests of `readOf` that an accepted message has passed
-pub record Took (s : List ℕ) (m : Message) (n : ℕ) : Type 0 where
+-- the tests of `readUpTo` that an accepted message has passed
+pub record Took (limit : ℕ) (s : List ℕ) (m : Message) (n : ℕ) : Type 0 where
   pub kind : known (kindIn s) ≡ true
   pub claimed : lengthIn s ≡ lengthOf (kindIn s)
   pub whole : lengthOf (kindIn s) ≤ length s
   pub message : messageOf (fieldsIn s) ≡ m
   pub used : lengthOf (kindIn s) ≡ n
-  pub range : valid m ≡ true
+  pub range : validUpTo limit m ≡ true
 
-pub took : (s : List ℕ) (m : Message) (n : ℕ) → readOf s ≡ Accepted m n → Took s m n
-unfolding readOf
-took s m n e =
+pub took : (limit : ℕ) (s : List ℕ) (m : Message) (n : ℕ) → readUpTo limit s ≡ Accepted m n → Took limit s m n
+unfolding readUpTo
+took limit s m n e =
     let r₁ = passed (ltb (length s) 4) (accepted-not-refused HeaderShort m n) e in
     let r₂ = passed (not (known (kindIn s))) (accepted-not-refused KindUnknown m n) (r₁ .1) in
     let r₃ = passed (not (eqb (lengthIn s) (lengthOf (kindIn s)))) (accepted-not-refused LengthWrong m n) (r₂ .1) in
     let r₄ = passed (ltb (length s) (lengthOf (kindIn s))) (accepted-not-refused MessageCut m n) (r₃ .1) in
-    let r₅ = passed (not (valid (messageOf (fieldsIn s)))) (accepted-not-refused NumberOutOfRange m n) (r₄ .1) in
+    let r₅ = passed (not (validUpTo limit (messageOf (fieldsIn s)))) (accepted-not-refused NumberOutOfRange m n) (r₄ .1) in
     let same : messageOf (fieldsIn s) ≡ m = cc (r₅ .1) in
     record {
       kind = not-false _ (r₂ .0);
@@ -112,7 +113,7 @@ took s m n e =
       whole = ltb-false _ _ (r₄ .0);
       message = same;
       used = cc (r₅ .1);
-      range = let v : valid (messageOf (fieldsIn s)) ≡ true = not-false _ (r₅ .0) in rw same at v;
+      range = let v : validUpTo limit (messageOf (fieldsIn s)) ≡ true = not-false _ (r₅ .0) in rw same at v;
     }
 
 -- the numbers that are laid out again are those that were read; past a plain message's fifth number nothing is laid out
@@ -131,10 +132,10 @@ unfolding bytesOfFields fieldsIn lengthOf
 bytes-of-fields s a l w = numbers-again s l ∙ encode-decode (widths (kindIn s)) a w
 
 -- an accepted message is in range, and is written again as the bytes it was read from
-pub read-is-written : (s : List ℕ) (m : Message) (n : ℕ) → AllBytes s → readOf s ≡ Accepted m n → (valid m ≡ true) × (sizeOf m ≡ n) × (bytesOf m ≡ take n s)
+pub read-is-written : (limit : ℕ) (s : List ℕ) (m : Message) (n : ℕ) → AllBytes s → readUpTo limit s ≡ Accepted m n → (validUpTo limit m ≡ true) × (sizeOf m ≡ n) × (bytesOf m ≡ take n s)
 unfolding bytesOf sizeOf
-read-is-written s m n a e =
-    let r = took s m n e in
+read-is-written limit s m n a e =
+    let r = took limit s m n e in
     let f : fieldsOf m ≡ fieldsIn s = rw (r .message) at (fields-of-message s (r .kind)) in
     let k : fieldsIn s .kind ≡ kindIn s = kind-of s in
     (r .range, rw (f, k) (r .used), rw (f, ← r .used) (bytes-of-fields s a (r .claimed) (r .whole)))
@@ -142,5 +143,5 @@ read-is-written s m n a e =
 -- bytes behind the message make no difference to it
 pub read-looks-no-further : (s t : List ℕ) (m : Message) (n : ℕ) → AllBytes s → readOf s ≡ Accepted m n → readOf (take n s ++ t) ≡ Accepted m n
 read-looks-no-further s t m n a e =
-    let (v, z, b) = read-is-written s m n a e in
+    let (v, z, b) = read-is-written maxServers s m n a e in
     rw (z, b) at (written-is-read m t v)

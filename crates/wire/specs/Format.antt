@@ -5,7 +5,7 @@ use mathlib.Core.List.{List, [], _∷_, _++_}
 use lib.Dec.{eqb}
 use lib.ListN.{getD}
 use Rattle.ids.specs.Choice.{if_then_else_}
-use Rattle.ids.specs.Limits.{validParties, validStamped, validTimestamp, validOwner, within}
+use Rattle.ids.specs.Limits.{maxServers, validPartiesUpTo, validStampedUpTo, validTimestamp, validOwner, within}
 use Rattle.ids.specs.declared.ClientId.{ClientId}
 use Rattle.ids.specs.declared.ServerId.{ServerId}
 use Rattle.ids.specs.declared.Timestamp.{Timestamp}
@@ -58,6 +58,16 @@ fieldsOf (Inquiry k j t) = plain 4 k j t
 fieldsOf (Response k j o) = answer k j o
 fieldsOf (Check k j t) = plain 6 k j t
 
+-- a message's head, which every kind has: its kind, and the client and the server that it names
+abbrev pub kindOf : Message → ℕ
+kindOf m = fieldsOf m .kind
+
+abbrev pub clientNamed : Message → ClientId
+clientNamed m = record { 0 = fieldsOf m .client }
+
+abbrev pub serverNamed : Message → ServerId
+serverNamed m = record { 0 = fieldsOf m .server }
+
 -- the numbers in their order
 abbrev pub words : Fields → List ℕ
 words f = f .kind ∷ f .client ∷ f .server ∷ f .timestamp ∷ f .owner ∷ []
@@ -78,17 +88,28 @@ bytesOf m = bytesOfFields (fieldsOf m)
 unfoldable pub sizeOf : Message → ℕ
 sizeOf m = lengthOf (fieldsOf m .kind)
 
-unfoldable pub validResponse : ClientId → ServerId → Owner → Bool
-validResponse k j o = validParties k j && validOwner o
+-- the range of the owner that a message names, apart from that of an owner in a record
+abbrev pub validNamed : Owner → Bool
+validNamed = validOwner
 
--- every number of the message is in its range; the server's is, whatever n is
-unfoldable pub valid : Message → Bool
-valid (Request k j t) = validStamped k j t
-valid (Yield k j t) = validStamped k j t
-valid (Release k j t) = validStamped k j t
-valid (Inquiry k j t) = validStamped k j t
-valid (Response k j o) = validResponse k j o
-valid (Check k j t) = validStamped k j t
+unfoldable pub validResponseUpTo : ℕ → ClientId → ServerId → Owner → Bool
+validResponseUpTo limit k j o = validPartiesUpTo limit k j && validNamed o
+
+abbrev pub validResponse : ClientId → ServerId → Owner → Bool
+validResponse = validResponseUpTo maxServers
+
+-- every number of the message is in its range, the server's up to a limit
+unfoldable pub validUpTo : ℕ → Message → Bool
+validUpTo limit (Request k j t) = validStampedUpTo limit k j t
+validUpTo limit (Yield k j t) = validStampedUpTo limit k j t
+validUpTo limit (Release k j t) = validStampedUpTo limit k j t
+validUpTo limit (Inquiry k j t) = validStampedUpTo limit k j t
+validUpTo limit (Response k j o) = validResponseUpTo limit k j o
+validUpTo limit (Check k j t) = validStampedUpTo limit k j t
+
+-- the server's is, whatever n is
+abbrev pub valid : Message → Bool
+valid = validUpTo maxServers
 
 -- a server's owner from its numbers
 abbrev pub ownerOf : ℕ → ℕ → Owner
@@ -133,15 +154,21 @@ fieldsIn s =
 
 unfoldable pub validRest : ℕ → ℕ → ℕ → Bool
 validRest kind timestamp owner =
-    if eqb kind response then validOwner (ownerOf owner timestamp) else validTimestamp (record { 0 = timestamp }) && eqb owner 0
+    if eqb kind response then validNamed (ownerOf owner timestamp) else validTimestamp (record { 0 = timestamp }) && eqb owner 0
 
-unfoldable pub validNumbers : Fields → Bool
-validNumbers f =
-    validParties (record { 0 = f .client }) (record { 0 = f .server }) && validRest (f .kind) (f .timestamp) (f .owner)
+unfoldable pub validNumbersUpTo : ℕ → Fields → Bool
+validNumbersUpTo limit f =
+    validPartiesUpTo limit (record { 0 = f .client }) (record { 0 = f .server }) && validRest (f .kind) (f .timestamp) (f .owner)
+
+abbrev pub validNumbers : Fields → Bool
+validNumbers = validNumbersUpTo maxServers
 
 -- the same test of numbers that may be no message at all: a known kind, an owner only in a RESPONSE, all in range
-unfoldable pub validFields : Fields → Bool
-validFields f = known (f .kind) && validNumbers f
+unfoldable pub validFieldsUpTo : ℕ → Fields → Bool
+validFieldsUpTo limit f = known (f .kind) && validNumbersUpTo limit f
+
+abbrev pub validFields : Fields → Bool
+validFields = validFieldsUpTo maxServers
 
 -- several messages, one after another
 unfoldable pub bytesOfAll : List Message → List ℕ

@@ -1,5 +1,6 @@
 -- `client::take_response` meets its contract: whom the message is for decides.
 use denote.Ref.{now}
+use Rattle.ids.specs.Limits.{maxServers}
 use Rattle.client.proofs.StepLaws.{answers-refused, response-elsewhere, response-range, its-server, response-taken}
 use borrow.Author.Needs.{needs}
 use Rattle.client.proofs.take_response.Statement.{statement}
@@ -20,7 +21,7 @@ respond-row-requires : tie.Need-respond-row-requires
 respond-row-requires c κs =
     let e = c .before .before in
     let s = entry (e .before) in
-    let v = response-range (s .args .k) (s .args .j) (s .args .o) (s .pre .1) in
+    let v = response-range maxServers (s .args .k) (s .args .j) (s .args .o) (s .pre .1) in
     (s .pre .0, v .0, its-server (s .args .h) (now (s .args .row)) (s .args .k) (s .args .j) _ (e .before .for-client .ensures) (e .if1 .left), v .1)
 
 returns-2 : tie.Need-returns-2

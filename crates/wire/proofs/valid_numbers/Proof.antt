@@ -1,6 +1,6 @@
 -- `wire::valid_numbers` meets its contract: the first test decides the definition's `&&`.
 use Rattle.ids.proofs.Choice.{and-goes-on, and-stops}
-use Rattle.wire.specs.Format.{validNumbers}
+use Rattle.wire.specs.Format.{validNumbersUpTo}
 use borrow.Author.Needs.{needs}
 use Rattle.wire.proofs.valid_numbers.Statement.{statement}
 use Rattle.wire.proofs.valid_numbers.Tie as tie
@@ -12,11 +12,11 @@ valid-rest-requires : tie.Need-valid-rest-requires
 valid-rest-requires c κs = search needs
 
 returns : tie.Need-returns
-unfolding validNumbers
+unfolding validNumbersUpTo
 returns c = and-goes-on (c .before .if1 .taken) (c .before .before .valid-parties .ensures) (c .valid-rest .ensures)
 
 returns-2 : tie.Need-returns-2
-unfolding validNumbers
+unfolding validNumbersUpTo
 returns-2 c = and-stops _ (c .if1 .left) (c .before .valid-parties .ensures)
 
 pub valid-numbers-spec : {M : Type 1} → statement M
