@@ -149,7 +149,7 @@ module _ (n m clients : ℕ) (k : ClientId) (ws : List ℕ) (c : Client) (e : c 
             rw (good, eq-eqb (getD ws 0 0) n f, eq-eqb (getD ws 1 0) m g, eq-eqb (getD ws 2 0) (k .0) h, f, named-places clients (take n (requestsIn (drop recordHead ws)))) q
 
 -- a server's record
-named-owner : (clients k t : ℕ) (l : List Request) → every (namedPair clients) (candidates (record { owner = ownerOf k t; queue = l })) ≡ leb k clients && every (namedPair clients) l
+named-owner : (clients k t : ℕ) (l : List Request) → every (namedPair clients) (candidates (record { owner = ownerOf (record { 0 = k }) (record { 0 = t }); queue = l })) ≡ leb k clients && every (namedPair clients) l
 named-owner clients k t l =
     ⊎-elim
     (λ (e : eqb k 0 && eqb t 0 ≡ true).

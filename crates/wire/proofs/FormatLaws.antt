@@ -46,7 +46,7 @@ module _ (f : Fields) where
   unfolding messageOf
   message-inquiry e = rw e
 
-  pub message-response : (o : Owner) → f .kind ≡ 5 → o ≡ ownerOf (f .owner) (f .timestamp) → Response (client f) (server f) o ≡ messageOf f
+  pub message-response : (o : Owner) → f .kind ≡ 5 → o ≡ ownerOf (record { 0 = f .owner }) (record { 0 = f .timestamp }) → Response (client f) (server f) o ≡ messageOf f
   unfolding messageOf
   message-response o e p = rw (e, p)
 

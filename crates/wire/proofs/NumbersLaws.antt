@@ -76,7 +76,7 @@ valid-sound (Response k j o) v = response-sound k j o v
 valid-sound (Check k j t) v = plain-sound 6 k j t refl v
 
 -- the numbers of a valid message make the message again
-pub owner-again : (o : Owner) → validOwner o ≡ true → ownerOf (ownerClient o) (ownerTimestamp o) ≡ o
+pub owner-again : (o : Owner) → validOwner o ≡ true → ownerOf (record { 0 = ownerClient o }) (record { 0 = ownerTimestamp o }) ≡ o
 unfolding validOwner
 owner-again Nobody v = refl
 owner-again (Of q) v =
@@ -94,7 +94,7 @@ message-fields limit (Response k j o) v = ap (Response k j) (owner-again o (both
 message-fields limit (Check k j t) v = refl
 
 -- a message with known numbers has these numbers
-owner-numbers : (o t : ℕ) (b : Bool) → eqb o 0 && eqb t 0 ≡ b → (ownerClient (ownerOf o t) ≡ o) × (ownerTimestamp (ownerOf o t) ≡ t)
+owner-numbers : (o t : ℕ) (b : Bool) → eqb o 0 && eqb t 0 ≡ b → (ownerClient (ownerOf (record { 0 = o }) (record { 0 = t })) ≡ o) × (ownerTimestamp (ownerOf (record { 0 = o }) (record { 0 = t })) ≡ t)
 owner-numbers o t true e =
     let (a, b) = both (eqb o 0) (eqb t 0) e in
     let o0 : o ≡ 0 = eqb-true _ _ a in
@@ -150,15 +150,15 @@ unfolding fieldsIn
 fields-of-message s k = fields-message (fieldsIn s) k (alone-in s)
 
 -- an owner's two numbers are in range if both are 0 or neither is
-pub owner-zero : (owner timestamp : ℕ) → owner ≡ 0 → eqb timestamp 0 ≡ validOwner (ownerOf owner timestamp)
+pub owner-zero : (owner timestamp : ℕ) → owner ≡ 0 → eqb timestamp 0 ≡ validOwner (ownerOf (record { 0 = owner }) (record { 0 = timestamp }))
 unfolding validOwner validRequest
 owner-zero owner timestamp e = rw e (go (eqb timestamp 0) refl)
   where
-    go : (b : Bool) → eqb timestamp 0 ≡ b → eqb timestamp 0 ≡ validOwner (ownerOf 0 timestamp)
+    go : (b : Bool) → eqb timestamp 0 ≡ b → eqb timestamp 0 ≡ validOwner (ownerOf (record { 0 = 0 }) (record { 0 = timestamp }))
     go true p = rw p
     go false p = rw p
 
-pub owner-some : (owner timestamp : ℕ) → owner ≤ 65535 → timestamp ≤ 4294967295 → (owner ≡ 0 → ⊥) → not (eqb timestamp 0) ≡ validOwner (ownerOf owner timestamp)
+pub owner-some : (owner timestamp : ℕ) → owner ≤ 65535 → timestamp ≤ 4294967295 → (owner ≡ 0 → ⊥) → not (eqb timestamp 0) ≡ validOwner (ownerOf (record { 0 = owner }) (record { 0 = timestamp }))
 unfolding validOwner validRequest
 owner-some owner timestamp a b n =
     let one : 1 ≤ owner = omega arith in
@@ -170,7 +170,7 @@ owner-some owner timestamp a b n =
 
 -- the rest of a message's numbers, by the test on its kind
 module _ (kind timestamp owner : ℕ) where
-  pub rest-response : (r : Bool) → kind ≡ 5 → r ≡ validOwner (ownerOf owner timestamp) → r ≡ validRest kind timestamp owner
+  pub rest-response : (r : Bool) → kind ≡ 5 → r ≡ validOwner (ownerOf (record { 0 = owner }) (record { 0 = timestamp })) → r ≡ validRest kind timestamp owner
   unfolding validRest
   rest-response r e p = rw e p
 

@@ -58,10 +58,7 @@ fieldsOf (Inquiry k j t) = plain 4 k j t
 fieldsOf (Response k j o) = answer k j o
 fieldsOf (Check k j t) = plain 6 k j t
 
--- a message's head, which every kind has: its kind, and the client and the server that it names
-abbrev pub kindOf : Message → ℕ
-kindOf m = fieldsOf m .kind
-
+-- a message's head, which every kind has: the client and the server that it names
 abbrev pub clientNamed : Message → ClientId
 clientNamed m = record { 0 = fieldsOf m .client }
 
@@ -107,15 +104,13 @@ validUpTo limit (Inquiry k j t) = validStampedUpTo limit k j t
 validUpTo limit (Response k j o) = validResponseUpTo limit k j o
 validUpTo limit (Check k j t) = validStampedUpTo limit k j t
 
--- the server's is, whatever n is
+-- the server's up to the largest n, whatever n is
 abbrev pub valid : Message → Bool
 valid = validUpTo maxServers
 
 -- a server's owner from its numbers
-abbrev pub ownerOf : ℕ → ℕ → Owner
-ownerOf client timestamp =
-    if eqb client 0 && eqb timestamp 0 then Nobody
-    else Of (record { client = record { 0 = client }; timestamp = record { 0 = timestamp } })
+abbrev pub ownerOf : ClientId → Timestamp → Owner
+ownerOf k t = if eqb (k .0) 0 && eqb (t .0) 0 then Nobody else Of (record { client = k; timestamp = t })
 
 -- the message with these numbers, where their kind is known
 unfoldable pub messageOf : Fields → Message
@@ -127,7 +122,7 @@ messageOf f =
     else if eqb (f .kind) 2 then Yield k j t
     else if eqb (f .kind) 3 then Release k j t
     else if eqb (f .kind) 4 then Inquiry k j t
-    else if eqb (f .kind) response then Response k j (ownerOf (f .owner) (f .timestamp))
+    else if eqb (f .kind) response then Response k j (ownerOf (record { 0 = f .owner }) t)
     else Check k j t
 
 -- the length and the kind that the bytes s begin with
@@ -154,7 +149,7 @@ fieldsIn s =
 
 unfoldable pub validRest : ℕ → ℕ → ℕ → Bool
 validRest kind timestamp owner =
-    if eqb kind response then validNamed (ownerOf owner timestamp) else validTimestamp (record { 0 = timestamp }) && eqb owner 0
+    if eqb kind response then validNamed (ownerOf (record { 0 = owner }) (record { 0 = timestamp })) else validTimestamp (record { 0 = timestamp }) && eqb owner 0
 
 unfoldable pub validNumbersUpTo : ℕ → Fields → Bool
 validNumbersUpTo limit f =

@@ -4,7 +4,7 @@ ghost use Prim.Native.Nat.{_+_, _*_, _≤_};
 ghost use lib.ListN.{length, take, drop};
 ghost use lib.Seq.{sets};
 ghost use Rattle.wire.specs.Bytes.{littleEndian, number};
-ghost use Rattle.wire.specs.Format.{known, lengthOf, plain, answer, fieldsOf, messageOf, kindIn, fieldIn, fieldsIn, bytesOf, front, bytesOfFields, sizeOf, validResponse, valid, validRest, validNumbers, validFields, ownerOf};
+ghost use Rattle.wire.specs.Format.{known, lengthOf, plain, answer, fieldsOf, messageOf, kindIn, fieldIn, fieldsIn, bytesOf, front, bytesOfFields, sizeOf, validNamed, validResponse, valid, validRest, validNumbers, validFields, ownerOf};
 ghost use Rattle.wire.specs.Calls.{readOf, numbersOf, writeOf, bufferAfter, layOf, laidIn, writeNumbers, numbersAfter};
 ghost use Rattle.ids.specs.Limits.{validOwner};
 use ids::ClientId;
@@ -157,18 +157,15 @@ pub fn fields_of(m: Message) -> Fields
 }
 
 // The owner with these numbers: nobody for 0 and 0.
-pub fn owner_of(client: u16, timestamp: u32) -> Owner
+pub fn owner_of(client: ClientId, timestamp: Timestamp) -> Owner
     ensures { λ r. ⌜ r ≡ ownerOf client timestamp ⌝ }
 {
-    if client == 0 {
-        if timestamp == 0 {
+    if client.0 == 0 {
+        if timestamp.0 == 0 {
             return Owner::Nobody;
         }
     }
-    let q = Request {
-        client: ClientId(client),
-        timestamp: Timestamp(timestamp),
-    };
+    let q = Request { client, timestamp };
     Owner::Of(q)
 }
 
@@ -193,7 +190,7 @@ pub fn message_of(f: Fields) -> Message
         return Message::Inquiry(k, j, t);
     }
     if kind == 5 {
-        let o = owner_of(f.owner, f.timestamp);
+        let o = owner_of(ClientId(f.owner), t);
         return Message::Response(k, j, o);
     }
     Message::Check(k, j, t)
@@ -220,7 +217,7 @@ pub fn valid_message(m: Message) -> bool
 }
 
 fn valid_owner_numbers(owner: u16, timestamp: u32) -> bool
-    ensures { λ r. ⌜ r ≡ validOwner (ownerOf owner timestamp) ⌝ }
+    ensures { λ r. ⌜ r ≡ validNamed (ownerOf (record { 0 = owner }) (record { 0 = timestamp })) ⌝ }
 {
     if owner == 0 {
         return timestamp == 0;

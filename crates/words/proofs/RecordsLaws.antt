@@ -89,7 +89,7 @@ module _ (ws : List ℕ) where
   pub headed-small : Headed ws → (getD ws 0 0 ≤ maxShort) × (getD ws 1 0 ≤ maxShort) × (getD ws 2 0 ≤ maxShort)
   headed-small H = head-small (getD ws 0 0) (getD ws 1 0) (getD ws 2 0) (H .small)
 
-  pub server-headed : (o : Owner) → o ≡ ownerOf (getD ws 2 0) (getD ws 3 0)
+  pub server-headed : (o : Owner) → o ≡ ownerOf (record { 0 = getD ws 2 0 }) (record { 0 = getD ws 3 0 })
       → record { n = getD ws 0 0; id = record { 0 = getD ws 1 0 }; votes = record { owner = o; len = getD ws 4 0 } } ≡ serverHeadFrom ws
   unfolding serverHeadFrom
   server-headed o e = rw e

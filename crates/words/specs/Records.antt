@@ -80,7 +80,7 @@ serverHeadFrom ws =
     record {
       n = getD ws 0 0;
       id = record { 0 = getD ws 1 0 };
-      votes = record { owner = ownerOf (getD ws 2 0) (getD ws 3 0); len = getD ws 4 0 };
+      votes = record { owner = ownerOf (record { 0 = getD ws 2 0 }) (record { 0 = getD ws 3 0 }); len = getD ws 4 0 };
     }
 
 abbrev pub serverFrom : List ℕ → Server

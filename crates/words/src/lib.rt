@@ -144,7 +144,7 @@ pub fn server_head(words: &[u32]) -> server::Head
     requires { ⌜ Headed (now words) ⌝ }
     ensures { λ h. ⌜ h ≡ serverHeadFrom (now (words .entry)) ⌝ }
 {
-    let owner = wire::owner_of(words[2] as u16, words[3]);
+    let owner = wire::owner_of(ClientId(words[2] as u16), Timestamp(words[3]));
     let len = words[4] as usize;
     let votes = Votes { owner, len };
     let id = ServerId(words[1] as u16);
