@@ -6,7 +6,7 @@ use native.Mathlib.Omega.{arith}
 use mathlib.Core.Bool.{Bool, true, false, not}
 use mathlib.Core.List.{List, [], map}
 use lib.Dec.{ltb}
-use lib.ListN.{getD, set, take, drop}
+use lib.ListN.{set}
 use borrow.Author.Tests.{ltb-true, ltb-false}
 use lib.Seq.{sets}
 use Rattle.ids.specs.Limits.{within}
@@ -30,9 +30,9 @@ use Rattle.places.proofs.Facts.{server-facts}
 use Rattle.places.proofs.ClientLaws.{ClientIs}
 use Rattle.places.proofs.ServerLaws.{ServerIs, rise-block, sink-block}
 use Rattle.places.proofs.EpochLaws.{fall-block}
-use Rattle.transit.specs.Slots.{slots, slotAt, transitSize}
+use Rattle.transit.specs.Slots.{slots, slotAt}
 use Rattle.transit.specs.Calls.{Valid, FindsPresent}
-use Rattle.layout.specs.Layout.{settingOf, lengthOf, sentOf, transitWords, view, valid, serversFrom, transitFrom}
+use Rattle.layout.specs.Layout.{settingOf, lengthOf, sentOf, transitWords, view, valid, serversFrom}
 use Rattle.layout.proofs.ValidLaws.{facts}
 use Rattle.layout.specs.Parts.{clientBlockOf, serverBlockOf, ServerIn}
 use Rattle.layout.proofs.PlaceLaws.{client-place, server-place}

@@ -5,10 +5,9 @@ use native.Mathlib.Omega.{arith}
 use mathlib.Core.Bool.{Bool, true, false, not}
 use mathlib.Core.List.{List, []}
 use mathlib.Core.Logic.{⊎-elim}
-use lib.Dec.{leb}
 use lib.ListN.{length, drop}
 use lib.Seq.{sets, set-set}
-use borrow.Author.Tests.{le-leb, leb-false, lt-ltb}
+use borrow.Author.Tests.{le-leb}
 use Rattle.ids.specs.declared.ClientId.{ClientId}
 use Rattle.ids.specs.declared.Refusal.{Refusal}
 use Rattle.ids.specs.declared.Refusal.the-variants.{WrongSection, TimestampsSpent}

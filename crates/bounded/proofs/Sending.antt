@@ -1,6 +1,6 @@
 -- Events that send: an accepted step whose messages have room is what the words become, one whose messages have none is refused 19.
 use mathlib.Core.Path.{_≡_, refl, sym, ap, _∙_}
-use Prim.Native.Nat.{ℕ, suc, _+_, _-_, _≤_}
+use Prim.Native.Nat.{ℕ, _+_, _-_, _≤_}
 use native.Mathlib.Omega.{arith}
 use mathlib.Core.Bool.{Bool, true, false, _&&_, _||_, not}
 use mathlib.Core.List.{List, [], _∷_, _++_}
@@ -25,9 +25,8 @@ use Rattle.system.specs.Places.{System}
 use Rattle.system.specs.Events.{Result, event, nothing, withPlaces}
 use Rattle.system.specs.Runs.{after}
 use Rattle.transit.specs.Slots.{messagesIn}
-use Rattle.transit.proofs.Kept.{length-slots}
 use Rattle.transit.proofs.PostLaws.{messages-read-buffer}
-use Rattle.layout.specs.Layout.{settingOf, lengthOf, sentOf, transitWords, view, valid}
+use Rattle.layout.specs.Layout.{settingOf, lengthOf, sentOf, view, valid}
 use Rattle.bounded.specs.declared.Moved.the-variants.{Sent, Refused}
 use Rattle.bounded.specs.Happens.{happens, Leaves, movedOf}
 use Rattle.changes.specs.Changes.{Becomes, Sendable, hasRoom, sending, outBytes, CanSend}

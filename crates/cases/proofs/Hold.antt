@@ -5,7 +5,7 @@ use Rattle.ids.specs.Requests.{same}
 use Rattle.rows.specs.Queue.{timestampIn, insert, without}
 use Rattle.votes.specs.Figure1.{enqueue, promote, delete, inform, act, receive}
 use Rattle.responses.specs.Figure1.{enough, heard, reply, round, judge, responds}
-use Rattle.quorum.specs.Check.{inRangeUpTo, inRange, margin, isUnsafe, judged, verdict}
+use Rattle.quorum.specs.Check.{inRangeUpTo, margin, isUnsafe, judged, verdict}
 use Rattle.cases.specs.Starred.{starred, All}
 
 pub starred-hold : All starred

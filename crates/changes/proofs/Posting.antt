@@ -21,7 +21,7 @@ use Rattle.votes.specs.declared.Mail.the-variants.{Nothing, One}
 use Rattle.server.specs.Parts.{threeMails}
 use Rattle.system.specs.Places.{System}
 use Rattle.system.specs.Transit.{numbered}
-use Rattle.transit.specs.Slots.{names, messagesIn, transitSize}
+use Rattle.transit.specs.Slots.{names, transitSize}
 use Rattle.transit.specs.Calls.{Sized, Valid, Posts}
 use Rattle.transit.proofs.Kept.{valid-sized, length-slots}
 use Rattle.layout.specs.Layout.{settingOf, lengthOf, sentOf, transitWords, view, valid, transitFrom, simulationSize}

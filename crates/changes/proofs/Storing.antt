@@ -23,7 +23,7 @@ use Rattle.responses.specs.Figure1 as client
 use Rattle.client.specs.Record.{store}
 use Rattle.responses.specs.Figure1.{isRemainder, mayTry}
 use Rattle.client.specs.declared.Client.{Client}
-use Rattle.words.specs.Records.{serverWords, clientWords, serverFrom, holdsServer, serverHeadFrom}
+use Rattle.words.specs.Records.{serverWords, clientWords, holdsServer, serverHeadFrom}
 use Rattle.system.specs.Places.{clientAt, serverAt, worst}
 use Rattle.system.proofs.PlaceLaws.{worst-at}
 use Rattle.places.specs.Blocks.{clientPlace, serverPlace, flags, flagged, zeroWord, named, validClientBlock, validServerBlock, serverRecord, serverBlock, clientBlock}

@@ -1,7 +1,7 @@
 -- What opens a new simulation, block by block: a living client with a new client's record, an up server with a new server's.
 use mathlib.Core.Path.{_≡_}
 use mathlib.Core.Bool.{true}
-use Prim.Native.Nat.{ℕ, zero, suc, _+_, _*_, _-_}
+use Prim.Native.Nat.{ℕ, zero, suc}
 use mathlib.Core.List.{List}
 use lib.ListN.{length, set}
 use lib.Seq.{sets}
@@ -13,9 +13,8 @@ use Rattle.words.specs.Records.{clientWords, serverWords}
 use Rattle.responses.specs.Figure1.{enough}
 use Rattle.system.specs.declared.Setting.{Setting}
 use Rattle.system.specs.Runs.{start}
-use Rattle.layout.specs.Layout.{blank, settingOf, view, valid, serversFrom}
+use Rattle.layout.specs.Layout.{blank, settingOf, view, valid}
 use Rattle.layout.specs.Parts.{clientBlockOf, serverBlockOf, withClientBlock, withServerBlock}
-use Rattle.places.specs.Blocks.{clientBlock, serverBlock}
 
 -- all words are 0, as many as before
 pub record Cleared (w w′ : List ℕ) : Type 0 where

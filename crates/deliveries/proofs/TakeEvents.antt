@@ -49,8 +49,8 @@ use Rattle.system.specs.Transit.{InTransit, pending, replaced, gone, keeping}
 use Rattle.system.specs.Places.{System, clientAt, serverAt}
 use Rattle.system.specs.Events.{event, deliver, toServer, need, serverTook, responseTook, checkTook}
 use Rattle.system.proofs.Tokens.{message}
-use Rattle.transit.specs.Slots.{slotAt, transitSize}
-use Rattle.transit.specs.Calls.{FindsPending, IsAt}
+use Rattle.transit.specs.Slots.{slotAt}
+use Rattle.transit.specs.Calls.{FindsPending}
 use Rattle.transit.proofs.Kept.{Named, names-named}
 use Rattle.places.specs.Blocks.{serverRecord, serverPlace, clientRecord, clientPlace, named, serverBlock, clientBlock}
 use Rattle.places.proofs.Facts.{ServerBlock, server-facts}

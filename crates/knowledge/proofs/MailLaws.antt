@@ -1,23 +1,15 @@
 -- The mail of the first i slots and the line of slot i are the mail of one slot more.
-use mathlib.Core.Path.{_≡_, refl, sym}
-use Prim.Native.Nat.{ℕ, suc, _+_, _*_, _<_}
-use native.Mathlib.Omega.{arith}
+use mathlib.Core.Path.{_≡_, refl}
+use Prim.Native.Nat.{ℕ, suc, _+_, _*_}
 use native.Mathlib.Numerals.{add-one}
-use mathlib.Core.Bool.{Bool, true}
 use mathlib.Core.List.{List, [], _∷_, _++_, map-append, append-assoc, append-nil}
-use lib.ListN.{length, take, drop}
-use Rattle.wire.specs.declared.Message.{Message}
+use lib.ListN.{take, drop}
 use Rattle.system.specs.Transit.{InTransit}
-use Rattle.transit.specs.Slots.{rows, slots, slotOf, slotAt, transitSize}
-use Rattle.transit.specs.Calls.{IsAt}
+use Rattle.transit.specs.Slots.{rows, slots, slotOf, slotAt}
 use Rattle.transit.proofs.RowsLaws.{rows-next}
-use Rattle.layout.specs.Layout.{settingOf, lengthOf, sentOf, transitWords, valid, transitFrom}
-use Rattle.layout.proofs.ValidLaws.{facts}
-use Rattle.changes.proofs.Messages.{lent-sized}
 use Rattle.sheet.specs.Sheet.{Sheet, puts}
 use Rattle.sheet.proofs.SheetLaws.{then as behind}
 use Rattle.knowledge.specs.Mail.{inTransitText, mailText}
-use Rattle.system.specs.Limits.{systemMessages}
 
 -- the mail, one message more
 mail-append : (a b : List InTransit) → mailText (a ++ b) ≡ mailText a ++ mailText b

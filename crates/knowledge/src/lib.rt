@@ -167,7 +167,14 @@ fn put_supporters(out: &mut [u8], at: usize, r: Request, row: &[u32], n: u16) ->
     put_supports(out, p, r, row, n)
 }
 
-fn put_supporters_of(out: &mut [u8], at: usize, s: Section, r: Request, row: &[u32], n: u16) -> usize
+fn put_supporters_of(
+    out: &mut [u8],
+    at: usize,
+    s: Section,
+    r: Request,
+    row: &[u32],
+    n: u16,
+) -> usize
     requires { ⌜ Padded (now row) n ⌝ }
     ensures { λ e. ⌜ sheetOf (now (out .exit)) e ≡ puts (supportersText s (supportText r (serverNo 1) (responsesIn (now (row .entry)) n))) (sheetOf (now (out .entry)) at) ⌝ }
 {

@@ -12,10 +12,9 @@ use Rattle.system.specs.Limits.{systemClients, systemServers, systemMessages}
 use Rattle.system.specs.Places.{isInside, holders}
 use Rattle.regions.specs.Blocks.{blocks}
 use Rattle.places.specs.Blocks.{clientBlock, clientPlace}
-use Rattle.quorum.specs.Check.{inRangeUpTo}
 use Rattle.quorum.proofs.CheckLaws.{range}
 use Rattle.transit.specs.Slots.{slotAt, transitSize}
-use Rattle.transit.specs.Calls.{Sized, FindsPending, FindsPresent, IsAt}
+use Rattle.transit.specs.Calls.{Sized, IsAt}
 use Rattle.transit.proofs.Kept.{valid-sized}
 use Rattle.layout.specs.Layout.{simulationSize, transitFrom, settingOf, lengthOf, sentOf, clientWords, transitWords, view, valid}
 use Rattle.layout.proofs.ValidLaws.{facts}

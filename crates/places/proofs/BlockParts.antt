@@ -25,7 +25,6 @@ use Rattle.places.proofs.Fronts.{Passing, passing-none, passing-more, p
 use Rattle.system.specs.Limits.{systemServers}
 use Rattle.rows.specs.Rows.{requestsIn}
 use Rattle.rows.proofs.WordLaws.{requests-at}
-use Rattle.rows.proofs.RowLaws.{length-words}
 use Rattle.wire.proofs.BytesLaws.{stored-on}
 use Rattle.client.specs.declared.Head.{Head as ClientHead}
 use Rattle.server.specs.declared.Head.{Head as ServerHead}

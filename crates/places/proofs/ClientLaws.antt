@@ -6,7 +6,7 @@ use mathlib.Core.Path.{_≡_, refl, sym, ap, _∙_}
 use mathlib.Core.Bool.{Bool, true, false, _&&_, _||_, not}
 use mathlib.Core.List.{List, map}
 use lib.Dec.{eqb}
-use lib.ListN.{length, getD, drop, length-append, length-map, length-replicate, length-take, length-drop}
+use lib.ListN.{length, getD, drop, length-map, length-take, length-drop}
 use lib.Seq.{sets, length-sets}
 use Rattle.ids.specs.Lists.{every}
 use Rattle.ids.specs.declared.ClientId.{ClientId}

@@ -1,12 +1,12 @@
 -- Where an epoch begins, goes on and ends, in a client's block: its record stays, and the flags are put, set or cleared.
-use Prim.Native.Nat.{ℕ, zero, suc, _+_, _-_, _≤_, _<_}
+use Prim.Native.Nat.{ℕ, suc, _+_, _-_, _≤_, _<_}
 use native.Mathlib.Numerals.{add-one}
 use native.Mathlib.Omega.{arith}
 use mathlib.Core.Path.{_≡_, refl, ap, _∙_}
 use mathlib.Core.Bool.{Bool, true, false, _&&_, _||_, not}
 use mathlib.Core.List.{List, [], _∷_, _++_, map}
 use mathlib.Core.Logic.{⊎-elim}
-use lib.Dec.{eqb, leb}
+use lib.Dec.{eqb}
 use lib.ListN.{length, getD, take, drop, set, replicate, length-map, length-set, length-take, length-drop}
 use lib.Seq.{sets, sets-eq, length-sets, drop-set-lt, getD-set-same, take-suc, drop-at, length-take-le}
 use borrow.Author.Tests.{le-leb, eqb-true}

@@ -1,11 +1,10 @@
 -- What a valid block is known to be, and back.
 use Prim.Native.Nat.{ℕ, _≤_}
-use native.Mathlib.Omega.{arith}
-use mathlib.Core.Path.{_≡_, sym, ap, _∙_, subst}
+use mathlib.Core.Path.{_≡_, ap, subst}
 use mathlib.Core.Bool.{true, false, _||_}
 use mathlib.Core.List.{List}
 use lib.Dec.{eqb}
-use lib.ListN.{length, getD, drop, length-drop}
+use lib.ListN.{length, getD, drop}
 use borrow.Author.Tests.{eqb-true, eq-eqb, leb-true, le-leb}
 use Rattle.ids.specs.Lists.{every}
 use Rattle.ids.specs.declared.ClientId.{ClientId}
@@ -19,15 +18,13 @@ use Rattle.server.proofs.KeepsValid.{Good, view-good}
 use Rattle.client.specs.Record as client
 use Rattle.responses.specs.Figure1.{State}
 use Rattle.client.specs.declared.Client.{Client}
-use Rattle.client.proofs.KeepsValid.{Fits, view-fits, stored-again}
+use Rattle.client.proofs.KeepsValid.{Fits, view-fits}
 use Rattle.client.proofs.ValidLaws.{valid-known}
 use Rattle.words.specs.Records.{holdsServer, serverFrom, holdsClient, clientFrom}
-use Rattle.words.proofs.RecordsLaws.{client-held}
 use Rattle.system.specs.Places.{inEpoch}
 use Rattle.places.specs.Blocks.{clientRecord, flags, serverRecord, clientPlace, serverPlace, bitWord, zeroWord, named, namedPair, fitsClient, fitsFlags, validClientBlock, fitsServer, validServerBlock, clientBlock, serverBlock}
 use Rattle.system.specs.Limits.{systemServers}
 use Rattle.system.specs.Numbered.{clientNo, serverNo}
-use Rattle.rows.proofs.GoodLaws.{length-requests}
 use Rattle.ids.specs.Limits.{maxServers}
 
 -- block k of a client

@@ -9,7 +9,6 @@ use lib.ListN.{length, getD, take, replicate, set, replicate-append-replicate, l
 use lib.Seq.{sets, take-suc, length-sets}
 use Rattle.ids.specs.Lists.{every}
 use Rattle.ids.proofs.ListLaws.{every-append}
-use Rattle.ids.proofs.Choice.{both}
 use Rattle.wire.proofs.BytesLaws.{stored-on}
 
 module _ {A : Type 0} (f : A → Bool) (d : A) where

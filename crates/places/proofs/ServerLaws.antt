@@ -1,12 +1,12 @@
 -- What a server's block becomes where a record is written in it: the same place with the record's state, and valid again.
-use Prim.Native.Nat.{ℕ, _-_, _≤_}
+use Prim.Native.Nat.{ℕ, _≤_}
 use native.Mathlib.Omega.{arith}
 use mathlib.Core.Path.{_≡_, refl, ap, _∙_, sym}
 use mathlib.Core.Bool.{true, false}
-use mathlib.Core.List.{List, _++_}
+use mathlib.Core.List.{List}
 use lib.Dec.{eqb}
-use lib.ListN.{length, getD, take, set, replicate, length-append, length-replicate, length-take, length-drop, length-set}
-use lib.Seq.{sets, length-sets, take-at, drop-set-lt, getD-set-same}
+use lib.ListN.{length, getD, take, set, replicate, length-take, length-drop, length-set}
+use lib.Seq.{sets, length-sets, drop-set-lt, getD-set-same}
 use Rattle.ids.specs.Lists.{every}
 use Rattle.ids.specs.Limits.{maxServers, validOwner}
 use Rattle.rows.specs.Rows.{rowOf}

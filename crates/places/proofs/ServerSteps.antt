@@ -29,7 +29,7 @@ use Rattle.server.proofs.KeepsValid.{Good, receive-good, suspect-good, check-go
 use Rattle.words.specs.Records.{serverFrom}
 use Rattle.words.proofs.RecordsLaws.{server-held}
 use Rattle.system.proofs.Tokens.{message, worth, All, empty, more}
-use Rattle.system.proofs.ServerSteps.{Holds, From, Fair, none-gained, fair-receive, fair-suspect, fair-check}
+use Rattle.system.proofs.ServerSteps.{Holds, Fair, none-gained, fair-receive, fair-suspect, fair-check}
 use Rattle.places.specs.Blocks.{serverRecord, serverPlace, namedPair, validServerBlock}
 use Rattle.places.proofs.Facts.{ServerBlock, server-facts, server-good}
 use Rattle.places.proofs.Pigeonhole.{queue-fits}

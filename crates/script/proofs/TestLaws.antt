@@ -9,7 +9,6 @@ use lib.ListN.{length, getD, take, drop}
 use borrow.Author.Tests.{le-leb, lt-leb, eq-eqb, ne-eqb, not-true, not-false}
 use Rattle.ids.specs.Lists.{every}
 use Rattle.ids.proofs.LimitsLaws.{within-range}
-use Rattle.responses.specs.Figure1.{count}
 use Rattle.system.specs.Places.{holders}
 use Rattle.layout.specs.Layout as layout
 use Rattle.layout.proofs.ValidLaws as layout-laws

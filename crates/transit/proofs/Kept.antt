@@ -5,7 +5,7 @@ use mathlib.Core.Path.{_≡_, refl, _∙_}
 use mathlib.Core.Bool.{true, _&&_}
 use mathlib.Core.List.{List, [], _∷_, _++_}
 use lib.Dec.{eqb, leb}
-use lib.ListN.{length, take, drop, replicate, length-map}
+use lib.ListN.{length, take, drop, length-map}
 use borrow.Author.Tests.{leb-true, le-leb}
 use Rattle.ids.specs.Limits.{maxServers, within}
 use Rattle.ids.proofs.Choice.{both}

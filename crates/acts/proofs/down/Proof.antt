@@ -1,7 +1,5 @@
 -- `acts::down` meets its contract: each refusal is one case of the event, and the three stores make its step.
 use denote.Ref.{now}
-use native.Mathlib.Omega.{arith}
-use Rattle.changes.proofs.Parties.{words-long}
 use Rattle.acts.proofs.Silent.{down-missing, down-twice, sinkable, sunk, still-server, down-leaves}
 use borrow.Author.Needs.{needs}
 use Rattle.acts.proofs.down.Statement.{statement}

@@ -1,7 +1,6 @@
 -- `acts::fall` meets its contract: each return is one case of the event.
 use denote.Ref.{now}
-use native.Mathlib.Omega.{arith}
-use Rattle.changes.proofs.Parties.{words-long, client-in, client-found}
+use Rattle.changes.proofs.Parties.{client-in, client-found}
 use Rattle.acts.proofs.Silent.{fall-missing, fall-twice, fall-leaves}
 use borrow.Author.Needs.{needs}
 use Rattle.acts.proofs.fall.Statement.{statement}

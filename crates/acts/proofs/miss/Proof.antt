@@ -1,7 +1,6 @@
 -- `acts::miss` meets its contract: each return is one case of the event.
 use denote.Ref.{now}
-use native.Mathlib.Omega.{arith}
-use Rattle.changes.proofs.Parties.{words-long, client-in, server-in, server-found}
+use Rattle.changes.proofs.Parties.{client-in, server-in, server-found}
 use Rattle.acts.proofs.Guards.{miss-missing, miss-down, server-runs}
 use Rattle.bounded.proofs.ServerEvents.{miss-nobody, owner-client, miss-living, owner-missing}
 use borrow.Author.Needs.{needs}

@@ -1,7 +1,6 @@
 -- `acts::try_enter` meets its contract: each return is one case of the event.
 use denote.Ref.{now}
-use native.Mathlib.Omega.{arith}
-use Rattle.changes.proofs.Parties.{words-long, client-in, client-found}
+use Rattle.changes.proofs.Parties.{client-in, client-found}
 use Rattle.acts.proofs.Guards.{try-missing, try-fallen, client-lives}
 use borrow.Author.Needs.{needs}
 use Rattle.acts.proofs.try_enter.Statement.{statement}

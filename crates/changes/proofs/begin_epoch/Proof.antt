@@ -4,7 +4,6 @@ use native.Mathlib.Omega.{arith}
 use Rattle.changes.proofs.Parties.{words-long, servers-fit}
 use Rattle.changes.proofs.Epochs.{Flagging, flagging-none, flagging-fits, flagging-server, flagging-client, flagging-more, flagging-sized, flagging-same, flagging-all}
 use Prim.Native.Nat.{_-_}
-use borrow.Author.Needs.{needs}
 use Rattle.changes.proofs.begin_epoch.Statement.{statement}
 use Rattle.changes.proofs.begin_epoch.Tie as tie
 

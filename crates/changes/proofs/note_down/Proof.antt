@@ -4,7 +4,6 @@ use native.Mathlib.Omega.{arith}
 use Rattle.changes.proofs.Parties.{words-long, clients-fit}
 use Rattle.changes.proofs.Epochs.{Marking, marking-none, marking-fits, marking-in, marking-more, marking-sized, marking-same, marking-all}
 use Prim.Native.Nat.{_-_}
-use borrow.Author.Needs.{needs}
 use Rattle.changes.proofs.note_down.Statement.{statement}
 use Rattle.changes.proofs.note_down.Tie as tie
 

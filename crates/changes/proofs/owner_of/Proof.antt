@@ -2,7 +2,6 @@
 use denote.Ref.{now}
 use Rattle.changes.proofs.Parties.{server-in}
 use Rattle.changes.proofs.Storing.{record-held, owner-is}
-use borrow.Author.Needs.{needs}
 use Rattle.changes.proofs.owner_of.Statement.{statement}
 use Rattle.changes.proofs.owner_of.Tie as tie
 

@@ -1,6 +1,5 @@
 -- `changes::send_mails` meets its contract: what one mail leaves is what the next one finds.
 use denote.Ref.{now}
-use Rattle.changes.specs.Changes.{CanSend}
 use Rattle.changes.proofs.Posting.{first-asked, second-asked, third-asked, three-sent}
 use borrow.Author.Needs.{needs}
 use Rattle.changes.proofs.send_mails.Statement.{statement}

@@ -2,7 +2,6 @@
 use denote.Ref.{now}
 use native.Mathlib.Omega.{arith}
 use Rattle.layout.proofs.ReadLaws.{clients-word, words-long, few-clients}
-use borrow.Author.Needs.{needs}
 use Rattle.layout.proofs.clients.Statement.{statement}
 use Rattle.layout.proofs.clients.Tie as tie
 

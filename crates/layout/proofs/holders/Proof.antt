@@ -1,7 +1,6 @@
 -- `layout::holders` meets its contract: they are counted among the clients of the setting.
 use denote.Ref.{now}
 use native.Mathlib.Omega.{arith}
-use mathlib.Core.Path.{_∙_}
 use Rattle.layout.proofs.ReadLaws.{words-long, few-clients, holders-counted}
 use borrow.Author.Needs.{needs}
 use Rattle.layout.proofs.holders.Statement.{statement}

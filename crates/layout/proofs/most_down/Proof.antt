@@ -2,7 +2,6 @@
 use denote.Ref.{now}
 use native.Mathlib.Omega.{arith}
 use Rattle.layout.proofs.ReadLaws.{words-long, most-word}
-use borrow.Author.Needs.{needs}
 use Rattle.layout.proofs.most_down.Statement.{statement}
 use Rattle.layout.proofs.most_down.Tie as tie
 

@@ -2,7 +2,6 @@
 use denote.Ref.{now}
 use native.Mathlib.Omega.{arith}
 use Rattle.layout.proofs.ReadLaws.{servers-word, words-long, few-servers}
-use borrow.Author.Needs.{needs}
 use Rattle.layout.proofs.servers.Statement.{statement}
 use Rattle.layout.proofs.servers.Tie as tie
 

@@ -1,7 +1,4 @@
 -- `places::sink` meets its contract: the record of a server that forgot everything, then the first word.
-use denote.Ref.{now}
-use lib.ListN.{replicate}
-use Rattle.server.specs.Record.{rowWords}
 use Rattle.places.proofs.BlockParts.{sunk, forgotten-short}
 use borrow.Author.Needs.{needs}
 use Rattle.places.proofs.sink.Statement.{statement}

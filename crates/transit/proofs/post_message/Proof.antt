@@ -1,8 +1,8 @@
 -- `transit::post_message` meets its contract: the slot behind the others is stored, with the message's own numbers.
 use denote.Ref.{now}
-use mathlib.Core.Path.{_≡_, ap, _∙_}
-use Prim.Native.Nat.{ℕ, _+_, _*_}
-use mathlib.Core.List.{List, _∷_}
+use mathlib.Core.Path.{ap, _∙_}
+use Prim.Native.Nat.{_+_, _*_}
+use mathlib.Core.List.{_∷_}
 use lib.Seq.{sets}
 use Rattle.wire.specs.Format.{words}
 use Rattle.wire.specs.declared.Fields.{Fields}
