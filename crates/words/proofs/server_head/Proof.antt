@@ -6,14 +6,14 @@ use Rattle.words.proofs.RecordsLaws.{headed-small, server-headed}
 use Rattle.words.proofs.server_head.Statement.{statement}
 use Rattle.words.proofs.server_head.Tie as tie
 
-cast-owner-of : tie.Need-cast-owner-of
-cast-owner-of c = let e = c .before .before in omega (arith, headed-small (now (e .args .words)) (e .pre))
+cast-client : tie.Need-cast-t9
+cast-client c = let e = c .before .before in omega (arith, headed-small (now (e .args .words)) (e .pre))
 
 cast-len : tie.Need-cast-len
 cast-len c = omega (arith, c .shared-slice-known4 .given 4)
 
-cast-t9 : tie.Need-cast-t9
-cast-t9 c = let e = c .before .before .before .before .before .before in omega (arith, headed-small (now (e .args .words)) (e .pre))
+cast-id : tie.Need-cast-t9-2
+cast-id c = let e = c .before .before .before .before .before .before in omega (arith, headed-small (now (e .args .words)) (e .pre))
 
 cast-n : tie.Need-cast-n
 cast-n c = let e = c .before .before .before .before .before .before .before in omega (arith, headed-small (now (e .args .words)) (e .pre))
@@ -26,13 +26,13 @@ server-head-spec =
     tie.close
     (tie.spec
     (λ c. search needs)
-    cast-owner-of
+    cast-client
     (λ c. search needs)
     (λ c κs. search needs)
     (λ c. search needs)
     cast-len
     (λ c. search needs)
-    cast-t9
+    cast-id
     (λ c. search needs)
     cast-n
     returns)
