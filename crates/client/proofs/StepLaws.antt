@@ -20,7 +20,7 @@ use Rattle.ids.specs.declared.Refusal.the-variants.{WrongSection, TimestampsSpe
 use Rattle.ids.proofs.Choice.{both, fails, holds}
 use Rattle.ids.proofs.LimitsLaws.{within-range, parties-range}
 use Rattle.wire.specs.Format as format
-use Rattle.wire.specs.Format.{sizeOf, bytesOf, bytesOfAll, sizeOfAll, fieldsOf, validNamed, validResponseUpTo}
+use Rattle.wire.specs.Format.{sizeOf, bytesOf, bytesOfAll, sizeOfAll, fieldsOf, validNamed, validResponseUpTo, messageBytes}
 use Rattle.wire.proofs.NumbersLaws.{valid-head}
 use Rattle.wire.specs.Step.{Step, Outcome, refused, stepped, stay, tell, withRoom, sentInto}
 use Rattle.wire.specs.declared.Answer.the-variants.{Sent}
@@ -71,12 +71,12 @@ pub answers-stay : (h : Head) (row : List ℕ) (x : Outcome State) (o : List ℕ
 unfolding sizeOfAll bytesOfAll
 answers-stay h row x o r s q e p = answers-done h row x o r (stay s) q row o (omega arith) p (sym e) refl
 
--- a message of 12 bytes to each server, and the row emptied
-module _ (h : Head) (row : List ℕ) (f : ServerId → Message) (plain : (j : ServerId) → sizeOf (f j) ≡ 12) (x : Outcome State) (a : Section) (t : Timestamp) (o : List ℕ) (r : Turned) (q : x ≡ stepped (record { state = without (h .n) a t; sent = toAll f (h .n) })) where
-  all-short : length o < 12 * h .n → r ≡ turned h (refused RoomShort) → Answers h row x o r row o
+-- a message to each server, and the row emptied
+module _ (h : Head) (row : List ℕ) (f : ServerId → Message) (plain : (j : ServerId) → sizeOf (f j) ≡ messageBytes) (x : Outcome State) (a : Section) (t : Timestamp) (o : List ℕ) (r : Turned) (q : x ≡ stepped (record { state = without (h .n) a t; sent = toAll f (h .n) })) where
+  all-short : length o < messageBytes * h .n → r ≡ turned h (refused RoomShort) → Answers h row x o r row o
   all-short g p = answers-short h row x o r _ q (omega (arith, size-toAll f plain (h .n))) p
 
-  all-done : (after l : List ℕ) → 2 * h .n ≤ length row → 12 * h .n ≤ length o → r ≡ record { head = headWith h a t; answer = Sent (h .n) (12 * h .n) } → after ≡ replicate (length row) 0 → l ≡ sets o 0 (bytesOfAll (toAll f (h .n))) → Answers h row x o r after l
+  all-done : (after l : List ℕ) → 2 * h .n ≤ length row → messageBytes * h .n ≤ length o → r ≡ record { head = headWith h a t; answer = Sent (h .n) (messageBytes * h .n) } → after ≡ replicate (length row) 0 → l ≡ sets o 0 (bytesOfAll (toAll f (h .n))) → Answers h row x o r after l
   all-done after l k g p z e =
       answers-done h row x o r _ q after l (omega (arith, size-toAll f plain (h .n))) (rw (length-toAll f (h .n), size-toAll f plain (h .n)) p) (z ∙ sym (row-without (length row) (h .n) k)) e
 
@@ -99,18 +99,18 @@ module _ (h : Head) (row : List ℕ) (o : List ℕ) (r : Turned) where
   unfolding exits view next
   its-exit = refl
 
-  module _ (g : length o < 12 * h .n) (p : r ≡ turned h (refused RoomShort)) where
+  module _ (g : length o < messageBytes * h .n) (p : r ≡ turned h (refused RoomShort)) where
     pub tries-short : Answers h row tried o r row o
     tries-short = all-short h row (requests (h .id) taken) (request-plain (h .id) taken) _ _ _ o r its-try g p
 
     pub exits-short : Answers h row exited o r row o
     exits-short = all-short h row (releases (h .id) (h .timestamp)) (release-plain (h .id) (h .timestamp)) _ _ _ o r its-exit g p
 
-  module _ (after l : List ℕ) (k : 2 * h .n ≤ length row) (g : 12 * h .n ≤ length o) (z : after ≡ replicate (length row) 0) where
-    pub tries-done : r ≡ record { head = headWith h Trying taken; answer = Sent (h .n) (12 * h .n) } → l ≡ sets o 0 (bytesOfAll (toAll (requests (h .id) taken) (h .n))) → Answers h row tried o r after l
+  module _ (after l : List ℕ) (k : 2 * h .n ≤ length row) (g : messageBytes * h .n ≤ length o) (z : after ≡ replicate (length row) 0) where
+    pub tries-done : r ≡ record { head = headWith h Trying taken; answer = Sent (h .n) (messageBytes * h .n) } → l ≡ sets o 0 (bytesOfAll (toAll (requests (h .id) taken) (h .n))) → Answers h row tried o r after l
     tries-done p e = all-done h row (requests (h .id) taken) (request-plain (h .id) taken) _ _ _ o r its-try after l k g p z e
 
-    pub exits-done : r ≡ record { head = headWith h Remainder taken; answer = Sent (h .n) (12 * h .n) } → l ≡ sets o 0 (bytesOfAll (toAll (releases (h .id) (h .timestamp)) (h .n))) → Answers h row exited o r after l
+    pub exits-done : r ≡ record { head = headWith h Remainder taken; answer = Sent (h .n) (messageBytes * h .n) } → l ≡ sets o 0 (bytesOfAll (toAll (releases (h .id) (h .timestamp)) (h .n))) → Answers h row exited o r after l
     exits-done p e = all-done h row (releases (h .id) (h .timestamp)) (release-plain (h .id) (h .timestamp)) _ _ _ o r its-exit after l k g p z e
 
 -- `begin_row`, `exit_row` and `message_row`: which test decides the outcome
@@ -182,17 +182,17 @@ module _ (h : Head) (row : List ℕ) (found : ℕ) (o : List ℕ) (r : Turned) (
   abbrev yielded : Step State
   yielded = yields (h .n) (request h) (responsesIn row (h .n))
 
-  its-size : sizeOfAll (round (request h) 1 (responsesIn row (h .n))) ≡ 12 * found
+  its-size : sizeOfAll (round (request h) 1 (responsesIn row (h .n))) ≡ messageBytes * found
   its-size = rw f (size-round (request h) 1 (responsesIn row (h .n)))
 
   its-length : length (round (request h) 1 (responsesIn row (h .n))) ≡ found
   its-length = rw f (length-round (request h) 1 (responsesIn row (h .n)))
 
-  pub yields-short : length o < 12 * found → r ≡ turned h (refused RoomShort) → Answers h row (stepped yielded) o r row o
+  pub yields-short : length o < messageBytes * found → r ≡ turned h (refused RoomShort) → Answers h row (stepped yielded) o r row o
   yields-short g p = answers-short h row (stepped yielded) o r yielded refl (omega (arith, its-size)) p
 
-  pub yields-done : (q : Request) (after l : List ℕ) → Padded row (h .n) → 12 * found ≤ length o → q ≡ request h → l ≡ sets o 0 (bytesOfAll (round q 1 (responsesIn row (h .n)))) → after ≡ replicate (length row) 0
-      → r ≡ record { head = headWith h Trying (h .timestamp); answer = Sent found (12 * found) } → Answers h row (stepped yielded) o r after l
+  pub yields-done : (q : Request) (after l : List ℕ) → Padded row (h .n) → messageBytes * found ≤ length o → q ≡ request h → l ≡ sets o 0 (bytesOfAll (round q 1 (responsesIn row (h .n)))) → after ≡ replicate (length row) 0
+      → r ≡ record { head = headWith h Trying (h .timestamp); answer = Sent found (messageBytes * found) } → Answers h row (stepped yielded) o r after l
   yields-done q after l good g e w z p =
       answers-done h row (stepped yielded) o r yielded refl after l (omega (arith, its-size)) (rw (its-length, its-size) p) (z ∙ sym (row-without (length row) (h .n) (padded-words row (h .n) good))) (rw e at w)
 
@@ -296,13 +296,13 @@ module _ (h : Head) (row : List ℕ) (v : valid (clientOf h row) ≡ true) (j : 
     unfolding checked view
     its-release = rw (ne-eqb (t .0) (h .timestamp .0) g)
 
-    one-size : sizeOfAll (Release (h .id) j t ∷ []) ≡ 12
+    one-size : sizeOfAll (Release (h .id) j t ∷ []) ≡ messageBytes
     one-size = sizeOfAll-one (Release (h .id) j t) ∙ release-plain (h .id) t j
 
-    pub check-short : length o < 12 → r ≡ turned h (refused RoomShort) → Answers h row told o r row o
+    pub check-short : length o < messageBytes → r ≡ turned h (refused RoomShort) → Answers h row told o r row o
     check-short s e = answers-short h row told o r _ its-release (omega (arith, one-size)) e
 
-    pub check-done : (b : List ℕ) (n : ℕ) → 12 ≤ length o → n ≡ 0 + sizeOf (Release (h .id) j t) → b ≡ sets o 0 (bytesOf (Release (h .id) j t)) → r ≡ record { head = headWith h (h .section) (h .timestamp); answer = Sent 1 n } → Answers h row told o r row b
+    pub check-done : (b : List ℕ) (n : ℕ) → messageBytes ≤ length o → n ≡ 0 + sizeOf (Release (h .id) j t) → b ≡ sets o 0 (bytesOf (Release (h .id) j t)) → r ≡ record { head = headWith h (h .section) (h .timestamp); answer = Sent 1 n } → Answers h row told o r row b
     unfolding view
     check-done b n s z e p =
         let k : n ≡ sizeOfAll (Release (h .id) j t ∷ []) = omega (arith, one-size, release-plain (h .id) t j) in

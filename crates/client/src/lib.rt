@@ -5,7 +5,7 @@ ghost use Prim.Native.Nat.{_+_, _*_, _≤_, _<_};
 ghost use lib.ListN.{length, replicate};
 ghost use lib.Seq.{sets};
 ghost use Rattle.ids.specs.Limits.{maxTimestamp, validOwner};
-ghost use Rattle.wire.specs.Format.{bytesOfAll};
+ghost use Rattle.wire.specs.Format.{messageBytes, bytesOfAll};
 ghost use Rattle.wire.specs.Format as format;
 ghost use Rattle.wire.specs.Step.{refused, stepped, withRoom, sentInto};
 ghost use Rattle.rows.specs.Rows.{Padded};
@@ -22,6 +22,7 @@ use ids::ServerId;
 use ids::Timestamp;
 use responses::Section;
 use wire::Answer;
+use wire::MESSAGE_BYTES;
 use wire::Message;
 
 // The last timestamp with which a client may still try.
@@ -200,7 +201,7 @@ fn is_critical(s: Section) -> bool
 
 // Writes REQUEST with timestamp `t` from client `k` to each of the servers 1 to `n`.
 fn request_all(k: ClientId, t: Timestamp, n: u16, out: &mut [u8])
-    requires { ⌜ 12 * n ≤ length (now out) ⌝ }
+    requires { ⌜ messageBytes * n ≤ length (now out) ⌝ }
     ensures { λ _. ⌜ now (out .exit) ≡ sets (now (out .entry)) 0 (bytesOfAll (toAll (requests k t) n)) ⌝ }
 {
     let mut at: usize = 0;
@@ -214,7 +215,7 @@ fn request_all(k: ClientId, t: Timestamp, n: u16, out: &mut [u8])
 
 // Writes RELEASE with timestamp `t` from client `k` to each of the servers 1 to `n`.
 fn release_all(k: ClientId, t: Timestamp, n: u16, out: &mut [u8])
-    requires { ⌜ 12 * n ≤ length (now out) ⌝ }
+    requires { ⌜ messageBytes * n ≤ length (now out) ⌝ }
     ensures { λ _. ⌜ now (out .exit) ≡ sets (now (out .entry)) 0 (bytesOfAll (toAll (releases k t) n)) ⌝ }
 {
     let mut at: usize = 0;
@@ -232,13 +233,13 @@ fn attempt(h: Head, row: &mut [u32], out: &mut [u8]) -> Turned
     ensures { λ r. ⌜ Answers h (now (row .entry)) (stepped (tries (h .n) (h .id) (view (clientOf h (now (row .entry)))))) (now (out .entry)) r (now (row .exit)) (now (out .exit)) ⌝ }
 {
     let n = h.n as usize;
-    if out.len() < 12 * n {
+    if out.len() < MESSAGE_BYTES * n {
         return refuse(h, Refusal::RoomShort);
     }
     let t = Timestamp(h.timestamp.0 + 1);
     request_all(h.id, t, h.n, out);
     rows::clear(row);
-    moved(h, Section::Trying, t, n, 12 * n)
+    moved(h, Section::Trying, t, n, MESSAGE_BYTES * n)
 }
 
 // Lines 19 to 23 of a valid record in the critical section: for `exit_row`.
@@ -247,13 +248,13 @@ fn leave(h: Head, row: &mut [u32], out: &mut [u8]) -> Turned
     ensures { λ r. ⌜ Answers h (now (row .entry)) (stepped (exits (h .n) (h .id) (view (clientOf h (now (row .entry)))))) (now (out .entry)) r (now (row .exit)) (now (out .exit)) ⌝ }
 {
     let n = h.n as usize;
-    if out.len() < 12 * n {
+    if out.len() < MESSAGE_BYTES * n {
         return refuse(h, Refusal::RoomShort);
     }
     let t = Timestamp(h.timestamp.0 + 1);
     release_all(h.id, h.timestamp, h.n, out);
     rows::clear(row);
-    moved(h, Section::Remainder, t, n, 12 * n)
+    moved(h, Section::Remainder, t, n, MESSAGE_BYTES * n)
 }
 
 // Document 01's try: a new timestamp, and REQUEST with it to every server.
@@ -293,7 +294,7 @@ fn yield_round(h: Head, row: &mut [u32], out: &mut [u8]) -> Turned
     ensures { λ r. ⌜ Answers h (now (row .entry)) (stepped (yields (h .n) (request h) (responsesIn (now (row .entry)) (h .n)))) (now (out .entry)) r (now (row .exit)) (now (out .exit)) ⌝ }
 {
     let found = responses::filled_count(row, h.n as usize);
-    let size = 12 * found;
+    let size = MESSAGE_BYTES * found;
     if out.len() < size {
         return refuse(h, Refusal::RoomShort);
     }
@@ -366,7 +367,7 @@ pub fn check_row(h: Head, row: &[u32], j: ServerId, t: Timestamp, out: &mut [u8]
     if t.0 == h.timestamp.0 {
         return moved(h, section, h.timestamp, 0, 0);
     }
-    if out.len() < 12 {
+    if out.len() < MESSAGE_BYTES {
         return refuse(h, Refusal::RoomShort);
     }
     let id = h.id;

@@ -11,6 +11,9 @@ pub const MAX_SERVERS: u32 = 31;
 
 pub const MAX_TIMESTAMP: u32 = 4_294_967_295;
 
+// The largest number of sixteen bits.
+pub const MAX_SHORT: u32 = 65_535;
+
 // Document 01's kiosk, keeper and ticket. Three types, so that passing one for another does not build.
 pub struct ClientId(pub u16);
 

@@ -5,6 +5,7 @@ use mathlib.Core.Option.{Option, none, some}
 use mathlib.Core.List.{List}
 use lib.Dec.{leb}
 use lib.ListN.{length}
+use Rattle.ids.specs.Limits.{maxShort}
 use Rattle.ids.specs.Choice.{if_then_else_, maybe}
 use Rattle.system.specs.Setting.{takes}
 use Rattle.system.specs.declared.Event.{Event}
@@ -63,15 +64,15 @@ eventIn l =
 
 -- whether the number of the client or server that the event names has 16 bits; with more there is no such party
 unfoldable pub sixteenBits : Event → Bool
-sixteenBits (Try k) = leb (k .0) 65535
-sixteenBits (Exit k) = leb (k .0) 65535
-sixteenBits (Fall k) = leb (k .0) 65535
-sixteenBits (Down j) = leb (j .0) 65535
-sixteenBits (Up j) = leb (j .0) 65535
+sixteenBits (Try k) = leb (k .0) maxShort
+sixteenBits (Exit k) = leb (k .0) maxShort
+sixteenBits (Fall k) = leb (k .0) maxShort
+sixteenBits (Down j) = leb (j .0) maxShort
+sixteenBits (Up j) = leb (j .0) maxShort
 sixteenBits (Take i) = true
 sixteenBits (Drop i) = true
-sixteenBits (Miss j) = leb (j .0) 65535
-sixteenBits (Check j) = leb (j .0) 65535
+sixteenBits (Miss j) = leb (j .0) maxShort
+sixteenBits (Check j) = leb (j .0) maxShort
 
 -- the answer to an event line
 unfoldable pub lineOf : Option Event → Line

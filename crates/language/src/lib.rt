@@ -4,12 +4,14 @@ ghost use Prim.Native.Nat.{_+_, _≤_, _<_};
 ghost use mathlib.Core.List.{[], _∷_, _++_};
 ghost use lib.ListN.{length, drop};
 ghost use lib.Seq.{sets};
+ghost use Rattle.ids.specs.Limits.{maxShort};
 ghost use Rattle.language.specs.Decimals.{digit, digits, number, decimal};
 ghost use Rattle.language.specs.Words.{same, word, spaced};
 ghost use Rattle.language.specs.Lines.{commandIn, eventOf, eventIn, lineOf, fourIn, settingIn, firstOf};
 ghost use Rattle.language.specs.Printed.{headerLine, okLine, noLine, endLine, refusedLine, eventLine, settingLine};
 ghost use Rattle.language.specs.Answers.{readingOf, fieldAt};
 use ids::ClientId;
+use ids::MAX_SHORT;
 use ids::Refusal;
 use ids::ServerId;
 use system::Event;
@@ -221,7 +223,7 @@ fn line_of_16(c: Command, x: u16) -> Line
 
 // The line of this command and a larger number: no client or server has it.
 fn line_of_32(c: Command, x: u32) -> Line
-    requires { ⌜ 65535 < x ⌝ }
+    requires { ⌜ maxShort < x ⌝ }
     ensures { λ r. ⌜ r ≡ lineOf (eventOf c x) ⌝ }
 {
     match c {
@@ -248,7 +250,7 @@ fn line_of_32(c: Command, x: u32) -> Line
 fn line_of(c: Command, x: u32) -> Line
     ensures { λ r. ⌜ r ≡ lineOf (eventOf c x) ⌝ }
 {
-    if x > 65535 {
+    if x > MAX_SHORT {
         return line_of_32(c, x);
     }
     line_of_16(c, x as u16)
@@ -336,7 +338,7 @@ fn digit_byte(d: u32) -> u8
 }
 
 // What follows writes from place `at` on and returns the place behind what it wrote. It is for programs that print a run or
-// a script, once they have seen that there is room: 52 bytes are enough for any line.
+// a script, once they have seen that there is room for the longest.
 
 // A number.
 pub fn put_decimal(out: &mut [u8], at: usize, x: u32) -> usize

@@ -16,7 +16,7 @@ use Rattle.ids.specs.declared.ServerId.{ServerId}
 use Rattle.ids.specs.declared.Request.{Request}
 use Rattle.ids.specs.declared.Owner.{Owner}
 use Rattle.ids.specs.declared.Owner.the-variants.{Nobody, Of}
-use Rattle.wire.specs.Format.{bytesOf, sizeOf, bytesOfAll, sizeOfAll}
+use Rattle.wire.specs.Format.{bytesOf, sizeOf, bytesOfAll, sizeOfAll, messageBytes}
 use Rattle.wire.specs.declared.Message.{Message}
 use Rattle.wire.specs.declared.Message.the-variants.{Request as REQUEST, Yield as YIELD, Inquiry as INQUIRY}
 use Rattle.wire.proofs.BytesLaws.{stored-on}
@@ -42,12 +42,12 @@ module _ (r : Request) (j : ServerId) (q : Request) where
     unfolding reply
     reply-inquiry t = let e : before r q ≡ false = cc in rw (ne-eqb (q .client .0) (r .client .0) n, e)
 
-  by-tests : (a b : Bool) → sizeOf (if a then YIELD (r .client) j (r .timestamp) else if b then REQUEST (r .client) j (r .timestamp) else INQUIRY (r .client) j (r .timestamp)) ≡ 12
+  by-tests : (a b : Bool) → sizeOf (if a then YIELD (r .client) j (r .timestamp) else if b then REQUEST (r .client) j (r .timestamp) else INQUIRY (r .client) j (r .timestamp)) ≡ messageBytes
   by-tests true b = yield-plain (r .client) (r .timestamp) j
   by-tests false true = request-plain (r .client) (r .timestamp) j
   by-tests false false = inquiry-plain (r .client) (r .timestamp) j
 
-  pub size-reply : sizeOf (reply r j q) ≡ 12
+  pub size-reply : sizeOf (reply r j q) ≡ messageBytes
   unfolding reply
   size-reply = by-tests (eqb (q .client .0) (r .client .0)) (before r q)
 
@@ -68,12 +68,12 @@ module _ (r : Request) (j : ServerId) (q : Request) where
       replies-one l n h = rw (one, sizeOfAll-one, bytesOfAll-one) h
 
 module _ (r : Request) where
-  size-replies : (j : ServerId) (o : Owner) → sizeOfAll (replies r j o) ≡ 12 * (if filled o then 1 else 0)
+  size-replies : (j : ServerId) (o : Owner) → sizeOfAll (replies r j o) ≡ messageBytes * (if filled o then 1 else 0)
   unfolding sizeOfAll
   size-replies j Nobody = refl
   size-replies j (Of q) = omega (arith, size-reply r j q)
 
-  pub size-round : (j : ℕ) (l : List Owner) → sizeOfAll (round r j l) ≡ 12 * count (map filled l)
+  pub size-round : (j : ℕ) (l : List Owner) → sizeOfAll (round r j l) ≡ messageBytes * count (map filled l)
   unfolding round sizeOfAll
   size-round j [] = refl
   size-round j (o ∷ l) = rw sizeOfAll-append (omega (arith, size-replies (record { 0 = j }) o, size-round (suc j) l))
@@ -104,13 +104,13 @@ pub record Replying (r : Request) (ws : List ℕ) (n : ℕ) (o b : List ℕ) (at
   pub places : Places ws
   pub words : 2 * n ≤ length ws
   pub within : i ≤ n
-  pub room : 12 * count (map filled (responsesIn ws n)) ≤ length o
+  pub room : messageBytes * count (map filled (responsesIn ws n)) ≤ length o
   pub size : length b ≡ length o
   pub behind : at ≡ sizeOfAll (round r 1 (take i (responsesIn ws n)))
   pub done : b ≡ sets o 0 (bytesOfAll (round r 1 (take i (responsesIn ws n))))
 
 module _ (r : Request) (ws : List ℕ) (n : ℕ) (o : List ℕ) where
-  pub replying-none : Places ws → 2 * n ≤ length ws → 12 * count (map filled (responsesIn ws n)) ≤ length o → Replying r ws n o o 0 0
+  pub replying-none : Places ws → 2 * n ≤ length ws → messageBytes * count (map filled (responsesIn ws n)) ≤ length o → Replying r ws n o o 0 0
   unfolding round sizeOfAll bytesOfAll
   replying-none p h g = record { places = p; words = h; within = omega arith; room = g; size = refl; behind = refl; done = refl }
 

@@ -9,7 +9,7 @@ use lib.Seq.{sets, length-sets}
 use Rattle.ids.specs.declared.ClientId.{ClientId}
 use Rattle.ids.specs.declared.ServerId.{ServerId}
 use Rattle.ids.specs.declared.Timestamp.{Timestamp}
-use Rattle.wire.specs.Format.{lengthOf, fieldsOf, bytesOf, sizeOf, bytesOfAll, sizeOfAll}
+use Rattle.wire.specs.Format.{lengthOf, fieldsOf, bytesOf, sizeOf, bytesOfAll, sizeOfAll, messageBytes}
 use Rattle.wire.specs.declared.Message.{Message}
 use Rattle.wire.specs.declared.Message.the-variants.{Request, Yield, Release, Inquiry}
 use Rattle.wire.proofs.Sequence.{sizeOfAll-append, sizeOfAll-one, put-next}
@@ -21,8 +21,8 @@ module _ (f : ServerId → Message) where
   length-toAll zero = refl
   length-toAll (suc n) = rw length-append (omega (arith, length-toAll n))
 
-  module _ (plain : (j : ServerId) → sizeOf (f j) ≡ 12) where
-    pub size-toAll : (n : ℕ) → sizeOfAll (toAll f n) ≡ 12 * n
+  module _ (plain : (j : ServerId) → sizeOf (f j) ≡ messageBytes) where
+    pub size-toAll : (n : ℕ) → sizeOfAll (toAll f n) ≡ messageBytes * n
     unfolding toAll sizeOfAll
     size-toAll zero = refl
     size-toAll (suc n) = rw (sizeOfAll-append, sizeOfAll-one) (omega (arith, size-toAll n, plain (record { 0 = suc n })))
@@ -30,13 +30,13 @@ module _ (f : ServerId → Message) where
 -- the messages to the servers 1 to j stand in l, which was o
 pub record Sending (f : ServerId → Message) (n : ℕ) (o l : List ℕ) (at j : ℕ) : Type 0 where
   pub within : j ≤ n
-  pub room : 12 * n ≤ length o
+  pub room : messageBytes * n ≤ length o
   pub size : length l ≡ length o
-  pub behind : at ≡ 12 * j
+  pub behind : at ≡ messageBytes * j
   pub done : l ≡ sets o 0 (bytesOfAll (toAll f j))
 
-module _ (f : ServerId → Message) (plain : (j : ServerId) → sizeOf (f j) ≡ 12) (n : ℕ) (o : List ℕ) where
-  pub sending-none : 12 * n ≤ length o → Sending f n o o 0 0
+module _ (f : ServerId → Message) (plain : (j : ServerId) → sizeOf (f j) ≡ messageBytes) (n : ℕ) (o : List ℕ) where
+  pub sending-none : messageBytes * n ≤ length o → Sending f n o o 0 0
   unfolding toAll bytesOfAll
   sending-none h = record { within = omega arith; room = h; size = refl; behind = omega arith; done = refl }
 
@@ -59,18 +59,18 @@ module _ (f : ServerId → Message) (plain : (j : ServerId) → sizeOf (f j) ≡
     sending-all h = let e : j ≡ n = omega (arith, S .within) in rw e at (S .done)
 
 -- all that a client sends has 12 bytes
-pub request-plain : (k : ClientId) (t : Timestamp) (j : ServerId) → sizeOf (Request k j t) ≡ 12
+pub request-plain : (k : ClientId) (t : Timestamp) (j : ServerId) → sizeOf (Request k j t) ≡ messageBytes
 unfolding sizeOf fieldsOf lengthOf
 request-plain k t j = refl
 
-pub yield-plain : (k : ClientId) (t : Timestamp) (j : ServerId) → sizeOf (Yield k j t) ≡ 12
+pub yield-plain : (k : ClientId) (t : Timestamp) (j : ServerId) → sizeOf (Yield k j t) ≡ messageBytes
 unfolding sizeOf fieldsOf lengthOf
 yield-plain k t j = refl
 
-pub release-plain : (k : ClientId) (t : Timestamp) (j : ServerId) → sizeOf (Release k j t) ≡ 12
+pub release-plain : (k : ClientId) (t : Timestamp) (j : ServerId) → sizeOf (Release k j t) ≡ messageBytes
 unfolding sizeOf fieldsOf lengthOf
 release-plain k t j = refl
 
-pub inquiry-plain : (k : ClientId) (t : Timestamp) (j : ServerId) → sizeOf (Inquiry k j t) ≡ 12
+pub inquiry-plain : (k : ClientId) (t : Timestamp) (j : ServerId) → sizeOf (Inquiry k j t) ≡ messageBytes
 unfolding sizeOf fieldsOf lengthOf
 inquiry-plain k t j = refl

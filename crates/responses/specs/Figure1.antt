@@ -35,7 +35,7 @@ fresh n = record { section = Remainder; timestamp = record { 0 = 0 }; responses 
 unfoldable pub next : Timestamp → Timestamp
 next t = record { 0 = t .0 + 1 }
 
--- the timestamp that a try takes, and an exit leaves behind
+-- the timestamp that a try takes, or an exit
 abbrev pub taken : State → Timestamp
 taken c = next (c .timestamp)
 

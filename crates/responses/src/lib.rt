@@ -7,7 +7,7 @@ ghost use lib.ListN.{length};
 ghost use lib.Seq.{sets};
 ghost use Rattle.ids.specs.Limits.{maxClient};
 ghost use Rattle.ids.specs.Requests.{same, isRequest, noRequest};
-ghost use Rattle.wire.specs.Format.{bytesOfAll, sizeOfAll};
+ghost use Rattle.wire.specs.Format.{messageBytes, bytesOfAll, sizeOfAll};
 ghost use Rattle.rows.specs.Rows.{Places};
 ghost use Rattle.responses.specs.Figure1.{filled as filledOf, count, own as ownOf, current, reply as replyOf, replies, round};
 ghost use Rattle.responses.specs.Row.{shown, place, responsesIn, placeOf, misfit as misfitOf, pair, one, heardRow};
@@ -193,7 +193,7 @@ fn send_reply(r: Request, j: ServerId, q: Request, out: &mut [u8], at: usize) ->
 
 // Lines 14 to 17 for all of the first `n` places.
 pub fn send_round(r: Request, row: &[u32], n: u16, out: &mut [u8])
-    requires { ⌜ Places (now row) × (2 * n ≤ length (now row)) × (12 * count (map filledOf (responsesIn (now row) n)) ≤ length (now out)) ⌝ }
+    requires { ⌜ Places (now row) × (2 * n ≤ length (now row)) × (messageBytes * count (map filledOf (responsesIn (now row) n)) ≤ length (now out)) ⌝ }
     ensures { λ _. ⌜ now (out .exit) ≡ sets (now (out .entry)) 0 (bytesOfAll (round r 1 (responsesIn (now (row .entry)) n))) ⌝ }
 {
     let mut at: usize = 0;

@@ -33,7 +33,7 @@ use Rattle.script.specs.Calls.{feedAnswer, FeedLeaves, finishAnswer, Fin
 use Rattle.script.proofs.StateLaws.{itself-is, view-is, valid-is, store-stage, store-length, from-facts}
 use Rattle.script.proofs.LineLaws.{known, sound}
 
--- no line is longer than 52 bytes
+-- no line is longer than the room that is asked for
 answer-short : (i : ℕ) (u : System) (o : Result) → length (answerLine i u o) ≤ maxPrinted
 unfolding answerLine
 answer-short i u (refused x) = omega (arith, no-short i x)

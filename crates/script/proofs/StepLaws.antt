@@ -12,7 +12,7 @@ use lib.Seq.{sets, length-sets}
 use borrow.Rule.Slice.PartMut.{putMid}
 use borrow.Author.Tests.{eq-eqb, ne-eqb, le-leb, lt-leb, leb-false, lt-ltb, le-ltb}
 use Rattle.ids.specs.Choice.{if_then_else_}
-use Rattle.ids.specs.Limits.{within}
+use Rattle.ids.specs.Limits.{within, maxShort}
 use Rattle.ids.specs.declared.Refusal.{Refusal}
 use Rattle.ids.specs.declared.Refusal.the-variants.{BadLine, ParameterOutOfRange, NoSuchParty}
 use Rattle.ids.proofs.LimitsLaws.{within-range}
@@ -392,16 +392,16 @@ parsed-unknown (some y) e = by-bits (sixteenBits y) refl e
 
 -- no party of a simulation has such a number
 module _ (s : List ℕ) (v : layout.valid s ≡ true) where
-  beyond : (k c : ℕ) → leb k 65535 ≡ false → c ≤ 65535 → within k c ≡ false
-  beyond k c e h = rw (le-leb 1 k (omega (arith, leb-false k 65535 e)), lt-leb k c (omega (arith, leb-false k 65535 e)))
+  beyond : (k c : ℕ) → leb k maxShort ≡ false → c ≤ maxShort → within k c ≡ false
+  beyond k c e h = rw (le-leb 1 k (omega (arith, leb-false k maxShort e)), lt-leb k c (omega (arith, leb-false k maxShort e)))
 
   few-servers : layout.settingOf s .n ≤ systemServers
   few-servers = range _ _ _ (layout-laws.facts s v .range) .servers
 
-  no-client : (k : ℕ) → leb k 65535 ≡ false → has (layout.view s .clients) k ≡ false
+  no-client : (k : ℕ) → leb k maxShort ≡ false → has (layout.view s .clients) k ≡ false
   no-client k e = client-there s k ∙ beyond k (layout.settingOf s .clients) e (omega (arith, within-range (layout.settingOf s .clients) systemClients (layout-laws.facts s v .some) .1))
 
-  no-server : (j : ℕ) → leb j 65535 ≡ false → has (layout.view s .servers) j ≡ false
+  no-server : (j : ℕ) → leb j maxShort ≡ false → has (layout.view s .servers) j ≡ false
   no-server j e = server-there s j ∙ beyond j (layout.settingOf s .n) e (omega (arith, few-servers))
 
   pub nobody-such : (e : Event) → sixteenBits e ≡ false → bounded.happens s e ≡ refused NoSuchParty

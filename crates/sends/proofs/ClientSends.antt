@@ -23,7 +23,7 @@ use Rattle.ids.specs.declared.Owner.the-variants.{Nobody, Of}
 use Rattle.ids.specs.declared.Refusal.the-variants.{NumberOutOfRange, InvalidRecord, NotForClient, WrongSection, TimestampsSpent}
 use Rattle.ids.proofs.Choice.{decided, passed}
 use Rattle.wire.specs.Format as format
-use Rattle.wire.specs.Format.{sizeOf, sizeOfAll}
+use Rattle.wire.specs.Format.{sizeOf, sizeOfAll, messageBytes}
 use Rattle.wire.specs.Step.{Step, stepped}
 use Rattle.wire.specs.declared.Message.{Message}
 use Rattle.wire.proofs.Sequence.{sizeOfAll-one}
@@ -52,7 +52,7 @@ count-few (o ∷ l) = omega (arith, count-few l, one-at-most (filled o))
 -- at most n messages, of 12 bytes each
 pub record AtMost (n : ℕ) (ms : List Message) : Type 0 where
   pub few : length ms ≤ n
-  pub small : sizeOfAll ms ≤ 12 * n
+  pub small : sizeOfAll ms ≤ messageBytes * n
 
 nothing : (n : ℕ) → AtMost n []
 unfolding sizeOfAll
@@ -90,7 +90,7 @@ unfolding checked
 checked-few k j t c =
     ⊎-elim (λ (e : eqb (t .0) (c .timestamp .0) ≡ true). rw e (nothing 1)) (λ (e : eqb (t .0) (c .timestamp .0) ≡ false). rw e (released k j t)) (decided (eqb (t .0) (c .timestamp .0)))
 
-to-all : (f : ServerId → Message) → ((j : ServerId) → sizeOf (f j) ≡ 12) → (n : ℕ) → AtMost n (toAll f n)
+to-all : (f : ServerId → Message) → ((j : ServerId) → sizeOf (f j) ≡ messageBytes) → (n : ℕ) → AtMost n (toAll f n)
 to-all f h n = record { few = omega (arith, length-toAll f n); small = omega (arith, size-toAll f h n) }
 
 pub tries-few : (n : ℕ) (k : ClientId) (c : State) → AtMost n (tries n k c .sent)

@@ -26,7 +26,7 @@ use Rattle.ids.specs.declared.Refusal.the-variants.{NumberOutOfRange, InvalidRe
 use Rattle.ids.proofs.Choice.{both, decided, passed}
 use Rattle.ids.proofs.LimitsLaws.{request-range}
 use Rattle.ids.proofs.ListLaws.{every-append}
-use Rattle.wire.specs.Format.{lengthOf, sizeOf, fieldsOf, sizeOfAll}
+use Rattle.wire.specs.Format.{lengthOf, sizeOf, fieldsOf, sizeOfAll, responseBytes}
 use Rattle.wire.specs.Format as format
 use Rattle.wire.specs.Step.{Step, Outcome, refused, stepped, stay, tell}
 use Rattle.wire.specs.declared.Message.{Message}
@@ -44,12 +44,12 @@ use Rattle.server.specs.declared.Server.{Server}
 use Rattle.server.proofs.RecordLaws.{valid-padded}
 use Rattle.server.proofs.KeepsValid.{Good, message-keeps-valid, suspect-keeps-valid, check-keeps-valid}
 
--- no message has more than 14 bytes
-lengthOf-few : (kind : ℕ) → lengthOf kind ≤ 14
+-- no message is longer than a RESPONSE
+lengthOf-few : (kind : ℕ) → lengthOf kind ≤ responseBytes
 unfolding lengthOf
 lengthOf-few kind = ⊎-elim (λ e. rw e (omega arith)) (λ e. rw e (omega arith)) (decided (eqb kind 5))
 
-pub size-few : (ms : List Message) → sizeOfAll ms ≤ 14 * length ms
+pub size-few : (ms : List Message) → sizeOfAll ms ≤ responseBytes * length ms
 unfolding sizeOfAll sizeOf
 size-few [] = omega arith
 size-few (m ∷ ms) = omega (arith, size-few ms, lengthOf-few (fieldsOf m .kind))
@@ -178,7 +178,7 @@ module _ (s : Server) (p : Step State) where
     pub before : server.valid s ≡ true
     pub after : server.valid (server-calls.serverAfter s (stepped p)) ≡ true
     pub few : length (p .sent) ≤ 3
-    pub small : sizeOfAll (p .sent) ≤ 42
+    pub small : sizeOfAll (p .sent) ≤ 3 * responseBytes
     pub room : 2 * length (p .state .queue) ≤ length (s .row)
 
   accepted : server.valid s ≡ true → server.valid (server-calls.serverAfter s (stepped p)) ≡ true → Short p → Accepted

@@ -11,7 +11,7 @@ use lib.ListN.{length, getD, set, take, drop, length-drop}
 use lib.Seq.{take-add, drop-at, length-take-le, getD-take, getD-drop, drop-drop}
 use borrow.Author.Tests.{le-leb, lt-leb, leb-true, not-true, not-false}
 use Rattle.ids.specs.Choice.{if_then_else_, maybe}
-use Rattle.ids.specs.Limits.{within, maxServers}
+use Rattle.ids.specs.Limits.{within, maxServers, maxShort}
 use Rattle.ids.specs.declared.ServerId.{ServerId}
 use Rattle.ids.proofs.Choice.{both, decided}
 use Rattle.ids.proofs.LimitsLaws.{within-range}
@@ -19,7 +19,7 @@ use Rattle.wire.specs.Format.{known, words, fieldsOf, messageOf, valid, validNu
 use Rattle.wire.specs.declared.Fields.{Fields}
 use Rattle.wire.specs.declared.Message.{Message}
 use Rattle.wire.proofs.NumbersLaws.{valid-sound, message-fields, valid-message, fields-again}
-use Rattle.words.specs.Messages.{maxShort, fits, fieldsFrom, crossing, asMessage, messageIn, messageOr}
+use Rattle.words.specs.Messages.{fits, fieldsFrom, crossing, asMessage, messageIn, messageOr}
 use Rattle.words.specs.declared.Crossed.{Crossed}
 use Rattle.words.specs.declared.Crossed.the-variants.{Numbers, TooLarge}
 use Rattle.system.specs.Transit.{InTransit, isFor, again}

@@ -15,7 +15,7 @@ use Rattle.ids.specs.declared.ServerId.{ServerId}
 use Rattle.ids.specs.declared.Timestamp.{Timestamp}
 use Rattle.wire.proofs.BytesLaws.{stored-on}
 use Rattle.wire.specs.Bytes.{littleEndian, number, encode, decode, total}
-use Rattle.wire.specs.Format.{lengthOf, front, bytesOfFields, bytesOf, sizeOf, fieldsOf, messageOf, ownerOf, lengthIn, kindIn, fieldIn, fieldsIn}
+use Rattle.wire.specs.Format.{lengthOf, front, bytesOfFields, bytesOf, sizeOf, fieldsOf, messageOf, ownerOf, lengthIn, kindIn, fieldIn, fieldsIn, messageBytes, responseBytes}
 use Rattle.wire.specs.declared.Message.{Message}
 use Rattle.wire.specs.declared.Message.the-variants.{Request, Yield, Release, Inquiry, Response, Check}
 use Rattle.wire.specs.declared.Fields.{Fields}
@@ -54,15 +54,15 @@ module _ (f : Fields) where
   unfolding messageOf
   message-check a b c d e = simp (ne-eqb _ _ a, ne-eqb _ _ b, ne-eqb _ _ c, ne-eqb _ _ d, ne-eqb _ _ e)
 
-pub length-plain : (kind : ℕ) → (kind ≡ 5 → ⊥) → 12 ≡ lengthOf kind
+pub length-plain : (kind : ℕ) → (kind ≡ 5 → ⊥) → messageBytes ≡ lengthOf kind
 unfolding lengthOf
 length-plain kind e = simp (ne-eqb kind 5 e)
 
-pub length-response : (kind : ℕ) → kind ≡ 5 → 14 ≡ lengthOf kind
+pub length-response : (kind : ℕ) → kind ≡ 5 → responseBytes ≡ lengthOf kind
 unfolding lengthOf
 length-response kind e = rw e
 
-pub at-least : (kind : ℕ) → 12 ≤ lengthOf kind
+pub at-least : (kind : ℕ) → messageBytes ≤ lengthOf kind
 unfolding lengthOf
 at-least kind = omega arith
 
@@ -88,7 +88,7 @@ module _ (s : List ℕ) where
   unfolding fieldIn decode
   timestamp-in = rw (drop-drop 2 2 s, drop-drop 2 4 s, drop-drop 2 6 s)
 
-  pub owner-in : (kind o : ℕ) → kind ≡ kindIn s → kind ≡ 5 → o ≡ number (take 2 (drop 12 s)) → o ≡ fieldIn s 5
+  pub owner-in : (kind o : ℕ) → kind ≡ kindIn s → kind ≡ 5 → o ≡ number (take 2 (drop messageBytes s)) → o ≡ fieldIn s 5
   unfolding fieldIn decode
   owner-in kind o k e p =
       let f : kindIn s ≡ 5 = cc in
@@ -130,13 +130,13 @@ front-stored f at n l₀ l₁ l₂ l₃ l₄ l₅ h p₁ p₂ p₃ p₄ p₅ =
 pub stored-plain : (f : Fields) (at : ℕ) (o l : List ℕ) → (f .kind ≡ 5 → ⊥) → l ≡ sets o at (front f) → l ≡ sets o at (bytesOfFields f)
 stored-plain f at o l e p = rw (front-plain f e) at p
 
-length-front : (f : Fields) → length (front f) ≡ 12
+length-front : (f : Fields) → length (front f) ≡ messageBytes
 unfolding front encode
 length-front f = refl
 
-pub stored-response : (f : Fields) (at : ℕ) (o l l′ : List ℕ) → f .kind ≡ 5 → l ≡ sets o at (front f) → l′ ≡ sets l (at + 12) (littleEndian 2 (f .owner)) → l′ ≡ sets o at (bytesOfFields f)
+pub stored-response : (f : Fields) (at : ℕ) (o l l′ : List ℕ) → f .kind ≡ 5 → l ≡ sets o at (front f) → l′ ≡ sets l (at + messageBytes) (littleEndian 2 (f .owner)) → l′ ≡ sets o at (bytesOfFields f)
 stored-response f at o l l′ e p q =
-    rw (front-response f e) at (stored-on o l l′ (front f) (littleEndian 2 (f .owner)) at (at + 12) p q (omega (arith, length-front f)))
+    rw (front-response f e) at (stored-on o l l′ (front f) (littleEndian 2 (f .owner)) at (at + messageBytes) p q (omega (arith, length-front f)))
 
 length-tail : (b : Bool) (o : ℕ) → let ws : List ℕ = if b then 2 ∷ [] else [] in length (encode ws (o ∷ [])) ≡ total ws
 unfolding encode

@@ -6,7 +6,7 @@ use mathlib.Core.Bool.{Bool, true, false, not, _&&_}
 use mathlib.Core.List.{List}
 use lib.Dec.{leb, eqb}
 use borrow.Author.Tests.{le-leb, ne-eqb, eqb-true, eqb-false}
-use Rattle.ids.specs.Limits.{maxClient, maxServers, validRequest, validTimestamp, validOwner, validParties, validPartiesUpTo, validStamped, validStampedUpTo}
+use Rattle.ids.specs.Limits.{maxClient, maxServers, validRequest, validTimestamp, validOwner, validParties, validPartiesUpTo, validStamped, validStampedUpTo, maxTimestamp}
 use Rattle.ids.specs.declared.Owner.{Owner}
 use Rattle.ids.specs.declared.Owner.the-variants.{Nobody, Of}
 use Rattle.ids.specs.declared.ClientId.{ClientId}
@@ -51,7 +51,7 @@ plain-sound kind k j t e v =
     let tt′ = timestamp-range t b in
     record { kind = e; client = omega arith; server = omega arith; timestamp = omega arith; owner = omega arith; alone = λ n. refl }
 
-owner-sound : (o : Owner) → validOwner o ≡ true → (ownerClient o ≤ 65535) × (ownerTimestamp o ≤ 4294967295)
+owner-sound : (o : Owner) → validOwner o ≡ true → (ownerClient o ≤ maxClient) × (ownerTimestamp o ≤ maxTimestamp)
 unfolding validOwner
 owner-sound Nobody v = (omega arith, omega arith)
 owner-sound (Of q) v =
@@ -158,13 +158,13 @@ owner-zero owner timestamp e = rw e (go (eqb timestamp 0) refl)
     go true p = rw p
     go false p = rw p
 
-pub owner-some : (owner timestamp : ℕ) → owner ≤ 65535 → timestamp ≤ 4294967295 → (owner ≡ 0 → ⊥) → not (eqb timestamp 0) ≡ validOwner (ownerOf (record { 0 = owner }) (record { 0 = timestamp }))
+pub owner-some : (owner timestamp : ℕ) → owner ≤ maxClient → timestamp ≤ maxTimestamp → (owner ≡ 0 → ⊥) → not (eqb timestamp 0) ≡ validOwner (ownerOf (record { 0 = owner }) (record { 0 = timestamp }))
 unfolding validOwner validRequest
 owner-some owner timestamp a b n =
     let one : 1 ≤ owner = omega arith in
     rw (ne-eqb owner 0 n, le-leb _ _ one, le-leb _ _ a) (go (eqb timestamp 0) refl)
   where
-    go : (c : Bool) → eqb timestamp 0 ≡ c → not (eqb timestamp 0) ≡ (leb 1 timestamp && leb timestamp 4294967295)
+    go : (c : Bool) → eqb timestamp 0 ≡ c → not (eqb timestamp 0) ≡ (leb 1 timestamp && leb timestamp maxTimestamp)
     go true p = let z : timestamp ≡ 0 = eqb-true _ _ p in rw z
     go false p = let n : timestamp ≡ 0 → ⊥ = eqb-false _ _ p in let o : 1 ≤ timestamp = omega arith in rw (p, le-leb _ _ o, le-leb _ _ b)
 

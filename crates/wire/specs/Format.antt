@@ -30,7 +30,14 @@ header = 2 ∷ 2 ∷ []
 abbrev pub widths : ℕ → List ℕ
 widths kind = header ++ 2 ∷ 2 ∷ 4 ∷ (if eqb kind response then 2 ∷ [] else [])
 
--- a message's length in bytes, which is also its first number: 14 of a RESPONSE, 12 of every other
+-- the bytes of a message without an owner, and of a RESPONSE
+abbrev pub messageBytes : ℕ
+messageBytes = 12
+
+abbrev pub responseBytes : ℕ
+responseBytes = messageBytes + 2
+
+-- a message's length in bytes, which is also its first number
 unfoldable pub lengthOf : ℕ → ℕ
 lengthOf kind = total (widths kind)
 

@@ -4,7 +4,7 @@ ghost use Prim.Native.Nat.{_+_, _*_, _≤_};
 ghost use lib.ListN.{length, take, drop};
 ghost use lib.Seq.{sets};
 ghost use Rattle.wire.specs.Bytes.{littleEndian, number};
-ghost use Rattle.wire.specs.Format.{known, lengthOf, plain, answer, fieldsOf, messageOf, kindIn, fieldIn, fieldsIn, bytesOf, front, bytesOfFields, sizeOf, validNamed, validResponse, valid, validRest, validNumbers, validFields, ownerOf};
+ghost use Rattle.wire.specs.Format.{messageBytes, known, lengthOf, plain, answer, fieldsOf, messageOf, kindIn, fieldIn, fieldsIn, bytesOf, front, bytesOfFields, sizeOf, validNamed, validResponse, valid, validRest, validNumbers, validFields, ownerOf};
 ghost use Rattle.wire.specs.Calls.{readOf, numbersOf, writeOf, bufferAfter, layOf, laidIn, writeNumbers, numbersAfter};
 ghost use Rattle.ids.specs.Limits.{validOwner};
 use ids::ClientId;
@@ -108,11 +108,24 @@ fn is_kind(kind: u16) -> bool
     ids::within_limit(kind as u32, 6)
 }
 
+// The bytes of a message without an owner, and of a RESPONSE; the same as a message's first number.
+pub const MESSAGE_BYTES: usize = 12;
+
+const RESPONSE_BYTES: usize = MESSAGE_BYTES + 2;
+
+const MESSAGE_LENGTH: u16 = MESSAGE_BYTES as u16;
+
+const RESPONSE_LENGTH: u16 = RESPONSE_BYTES as u16;
+
 // The bytes that a message of this kind has.
 pub fn length_of(kind: u16) -> u16
     ensures { λ r. ⌜ r ≡ lengthOf kind ⌝ }
 {
-    if kind == 5 { 14 } else { 12 }
+    if kind == 5 {
+        RESPONSE_LENGTH
+    } else {
+        MESSAGE_LENGTH
+    }
 }
 
 fn plain_fields(kind: u16, k: ClientId, j: ServerId, t: Timestamp) -> Fields
@@ -252,7 +265,11 @@ fn owner_in(bytes: &[u8], kind: u16) -> u16
     requires { ⌜ (lengthOf kind ≤ length (now bytes)) × (kind ≡ kindIn (now bytes)) ⌝ }
     ensures { λ r. ⌜ r ≡ fieldIn (now (bytes .entry)) 5 ⌝ }
 {
-    if kind == 5 { get16(bytes, 12) } else { 0 }
+    if kind == 5 {
+        get16(bytes, MESSAGE_BYTES)
+    } else {
+        0
+    }
 }
 
 fn fields_in(bytes: &[u8], kind: u16) -> Fields
@@ -312,7 +329,7 @@ pub fn read(bytes: &[u8]) -> Parsed
 }
 
 fn put_front(out: &mut [u8], at: usize, f: Fields)
-    requires { ⌜ at + 12 ≤ length (now out) ⌝ }
+    requires { ⌜ at + messageBytes ≤ length (now out) ⌝ }
     ensures { λ _. ⌜ now (out .exit) ≡ sets (now (out .entry)) at (front f) ⌝ }
 {
     put16(out, at, length_of(f.kind));
@@ -328,10 +345,10 @@ fn put_fields(out: &mut [u8], at: usize, f: Fields) -> usize
 {
     put_front(out, at, f);
     if f.kind == 5 {
-        put16(out, at + 12, f.owner);
-        return at + 14;
+        put16(out, at + MESSAGE_BYTES, f.owner);
+        return at + RESPONSE_BYTES;
     }
-    at + 12
+    at + MESSAGE_BYTES
 }
 
 // Writes `m` from place `at` on and returns the place behind it. For the steps that send several messages, once they know that all fit.

@@ -6,11 +6,12 @@ use mathlib.Core.List.{List}
 use lib.Dec.{leb}
 use lib.ListN.{length, getD}
 use borrow.Author.Tests.{le-leb, lt-leb, ne-eqb, leb-true, not-true, not-false}
+use Rattle.ids.specs.Limits.{maxShort}
 use Rattle.ids.proofs.Choice.{both}
 use Rattle.wire.specs.Format.{validFields, messageOf}
 use Rattle.wire.specs.declared.Fields.{Fields}
 use Rattle.wire.specs.declared.Message.{Message}
-use Rattle.words.specs.Messages.{maxShort, fits, fieldsFrom, crossing, messageIn, messageOr, noMessage}
+use Rattle.words.specs.Messages.{fits, fieldsFrom, crossing, messageIn, messageOr, noMessage}
 use Rattle.words.specs.declared.Crossed.{Crossed}
 use Rattle.words.specs.declared.Crossed.the-variants.{Numbers, TooLarge}
 

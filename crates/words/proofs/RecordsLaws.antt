@@ -8,6 +8,7 @@ use lib.Dec.{leb, eqb}
 use lib.ListN.{length, getD}
 use lib.Seq.{sets}
 use borrow.Author.Tests.{le-leb, lt-leb, leb-true, eqb-true, ne-eqb}
+use Rattle.ids.specs.Limits.{maxShort}
 use Rattle.ids.specs.declared.Owner.{Owner}
 use Rattle.ids.proofs.Choice.{both}
 use Rattle.wire.specs.Format.{ownerOf, ownerClient, ownerTimestamp}
@@ -17,7 +18,6 @@ use Rattle.server.specs.declared.Server.{Server}
 use Rattle.client.specs.declared.Head.{Head as ClientHead}
 use Rattle.client.specs.declared.Client.{Client}
 use Rattle.responses.specs.declared.Section.{Section}
-use Rattle.words.specs.Messages.{maxShort}
 use Rattle.words.specs.Records.{recordHead, serverSize, clientSize, fitsHead, headFits, holdsServer, holdsClient, Headed, serverHeadFrom, serverHeadWords, serverWords, clientHeadFrom, clientHeadWords, clientWords, sectionOf, sectionWord}
 
 module _ (a b c : ℕ) where

@@ -6,7 +6,7 @@ use mathlib.Core.Bool.{true}
 use mathlib.Core.Option.{some}
 use lib.Dec.{leb}
 use lib.ListN.{length}
-use Rattle.ids.specs.Limits.{within, maxServers, validOwner}
+use Rattle.ids.specs.Limits.{within, maxServers, validOwner, maxShort}
 use Rattle.ids.specs.declared.Owner.{Owner}
 use Rattle.ids.specs.declared.Owner.the-variants.{Nobody, Of}
 use Rattle.ids.proofs.Choice.{both}
@@ -21,7 +21,6 @@ use Rattle.client.specs.declared.Client.{Client}
 use Rattle.client.proofs.ValidLaws.{valid-known}
 use Rattle.responses.specs.declared.Section.{Section}
 use Rattle.responses.specs.declared.Section.the-variants.{Remainder, Trying, Critical}
-use Rattle.words.specs.Messages.{maxShort}
 use Rattle.words.specs.Records.{fitsHead, holdsServer, holdsClient, serverHeadWords, serverWords, serverHeadFrom, serverIn, clientHeadWords, clientWords, clientHeadFrom, clientIn, sectionOf, sectionWord}
 use Rattle.words.proofs.RecordsLaws.{head-fits}
 

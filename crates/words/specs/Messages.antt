@@ -5,6 +5,7 @@ use mathlib.Core.List.{List}
 use mathlib.Core.Option.{Option, none, some}
 use lib.Dec.{eqb, leb}
 use lib.ListN.{length, getD}
+use Rattle.ids.specs.Limits.{maxShort}
 use Rattle.ids.specs.Choice.{if_then_else_}
 use Rattle.wire.specs.Format.{validFields, messageOf}
 use Rattle.wire.specs.declared.Fields.{Fields}
@@ -12,10 +13,6 @@ use Rattle.wire.specs.declared.Message.{Message}
 use Rattle.wire.specs.declared.Message.the-variants.{Request}
 use Rattle.words.specs.declared.Crossed.{Crossed}
 use Rattle.words.specs.declared.Crossed.the-variants.{Numbers, TooLarge}
-
--- the largest number of a field of two bytes
-abbrev pub maxShort : ℕ
-maxShort = 65535
 
 -- no word is too large for its field of the format
 unfoldable pub fits : ℕ → ℕ → ℕ → ℕ → Bool

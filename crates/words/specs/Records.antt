@@ -6,6 +6,7 @@ use mathlib.Core.List.{List, [], _∷_, _++_}
 use mathlib.Core.Option.{Option, none, some}
 use lib.Dec.{eqb, leb}
 use lib.ListN.{length, getD, drop}
+use Rattle.ids.specs.Limits.{maxShort}
 use Rattle.ids.specs.Choice.{if_then_else_}
 use Rattle.wire.specs.Format.{ownerOf, ownerClient, ownerTimestamp}
 use Rattle.server.specs.Record as server
@@ -16,7 +17,6 @@ use Rattle.client.specs.declared.Head.{Head as ClientHead}
 use Rattle.client.specs.declared.Client.{Client}
 use Rattle.responses.specs.declared.Section.{Section}
 use Rattle.responses.specs.declared.Section.the-variants.{Remainder, Trying, Critical}
-use Rattle.words.specs.Messages.{maxShort}
 
 -- the largest number of a word
 abbrev pub maxWord : ℕ

@@ -4,10 +4,12 @@ ghost use mathlib.Core.List.{[], _∷_};
 ghost use Prim.Native.Nat.{_≤_};
 ghost use lib.ListN.{length};
 ghost use lib.Seq.{sets};
+ghost use Rattle.ids.specs.Limits.{maxShort};
 ghost use Rattle.wire.specs.Format.{ownerClient, ownerTimestamp};
-ghost use Rattle.words.specs.Messages.{fits, maxShort, crossing, messageIn, messageOr, noMessage};
+ghost use Rattle.words.specs.Messages.{fits, crossing, messageIn, messageOr, noMessage};
 ghost use Rattle.words.specs.Records.{recordHead, maxWord, fitsHead, Headed, sectionOf, sectionWord, holdsServer, serverHeadFrom, serverHeadWords, holdsClient, clientHeadFrom, clientHeadWords};
 use ids::ClientId;
+use ids::MAX_SHORT;
 use ids::Owner;
 use ids::ServerId;
 use ids::Timestamp;
@@ -15,9 +17,6 @@ use responses::Section;
 use votes::Votes;
 use wire::Fields;
 use wire::Message;
-
-// The largest number of a field of two bytes.
-const MAX_SHORT: u32 = 65_535;
 
 // The numbers before the places of either record, and the words of a record.
 pub const HEAD_WORDS: usize = 5;
