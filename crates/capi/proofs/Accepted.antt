@@ -1,9 +1,9 @@
 -- What is known of a step call that was accepted, by the call.
 use mathlib.Core.Path.{_≡_}
 use Rattle.wire.specs.Step.{Step, stepped}
-use Rattle.votes.specs.Figure1 as votes
+use Rattle.server_votes.specs.Figure1 as votes
 use Rattle.server.specs.declared.Server.{Server}
-use Rattle.responses.specs.Figure1 as client
+use Rattle.client_responses.specs.Figure1 as client
 use Rattle.client.specs.declared.Client.{Client}
 use Rattle.sends.proofs.ServerSends as server-sends
 use Rattle.sends.proofs.ClientSends as client-sends

@@ -16,7 +16,7 @@ use Rattle.ids.proofs.Choice.{both, decided}
 use Rattle.ids.proofs.LimitsLaws.{within-range, client-range}
 use Rattle.ids.specs.declared.Owner.the-variants.{Nobody}
 use Rattle.rows.proofs.RowLaws.{length-row-of}
-use Rattle.responses.specs.Row.{place}
+use Rattle.client_responses.specs.Row.{place}
 use Rattle.server.specs.Record as server
 use Rattle.server.specs.Calls as server-calls
 use Rattle.server.specs.declared.Stepped.{Stepped as ServerStepped}

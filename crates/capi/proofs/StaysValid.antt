@@ -11,13 +11,13 @@ use lib.ListN.{length, length-map, length-drop}
 use Rattle.ids.specs.declared.Refusal.the-variants.{InvalidRecord, RoomShort}
 use Rattle.ids.proofs.Choice.{decided, passed}
 use Rattle.wire.specs.Step.{Step, Outcome, refused, stepped, withRoom}
-use Rattle.votes.specs.Figure1 as votes
+use Rattle.server_votes.specs.Figure1 as votes
 use Rattle.rows.proofs.RowLaws.{length-row-of}
 use Rattle.server.specs.Record as server
 use Rattle.server.specs.Calls as server-calls
 use Rattle.server.specs.declared.Server.{Server}
-use Rattle.responses.specs.Figure1 as client-state
-use Rattle.responses.specs.Row.{place}
+use Rattle.client_responses.specs.Figure1 as client-state
+use Rattle.client_responses.specs.Row.{place}
 use Rattle.client.specs.Record as client
 use Rattle.client.specs.Calls as client-calls
 use Rattle.client.specs.declared.Client.{Client}

@@ -23,10 +23,10 @@ use Rattle.wire.specs.declared.Answer.{Answer}
 use Rattle.wire.specs.declared.Answer.the-variants.{Sent, Refused}
 use Rattle.wire.specs.declared.Message.{Message}
 use Rattle.ids.specs.Limits.{maxServers, validStampedUpTo, validPartiesUpTo}
-use Rattle.votes.specs.Figure1 as votes
-use Rattle.votes.specs.Places.{mails}
-use Rattle.votes.specs.declared.Mail.{Mail}
-use Rattle.votes.specs.declared.Mail.the-variants.{Nothing, One}
+use Rattle.server_votes.specs.Figure1 as votes
+use Rattle.server_votes.specs.Places.{mails}
+use Rattle.server_votes.specs.declared.Mail.{Mail}
+use Rattle.server_votes.specs.declared.Mail.the-variants.{Nothing, One}
 use Rattle.server.specs.Record as server
 use Rattle.server.specs.Calls as server-calls
 use Rattle.server.specs.Parts.{threeMails, sentAnswer, sentBuffer}
@@ -35,8 +35,8 @@ use Rattle.server.specs.declared.Head.{Head as ServerHead}
 use Rattle.server.specs.declared.Server.{Server}
 use Rattle.server.specs.declared.Ruling.the-variants.{Done, Refused as Ruled}
 use Rattle.server.specs.declared.Turned.{Turned as ServerTurned}
-use Rattle.responses.specs.Figure1 as client-state
-use Rattle.responses.specs.Row.{place}
+use Rattle.client_responses.specs.Figure1 as client-state
+use Rattle.client_responses.specs.Row.{place}
 use Rattle.client.specs.Record as client
 use Rattle.client.specs.Calls as client-calls
 use Rattle.client.specs.Steps.{Answers}

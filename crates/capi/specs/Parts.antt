@@ -8,7 +8,7 @@ use Rattle.ids.specs.declared.Refusal.the-variants.{RoomShort}
 use Rattle.wire.specs.Step.{Outcome, refused, stepped}
 use Rattle.wire.specs.declared.Answer.{Answer}
 use Rattle.wire.specs.declared.Answer.the-variants.{Sent, Refused}
-use Rattle.votes.specs.Figure1 as votes
+use Rattle.server_votes.specs.Figure1 as votes
 use Rattle.server.specs.Record as server
 use Rattle.server.specs.Calls as server-calls
 use Rattle.server.specs.Parts.{threeMails}
@@ -16,7 +16,7 @@ use Rattle.server.specs.declared.Ruling.{Ruling}
 use Rattle.server.specs.declared.Ruling.the-variants.{Done, Refused as Ruled}
 use Rattle.server.specs.declared.Turned.{Turned}
 use Rattle.server.specs.declared.Server.{Server}
-use Rattle.responses.specs.Figure1 as client-state
+use Rattle.client_responses.specs.Figure1 as client-state
 use Rattle.client.specs.Calls as client-calls
 use Rattle.client.specs.declared.Client.{Client}
 use Rattle.words.specs.Records.{maxWord, serverWords}

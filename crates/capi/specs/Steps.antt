@@ -15,11 +15,11 @@ use Rattle.ids.specs.declared.Refusal.the-variants.{NumberOutOfRange, RoomShort
 use Rattle.wire.specs.Format.{sizeOfAll}
 use Rattle.wire.specs.Step.{Outcome, refused, stepped, stay, withRoom, sentInto}
 use Rattle.wire.specs.declared.Message.{Message}
-use Rattle.votes.specs.Figure1 as votes
+use Rattle.server_votes.specs.Figure1 as votes
 use Rattle.server.specs.Record as server
 use Rattle.server.specs.Calls as server-calls
 use Rattle.server.specs.declared.Server.{Server}
-use Rattle.responses.specs.Figure1 as client-state
+use Rattle.client_responses.specs.Figure1 as client-state
 use Rattle.client.specs.Record as client
 use Rattle.client.specs.Calls as client-calls
 use Rattle.client.specs.declared.Client.{Client}

@@ -1,4 +1,4 @@
--- The functions on a struct by value as callees of `host`'s thin functions: struct, number and the struct of the two with their laws, and the contracts.
+-- The functions on a struct by value as callees of `server_host`'s thin functions: struct, number and the struct of the two with their laws, and the contracts.
 use Prim.Native.Nat.{ℕ}
 use mathlib.Core.List.{List, [], _∷_}
 use mir.Syntax.{tyInt, w32}
@@ -8,7 +8,7 @@ use denote.Builtin.{u32}
 use denote.Plain.{uint-tells, uint-lawful, uint-makes}
 use denote.Struct.Laws as LL
 use Rattle.wire.specs.Step.{Outcome}
-use Rattle.host.proofs.Thin.{Types}
+use Rattle.server_host.proofs.Thin.{Types}
 use Rattle.capi_host.specs.Leaves.{Leaves}
 use Rattle.capi_host.specs.declared.Host.{Host}
 use Rattle.capi_host.specs.declared.Stepped.{Stepped}

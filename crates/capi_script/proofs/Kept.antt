@@ -15,7 +15,7 @@ use Rattle.script.specs.declared.Progress.{Progress}
 use Rattle.script.specs.declared.Progress.the-variants.{Took, Refused}
 use Rattle.script.specs.Calls.{feedAnswer, FeedLeaves, finishAnswer, FinishLeaves, maxEnding}
 use Rattle.capi_script.specs.Calls.{countsOf, fed, ended, Leaves}
-use Rattle.output.specs.Reader.{maxPrinted}
+use Rattle.script_output.specs.Reader.{maxPrinted}
 
 module _ (w out counts w′ out′ counts′ : List ℕ) (x : Refusal) where
   took-refused : (u k : ℕ) → Took u k ≡ Refused x → ⊥

@@ -30,12 +30,12 @@ use Rattle.rows.specs.Rows.{requestsIn, rowOf, queueOf, fitsPlace}
 use Rattle.rows.specs.Good.{goodRow}
 use Rattle.rows.proofs.GoodLaws.{padded-good}
 use Rattle.rows.proofs.RowLaws.{row-of-queue, row-of-padded}
-use Rattle.responses.specs.declared.Section.{Section}
-use Rattle.responses.specs.declared.Section.the-variants.{Remainder, Trying, Critical}
-use Rattle.responses.specs.Figure1.{State, fresh, next, filled, count, own, enough, isRemainder, isCritical, mayTry, lastTry, tries, exits, current, heard, judge, responds, checked}
-use Rattle.responses.specs.Row.{shown, place, responsesIn, ownIsCurrent}
-use Rattle.responses.proofs.CountLaws.{length-responses}
-use Rattle.responses.proofs.HearLaws.{shown-place, place-fits}
+use Rattle.client_responses.specs.declared.Section.{Section}
+use Rattle.client_responses.specs.declared.Section.the-variants.{Remainder, Trying, Critical}
+use Rattle.client_responses.specs.Figure1.{State, fresh, next, filled, count, own, enough, isRemainder, isCritical, mayTry, lastTry, tries, exits, current, heard, judge, responds, checked}
+use Rattle.client_responses.specs.Row.{shown, place, responsesIn, ownIsCurrent}
+use Rattle.client_responses.proofs.CountLaws.{length-responses}
+use Rattle.client_responses.proofs.HearLaws.{shown-place, place-fits}
 use Rattle.client.specs.declared.Client.{Client}
 use Rattle.client.specs.Record.{maxPlaces, rowWords, clientOf, headIn, view, store, validSizes, fitsSection, noMore, fitsTimestamp, validUpTo, valid}
 use Rattle.client.specs.Calls.{beginOutcome, exitOutcome, messageOutcomeUpTo, received, forClient, clientAfter}

@@ -11,7 +11,7 @@ use Rattle.ids.specs.declared.Owner.the-variants.{Nobody, Of}
 use Rattle.ids.proofs.RequestLaws.{same-true}
 use Rattle.rows.specs.Rows.{requestsIn, rowOf, Padded}
 use Rattle.rows.proofs.RowLaws.{row-kept, row-of-none}
-use Rattle.responses.specs.Row.{shown, place, responsesIn}
+use Rattle.client_responses.specs.Row.{shown, place, responsesIn}
 use Rattle.client.specs.declared.Client.{Client}
 use Rattle.client.specs.Record.{rowWords, clientOf, view, store}
 

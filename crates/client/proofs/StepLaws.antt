@@ -28,14 +28,14 @@ use Rattle.wire.specs.declared.Message.{Message}
 use Rattle.wire.specs.declared.Message.the-variants.{Release, Response, Check}
 use Rattle.wire.proofs.Sequence.{sizeOfAll-one, bytesOfAll-one}
 use Rattle.rows.specs.Rows.{rowOf, Padded, Put}
-use Rattle.responses.specs.declared.Section.{Section}
-use Rattle.responses.specs.declared.Section.the-variants.{Remainder, Trying, Critical}
-use Rattle.responses.specs.Figure1.{State, fresh, next, filled, count, own, enough, isRemainder, isTrying, isCritical, lastTry, toAll, tries, exits, round, decide, judge, responds, checked}
-use Rattle.responses.specs.Row.{place, responsesIn, placeOf, heardRow}
-use Rattle.responses.proofs.CountLaws.{length-responses}
-use Rattle.responses.proofs.SendLaws.{request-plain, release-plain, length-toAll, size-toAll}
-use Rattle.responses.proofs.RoundLaws.{size-round, length-round}
-use Rattle.responses.proofs.HearLaws.{heardRow-size, heardRow-padded, heardRow-shown, heardRow-undone}
+use Rattle.client_responses.specs.declared.Section.{Section}
+use Rattle.client_responses.specs.declared.Section.the-variants.{Remainder, Trying, Critical}
+use Rattle.client_responses.specs.Figure1.{State, fresh, next, filled, count, own, enough, isRemainder, isTrying, isCritical, lastTry, toAll, tries, exits, round, decide, judge, responds, checked}
+use Rattle.client_responses.specs.Row.{place, responsesIn, placeOf, heardRow}
+use Rattle.client_responses.proofs.CountLaws.{length-responses}
+use Rattle.client_responses.proofs.SendLaws.{request-plain, release-plain, length-toAll, size-toAll}
+use Rattle.client_responses.proofs.RoundLaws.{size-round, length-round}
+use Rattle.client_responses.proofs.HearLaws.{heardRow-size, heardRow-padded, heardRow-shown, heardRow-undone}
 use Rattle.client.specs.declared.Client.{Client}
 use Rattle.client.specs.declared.Head.{Head}
 use Rattle.client.specs.declared.Stepped.{Stepped}

@@ -18,11 +18,11 @@ use Rattle.ids.proofs.LimitsLaws.{within-range}
 use Rattle.rows.specs.Rows.{Padded}
 use Rattle.rows.specs.Good.{goodRow}
 use Rattle.rows.proofs.GoodLaws.{good-padded}
-use Rattle.responses.specs.declared.Section.{Section}
-use Rattle.responses.specs.declared.Section.the-variants.{Remainder, Trying, Critical}
-use Rattle.responses.specs.Figure1.{isCritical, filled, count, own, enough}
-use Rattle.responses.specs.Row.{responsesIn, ownIsCurrent, misfit}
-use Rattle.responses.proofs.CountLaws.{no-misfit}
+use Rattle.client_responses.specs.declared.Section.{Section}
+use Rattle.client_responses.specs.declared.Section.the-variants.{Remainder, Trying, Critical}
+use Rattle.client_responses.specs.Figure1.{isCritical, filled, count, own, enough}
+use Rattle.client_responses.specs.Row.{responsesIn, ownIsCurrent, misfit}
+use Rattle.client_responses.proofs.CountLaws.{no-misfit}
 use Rattle.client.specs.declared.Client.{Client}
 use Rattle.client.specs.declared.Head.{Head}
 use Rattle.client.specs.Record.{clientOf, view, validSizesUpTo, validSizes, fitsSection, noMore, fitsTimestamp, validUpTo, valid}

@@ -15,8 +15,8 @@ use Rattle.wire.specs.declared.Answer.the-variants.{Sent, Refused}
 use Rattle.wire.specs.declared.Message.{Message}
 use Rattle.wire.specs.declared.Message.the-variants.{Request, Yield, Release, Inquiry, Response, Check}
 use Rattle.rows.specs.Rows.{rowOf}
-use Rattle.responses.specs.Figure1.{State, fresh, enough, tryChecked, exitChecked, tries, exits, responds, checked}
-use Rattle.responses.specs.Row.{place}
+use Rattle.client_responses.specs.Figure1.{State, fresh, enough, tryChecked, exitChecked, tries, exits, responds, checked}
+use Rattle.client_responses.specs.Row.{place}
 use Rattle.client.specs.declared.Client.{Client}
 use Rattle.client.specs.declared.Head.{Head}
 use Rattle.client.specs.declared.Stepped.{Stepped}

@@ -11,10 +11,10 @@ use Rattle.ids.specs.declared.Request.{Request}
 use Rattle.ids.specs.declared.Owner.{Owner}
 use Rattle.rows.specs.Rows.{rowOf}
 use Rattle.rows.specs.Good.{goodRow}
-use Rattle.responses.specs.declared.Section.{Section}
-use Rattle.responses.specs.declared.Section.the-variants.{Remainder, Trying, Critical}
-use Rattle.responses.specs.Figure1.{State, Quorum, enough, filled, count, own}
-use Rattle.responses.specs.Row.{place, responsesIn, ownIsCurrent}
+use Rattle.client_responses.specs.declared.Section.{Section}
+use Rattle.client_responses.specs.declared.Section.the-variants.{Remainder, Trying, Critical}
+use Rattle.client_responses.specs.Figure1.{State, Quorum, enough, filled, count, own}
+use Rattle.client_responses.specs.Row.{place, responsesIn, ownIsCurrent}
 use Rattle.client.specs.declared.Client.{Client}
 use Rattle.client.specs.declared.Head.{Head}
 

@@ -18,10 +18,10 @@ use Rattle.wire.specs.declared.Answer.{Answer}
 use Rattle.wire.specs.declared.Answer.the-variants.{Sent, Refused}
 use Rattle.wire.specs.declared.Message.{Message}
 use Rattle.wire.specs.declared.Message.the-variants.{Request as REQUEST, Release as RELEASE}
-use Rattle.responses.specs.declared.Section.{Section}
-use Rattle.responses.specs.declared.Section.the-variants.{Trying}
-use Rattle.responses.specs.Figure1.{State, enough, round}
-use Rattle.responses.specs.Row.{responsesIn, ownIsCurrent}
+use Rattle.client_responses.specs.declared.Section.{Section}
+use Rattle.client_responses.specs.declared.Section.the-variants.{Trying}
+use Rattle.client_responses.specs.Figure1.{State, enough, round}
+use Rattle.client_responses.specs.Row.{responsesIn, ownIsCurrent}
 use Rattle.client.specs.declared.Head.{Head}
 use Rattle.client.specs.declared.Stepped.{Stepped}
 use Rattle.client.specs.declared.Turned.{Turned}

@@ -9,18 +9,18 @@ ghost use Rattle.wire.specs.Format.{messageBytes, bytesOfAll};
 ghost use Rattle.wire.specs.Format as format;
 ghost use Rattle.wire.specs.Step.{refused, stepped, withRoom, sentInto};
 ghost use Rattle.rows.specs.Rows.{Padded};
-ghost use Rattle.responses.specs.Figure1.{isRemainder, isTrying, isCritical, fresh as freshOf, enough, lastTry, toAll, tries, exits, decide as decideOf, judge as judgeOf, responds, checked};
-ghost use Rattle.responses.specs.Row.{responsesIn};
+ghost use Rattle.client_responses.specs.Figure1.{isRemainder, isTrying, isCritical, fresh as freshOf, enough, lastTry, toAll, tries, exits, decide as decideOf, judge as judgeOf, responds, checked};
+ghost use Rattle.client_responses.specs.Row.{responsesIn};
 ghost use Rattle.client.specs.Record.{rowWords, clientOf, headIn, validSizes, fitsSection, noMore, fitsTimestamp, valid, view};
 ghost use Rattle.client.specs.Calls.{forClient, received, newResult, beginOutcome, exitOutcome, messageOutcome, result, turned};
 ghost use Rattle.client.specs.Steps.{request, headWith, validPlaces, isRefused, refusedNew, requests, releases, yields, Answers};
+use client_responses::Section;
 use ids::ClientId;
 use ids::Owner;
 use ids::Refusal;
 use ids::Request;
 use ids::ServerId;
 use ids::Timestamp;
-use responses::Section;
 use wire::Answer;
 use wire::MESSAGE_BYTES;
 use wire::Message;
@@ -95,7 +95,7 @@ fn enough_own(r: Request, row: &[u32], n: usize, m: usize) -> bool
     requires { ⌜ 2 * n ≤ length (now row) ⌝ }
     ensures { λ b. ⌜ b ≡ fitsSection (enough m) Section.Critical r (responsesIn (now (row .entry)) n) ⌝ }
 {
-    m <= responses::own_count(r, row, n)
+    m <= client_responses::own_count(r, row, n)
 }
 
 // Whether as many of the first `n` places are filled as may be in this section, with `m` for the threshold.
@@ -103,7 +103,7 @@ fn fits_section(s: Section, r: Request, row: &[u32], n: usize, m: usize) -> bool
     requires { ⌜ 2 * n ≤ length (now row) ⌝ }
     ensures { λ b. ⌜ b ≡ fitsSection (enough m) s r (responsesIn (now (row .entry)) n) && noMore s m (responsesIn (now (row .entry)) n) ⌝ }
 {
-    let found = responses::filled_count(row, n);
+    let found = client_responses::filled_count(row, n);
     match s {
         Section::Remainder => found == 0,
         Section::Trying => found < m,
@@ -118,7 +118,7 @@ fn valid_places(h: Head, row: &[u32]) -> bool
 {
     let r = request_of(h);
     let n = h.n as usize;
-    if responses::misfit_count(r, row, n) != 0 {
+    if client_responses::misfit_count(r, row, n) != 0 {
         return false;
     }
     let section = h.section;
@@ -293,12 +293,12 @@ fn yield_round(h: Head, row: &mut [u32], out: &mut [u8]) -> Turned
     requires { ⌜ Padded (now row) (h .n) ⌝ }
     ensures { λ r. ⌜ Answers h (now (row .entry)) (stepped (yields (h .n) (request h) (responsesIn (now (row .entry)) (h .n)))) (now (out .entry)) r (now (row .exit)) (now (out .exit)) ⌝ }
 {
-    let found = responses::filled_count(row, h.n as usize);
+    let found = client_responses::filled_count(row, h.n as usize);
     let size = MESSAGE_BYTES * found;
     if out.len() < size {
         return refuse(h, Refusal::RoomShort);
     }
-    responses::send_round(request_of(h), row, h.n, out);
+    client_responses::send_round(request_of(h), row, h.n, out);
     rows::clear(row);
     moved(h, Section::Trying, h.timestamp, found, size)
 }
@@ -324,8 +324,8 @@ fn judge(h: Head, row: &mut [u32], out: &mut [u8]) -> Turned
 {
     let n = h.n as usize;
     let m = h.m as usize;
-    let full = m <= responses::filled_count(row, n);
-    let own = m <= responses::own_count(request_of(h), row, n);
+    let full = m <= client_responses::filled_count(row, n);
+    let own = m <= client_responses::own_count(request_of(h), row, n);
     decide(full, own, h, row, out)
 }
 
@@ -348,7 +348,7 @@ pub fn respond_row(h: Head, row: &mut [u32], j: ServerId, o: Owner, out: &mut [u
     if !is_trying(section) {
         return moved(h, section, h.timestamp, 0, 0);
     }
-    let old = responses::hear(request_of(h), row, j, o);
+    let old = client_responses::hear(request_of(h), row, j, o);
     let r = judge(h, row, out);
     let answer = r.answer;
     if is_refused(answer) {

@@ -2,14 +2,14 @@
 // goes to standard output as a gallery script, so that `bin/commission 3 2 1 | bin/gallery` plays it. Arguments that are not three
 // numbers are refused 16, as a script's first line is.
 use ids::Refusal;
-use language::Reading;
 use libc::STDERR_FILENO;
 use libc::STDOUT_FILENO;
 use quorum::Verdict;
+use script_numbers::Reading;
 
 // What is said of the setting.
 fn say(out: &mut [u8], n: u32, m: u32, f: u32) {
-    let said = screen::put_report(out, n, m, f);
+    let said = text_screen::put_report(out, n, m, f);
     console::write_out(STDERR_FILENO, &out[0..said]);
 }
 
@@ -18,7 +18,7 @@ fn show(out: &mut [u8], n: u32, m: u32, f: u32) {
     let v = quorum::check(n, m, f);
     match v {
         Verdict::Unsafe(_, events) => {
-            let end = screen::put_script(out, n, m, f, events);
+            let end = text_screen::put_script(out, n, m, f, events);
             console::write_out(STDOUT_FILENO, &out[0..end]);
         }
         Verdict::Accepted(_) => {}
@@ -31,12 +31,12 @@ fn show(out: &mut [u8], n: u32, m: u32, f: u32) {
 fn argument(i: usize) -> Reading {
     let mut word = [0u8; 11];
     let n = os::arg(i, &mut word);
-    language::read_number(&word[0..n])
+    script_numbers::read_number(&word[0..n])
 }
 
 // Arguments that are not three numbers.
 fn refuse(out: &mut [u8]) {
-    let end = screen::put_refused(out, 0, Refusal::BadLine, b" not three numbers");
+    let end = text_screen::put_refused(out, 0, Refusal::BadLine, b" not three numbers");
     console::write_out(STDERR_FILENO, &out[0..end]);
 }
 

@@ -6,7 +6,7 @@ ghost use Prim.Native.Nat.{_≤_};
 ghost use lib.ListN.{length};
 ghost use Rattle.console.specs.Fits.{Fits};
 ghost use Rattle.script.specs.State.{valid};
-ghost use Rattle.stream.specs.Answered.{Answered};
+ghost use Rattle.script_stream.specs.Answered.{Answered};
 ghost use Rattle.script.specs.Calls.{maxEnding};
 use console::Input;
 
@@ -18,10 +18,10 @@ fn answer(w: &mut [u32], part: &[u8], input: Input, out: &mut [u8]) -> bool
     match input {
         Input::Failed => false,
         Input::End => {
-            stream::finish(w, out);
+            script_stream::finish(w, out);
             false
         }
-        Input::Bytes(n) => stream::answer_part(w, &part[0..n], out),
+        Input::Bytes(n) => script_stream::answer_part(w, &part[0..n], out),
     }
 }
 
@@ -31,7 +31,7 @@ fn run(w: &mut [u32], part: &mut [u8], out: &mut [u8])
 {
     let mut turns = u64::MAX;
     while turns > 0 {
-        let input = stream::read_part(w, part);
+        let input = script_stream::read_part(w, part);
         if !answer(w, part, input, out) {
             return;
         }
@@ -40,7 +40,7 @@ fn run(w: &mut [u32], part: &mut [u8], out: &mut [u8])
 }
 
 fn main() {
-    let mut state = stream::start();
+    let mut state = script_stream::start();
     let mut part = io::large_buffer();
     let mut out = io::large_buffer();
     run(&mut state, &mut part, &mut out);

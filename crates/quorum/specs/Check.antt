@@ -11,7 +11,7 @@ use Rattle.ids.specs.Choice.{if_then_else_}
 use Rattle.ids.specs.Limits.{within, maxServers}
 use Rattle.ids.specs.Refusals.{code}
 use Rattle.ids.specs.declared.Refusal.the-variants.{ParameterOutOfRange, Unsafe as NotSafe, Stalls as Stalling}
-use Rattle.responses.specs.Figure1.{enough}
+use Rattle.client_responses.specs.Figure1.{enough}
 use Rattle.system.specs.Limits.{systemClients}
 use Rattle.system.specs.Setting as setting
 use Rattle.system.specs.Setting.{ShowsUnsafe, unsafeRun}

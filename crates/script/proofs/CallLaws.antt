@@ -8,8 +8,8 @@ use lib.Dec.{leb}
 use lib.ListN.{length}
 use lib.Seq.{length-sets}
 use borrow.Author.Tests.{le-ltb, le-leb}
-use Rattle.output.specs.Reader.{Fed, fedWithin, finished, maxPrinted}
-use Rattle.output.proofs.Cuts.{used-few}
+use Rattle.script_output.specs.Reader.{Fed, fedWithin, finished, maxPrinted}
+use Rattle.script_output.proofs.Cuts.{used-few}
 use Rattle.script.specs.State.{view, valid, stateSize}
 use Rattle.script.specs.Calls.{newAnswer, newWords, feedAnswer, FeedLeaves, finishAnswer, FinishLeaves, maxEnding}
 use Rattle.script.specs.declared.Progress.{Progress}

@@ -20,14 +20,14 @@ use Rattle.system.specs.Places.{System, holders}
 use Rattle.system.specs.Runs.{after}
 use Rattle.system.specs.Events.{Result}
 use Rattle.system.specs.declared.Setting.{Setting}
-use Rattle.language.specs.Words.{newline}
-use Rattle.language.specs.Lines.{eventIn, settingIn}
-use Rattle.language.proofs.PrintedLaws.{refused-short, no-short, ok-short, header-short, end-short}
+use Rattle.script_lines.specs.Words.{newline}
+use Rattle.script_lines.specs.Lines.{eventIn, settingIn}
+use Rattle.script_lines.proofs.PrintedLaws.{refused-short, no-short, ok-short, header-short, end-short}
 use Rattle.simulation.specs.Opens.{inRange}
-use Rattle.output.specs.Output.{maxLines, answerLine}
+use Rattle.script_output.specs.Output.{maxLines, answerLine}
 use Rattle.script.specs.declared.Progress.{Progress}
 use Rattle.script.specs.declared.Progress.the-variants.{Took, Refused}
-use Rattle.output.specs.Reader.{Script, Stage, opening, running, closed, Reader, Printed, opened, lineTaken, worked, taken, Fed, maxPrinted, followed, fedWithin, ended, lastLine, finished, maxKept}
+use Rattle.script_output.specs.Reader.{Script, Stage, opening, running, closed, Reader, Printed, opened, lineTaken, worked, taken, Fed, maxPrinted, followed, fedWithin, ended, lastLine, finished, maxKept}
 use Rattle.script.specs.State.{stageClosed, stageAt, lengthAt, keptIn, simulationIn, stageOf, view, valid, stateSize}
 use Rattle.script.specs.Calls.{feedAnswer, FeedLeaves, finishAnswer, FinishLeaves, Sound, Ready, Does, Takes, FedAs, maxEnding}
 use Rattle.script.proofs.StateLaws.{itself-is, view-is, valid-is, store-stage, store-length, from-facts}

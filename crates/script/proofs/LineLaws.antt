@@ -12,9 +12,9 @@ use Rattle.ids.specs.Lists.{every}
 use Rattle.ids.proofs.ListLaws.{every-set, every-at}
 use Rattle.ids.proofs.Choice.{both}
 use lib.Dec.{eqb}
-use Rattle.places.proofs.Fronts.{Passing, passing-none, passing-failed, passing-more, passing-all}
-use Rattle.language.proofs.PutLaws.{Copied, copied-more, copied-all}
-use Rattle.output.specs.Reader.{maxKept, behind}
+use Rattle.sim_blocks.proofs.Fronts.{Passing, passing-none, passing-failed, passing-more, passing-all}
+use Rattle.script_lines.proofs.PutLaws.{Copied, copied-more, copied-all}
+use Rattle.script_output.specs.Reader.{maxKept, behind}
 use Rattle.script.specs.State.{lengthAt, lineFrom, stateSize, Head, headIn, keptIn, simulationIn, stageOf, view, validRun, byteWord, validParts, valid}
 use Rattle.script.specs.Calls.{Sound}
 use Rattle.script.proofs.StateLaws.{Is, itself-is, kept-long, view-is, valid-is, store-kept, store-length, Facts, facts, from-facts}

@@ -7,7 +7,7 @@ use mathlib.Core.List.{List, _++_}
 use lib.ListN.{length, drop, replicate}
 use lib.Seq.{sets-eq, length-sets}
 use borrow.Author.Tests.{eq-eqb}
-use Rattle.output.specs.Reader.{empty, maxKept}
+use Rattle.script_output.specs.Reader.{empty, maxKept}
 use Rattle.script.specs.State.{headIn, keptIn, simulationIn, stageOf, view, valid, stateSize, stateHead}
 use Rattle.script.specs.Calls.{newWords}
 use Rattle.script.proofs.StateLaws.{Is, view-is, valid-is, from-facts}

@@ -12,15 +12,15 @@ use Rattle.ids.specs.Choice.{if_then_else_}
 use Rattle.ids.specs.Lists.{every}
 use Rattle.ids.proofs.Choice.{both, decided, Test}
 use mathlib.Core.Logic.{inl, inr}
-use Rattle.regions.proofs.SetsLaws.{region-inside, region-behind, take-sets-after}
-use Rattle.places.proofs.BlockParts.{covered}
-use Rattle.layout.specs.Layout as layout
+use Rattle.sim_blocks.proofs.RegionLaws.{region-inside, region-behind, take-sets-after}
+use Rattle.sim_blocks.proofs.BlockParts.{covered}
+use Rattle.sim_layout.specs.Layout as layout
 use Rattle.system.specs.Limits.{systemClients}
 use Rattle.system.specs.Places.{holders}
-use Rattle.output.specs.Output.{maxLines}
-use Rattle.output.specs.Reader.{maxKept}
+use Rattle.script_output.specs.Output.{maxLines}
+use Rattle.script_output.specs.Reader.{maxKept}
 use Rattle.script.specs.State.{stageRunning, stageClosed, stageAt, answeredAt, acceptedAt, holdingAt, lengthAt, lineFrom, stateSize, Head, headIn, keptIn, simulationIn, stageOf, lineOf, view, validRun, byteWord, validParts, valid, stateHead}
-use Rattle.layout.specs.Layout.{simulationSize}
+use Rattle.sim_layout.specs.Layout.{simulationSize}
 
 -- w is these parts
 pub record Is (w : List ℕ) (h : Head) (l s : List ℕ) : Type 0 where

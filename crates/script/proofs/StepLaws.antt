@@ -16,7 +16,7 @@ use Rattle.ids.specs.Limits.{within, maxShort}
 use Rattle.ids.specs.declared.Refusal.{Refusal}
 use Rattle.ids.specs.declared.Refusal.the-variants.{BadLine, ParameterOutOfRange, NoSuchParty}
 use Rattle.ids.proofs.LimitsLaws.{within-range}
-use Rattle.responses.specs.Figure1.{count}
+use Rattle.client_responses.specs.Figure1.{count}
 use Rattle.quorum.proofs.CheckLaws.{range}
 use Rattle.system.specs.declared.Event.{Event}
 use Rattle.system.specs.declared.Event.the-variants.{Try, Exit, Fall, Down, Up, Take, Drop, Miss, Check}
@@ -24,36 +24,36 @@ use Rattle.system.specs.Numbered.{has}
 use Rattle.system.specs.Places.{System, isInside, holders}
 use Rattle.system.specs.Events.{Result, withPlaces}
 use Rattle.system.specs.Runs.{after, isStepped}
-use Rattle.regions.specs.Blocks.{blocks}
-use Rattle.regions.proofs.BlockLaws.{length-blocks}
-use Rattle.places.specs.Blocks.{clientPlace, clientBlock}
+use Rattle.sim_blocks.specs.Regions.{blocks}
+use Rattle.sim_blocks.proofs.RegionBlocks.{length-blocks}
+use Rattle.sim_blocks.specs.Blocks.{clientPlace, clientBlock}
 use Rattle.wire.specs.Step.{refused, stepped}
 use Rattle.system.specs.declared.Setting.{Setting}
-use Rattle.language.specs.declared.First.the-variants.{Setting as Opens, Bad as NotOpening}
-use Rattle.language.specs.declared.Line.the-variants.{Event as Says, Unknown, Bad}
-use Rattle.language.specs.Words.{newline}
-use Rattle.language.specs.Lines.{eventIn, sixteenBits, lineOf, firstOf, settingIn as line-setting}
-use Rattle.language.specs.Printed.{headerLine, noLine, okLine, endLine, refusedLine}
-use Rattle.language.proofs.PrintedLaws.{no-short, ok-short, header-short, end-short}
-use Rattle.places.proofs.Fronts.{Clearing, clearing-more}
-use Rattle.layout.specs.Layout as layout
-use Rattle.layout.proofs.ValidLaws as layout-laws
-use Rattle.layout.proofs.LendLaws.{came-back}
-use Rattle.layout.proofs.PlaceLaws.{client-there, server-there}
-use Rattle.bounded.proofs.Answers.{no-client-tries, no-client-exits, no-client-falls, no-server-downs, no-server-ups, no-server-misses, no-server-checks}
-use Rattle.bounded.specs.Happens as bounded
+use Rattle.script_lines.specs.declared.First.the-variants.{Setting as Opens, Bad as NotOpening}
+use Rattle.script_lines.specs.declared.Line.the-variants.{Event as Says, Unknown, Bad}
+use Rattle.script_lines.specs.Words.{newline}
+use Rattle.script_lines.specs.Lines.{eventIn, sixteenBits, lineOf, firstOf, settingIn as line-setting}
+use Rattle.script_lines.specs.Printed.{headerLine, noLine, okLine, endLine, refusedLine}
+use Rattle.script_lines.proofs.PrintedLaws.{no-short, ok-short, header-short, end-short}
+use Rattle.sim_blocks.proofs.Fronts.{Clearing, clearing-more}
+use Rattle.sim_layout.specs.Layout as layout
+use Rattle.sim_layout.proofs.ValidLaws as layout-laws
+use Rattle.sim_layout.proofs.LendLaws.{came-back}
+use Rattle.sim_layout.proofs.PlaceLaws.{client-there, server-there}
+use Rattle.sim_changes.proofs.Answers.{no-client-tries, no-client-exits, no-client-falls, no-server-downs, no-server-ups, no-server-misses, no-server-checks}
+use Rattle.sim_changes.specs.Happens as bounded
 use Rattle.simulation.specs.Opens.{inRange, opens}
-use Rattle.bounded.specs.declared.Reply.{Reply}
-use Rattle.bounded.specs.declared.Reply.the-variants as reply
-use Rattle.runs.specs.declared.Counts.{Counts}
-use Rattle.runs.specs.declared.Went.{Went}
-use Rattle.runs.specs.declared.Begun.{Begun}
-use Rattle.runs.specs.declared.Begun.the-variants as begun
-use Rattle.runs.specs.Run.{Run, fresh, started, moved, next}
-use Rattle.runs.specs.Calls.{maxAccepted, runIn, countsOf, newAnswer, NewLeaves, Goes}
-use Rattle.runs.proofs.Whole.{moved-system, moved-accepted, moved-holding}
-use Rattle.output.specs.Output.{maxLines, answerLine}
-use Rattle.output.specs.Reader.{Script, Stage, opening, running, closed, Reader, Printed, unanswered, opened, onward, lineTaken, worked, behind, taken, ended, lastLine, maxKept, maxPrinted}
+use Rattle.sim_changes.specs.declared.Reply.{Reply}
+use Rattle.sim_changes.specs.declared.Reply.the-variants as reply
+use Rattle.sim_run.specs.declared.Counts.{Counts}
+use Rattle.sim_run.specs.declared.Went.{Went}
+use Rattle.sim_run.specs.declared.Begun.{Begun}
+use Rattle.sim_run.specs.declared.Begun.the-variants as begun
+use Rattle.sim_run.specs.Run.{Run, fresh, started, moved, next}
+use Rattle.sim_run.specs.Calls.{maxAccepted, runIn, countsOf, newAnswer, NewLeaves, Goes}
+use Rattle.sim_run.proofs.Whole.{moved-system, moved-accepted, moved-holding}
+use Rattle.script_output.specs.Output.{maxLines, answerLine}
+use Rattle.script_output.specs.Reader.{Script, Stage, opening, running, closed, Reader, Printed, unanswered, opened, onward, lineTaken, worked, behind, taken, ended, lastLine, maxKept, maxPrinted}
 use Rattle.script.specs.State.{stageOpening, stageRunning, stageClosed, stageAt, answeredAt, acceptedAt, holdingAt, lengthAt, stateSize, Head, headIn, keptIn, simulationIn, countsIn, scriptIn, stageOf, view, validRun, valid, stateHead}
 use Rattle.script.specs.declared.Progress.the-variants.{Took, Refused}
 use Rattle.script.specs.Calls.{newAnswer as newScript, newWords, Sound, Ready, Reads, Does, Takes, happened, passing, replyLine, withCounts}
@@ -61,7 +61,7 @@ use Rattle.script.proofs.StateLaws.{Is, itself-is, view-is, valid-is, s
 use Rattle.script.proofs.TestLaws.{few-clients, part-long}
 use Rattle.script.proofs.LineLaws.{known, sound, line-long, line-parsed}
 use Rattle.system.specs.Limits.{systemClients, systemServers}
-use Rattle.layout.specs.Layout.{simulationSize}
+use Rattle.sim_layout.specs.Layout.{simulationSize}
 
 -- the line, parsed
 pub line-read : {A : Type 0} (f : List ℕ → A) (w : List ℕ) → Sound w → (o l : List ℕ) → length o ≡ maxKept → l ≡ sets o 0 (view w .line) →

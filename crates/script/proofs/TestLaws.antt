@@ -10,14 +10,14 @@ use borrow.Author.Tests.{le-leb, lt-leb, eq-eqb, ne-eqb, not-true, not-false}
 use Rattle.ids.specs.Lists.{every}
 use Rattle.ids.proofs.LimitsLaws.{within-range}
 use Rattle.system.specs.Places.{holders}
-use Rattle.layout.specs.Layout as layout
-use Rattle.layout.proofs.ValidLaws as layout-laws
+use Rattle.sim_layout.specs.Layout as layout
+use Rattle.sim_layout.proofs.ValidLaws as layout-laws
 use Rattle.script.specs.State.{stageRunning, stageClosed, stageAt, answeredAt, acceptedAt, holdingAt, lengthAt, stateSize, headIn, keptIn, simulationIn, validRun, byteWord, validParts, valid, stateHead}
 use Rattle.script.proofs.StateLaws.{simulation-long}
 use Rattle.system.specs.Limits.{systemClients}
-use Rattle.layout.specs.Layout.{simulationSize}
-use Rattle.output.specs.Output.{maxLines}
-use Rattle.output.specs.Reader.{maxKept}
+use Rattle.sim_layout.specs.Layout.{simulationSize}
+use Rattle.script_output.specs.Output.{maxLines}
+use Rattle.script_output.specs.Reader.{maxKept}
 
 -- a valid simulation has at most 16 clients
 pub few-clients : (s : List ℕ) → layout.valid s ≡ true → getD s 3 0 ≤ systemClients

@@ -12,13 +12,13 @@ use Rattle.ids.specs.declared.Refusal.the-variants.{RoomShort, InvalidRecord, P
 use Rattle.script.specs.declared.Progress.{Progress}
 use Rattle.script.specs.declared.Progress.the-variants.{Took, Refused}
 use Rattle.system.specs.declared.Event.{Event}
-use Rattle.bounded.specs.declared.Reply.{Reply}
-use Rattle.bounded.specs.declared.Reply.the-variants as reply
-use Rattle.runs.specs.declared.Counts.{Counts}
-use Rattle.runs.specs.Run.{happens, next}
-use Rattle.language.specs.Printed.{noLine, okLine}
-use Rattle.output.specs.Output.{answerLine, maxLines}
-use Rattle.output.specs.Reader.{Script, Stage, running, closed, Reader, Printed, onward, maxPrinted, fedWithin, finished, maxKept}
+use Rattle.sim_changes.specs.declared.Reply.{Reply}
+use Rattle.sim_changes.specs.declared.Reply.the-variants as reply
+use Rattle.sim_run.specs.declared.Counts.{Counts}
+use Rattle.sim_run.specs.Run.{happens, next}
+use Rattle.script_lines.specs.Printed.{noLine, okLine}
+use Rattle.script_output.specs.Output.{answerLine, maxLines}
+use Rattle.script_output.specs.Reader.{Script, Stage, running, closed, Reader, Printed, onward, maxPrinted, fedWithin, finished, maxKept}
 use Rattle.script.specs.State.{stageRunning, stageAt, answeredAt, acceptedAt, holdingAt, lengthAt, stateSize, view, valid, stateHead}
 
 -- a new script: 7 if the words are too few or too many

@@ -8,14 +8,14 @@ use lib.Dec.{eqb, leb}
 use lib.ListN.{length, getD, take}
 use Rattle.ids.specs.Choice.{if_then_else_}
 use Rattle.ids.specs.Lists.{every}
-use Rattle.regions.specs.Blocks.{region}
+use Rattle.sim_blocks.specs.Regions.{region}
 use Rattle.system.specs.Places.{holders}
 use Rattle.system.specs.Limits.{systemClients}
-use Rattle.layout.specs.Layout as layout
-use Rattle.runs.specs.declared.Counts.{Counts}
-use Rattle.runs.specs.Calls.{runIn}
-use Rattle.output.specs.Output.{maxLines}
-use Rattle.output.specs.Reader.{Script, Stage, opening, running, closed, Reader, maxKept}
+use Rattle.sim_layout.specs.Layout as layout
+use Rattle.sim_run.specs.declared.Counts.{Counts}
+use Rattle.sim_run.specs.Calls.{runIn}
+use Rattle.script_output.specs.Output.{maxLines}
+use Rattle.script_output.specs.Reader.{Script, Stage, opening, running, closed, Reader, maxKept}
 
 -- where each word of the head stands
 abbrev pub stageAt : ℕ

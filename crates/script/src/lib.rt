@@ -9,17 +9,17 @@ ghost use lib.ListN.{length, getD, set, replicate};
 ghost use mathlib.Core.Option.{some};
 ghost use lib.Seq.{sets};
 ghost use Rattle.ids.specs.Lists.{every};
-ghost use Rattle.language.specs.Lines.{eventIn, lineOf, settingIn, firstOf};
-ghost use Rattle.language.specs.Printed.{refusedLine};
-ghost use Rattle.output.specs.Reader.{closed, opened, worked, behind, taken, ended, lastLine, finished, maxKept, maxPrinted};
+ghost use Rattle.script_lines.specs.Lines.{eventIn, lineOf, settingIn, firstOf};
+ghost use Rattle.script_lines.specs.Printed.{refusedLine};
+ghost use Rattle.script_output.specs.Reader.{closed, opened, worked, behind, taken, ended, lastLine, finished, maxKept, maxPrinted};
 ghost use Rattle.script.specs.State.{headIn, keptIn, simulationIn, countsIn, scriptIn, byteWord, validRun, view, valid as isValid, stateSize, stateHead, stageAt, lengthAt, stageOpening, stageRunning, stageClosed};
 ghost use Rattle.script.specs.Calls.{newAnswer, newWords, feedAnswer, FeedLeaves, finishAnswer, FinishLeaves, Sound, Ready, Reads, Does, Takes, FedAs, happened, passing, maxEnding, withCounts, replyLine};
 use ids::Refusal;
-use language::First;
-use language::Line;
-use runs::Begun;
-use runs::Counts;
-use runs::Reply;
+use script_lines::First;
+use script_lines::Line;
+use sim_run::Begun;
+use sim_run::Counts;
+use sim_run::Reply;
 use system::Event;
 use system::Setting;
 
@@ -39,7 +39,7 @@ const LINE_FROM: usize = 5;
 
 pub const STATE_HEAD: usize = LINE_FROM + LINE;
 
-pub const STATE_WORDS: usize = STATE_HEAD + layout::SIMULATION_WORDS;
+pub const STATE_WORDS: usize = STATE_HEAD + sim_layout::SIMULATION_WORDS;
 
 // The stages: before the first line, while the script runs, and when its first line was refused or it has ended.
 pub const OPENING: u32 = 0;
@@ -50,7 +50,7 @@ pub const CLOSED: u32 = 2;
 
 // The bytes of a line that are kept, one more than a line may have; the event lines that are answered; the longest printed line, and the
 // longest end, which is two lines.
-const MAX_KEPT: u32 = language::MAX_LINE as u32 + 1;
+const MAX_KEPT: u32 = script_lines::MAX_LINE as u32 + 1;
 
 const LINE: usize = MAX_KEPT as usize;
 
@@ -87,7 +87,7 @@ fn run_valid(w: &[u32]) -> bool
     ensures { λ r. ⌜ r ≡ validRun (headIn (now (w .entry))) (simulationIn (now (w .entry))) ⌝ }
 {
     let s = &w[STATE_HEAD..STATE_WORDS];
-    if !layout::valid(s) {
+    if !sim_layout::valid(s) {
         return false;
     }
     if MAX_LINES < w[ANSWERED] {
@@ -96,7 +96,7 @@ fn run_valid(w: &[u32]) -> bool
     if w[ANSWERED] < w[ACCEPTED] {
         return false;
     }
-    if w[HOLDING] < layout::holders(s) {
+    if w[HOLDING] < sim_layout::holders(s) {
         return false;
     }
     w[HOLDING] <= system::MAX_CLIENTS
@@ -158,7 +158,7 @@ fn read_setting(w: &[u32]) -> First
     let mut line = [0u8; LINE];
     copy_line(w, &mut line);
     let len = w[LENGTH] as usize;
-    language::parse_setting(&line[0..len])
+    script_lines::parse_setting(&line[0..len])
 }
 
 fn read_event(w: &[u32]) -> Line
@@ -168,7 +168,7 @@ fn read_event(w: &[u32]) -> Line
     let mut line = [0u8; LINE];
     copy_line(w, &mut line);
     let len = w[LENGTH] as usize;
-    language::parse_event(&line[0..len])
+    script_lines::parse_event(&line[0..len])
 }
 
 // The first line is refused.
@@ -177,7 +177,7 @@ fn refuse(w: &mut [u32], out: &mut [u8], at: usize, x: Refusal) -> usize
     ensures { λ r. ⌜ Does (now (w .entry)) (now (out .entry)) at (record { now = closed; out = refusedLine x }) (now (w .exit)) (now (out .exit)) r ⌝ }
 {
     w[STAGE] = CLOSED;
-    language::put_refused(out, at, x)
+    script_lines::put_refused(out, at, x)
 }
 
 // The counts of the run, read and stored, with the event lines answered.
@@ -214,12 +214,12 @@ fn begin(w: &mut [u32], out: &mut [u8], at: usize, s: Setting) -> usize
     requires { ⌜ Ready (now w) (now out) at × (getD (now w) stageAt 0 ≡ stageOpening) ⌝ }
     ensures { λ r. ⌜ Does (now (w .entry)) (now (out .entry)) at (opened (some s)) (now (w .exit)) (now (out .exit)) r ⌝ }
 {
-    let begun = runs::new(&mut w[STATE_HEAD..STATE_WORDS], s);
+    let begun = sim_run::new(&mut w[STATE_HEAD..STATE_WORDS], s);
     match begun {
         Begun::Refused(x) => refuse(w, out, at, x),
         Begun::Run(counts) => {
             start(w, counts);
-            language::put_header(out, at, s)
+            script_lines::put_header(out, at, s)
         }
     }
 }
@@ -242,8 +242,8 @@ fn put_reply(out: &mut [u8], at: usize, number: u32, reply: Reply) -> usize
     ensures { λ r. ⌜ (r ≡ at + length (replyLine number reply)) × (now (out .exit) ≡ sets (now (out .entry)) at (replyLine number reply)) ⌝ }
 {
     match reply {
-        Reply::Refused(x) => language::put_no(out, at, number, x),
-        Reply::Accepted(sent, holders) => language::put_ok(out, at, number, sent, holders),
+        Reply::Refused(x) => script_lines::put_no(out, at, number, x),
+        Reply::Accepted(sent, holders) => script_lines::put_ok(out, at, number, sent, holders),
     }
 }
 
@@ -254,7 +254,7 @@ fn happen(w: &mut [u32], out: &mut [u8], at: usize, e: Event) -> usize
 {
     let number = w[ANSWERED] + 1;
     let counts = counts_in(w);
-    let went = runs::event(&mut w[STATE_HEAD..STATE_WORDS], counts, e);
+    let went = sim_run::event(&mut w[STATE_HEAD..STATE_WORDS], counts, e);
     put_counts(w, number, went.counts);
     let reply = went.reply;
     put_reply(out, at, number, reply)
@@ -267,7 +267,7 @@ fn pass(w: &mut [u32], out: &mut [u8], at: usize, x: Refusal) -> usize
 {
     let number = w[ANSWERED] + 1;
     w[ANSWERED] = number;
-    language::put_no(out, at, number, x)
+    script_lines::put_no(out, at, number, x)
 }
 
 // An event line.
@@ -383,15 +383,15 @@ fn end(w: &[u32], out: &mut [u8], at: usize) -> usize
     ensures { λ r. ⌜ (r ≡ at + length (ended (view (now (w .entry)) .stage))) × (now (out .exit) ≡ sets (now (out .entry)) at (ended (view (now (w .entry)) .stage))) ⌝ }
 {
     if w[STAGE] == OPENING {
-        return language::put_refused(out, at, Refusal::BadLine);
+        return script_lines::put_refused(out, at, Refusal::BadLine);
     }
     if w[STAGE] == RUNNING {
-        return language::put_end(
+        return script_lines::put_end(
             out,
             at,
             w[ACCEPTED],
             w[HOLDING],
-            layout::most_down(&w[STATE_HEAD..STATE_WORDS]),
+            sim_layout::most_down(&w[STATE_HEAD..STATE_WORDS]),
         );
     }
     at

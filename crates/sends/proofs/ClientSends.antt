@@ -28,15 +28,15 @@ use Rattle.wire.specs.Step.{Step, stepped}
 use Rattle.wire.specs.declared.Message.{Message}
 use Rattle.wire.proofs.Sequence.{sizeOfAll-one}
 use Rattle.wire.specs.declared.Message.the-variants.{Request, Yield, Release, Inquiry, Response, Check}
-use Rattle.responses.specs.Figure1.{State, Quorum, filled, count, isTrying, enough, next, toAll, tries, exits, reply, round, heard, judge, responds, checked, isRemainder, isCritical, lastTry, mayTry}
+use Rattle.client_responses.specs.Figure1.{State, Quorum, filled, count, isTrying, enough, next, toAll, tries, exits, reply, round, heard, judge, responds, checked, isRemainder, isCritical, lastTry, mayTry}
 use Rattle.client.specs.Record.{fitsTimestamp, valid, view}
 use Rattle.client.specs.Calls.{forClient, received, messageOutcomeUpTo, messageOutcome, beginOutcome, exitOutcome}
 use Rattle.client.specs.declared.Client.{Client}
-use Rattle.responses.specs.declared.Section.{Section}
-use Rattle.responses.specs.declared.Section.the-variants.{Remainder, Trying, Critical}
+use Rattle.client_responses.specs.declared.Section.{Section}
+use Rattle.client_responses.specs.declared.Section.the-variants.{Remainder, Trying, Critical}
 use Rattle.client.proofs.KeepsValid.{Fits, heard-length, checked-state}
-use Rattle.responses.proofs.RoundLaws.{length-round, size-round}
-use Rattle.responses.proofs.SendLaws.{length-toAll, size-toAll, request-plain, release-plain}
+use Rattle.client_responses.proofs.RoundLaws.{length-round, size-round}
+use Rattle.client_responses.proofs.SendLaws.{length-toAll, size-toAll, request-plain, release-plain}
 use Rattle.client.proofs.ValidLaws.{valid-known, trying-range}
 use Rattle.ids.proofs.ListLaws.{every-append}
 use Rattle.sends.proofs.ServerSends.{never, entered}

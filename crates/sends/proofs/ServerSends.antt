@@ -32,12 +32,12 @@ use Rattle.wire.specs.Step.{Step, Outcome, refused, stepped, stay, tell}
 use Rattle.wire.specs.declared.Message.{Message}
 use Rattle.wire.specs.declared.Message.the-variants.{Request, Yield, Release, Inquiry, Response, Check}
 use Rattle.rows.specs.Queue.{insert, timestampIn}
-use Rattle.votes.specs.Figure1.{State, promote, delete, inform, act, compare, receive, suspect, check, admit, candidates}
-use Rattle.votes.specs.declared.Tag.{Tag}
-use Rattle.votes.specs.declared.Tag.the-variants.{Request as REQUEST, Yield as YIELD, Release as RELEASE, Inquiry as INQUIRY}
+use Rattle.server_votes.specs.Figure1.{State, promote, delete, inform, act, compare, receive, suspect, check, admit, candidates}
+use Rattle.server_votes.specs.declared.Tag.{Tag}
+use Rattle.server_votes.specs.declared.Tag.the-variants.{Request as REQUEST, Yield as YIELD, Release as RELEASE, Inquiry as INQUIRY}
 use Rattle.rows.proofs.QueueLaws.{length-queue}
-use Rattle.votes.proofs.RoomLaws.{length-deleted}
-use Rattle.votes.proofs.EveryLaws.{every-insert, every-without}
+use Rattle.server_votes.proofs.RoomLaws.{length-deleted}
+use Rattle.server_votes.proofs.EveryLaws.{every-insert, every-without}
 use Rattle.server.specs.Record as server
 use Rattle.server.specs.Calls as server-calls
 use Rattle.server.specs.declared.Server.{Server}

@@ -18,11 +18,11 @@ use Rattle.wire.specs.Step.{Outcome, refused, stepped, stay, tell}
 use Rattle.wire.specs.declared.Message.{Message}
 use Rattle.wire.specs.declared.Message.the-variants.{Check}
 use Rattle.wire.specs.declared.Answer.the-variants.{Sent, Refused}
-use Rattle.votes.specs.declared.Moved.{Moved}
-use Rattle.votes.specs.Figure1.{State, delete, suspect, check}
-use Rattle.votes.specs.Places.{MovesOne, still, telling}
-use Rattle.votes.proofs.ActLaws.{stays, delete-fits}
-use Rattle.votes.proofs.MoveLaws.{moves-telling}
+use Rattle.server_votes.specs.declared.Moved.{Moved}
+use Rattle.server_votes.specs.Figure1.{State, delete, suspect, check}
+use Rattle.server_votes.specs.Places.{MovesOne, still, telling}
+use Rattle.server_votes.proofs.ActLaws.{stays, delete-fits}
+use Rattle.server_votes.proofs.MoveLaws.{moves-telling}
 use Rattle.server.specs.declared.Head.{Head}
 use Rattle.server.specs.declared.Server.{Server}
 use Rattle.server.specs.declared.Stepped.{Stepped}

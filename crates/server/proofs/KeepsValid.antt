@@ -21,7 +21,7 @@ use Rattle.ids.specs.declared.Request.{Request as Pair}
 use Rattle.ids.specs.declared.Timestamp.{Timestamp}
 use Rattle.ids.specs.declared.Owner.{Owner}
 use Rattle.ids.specs.declared.Owner.the-variants.{Nobody, Of}
-use Rattle.votes.proofs.EveryLaws.{every-insert, every-without}
+use Rattle.server_votes.proofs.EveryLaws.{every-insert, every-without}
 use Rattle.ids.proofs.Choice.{clash, both, decided}
 use Rattle.ids.proofs.OrderLaws.{before-order}
 use Rattle.ids.proofs.RequestLaws.{same-true}
@@ -30,16 +30,16 @@ use Rattle.wire.specs.declared.Message.{Message}
 use Rattle.wire.specs.declared.Message.the-variants.{Request, Yield, Release, Inquiry, Response, Check}
 use Rattle.ids.proofs.LimitsLaws.{stamped-request}
 use Rattle.wire.specs.Format as format
-use Rattle.votes.specs.declared.Tag.{Tag}
-use Rattle.votes.specs.declared.Tag.the-variants.{Request as REQUEST, Yield as YIELD, Release as RELEASE, Inquiry as INQUIRY}
+use Rattle.server_votes.specs.declared.Tag.{Tag}
+use Rattle.server_votes.specs.declared.Tag.the-variants.{Request as REQUEST, Yield as YIELD, Release as RELEASE, Inquiry as INQUIRY}
 use Rattle.rows.specs.Rows.{requestsIn, rowOf, fitsPlace, Padded}
 use Rattle.rows.specs.Queue.{timestampIn, insert, without}
 use Rattle.rows.proofs.ListLaws.{length-without}
 use Rattle.rows.proofs.QueueLaws.{length-queue}
 use Rattle.rows.proofs.GoodLaws.{padded-good}
 use Rattle.rows.proofs.RowLaws.{row-of-holds}
-use Rattle.votes.specs.Figure1.{State, candidates, enqueue, promote, delete, inform, act, compare, receive, suspect, check}
-use Rattle.votes.proofs.RoomLaws.{informed-state, length-deleted}
+use Rattle.server_votes.specs.Figure1.{State, candidates, enqueue, promote, delete, inform, act, compare, receive, suspect, check}
+use Rattle.server_votes.proofs.RoomLaws.{informed-state, length-deleted}
 use Rattle.ids.specs.Lists.{every}
 use Rattle.server.specs.declared.Head.{Head}
 use Rattle.server.specs.declared.Server.{Server}

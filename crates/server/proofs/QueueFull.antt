@@ -14,11 +14,11 @@ use Rattle.ids.specs.declared.Timestamp.{Timestamp}
 use Rattle.ids.specs.declared.Request.{Request as Pair}
 use Rattle.ids.proofs.Choice.{decided}
 use Rattle.wire.specs.Step.{stepped}
-use Rattle.votes.specs.declared.Tag.{Tag}
-use Rattle.votes.specs.declared.Tag.the-variants.{Request as REQUEST, Yield as YIELD, Release as RELEASE, Inquiry as INQUIRY}
+use Rattle.server_votes.specs.declared.Tag.{Tag}
+use Rattle.server_votes.specs.declared.Tag.the-variants.{Request as REQUEST, Yield as YIELD, Release as RELEASE, Inquiry as INQUIRY}
 use Rattle.rows.specs.Queue.{timestampIn}
-use Rattle.votes.specs.Figure1.{State, candidates, delete, act, compare, receive}
-use Rattle.votes.proofs.RoomLaws.{length-deleted, length-yielded, length-inquired}
+use Rattle.server_votes.specs.Figure1.{State, candidates, delete, act, compare, receive}
+use Rattle.server_votes.proofs.RoomLaws.{length-deleted, length-yielded, length-inquired}
 use Rattle.server.specs.Calls.{held}
 
 module _ (j : ServerId) where

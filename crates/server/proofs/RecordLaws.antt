@@ -21,10 +21,10 @@ use Rattle.rows.specs.Queues.{isClient, first}
 use Rattle.rows.proofs.ListLaws.{first-within}
 use Rattle.rows.proofs.QueueLaws.{length-queue}
 use Rattle.rows.proofs.GoodLaws.{good-padded}
-use Rattle.votes.specs.declared.Votes.{Votes}
-use Rattle.votes.specs.Figure1.{candidates}
-use Rattle.votes.specs.Queues.{view}
-use Rattle.votes.proofs.ListLaws.{timestamp-first, timestamp-none}
+use Rattle.server_votes.specs.declared.Votes.{Votes}
+use Rattle.server_votes.specs.Figure1.{candidates}
+use Rattle.server_votes.specs.Queues.{view}
+use Rattle.server_votes.proofs.ListLaws.{timestamp-first, timestamp-none}
 use Rattle.server.specs.declared.Head.{Head}
 use Rattle.server.specs.declared.Server.{Server}
 use Rattle.server.specs.Record.{ordered, once, validState, validSizesUpTo, serverOf, validUpTo, valid}

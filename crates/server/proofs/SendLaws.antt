@@ -13,9 +13,9 @@ use Rattle.wire.specs.declared.Answer.the-variants.{Sent, Refused}
 use Rattle.wire.proofs.BytesLaws.{stored-on}
 use Rattle.wire.proofs.RoundTrip.{short}
 use Rattle.wire.proofs.Sequence.{bytesOfAll-one, sizeOfAll-one, bytesOfAll-append, sizeOfAll-append, length-bytesOfAll}
-use Rattle.votes.specs.declared.Mail.{Mail}
-use Rattle.votes.specs.declared.Mail.the-variants.{Nothing, One}
-use Rattle.votes.specs.Places.{mails}
+use Rattle.server_votes.specs.declared.Mail.{Mail}
+use Rattle.server_votes.specs.declared.Mail.the-variants.{Nothing, One}
+use Rattle.server_votes.specs.Places.{mails}
 use Rattle.server.specs.Parts.{threeMails, sentAnswer, sentBuffer}
 
 pub nothing-size : 0 ≡ sizeOfAll []

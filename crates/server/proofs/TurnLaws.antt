@@ -18,11 +18,11 @@ use Rattle.wire.specs.Format.{sizeOfAll}
 use Rattle.wire.specs.Step.{Step, Outcome, refused, stepped, withRoom, sentInto}
 use Rattle.wire.specs.declared.Answer.{Answer}
 use Rattle.wire.specs.declared.Answer.the-variants.{Sent, Refused}
-use Rattle.votes.specs.declared.Moved.{Moved}
-use Rattle.votes.specs.declared.Tag.{Tag}
-use Rattle.votes.specs.Figure1.{State, receive}
-use Rattle.votes.specs.Queues.{view}
-use Rattle.votes.specs.Places.{Moves}
+use Rattle.server_votes.specs.declared.Moved.{Moved}
+use Rattle.server_votes.specs.declared.Tag.{Tag}
+use Rattle.server_votes.specs.Figure1.{State, receive}
+use Rattle.server_votes.specs.Queues.{view}
+use Rattle.server_votes.specs.Places.{Moves}
 use Rattle.server.specs.declared.Head.{Head}
 use Rattle.server.specs.declared.Server.{Server}
 use Rattle.server.specs.declared.Stepped.{Stepped}

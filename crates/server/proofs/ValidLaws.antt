@@ -23,7 +23,7 @@ use Rattle.server.specs.Record.{ordered, once}
 use Rattle.rows.specs.Queues.{first, matching}
 use Rattle.server.specs.Parts.{repeats}
 use Rattle.rows.specs.declared.Wanted.the-variants.{Client}
-use Rattle.votes.proofs.ListLaws.{timestamp-first, timestamp-none}
+use Rattle.server_votes.proofs.ListLaws.{timestamp-first, timestamp-none}
 
 -- a test of a list from place `from` on, which the code makes place by place: all that was passed leaves the answer to the rest
 pub record Passing (test : List Request → Bool) (l : List Request) (from i : ℕ) : Type 0 where

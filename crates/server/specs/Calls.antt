@@ -21,9 +21,9 @@ use Rattle.wire.specs.declared.Message.the-variants.{Request, Yield, Release, I
 use Rattle.server.specs.declared.Head.{Head}
 use Rattle.server.specs.declared.Server.{Server}
 use Rattle.server.specs.declared.Stepped.{Stepped}
-use Rattle.votes.specs.declared.Tag.{Tag}
-use Rattle.votes.specs.declared.Tag.the-variants.{Request as REQUEST, Yield as YIELD, Release as RELEASE, Inquiry as INQUIRY}
-use Rattle.votes.specs.Figure1.{State, receive, suspect, check}
+use Rattle.server_votes.specs.declared.Tag.{Tag}
+use Rattle.server_votes.specs.declared.Tag.the-variants.{Request as REQUEST, Yield as YIELD, Release as RELEASE, Inquiry as INQUIRY}
+use Rattle.server_votes.specs.Figure1.{State, receive, suspect, check}
 use Rattle.server.specs.Record.{rowWords, validUpTo, valid, validSizes, view}
 
 -- server j of n with no owner and nobody waiting

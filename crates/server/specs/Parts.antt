@@ -16,10 +16,10 @@ use Rattle.ids.specs.declared.Owner.{Owner}
 use Rattle.ids.specs.declared.Request.{Request}
 use Rattle.rows.specs.Queue.{timestampIn}
 use Rattle.wire.specs.declared.Message.{Message}
-use Rattle.votes.specs.declared.Mail.{Mail}
-use Rattle.votes.specs.declared.Mail.the-variants.{Nothing}
-use Rattle.votes.specs.Places.{mails}
-use Rattle.votes.specs.declared.Moved.{Moved}
+use Rattle.server_votes.specs.declared.Mail.{Mail}
+use Rattle.server_votes.specs.declared.Mail.the-variants.{Nothing}
+use Rattle.server_votes.specs.Places.{mails}
+use Rattle.server_votes.specs.declared.Moved.{Moved}
 use Rattle.server.specs.declared.Head.{Head}
 use Rattle.server.specs.declared.Server.{Server}
 use Rattle.server.specs.declared.Stepped.{Stepped}

@@ -13,8 +13,8 @@ use Rattle.ids.specs.declared.ServerId.{ServerId}
 use Rattle.ids.specs.declared.Request.{Request}
 use Rattle.rows.specs.Good.{goodRow}
 use Rattle.rows.specs.Queue.{timestampIn}
-use Rattle.votes.specs.Queues as votes
-use Rattle.votes.specs.Figure1.{State, candidates}
+use Rattle.server_votes.specs.Queues as votes
+use Rattle.server_votes.specs.Figure1.{State, candidates}
 use Rattle.server.specs.declared.Head.{Head}
 use Rattle.server.specs.declared.Server.{Server}
 

@@ -4,7 +4,7 @@ use mathlib.Core.Path.{_≡_}
 use mathlib.Core.List.{List, []}
 use Rattle.wire.specs.Step.{Outcome, refused, stepped}
 use Rattle.wire.specs.declared.Message.{Message}
-use Rattle.votes.specs.Figure1.{State}
+use Rattle.server_votes.specs.Figure1.{State}
 use Rattle.server.specs.declared.Head.{Head}
 use Rattle.server.specs.declared.Ruling.{Ruling}
 use Rattle.server.specs.declared.Ruling.the-variants.{Done, Refused}

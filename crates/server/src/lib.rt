@@ -9,8 +9,8 @@ ghost use Rattle.ids.specs.Lists.{every};
 ghost use Rattle.rows.specs.Rows.{queueOf, Padded};
 ghost use Rattle.wire.specs.Format.{bytesOfAll, sizeOfAll};
 ghost use Rattle.wire.specs.Step.{withRoom, sentInto};
-ghost use Rattle.votes.specs.Queues.{view as votesView};
-ghost use Rattle.votes.specs.Places.{mails};
+ghost use Rattle.server_votes.specs.Queues.{view as votesView};
+ghost use Rattle.server_votes.specs.Places.{mails};
 ghost use Rattle.server.specs.Record.{ordered, once, validState, serverOf, valid};
 ghost use Rattle.server.specs.Parts.{threeMails, sentAnswer, sentBuffer, refusing, doing, answering, buffering, keeping, repeats, fitsOwner};
 ghost use Rattle.server.specs.Calls.{result, taken, emptyServer, blank, newResult, messageOutcome, suspectOutcome, checkOutcome};
@@ -22,10 +22,10 @@ use ids::Request;
 use ids::ServerId;
 use ids::Timestamp;
 use rows::Wanted;
-use votes::Mail;
-use votes::Moved;
-use votes::Tag;
-use votes::Votes;
+use server_votes::Mail;
+use server_votes::Moved;
+use server_votes::Tag;
+use server_votes::Votes;
 use wire::Answer;
 use wire::Message;
 
@@ -180,7 +180,7 @@ pub fn take_row(
         client: k,
         timestamp: t,
     };
-    let m = votes::receive(id, tag, r, h.votes, row);
+    let m = server_votes::receive(id, tag, r, h.votes, row);
     if m.full {
         return refuse(h, Refusal::QueueFull);
     }
@@ -322,7 +322,7 @@ pub fn suspect_row(h: Head, row: &mut [u32]) -> Turned
     match owner {
         Owner::Nobody => refuse(h, Refusal::NoOwner),
         Owner::Of(o) => {
-            let m = votes::delete(id, o, v, row);
+            let m = server_votes::delete(id, o, v, row);
             done(h, m)
         }
     }
@@ -339,12 +339,12 @@ pub fn check_row(h: Head, row: &[u32]) -> Turned
     let v = h.votes;
     let owner = v.owner;
     match owner {
-        Owner::Nobody => done(h, votes::still(v)),
+        Owner::Nobody => done(h, server_votes::still(v)),
         Owner::Of(o) => {
             let client = o.client;
             let timestamp = o.timestamp;
             let message = Message::Check(client, id, timestamp);
-            done(h, votes::telling(v, message))
+            done(h, server_votes::telling(v, message))
         }
     }
 }

@@ -18,8 +18,8 @@ use Rattle.ids.specs.declared.Owner.the-variants.{Nobody, Of}
 use Rattle.wire.specs.Step.{Step, refused, stepped}
 use Rattle.wire.specs.declared.Message.{Message}
 use Rattle.wire.specs.declared.Message.the-variants.{Request, Yield, Release, Inquiry, Response, Check as CHECK}
-use Rattle.responses.specs.Figure1.{Quorum, enough, isRemainder, isCritical, mayTry}
-use Rattle.votes.specs.declared.Tag.the-variants as tag
+use Rattle.client_responses.specs.Figure1.{Quorum, enough, isRemainder, isCritical, mayTry}
+use Rattle.server_votes.specs.declared.Tag.the-variants as tag
 use Rattle.system.specs.Limits.{lastNumber, systemMessages}
 use Rattle.system.specs.declared.Event.{Event}
 use Rattle.system.specs.declared.Event.the-variants.{Try, Exit, Fall, Down, Up, Take, Drop, Miss, Check}
@@ -27,8 +27,8 @@ use Rattle.system.specs.Numbered.{has}
 use Rattle.system.specs.Transit.{pending, present}
 use Rattle.system.specs.Places.{System, clientAt, serverAt}
 use Rattle.system.specs.Events.{Result, need, tried, exited, fallen, wentDown, cameUp, serverTook, responseTook, checkTook, dropped, suspected, asked, deliver, event, nothing, withPlaces}
-use Rattle.layout.specs.Layout.{settingOf, view}
-use Rattle.bounded.specs.Happens.{happens}
+use Rattle.sim_layout.specs.Layout.{settingOf, view}
+use Rattle.sim_changes.specs.Happens.{happens}
 
 abbrev Never : Result → Type 0
 Never o = o ≡ refused QueueFull → ⊥

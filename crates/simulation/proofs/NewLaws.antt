@@ -8,12 +8,12 @@ use borrow.Author.Tests.{eq-eqb, ne-eqb}
 use Rattle.ids.specs.Limits.{within}
 use Rattle.ids.proofs.Choice.{clash, holds, fails}
 use Rattle.quorum.specs.Check.{inRangeUpTo}
-use Rattle.changes.specs.Opening.{Starts}
+use Rattle.sim_changes.specs.Opening.{Starts}
 use Rattle.simulation.specs.Opens.{opens, newReply, NewLeaves}
-use Rattle.bounded.specs.declared.Moved.the-variants as moved
+use Rattle.sim_changes.specs.declared.Moved.the-variants as moved
 use Rattle.ids.specs.declared.Refusal.the-variants.{ParameterOutOfRange}
 use Rattle.system.specs.declared.Setting.{Setting}
-use Rattle.layout.specs.Layout.{simulationSize}
+use Rattle.sim_layout.specs.Layout.{simulationSize}
 use Rattle.system.specs.Limits.{systemClients, systemServers}
 
 module _ (s : Setting) (w : List ℕ) where

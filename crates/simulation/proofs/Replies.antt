@@ -13,12 +13,12 @@ use Rattle.system.specs.declared.Event.{Event}
 use Rattle.system.specs.Places.{System, holders}
 use Rattle.system.specs.Events.{Result}
 use Rattle.system.specs.Runs.{after}
-use Rattle.layout.specs.Layout.{view, valid}
-use Rattle.bounded.specs.declared.Moved.{Moved}
-use Rattle.bounded.specs.declared.Moved.the-variants as moved
-use Rattle.bounded.specs.declared.Reply.{Reply}
-use Rattle.bounded.specs.declared.Reply.the-variants as reply
-use Rattle.bounded.specs.Happens.{happens, Leaves, movedOf, replyOf, EventLeaves, eventReply}
+use Rattle.sim_layout.specs.Layout.{view, valid}
+use Rattle.sim_changes.specs.declared.Moved.{Moved}
+use Rattle.sim_changes.specs.declared.Moved.the-variants as moved
+use Rattle.sim_changes.specs.declared.Reply.{Reply}
+use Rattle.sim_changes.specs.declared.Reply.the-variants as reply
+use Rattle.sim_changes.specs.Happens.{happens, Leaves, movedOf, replyOf, EventLeaves, eventReply}
 
 -- the event is this variant
 pub as-event : {w w′ : List ℕ} {r : Moved} {e e′ : Event} → e ≡ e′ → Leaves w e′ w′ × (r ≡ movedOf (happens w e′)) → Leaves w e w′ × (r ≡ movedOf (happens w e))

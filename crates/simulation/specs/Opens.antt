@@ -11,10 +11,10 @@ use Rattle.ids.specs.declared.Refusal.the-variants.{ParameterOutOfRange}
 use Rattle.quorum.specs.Check.{inRangeUpTo}
 use Rattle.system.specs.Limits.{systemClients, systemServers}
 use Rattle.system.specs.declared.Setting.{Setting}
-use Rattle.layout.specs.Layout.{simulationSize}
-use Rattle.changes.specs.Opening.{Starts}
-use Rattle.bounded.specs.declared.Moved.{Moved}
-use Rattle.bounded.specs.declared.Moved.the-variants as moved
+use Rattle.sim_layout.specs.Layout.{simulationSize}
+use Rattle.sim_changes.specs.Opening.{Starts}
+use Rattle.sim_changes.specs.declared.Moved.{Moved}
+use Rattle.sim_changes.specs.declared.Moved.the-variants as moved
 
 -- a setting in range; an unsafe or stalling one is
 abbrev pub inRange : Setting → Bool

@@ -1,15 +1,15 @@
 // The bounded simulation of a whole system: a new one, and its nine events. Document 01 says gallery for simulation.
-// The state is words that the caller lends (`layout`): an event loads one client's or one server's record, steps it, and stores it (`deliveries`, `acts`).
+// The state is words that the caller lends (`sim_layout`): an event loads one client's or one server's record, steps it, and stores it (`sim_takes`, `sim_acts`).
 ghost use mathlib.Core.Path.{_≡_};
 ghost use mathlib.Core.Bool.{true};
 ghost use lib.ListN.{length};
-ghost use Rattle.layout.specs.Layout.{view, valid};
-ghost use Rattle.bounded.specs.Happens.{happens, Leaves, movedOf, replyOf, EventLeaves, eventReply};
+ghost use Rattle.sim_layout.specs.Layout.{view, valid};
+ghost use Rattle.sim_changes.specs.Happens.{happens, Leaves, movedOf, replyOf, EventLeaves, eventReply};
 ghost use Rattle.simulation.specs.Opens.{opens, newReply, NewLeaves};
-pub use bounded::Moved;
-pub use bounded::Reply;
 use ids::Refusal;
-use layout::SIMULATION_WORDS;
+pub use sim_changes::Moved;
+pub use sim_changes::Reply;
+use sim_layout::SIMULATION_WORDS;
 use system::Event;
 use system::Setting;
 
@@ -18,15 +18,15 @@ fn work(w: &mut [u32], e: Event) -> Moved
     ensures { λ r. ⌜ Leaves (now (w .entry)) e (now (w .exit)) × (r ≡ movedOf (happens (now (w .entry)) e)) ⌝ }
 {
     match e {
-        Event::Try(k) => acts::try_enter(w, k),
-        Event::Exit(k) => acts::exit(w, k),
-        Event::Fall(k) => acts::fall(w, k),
-        Event::Down(j) => acts::down(w, j),
-        Event::Up(j) => acts::up(w, j),
-        Event::Take(i) => deliveries::take(w, i),
-        Event::Drop(i) => acts::drop(w, i),
-        Event::Miss(j) => acts::miss(w, j),
-        Event::Check(j) => acts::check(w, j),
+        Event::Try(k) => sim_acts::try_enter(w, k),
+        Event::Exit(k) => sim_acts::exit(w, k),
+        Event::Fall(k) => sim_acts::fall(w, k),
+        Event::Down(j) => sim_acts::down(w, j),
+        Event::Up(j) => sim_acts::up(w, j),
+        Event::Take(i) => sim_takes::take(w, i),
+        Event::Drop(i) => sim_acts::drop(w, i),
+        Event::Miss(j) => sim_acts::miss(w, j),
+        Event::Check(j) => sim_acts::check(w, j),
     }
 }
 
@@ -39,7 +39,7 @@ pub fn happen(w: &mut [u32], e: Event) -> Reply
     match moved {
         Moved::Refused(x) => Reply::Refused(x),
         Moved::Sent(count) => {
-            let holders = layout::holders(w);
+            let holders = sim_layout::holders(w);
             Reply::Accepted(count, holders)
         }
     }
@@ -49,7 +49,7 @@ pub fn happen(w: &mut [u32], e: Event) -> Reply
 pub fn event(w: &mut [u32], e: Event) -> Reply
     ensures { λ r. ⌜ EventLeaves (now (w .entry)) e (now (w .exit)) × (r ≡ eventReply (now (w .entry)) e) ⌝ }
 {
-    if !layout::valid(w) {
+    if !sim_layout::valid(w) {
         return Reply::Refused(Refusal::InvalidRecord);
     }
     happen(w, e)
@@ -68,7 +68,7 @@ pub fn new(w: &mut [u32], s: Setting) -> Moved
     if !ids::within_limit(s.clients, system::MAX_CLIENTS) {
         return Moved::Refused(Refusal::ParameterOutOfRange);
     }
-    changes::start(w, s);
+    sim_changes::start(w, s);
     Moved::Sent(0)
 }
 

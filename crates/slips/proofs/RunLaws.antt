@@ -5,7 +5,7 @@ use mathlib.Core.Bool.{true}
 use mathlib.Core.List.{List}
 use lib.ListN.{getD, take, drop}
 use Rattle.ids.proofs.Choice.{both}
-use Rattle.layout.specs.Layout.{valid, simulationSize}
+use Rattle.sim_layout.specs.Layout.{valid, simulationSize}
 use Rattle.script.specs.State as script
 use Rattle.script.specs.State.{stageAt, stageRunning, headIn, simulationIn, validRun, stateHead}
 use Rattle.script.proofs.LineLaws.{known}

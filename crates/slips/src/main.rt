@@ -7,11 +7,11 @@ ghost use mathlib.Core.Bool.{true};
 ghost use Prim.Native.Nat.{_≤_, _<_};
 ghost use lib.ListN.{length};
 ghost use Rattle.console.specs.Fits.{Fits};
-ghost use Rattle.layout.specs.Layout.{valid as validSimulation};
+ghost use Rattle.sim_layout.specs.Layout.{valid as validSimulation};
 ghost use Rattle.script.specs.State.{valid};
-ghost use Rattle.stream.specs.Answered.{Answered};
-ghost use Rattle.stream.specs.Taken.{Taken};
-ghost use Rattle.output.specs.Reader.{maxPrinted};
+ghost use Rattle.script_stream.specs.Answered.{Answered};
+ghost use Rattle.script_stream.specs.Taken.{Taken};
+ghost use Rattle.script_output.specs.Reader.{maxPrinted};
 ghost use Rattle.script.specs.Calls.{maxEnding};
 use console::Input;
 use libc::STDERR_FILENO;
@@ -30,9 +30,9 @@ fn put_all(out: &mut [u8], w: &[u32], mail: bool) -> usize
     ensures { λ r. ⌜ r ≤ length (now (out .exit)) ⌝ }
 {
     if mail {
-        return knowledge::put_slips_mail(out, w);
+        return text_knowledge::put_slips_mail(out, w);
     }
-    knowledge::put_slips(out, w)
+    text_knowledge::put_slips(out, w)
 }
 
 // The slips of a script that runs and has had an event. Whether all of them were written.
@@ -77,7 +77,7 @@ fn answer_line(w: &mut [u32], line: &[u8], out: &mut [u8], wanted: Wanted) -> bo
     ensures { λ r. ⌜ (valid (now (w .exit)) ≡ true) × (r ≡ true → Taken (now (w .entry)) (now (line .entry)) (now (w .exit))) ⌝ }
 {
     let before = w[script::ANSWERED];
-    if !stream::answer_part(w, line, out) {
+    if !script_stream::answer_part(w, line, out) {
         return false;
     }
     if w[script::ANSWERED] == before {
@@ -91,7 +91,7 @@ fn line_behind(part: &[u8], from: usize) -> usize
     requires { ⌜ from < length (now part) ⌝ }
     ensures { λ r. ⌜ (from < r) × (r ≤ length (now (part .entry))) ⌝ }
 {
-    let end = sheet::line_end(part, from);
+    let end = text_sheet::line_end(part, from);
     if end < part.len() {
         return end + 1;
     }
@@ -135,7 +135,7 @@ fn finish(w: &mut [u32], out: &mut [u8], wanted: Wanted)
     if !show_last(w, out, wanted) {
         return;
     }
-    stream::finish(w, out);
+    script_stream::finish(w, out);
 }
 
 // What reading gave is answered. Whether to go on.
@@ -159,7 +159,7 @@ fn run(w: &mut [u32], part: &mut [u8], out: &mut [u8], wanted: Wanted)
 {
     let mut turns = u64::MAX;
     while turns > 0 {
-        let input = stream::read_part(w, part);
+        let input = script_stream::read_part(w, part);
         if !answer(w, part, input, out, wanted) {
             return;
         }
@@ -182,7 +182,7 @@ fn is_given(word: &[u8; 4]) -> bool {
 }
 
 fn begin(wanted: Wanted) {
-    let mut state = stream::start();
+    let mut state = script_stream::start();
     let mut part = io::large_buffer();
     let mut out = io::large_buffer();
     run(&mut state, &mut part, &mut out, wanted);

@@ -24,11 +24,11 @@ use Rattle.ids.proofs.Choice.{decided, Test}
 use Rattle.wire.specs.Step.{Step, stay}
 use Rattle.wire.specs.declared.Message.{Message}
 use Rattle.wire.specs.declared.Message.the-variants.{Request as REQUEST, Yield as YIELD, Release as RELEASE, Inquiry as INQUIRY, Response as RESPONSE, Check as CHECK}
-use Rattle.votes.specs.declared.Tag.{Tag}
-use Rattle.votes.specs.declared.Tag.the-variants.{Request as Asks, Yield as Yields, Release as Releases, Inquiry as Inquires}
-use Rattle.responses.specs.declared.Section.{Section}
-use Rattle.responses.specs.declared.Section.the-variants.{Remainder, Trying, Critical}
-use Rattle.responses.specs.Figure1.{State as ClientState, next, Quorum, filled, isTrying, toAll, responseOf, withResponse, current, heard, reply, round, judge, responds, checked, isRemainder, isCritical}
+use Rattle.server_votes.specs.declared.Tag.{Tag}
+use Rattle.server_votes.specs.declared.Tag.the-variants.{Request as Asks, Yield as Yields, Release as Releases, Inquiry as Inquires}
+use Rattle.client_responses.specs.declared.Section.{Section}
+use Rattle.client_responses.specs.declared.Section.the-variants.{Remainder, Trying, Critical}
+use Rattle.client_responses.specs.Figure1.{State as ClientState, next, Quorum, filled, isTrying, toAll, responseOf, withResponse, current, heard, reply, round, judge, responds, checked, isRemainder, isCritical}
 use Rattle.system.specs.Numbered.{at}
 use Rattle.system.proofs.Branch.{branch, bit, bit-one, if-zero, differ}
 use Rattle.system.proofs.Tokens.{age, worth, token, serverOf, sum, sum-append, All, empty, more, all-head, all-tail, all-append, all-set}

@@ -20,9 +20,9 @@ use Rattle.wire.specs.Step.{Step, stay, tell, stepped}
 use Rattle.wire.specs.declared.Message.{Message}
 use Rattle.wire.specs.declared.Message.the-variants.{Request as REQUEST, Response as RESPONSE}
 use Rattle.rows.specs.Queue.{timestampIn}
-use Rattle.votes.specs.Figure1.{State as ServerState, idle, act, receive}
-use Rattle.responses.specs.declared.Section.the-variants.{Trying, Critical}
-use Rattle.responses.specs.Figure1.{State as ClientState, next as newer, Quorum, filled, heard, judge, withResponse, responseOf, count, enough, tries, responds, isRemainder, lastTry}
+use Rattle.server_votes.specs.Figure1.{State as ServerState, idle, act, receive}
+use Rattle.client_responses.specs.declared.Section.the-variants.{Trying, Critical}
+use Rattle.client_responses.specs.Figure1.{State as ClientState, next as newer, Quorum, filled, heard, judge, withResponse, responseOf, count, enough, tries, responds, isRemainder, lastTry}
 use Rattle.system.specs.declared.Event.the-variants.{Try}
 use Rattle.system.specs.Numbered.{at, put, member, span, clientNo, serverNo}
 use Rattle.system.specs.Transit.{replaced, gone, keeping}

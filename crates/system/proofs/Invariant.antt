@@ -17,10 +17,10 @@ use Rattle.ids.specs.declared.Owner.the-variants.{Nobody}
 use Rattle.wire.specs.Step.{Step, stay, refused, stepped}
 use Rattle.wire.specs.declared.Message.{Message}
 use Rattle.wire.specs.declared.Message.the-variants.{Request as REQUEST, Release as RELEASE, Response as RESPONSE, Check as CHECK}
-use Rattle.votes.specs.declared.Tag.{Tag}
-use Rattle.votes.specs.declared.Tag.the-variants.{Request as Asks, Yield as Yields, Release as Releases, Inquiry as Inquires}
-use Rattle.votes.specs.Figure1.{receive, suspect, check}
-use Rattle.responses.specs.Figure1.{State as ClientState, Quorum, next as newer, tries, exits, isRemainder, isCritical}
+use Rattle.server_votes.specs.declared.Tag.{Tag}
+use Rattle.server_votes.specs.declared.Tag.the-variants.{Request as Asks, Yield as Yields, Release as Releases, Inquiry as Inquires}
+use Rattle.server_votes.specs.Figure1.{receive, suspect, check}
+use Rattle.client_responses.specs.Figure1.{State as ClientState, Quorum, next as newer, tries, exits, isRemainder, isCritical}
 use Rattle.system.specs.declared.Event.{Event}
 use Rattle.system.specs.Numbered.{at, put, has, clientNo, serverNo}
 use Rattle.system.specs.Transit.{pending, replaced, gone}

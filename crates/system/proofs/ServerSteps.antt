@@ -22,10 +22,10 @@ use Rattle.ids.proofs.RequestLaws.{same-true}
 use Rattle.wire.specs.Step.{Step, stay, tell, _then_}
 use Rattle.wire.specs.declared.Message.{Message}
 use Rattle.wire.specs.declared.Message.the-variants.{Request as REQUEST, Yield as YIELD, Release as RELEASE, Inquiry as INQUIRY, Response as RESPONSE, Check as CHECK}
-use Rattle.votes.specs.declared.Tag.{Tag}
-use Rattle.votes.specs.declared.Tag.the-variants.{Request as Asks, Yield as Yields, Release as Releases, Inquiry as Inquires}
+use Rattle.server_votes.specs.declared.Tag.{Tag}
+use Rattle.server_votes.specs.declared.Tag.the-variants.{Request as Asks, Yield as Yields, Release as Releases, Inquiry as Inquires}
 use Rattle.rows.specs.Queue.{timestampIn, insert, without}
-use Rattle.votes.specs.Figure1.{State as ServerState, candidates, enqueue, promote, delete, inform, admit, act, receive, suspect, check}
+use Rattle.server_votes.specs.Figure1.{State as ServerState, candidates, enqueue, promote, delete, inform, admit, act, receive, suspect, check}
 use Rattle.system.proofs.Branch.{branch, perhaps, owned, bit, bit-and, differ, owner-request}
 use Rattle.system.proofs.Tokens.{message, age, worth, sum, sum-append, All, empty, more, all-append}
 

@@ -15,8 +15,8 @@ use Rattle.ids.specs.declared.Owner.the-variants.{Nobody, Of}
 use Rattle.wire.specs.Step.{Step, refused, stepped}
 use Rattle.wire.specs.declared.Message.{Message}
 use Rattle.wire.specs.declared.Message.the-variants.{Request as REQUEST, Yield as YIELD, Release as RELEASE, Inquiry as INQUIRY, Response as RESPONSE, Check as CHECK}
-use Rattle.votes.specs.Figure1.{State as ServerState}
-use Rattle.responses.specs.Figure1.{State as ClientState, next as newer, Quorum, tries, exits, isRemainder}
+use Rattle.server_votes.specs.Figure1.{State as ServerState}
+use Rattle.client_responses.specs.Figure1.{State as ClientState, next as newer, Quorum, tries, exits, isRemainder}
 use Rattle.system.specs.declared.Event.{Event}
 use Rattle.system.specs.declared.Event.the-variants.{Try, Exit, Fall, Down, Up, Take, Drop, Miss, Check}
 use Rattle.system.specs.Numbered.{at, member, clientNo, serverNo}

@@ -19,9 +19,9 @@ use Rattle.ids.specs.declared.Owner.the-variants.{Nobody, Of}
 use Rattle.wire.specs.Step.{Step}
 use Rattle.wire.specs.declared.Message.{Message}
 use Rattle.wire.specs.declared.Message.the-variants.{Request as REQUEST, Yield as YIELD, Release as RELEASE, Inquiry as INQUIRY, Response as RESPONSE, Check as CHECK}
-use Rattle.votes.specs.declared.Tag.the-variants.{Request as Asks, Yield as Yields, Release as Releases, Inquiry as Inquires}
-use Rattle.votes.specs.Figure1.{State as ServerState, idle}
-use Rattle.responses.specs.Figure1.{State as ClientState, Quorum}
+use Rattle.server_votes.specs.declared.Tag.the-variants.{Request as Asks, Yield as Yields, Release as Releases, Inquiry as Inquires}
+use Rattle.server_votes.specs.Figure1.{State as ServerState, idle}
+use Rattle.client_responses.specs.Figure1.{State as ClientState, Quorum}
 use Rattle.system.specs.Numbered.{at, member, added}
 use Rattle.system.specs.Transit.{InTransit, again}
 use Rattle.system.specs.Places.{ClientPlace, ServerPlace, inEpoch}

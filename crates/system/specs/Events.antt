@@ -16,11 +16,11 @@ use Rattle.ids.specs.declared.Refusal.the-variants.{NoSuchParty, PartyDown, NoO
 use Rattle.wire.specs.Step.{Step, stay, Outcome, refused, stepped}
 use Rattle.wire.specs.declared.Message.{Message}
 use Rattle.wire.specs.declared.Message.the-variants.{Request as REQUEST, Yield as YIELD, Release as RELEASE, Inquiry as INQUIRY, Response as RESPONSE, Check as CHECK}
-use Rattle.votes.specs.Figure1 as votes
-use Rattle.votes.specs.declared.Tag.{Tag}
-use Rattle.votes.specs.declared.Tag.the-variants as tag
-use Rattle.responses.specs.Figure1 as client
-use Rattle.responses.specs.Figure1.{Quorum, tryChecked, exitChecked}
+use Rattle.server_votes.specs.Figure1 as votes
+use Rattle.server_votes.specs.declared.Tag.{Tag}
+use Rattle.server_votes.specs.declared.Tag.the-variants as tag
+use Rattle.client_responses.specs.Figure1 as client
+use Rattle.client_responses.specs.Figure1.{Quorum, tryChecked, exitChecked}
 use Rattle.system.specs.declared.Event.{Event}
 use Rattle.system.specs.declared.Event.the-variants.{Try, Exit, Fall, Down, Up, Take, Drop, Miss, Check}
 use Rattle.system.specs.Numbered.{put, has}

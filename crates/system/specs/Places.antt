@@ -6,10 +6,10 @@ use lib.ListN.{length}
 use Rattle.ids.specs.Choice.{if_then_else_}
 use Rattle.ids.specs.declared.ClientId.{ClientId}
 use Rattle.ids.specs.declared.ServerId.{ServerId}
-use Rattle.votes.specs.Figure1 as votes
-use Rattle.responses.specs.Figure1 as client
-use Rattle.responses.specs.Figure1.{isRemainder, isCritical}
-use Rattle.responses.specs.declared.Section.the-variants.{Remainder}
+use Rattle.server_votes.specs.Figure1 as votes
+use Rattle.client_responses.specs.Figure1 as client
+use Rattle.client_responses.specs.Figure1.{isRemainder, isCritical}
+use Rattle.client_responses.specs.declared.Section.the-variants.{Remainder}
 use Rattle.system.specs.Numbered.{at, added}
 use Rattle.system.specs.Transit.{InTransit}
 

@@ -17,7 +17,7 @@ use Rattle.server.specs.declared.Head.{Head as ServerHead}
 use Rattle.server.specs.declared.Server.{Server}
 use Rattle.client.specs.declared.Head.{Head as ClientHead}
 use Rattle.client.specs.declared.Client.{Client}
-use Rattle.responses.specs.declared.Section.{Section}
+use Rattle.client_responses.specs.declared.Section.{Section}
 use Rattle.words.specs.Records.{recordHead, serverSize, clientSize, fitsHead, headFits, holdsServer, holdsClient, Headed, serverHeadFrom, serverHeadWords, serverWords, clientHeadFrom, clientHeadWords, clientWords, sectionOf, sectionWord}
 
 module _ (a b c : ℕ) where

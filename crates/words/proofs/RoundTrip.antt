@@ -19,8 +19,8 @@ use Rattle.server.proofs.KeepsValid.{view-good}
 use Rattle.client.specs.Record as client
 use Rattle.client.specs.declared.Client.{Client}
 use Rattle.client.proofs.ValidLaws.{valid-known}
-use Rattle.responses.specs.declared.Section.{Section}
-use Rattle.responses.specs.declared.Section.the-variants.{Remainder, Trying, Critical}
+use Rattle.client_responses.specs.declared.Section.{Section}
+use Rattle.client_responses.specs.declared.Section.the-variants.{Remainder, Trying, Critical}
 use Rattle.words.specs.Records.{fitsHead, holdsServer, holdsClient, serverHeadWords, serverWords, serverHeadFrom, serverIn, clientHeadWords, clientWords, clientHeadFrom, clientIn, sectionOf, sectionWord}
 use Rattle.words.proofs.RecordsLaws.{head-fits}
 

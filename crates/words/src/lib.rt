@@ -8,13 +8,13 @@ ghost use Rattle.ids.specs.Limits.{maxShort};
 ghost use Rattle.wire.specs.Format.{ownerClient, ownerTimestamp};
 ghost use Rattle.words.specs.Messages.{fits, crossing, messageIn, messageOr, noMessage};
 ghost use Rattle.words.specs.Records.{recordHead, maxWord, fitsHead, Headed, sectionOf, sectionWord, holdsServer, serverHeadFrom, serverHeadWords, holdsClient, clientHeadFrom, clientHeadWords};
+use client_responses::Section;
 use ids::ClientId;
 use ids::MAX_SHORT;
 use ids::Owner;
 use ids::ServerId;
 use ids::Timestamp;
-use responses::Section;
-use votes::Votes;
+use server_votes::Votes;
 use wire::Fields;
 use wire::Message;
 

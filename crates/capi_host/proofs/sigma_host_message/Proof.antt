@@ -1,4 +1,4 @@
--- `sigma_host_message` meets its contract: the walk of `host`'s `Thin`, with the message's words as one more parameter. They are lent to the callee for good.
+-- `sigma_host_message` meets its contract: the walk of `server_host`'s `Thin`, with the message's words as one more parameter. They are lent to the callee for good.
 use mathlib.Core.Path.{_≡_, refl, ap}
 use Prim.Native.Nat.{ℕ}
 use mathlib.Core.List.{[], _∷_, List}

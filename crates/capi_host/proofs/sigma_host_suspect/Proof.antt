@@ -1,4 +1,4 @@
--- `sigma_host_suspect` is the thin function over `suspect_step`: the walk of `host`'s `Thin` at this callee, which meets its contract.
+-- `sigma_host_suspect` is the thin function over `suspect_step`: the walk of `server_host`'s `Thin` at this callee, which meets its contract.
 use mathlib.Core.Path.{refl}
 use denote.Triple.Spec.{tripleOf}
 use denote.Triple.Table.{entered, cited}
@@ -6,7 +6,7 @@ use contract.Running.{givenOf, tables, tablesOf}
 use Rattle.capi.specs.Steps.{serverSuspect}
 use Rattle.capi_host.proofs.suspect_step.Symbol as callee
 use Rattle.capi_host.proofs.suspect_step.Met as callee-meets
-use Rattle.host.proofs.Thin.{Step, meets}
+use Rattle.server_host.proofs.Thin.{Step, meets}
 use Rattle.capi_host.proofs.Stepping.{types, Says, Left}
 use Rattle.capi_host.proofs.sigma_host_suspect.Key.{name as #sigma-host-suspect}
 use Rattle.capi_host.proofs.sigma_host_suspect as thin

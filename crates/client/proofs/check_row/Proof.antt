@@ -1,6 +1,6 @@
 -- `client::check_row` meets its contract: the current timestamp gets no message, any other RELEASE.
 use native.Mathlib.Omega.{arith}
-use Rattle.responses.proofs.SendLaws.{release-plain}
+use Rattle.client_responses.proofs.SendLaws.{release-plain}
 use Rattle.client.proofs.StepLaws.{check-same, check-short, check-done}
 use borrow.Author.Needs.{needs}
 use Rattle.client.proofs.check_row.Statement.{statement}

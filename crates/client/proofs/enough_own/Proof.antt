@@ -1,5 +1,5 @@
 -- `client::enough_own` meets its contract by that of `own_count`.
-use Rattle.responses.specs.Figure1.{enough}
+use Rattle.client_responses.specs.Figure1.{enough}
 use borrow.Author.Needs.{needs}
 use Rattle.client.proofs.enough_own.Statement.{statement}
 use Rattle.client.proofs.enough_own.Tie as tie

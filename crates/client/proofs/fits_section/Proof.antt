@@ -2,7 +2,7 @@
 use denote.Ref.{now}
 use mathlib.Core.List.{List}
 use Rattle.ids.specs.declared.Owner.{Owner}
-use Rattle.responses.specs.Row.{responsesIn}
+use Rattle.client_responses.specs.Row.{responsesIn}
 use Rattle.client.proofs.ValidLaws.{section-remainder, section-trying, section-critical, section-few}
 use borrow.Author.Needs.{needs}
 use Rattle.client.proofs.fits_section.Statement.{statement}

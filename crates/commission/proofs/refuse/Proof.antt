@@ -1,6 +1,6 @@
 -- `commission::refuse` meets its contract: what was put ends within the buffer.
 use native.Mathlib.Omega.{arith}
-use Rattle.sheet.proofs.SheetLaws.{placed}
+use Rattle.text_sheet.proofs.SheetLaws.{placed}
 use borrow.Author.Needs.{needs}
 use Rattle.commission.proofs.refuse.Statement.{statement}
 use Rattle.commission.proofs.refuse.Tie as tie

@@ -1,6 +1,6 @@
 -- `commission::show` meets its contract: what was put ends within the buffer.
 use native.Mathlib.Omega.{arith}
-use Rattle.sheet.proofs.SheetLaws.{placed}
+use Rattle.text_sheet.proofs.SheetLaws.{placed}
 use borrow.Author.Needs.{needs}
 use Rattle.commission.proofs.show.Statement.{statement}
 use Rattle.commission.proofs.show.Tie as tie

@@ -3,7 +3,7 @@ use denote.Ref.{now}
 use native.Mathlib.Omega.{arith}
 use mathlib.Core.Bool.{false≢true}
 use Rattle.console.proofs.InputLaws.{fits-bytes}
-use Rattle.stream.proofs.ReadLaws.{answered}
+use Rattle.script_stream.proofs.ReadLaws.{answered}
 use borrow.Author.Needs.{needs}
 use Rattle.gallery.proofs.answer.Statement.{statement}
 use Rattle.gallery.proofs.answer.Tie as tie

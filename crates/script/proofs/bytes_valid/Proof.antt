@@ -3,13 +3,13 @@ use denote.Ref.{now}
 use Prim.Native.Nat.{_-_}
 use native.Mathlib.Omega.{arith}
 use lib.ListN.{drop}
-use Rattle.places.proofs.Fronts.{Passing}
+use Rattle.sim_blocks.proofs.Fronts.{Passing}
 use Rattle.script.specs.State.{byteWord}
 use Rattle.script.proofs.LineLaws.{bytes-none, bytes-failed, bytes-more, bytes-all}
 use borrow.Author.Needs.{needs}
 use Rattle.script.proofs.bytes_valid.Statement.{statement}
 use Rattle.script.proofs.bytes_valid.Tie as tie
-use Rattle.output.specs.Reader.{maxKept}
+use Rattle.script_output.specs.Reader.{maxKept}
 
 abbrev Inv-loop : tie.InvT-loop
 Inv-loop w i₀ i = Passing byteWord 0 (drop 5 w) maxKept i

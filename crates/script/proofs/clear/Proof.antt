@@ -3,7 +3,7 @@ use Prim.Native.Nat.{_-_}
 use native.Mathlib.Omega.{arith}
 use lib.ListN.{length}
 use mathlib.Core.Path.{_≡_}
-use Rattle.places.proofs.Fronts.{Clearing, clearing-none, clearing-all}
+use Rattle.sim_blocks.proofs.Fronts.{Clearing, clearing-none, clearing-all}
 use Rattle.script.proofs.StepLaws.{cleared-more}
 use borrow.Author.Needs.{needs}
 use Rattle.script.proofs.clear.Statement.{statement}

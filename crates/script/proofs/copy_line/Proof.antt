@@ -2,7 +2,7 @@
 use denote.Ref.{now}
 use Prim.Native.Nat.{_-_}
 use native.Mathlib.Omega.{arith}
-use Rattle.language.proofs.PutLaws.{Copied, copied-none}
+use Rattle.script_lines.proofs.PutLaws.{Copied, copied-none}
 use Rattle.script.specs.State.{view}
 use Rattle.script.proofs.LineLaws.{word-small, copy-more, copy-all}
 use borrow.Author.Needs.{needs}

@@ -2,7 +2,7 @@
 use denote.Ref.{now}
 use native.Mathlib.Omega.{arith}
 use Rattle.ids.specs.declared.Refusal.the-variants.{BadLine}
-use Rattle.language.proofs.PrintedLaws.{refused-short}
+use Rattle.script_lines.proofs.PrintedLaws.{refused-short}
 use Rattle.script.proofs.StepLaws.{end-fits, end-opening, end-valid, end-running, end-closed}
 use borrow.Author.Needs.{needs}
 use Rattle.script.proofs.end.Statement.{statement}

@@ -3,7 +3,7 @@ use denote.Ref.{now}
 use Prim.Native.Nat.{_+_}
 use native.Mathlib.Omega.{arith}
 use lib.ListN.{getD}
-use Rattle.language.proofs.PrintedLaws.{no-short}
+use Rattle.script_lines.proofs.PrintedLaws.{no-short}
 use Rattle.script.proofs.StepLaws.{passing-does}
 use borrow.Author.Needs.{needs}
 use Rattle.script.proofs.pass.Statement.{statement}

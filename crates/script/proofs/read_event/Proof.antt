@@ -1,7 +1,7 @@
 -- `script::read_event` meets its contract: the line is copied out as bytes, and parsed.
 use denote.Ref.{now}
 use mathlib.Core.Path.{refl}
-use Rattle.language.specs.Lines.{eventIn, lineOf}
+use Rattle.script_lines.specs.Lines.{eventIn, lineOf}
 use Rattle.script.proofs.StepLaws.{line-read}
 use borrow.Author.Needs.{needs}
 use Rattle.script.proofs.read_event.Statement.{statement}

@@ -1,7 +1,7 @@
 -- `script::read_setting` meets its contract: the line is copied out as bytes, and parsed.
 use denote.Ref.{now}
 use mathlib.Core.Path.{refl}
-use Rattle.language.specs.Lines.{settingIn, firstOf}
+use Rattle.script_lines.specs.Lines.{settingIn, firstOf}
 use Rattle.script.proofs.StepLaws.{line-read}
 use borrow.Author.Needs.{needs}
 use Rattle.script.proofs.read_setting.Statement.{statement}

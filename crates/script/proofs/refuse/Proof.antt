@@ -1,7 +1,7 @@
 -- `script::refuse` meets its contract: the stage is stored, and the line printed.
 use denote.Ref.{now}
 use native.Mathlib.Omega.{arith}
-use Rattle.language.proofs.PrintedLaws.{refused-short}
+use Rattle.script_lines.proofs.PrintedLaws.{refused-short}
 use Rattle.script.proofs.StepLaws.{refused-does}
 use borrow.Author.Needs.{needs}
 use Rattle.script.proofs.refuse.Statement.{statement}

@@ -6,7 +6,7 @@ use mathlib.Core.Bool.{true, false≢true}
 use native.Mathlib.Omega.{arith}
 use Rattle.script.specs.State.{valid}
 use Rattle.script.proofs.LineLaws.{sound}
-use Rattle.stream.specs.Taken.{Taken}
+use Rattle.script_stream.specs.Taken.{Taken}
 use borrow.Author.Tests.{not-false}
 use borrow.Author.Needs.{needs}
 use Rattle.slips.proofs.answer_line.Statement.{statement}

@@ -6,13 +6,13 @@ use Prim.Native.Nat.{_≤_, _-_}
 use native.Mathlib.Omega.{arith}
 use lib.ListN.{length, take}
 use Rattle.script.specs.State.{valid}
-use Rattle.stream.specs.Taken.{Taken}
-use Rattle.stream.proofs.ReadLaws.{taken-none, taken-to, taken-all}
+use Rattle.script_stream.specs.Taken.{Taken}
+use Rattle.script_stream.proofs.ReadLaws.{taken-none, taken-to, taken-all}
 use borrow.Author.Tests.{not-false}
 use borrow.Author.Needs.{needs}
 use Rattle.slips.proofs.answer_lines.Statement.{statement}
 use Rattle.slips.proofs.answer_lines.Tie as tie
-use Rattle.output.specs.Reader.{maxPrinted}
+use Rattle.script_output.specs.Reader.{maxPrinted}
 
 abbrev Inv-loop : tie.InvT-loop
 Inv-loop w₀ part out₀ wanted from₀ w out from = (length w ≡ length w₀) × (length out ≡ length out₀) × (from ≤ length part) × (valid w ≡ true) × (maxPrinted ≤ length out) × Taken w₀ (take from part) w

@@ -1,7 +1,7 @@
 -- `slips::line_behind` meets its contract: the line's end is not before `from`, and not behind the part.
 use denote.Ref.{now}
 use native.Mathlib.Omega.{arith}
-use Rattle.sheet.proofs.LineLaws.{end-behind, end-within}
+use Rattle.text_sheet.proofs.LineLaws.{end-behind, end-within}
 use borrow.Author.Needs.{needs}
 use Rattle.slips.proofs.line_behind.Statement.{statement}
 use Rattle.slips.proofs.line_behind.Tie as tie

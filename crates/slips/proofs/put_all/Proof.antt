@@ -1,5 +1,5 @@
 -- `slips::put_all` meets its contract: what was put on an empty sheet ends within it.
-use Rattle.sheet.proofs.SheetLaws.{placed}
+use Rattle.text_sheet.proofs.SheetLaws.{placed}
 use borrow.Author.Needs.{needs}
 use Rattle.slips.proofs.put_all.Statement.{statement}
 use Rattle.slips.proofs.put_all.Tie as tie

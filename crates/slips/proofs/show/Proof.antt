@@ -5,7 +5,7 @@ use mathlib.Core.Path.{_≡_}
 use mathlib.Core.Bool.{true}
 use native.Mathlib.Omega.{arith}
 use lib.ListN.{length, take, drop}
-use Rattle.layout.specs.Layout.{valid, simulationSize}
+use Rattle.sim_layout.specs.Layout.{valid, simulationSize}
 use Rattle.script.proofs.LineLaws.{sound}
 use Rattle.slips.proofs.RunLaws.{runs}
 use borrow.Author.Needs.{needs}

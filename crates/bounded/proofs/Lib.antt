@@ -1,5 +1,0 @@
-pub mod Answers
-pub mod Leaving
-pub mod Sending
-pub mod ServerEvents
-pub mod ClientEvents

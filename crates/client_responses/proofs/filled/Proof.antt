@@ -1,0 +1,20 @@
+-- `client_responses::filled` meets its contract: a client alone fills a place, and so does a timestamp.
+use Rattle.client_responses.proofs.CountLaws.{filled-client, filled-timestamp}
+use borrow.Author.Needs.{needs}
+use mathlib.Core.Path.{_∙_}
+use Rattle.client_responses.proofs.filled.Statement.{statement}
+use Rattle.client_responses.proofs.filled.Tie as tie
+
+returns : tie.Need-returns
+returns c = filled-client _ _ (c .if1 .taken)
+
+returns-2 : tie.Need-returns-2
+returns-2 c = c .one-if .ensures ∙ filled-timestamp _ _ (c .before .if1 .left)
+
+pub filled-spec : {M : Type 1} → statement M
+filled-spec =
+    tie.close
+    (tie.spec
+    returns
+    (λ c κs. search needs)
+    returns-2)

@@ -1,0 +1,56 @@
+-- `client_responses::own_count` meets its contract. The invariant: `found` places before place i pass, and the count of the rest is still to be added.
+use Prim.Native.Nat.{_-_}
+use native.Mathlib.Omega.{arith}
+use Rattle.ids.specs.Requests.{isRequest}
+use Rattle.client_responses.proofs.CountLaws.{Counting, counting-none, counting-few, counting-more, counting-all}
+use borrow.Author.Needs.{needs}
+use Rattle.client_responses.proofs.own_count.Statement.{statement}
+use Rattle.client_responses.proofs.own_count.Tie as tie
+
+abbrev Inv-loop : tie.InvT-loop
+Inv-loop r row n found₀ i₀ found i = Counting (isRequest r) row n found i
+
+abbrev μ-loop : tie.MeasureT-loop
+μ-loop r row n found₀ i₀ found i = n - i
+
+-- a place is tested
+module _ (c : tie.After-own Inv-loop μ-loop) where
+  abbrev turn : tie.In-loop Inv-loop μ-loop
+  turn = c .before .before .before
+
+loop-holds : tie.Need-loop-holds Inv-loop μ-loop
+loop-holds c = counting-none _ _ _ (c .before .pre)
+
+add-found : tie.Need-add-found Inv-loop μ-loop
+add-found c =
+    let t = turn c in
+    omega (arith, counting-few _ _ _ _ _ (t .before .loop .inv) _ (t .loop-test .taken) (c .own .ensures), t .before .loop .inv .size)
+
+loop-again : tie.Need-loop-again Inv-loop μ-loop
+loop-again c =
+    let t = turn c in
+    counting-more _ _ _ _ _ (t .before .loop .inv) _ (t .loop-test .taken) (c .own .ensures)
+
+returns : tie.Need-returns Inv-loop μ-loop
+returns c = counting-all _ _ _ _ _ (c .before .loop .inv) (c .loop-test .left)
+
+pub own-count-spec : {M : Type 1} → statement M
+own-count-spec =
+    tie.close
+    (tie.spec
+    Inv-loop
+    μ-loop
+    loop-holds
+    (λ c. search needs)
+    (λ c. search needs)
+    (λ c. search needs)
+    (λ c. search needs)
+    (λ c. search needs)
+    (λ c. search needs)
+    (λ c. search needs)
+    (λ c κs. search needs)
+    add-found
+    (λ c. search needs)
+    (λ c. search needs)
+    loop-again
+    returns)

@@ -1,5 +1,0 @@
-pub mod Decimals
-pub mod Words
-pub mod Lines
-pub mod Printed
-pub mod Answers

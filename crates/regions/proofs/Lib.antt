@@ -1,2 +1,0 @@
-pub mod SetsLaws
-pub mod BlockLaws

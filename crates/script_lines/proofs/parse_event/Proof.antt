@@ -1,0 +1,44 @@
+-- `script_lines::parse_event` meets its contract: the line is cut at its first space, and what stands behind it is the number.
+use Rattle.script_lines.proofs.LineLaws.{event-long, event-one-word, event-no-number, event-command}
+use borrow.Author.Needs.{needs}
+use Rattle.script_lines.proofs.parse_event.Statement.{statement}
+use Rattle.script_lines.proofs.parse_event.Tie as tie
+
+returns : tie.Need-returns
+returns c = event-long _ (c .if1 .taken)
+
+returns-2 : tie.Need-returns-2
+returns-2 c = event-one-word _ _ (c .before .before .if1 .left) (c .before .word-end .ensures) (c .if2 .taken)
+
+returns-3 : tie.Need-returns-3
+returns-3 c =
+    let d = c .before .before .before .before in
+    let b = d .before .before .before .before in
+    event-command _ _ (b .before .before .if1 .left) (b .before .word-end .ensures) (b .if2 .left) _ (d .before .before .read-number .ensures) _ _ _ (d .x .given .1) (c .before .command-in .ensures) (c .line-of .ensures)
+
+returns-4 : tie.Need-returns-4
+returns-4 c =
+    let b = c .before .before .before .before in
+    event-no-number _ _ (b .before .before .if1 .left) (b .before .word-end .ensures) (b .if2 .left) _ (c .before .before .read-number .ensures) (c .enum-told .given .1)
+
+pub parse-event-spec : {M : Type 1} → statement M
+parse-event-spec =
+    tie.close
+    (tie.spec
+    returns
+    (λ c κs. search needs)
+    returns-2
+    (λ c. search needs)
+    (λ c. search needs)
+    (λ c. search needs)
+    (λ c. search needs)
+    (λ c κs. search needs)
+    (λ c. search needs)
+    (λ c. search needs)
+    (λ c. search needs)
+    (λ c. search needs)
+    (λ c κs. search needs)
+    (λ c κs. search needs)
+    (λ c. search needs)
+    returns-3
+    returns-4)

@@ -1,0 +1,4 @@
+pub mod DecimalLaws
+pub mod ReadLaws
+pub mod NumberTrip
+pub mod PutLaws

@@ -1,0 +1,13 @@
+pub mod RegionLaws
+pub mod RegionBlocks
+pub mod Fronts
+pub mod BlockParts
+pub mod TestLaws
+pub mod FlagLaws
+pub mod Facts
+pub mod ClientLaws
+pub mod ClientSteps
+pub mod Pigeonhole
+pub mod ServerLaws
+pub mod ServerSteps
+pub mod EpochLaws

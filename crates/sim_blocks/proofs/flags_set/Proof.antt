@@ -1,0 +1,48 @@
+-- `sim_blocks::flags_set` meets its contract. The invariant: the flags before flag i are counted.
+use lib.ListN.{getD}
+use denote.Ref.{now}
+use Rattle.sim_blocks.proofs.FlagLaws.{one-at-most}
+use native.Mathlib.Omega.{arith}
+use Prim.Native.Nat.{_-_}
+use Rattle.sim_blocks.proofs.FlagLaws.{Counting, counting-none, counting-more, counting-all}
+use borrow.Author.Needs.{needs}
+use Rattle.sim_blocks.proofs.flags_set.Statement.{statement}
+use Rattle.sim_blocks.proofs.flags_set.Tie as tie
+use Rattle.system.specs.Limits.{systemServers}
+
+abbrev Inv-loop : tie.InvT-loop
+Inv-loop words count₀ i₀ count i = Counting words count i
+
+abbrev μ-loop : tie.MeasureT-loop
+μ-loop words count₀ i₀ count i = systemServers - i
+
+loop-holds : tie.Need-loop-holds Inv-loop μ-loop
+loop-holds c = counting-none _ (c .before .pre)
+
+add-count : tie.Need-add-count Inv-loop μ-loop
+add-count c = omega (arith, c .before .before .before .loop .inv .few, c .before .before .before .loop .inv .within, one-at-most (getD (now (c .before .before .before .before .before .args .words)) (c .before .before .before .loop .i) 0) _ (c .bit-of .ensures))
+
+loop-less : tie.Need-loop-less Inv-loop μ-loop
+loop-less c = omega arith
+
+loop-again : tie.Need-loop-again Inv-loop μ-loop
+loop-again c = counting-more _ _ _ (c .before .before .before .loop .inv) _ (omega arith) (c .bit-of .ensures)
+
+returns : tie.Need-returns Inv-loop μ-loop
+returns c = counting-all _ _ _ (c .before .loop .inv) (omega arith)
+
+pub flags-set-spec : {M : Type 1} → statement M
+flags-set-spec =
+    tie.close
+    (tie.spec
+    Inv-loop
+    μ-loop
+    loop-holds
+    (λ c. search needs)
+    (λ c. search needs)
+    (λ c κs. search needs)
+    add-count
+    (λ c. search needs)
+    loop-less
+    loop-again
+    returns)

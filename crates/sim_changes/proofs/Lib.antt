@@ -1,0 +1,15 @@
+pub mod Becoming
+pub mod Parties
+pub mod Messages
+pub mod SentLaws
+pub mod Storing
+pub mod Taking
+pub mod Posting
+pub mod Stores
+pub mod Epochs
+pub mod Opening
+pub mod Answers
+pub mod Leaving
+pub mod Sending
+pub mod ServerEvents
+pub mod ClientEvents

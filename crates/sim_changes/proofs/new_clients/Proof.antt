@@ -1,0 +1,60 @@
+-- `sim_changes::new_clients` meets its contract. The invariant: the first i clients are put.
+use native.Mathlib.Omega.{arith}
+use Prim.Native.Nat.{ℕ, _-_}
+use Rattle.sim_changes.proofs.Opening.{Putting, putting-none, putting-client, putting-more, putting-all, length-client}
+use Rattle.sim_changes.specs.Opening.{newClient}
+use borrow.Author.Needs.{needs}
+use Rattle.sim_changes.proofs.new_clients.Statement.{statement}
+use Rattle.sim_changes.proofs.new_clients.Tie as tie
+use Rattle.system.specs.Numbered.{clientNo}
+
+abbrev Inv-loop : tie.InvT-loop
+Inv-loop w₀ n m clients i₀ w i = Putting (λ (i : ℕ). newClient n m (clientNo i)) w₀ clients w i
+
+abbrev μ-loop : tie.MeasureT-loop
+μ-loop w₀ n m clients i₀ w i = clients - i
+
+loop-holds : tie.Need-loop-holds Inv-loop μ-loop
+loop-holds c = putting-none _ _ _
+
+new-client-requires : tie.Need-new-client-requires Inv-loop μ-loop
+new-client-requires c κs =
+    let d = c .before .before .before .before in
+    let a = d .args in
+    putting-client _ _ _ _ _ (c .before .before .loop .inv) (d .pre) (c .before .loop-test .taken)
+
+add-i : tie.Need-add-i Inv-loop μ-loop
+add-i c =
+    let d = c .before .before .before .before .before .before .before in
+    let a = d .args in
+    omega (arith, d .pre .1, (c .before .before .before .before .loop-test .taken))
+
+loop-less : tie.Need-loop-less Inv-loop μ-loop
+loop-less c = omega (arith, (c .before .before .before .before .loop-test .taken))
+
+loop-again : tie.Need-loop-again Inv-loop μ-loop
+loop-again c =
+    let d = c .before .before .before .before .before .before .before in
+    let a = d .args in
+    putting-more _ _ _ _ _ (c .before .before .before .before .before .loop .inv) (λ k l. length-client (a .n) (a .m) k l) (c .before .before .before .before .loop-test .taken) _ (c .before .before .new-client .ensures)
+
+same-length : tie.Need-same-length Inv-loop μ-loop
+same-length c = c .before .loop .inv .same
+
+returns : tie.Need-returns Inv-loop μ-loop
+returns c = putting-all _ _ _ _ _ (c .before .loop .inv) (c .loop-test .left)
+
+pub new-clients-spec : {M : Type 1} → statement M
+new-clients-spec =
+    tie.close
+    (tie.spec
+    Inv-loop
+    μ-loop
+    loop-holds
+    (λ c. search needs)
+    new-client-requires
+    add-i
+    loop-less
+    loop-again
+    same-length
+    returns)

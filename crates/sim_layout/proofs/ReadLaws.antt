@@ -1,0 +1,73 @@
+-- What other crates ask of a valid simulation: its words are all there, its counts are in range, and the slots that are lent are its messages in transit.
+use Prim.Native.Nat.{ℕ, _<_, _≤_}
+use native.Mathlib.Omega.{arith}
+use mathlib.Core.Path.{_≡_, refl}
+use mathlib.Core.Bool.{true}
+use mathlib.Core.List.{List, map}
+use lib.ListN.{length, getD, take, drop}
+use Rattle.ids.proofs.LimitsLaws.{within-range}
+use Rattle.client_responses.specs.Figure1.{count}
+use Rattle.wire.specs.declared.Message.{Message}
+use Rattle.system.specs.Limits.{systemClients, systemServers, systemMessages}
+use Rattle.system.specs.Places.{isInside, holders}
+use Rattle.sim_blocks.specs.Regions.{blocks}
+use Rattle.sim_blocks.specs.Blocks.{clientBlock, clientPlace}
+use Rattle.quorum.proofs.CheckLaws.{range}
+use Rattle.sim_transit.specs.Slots.{slotAt, transitSize}
+use Rattle.sim_transit.specs.Calls.{Sized, IsAt}
+use Rattle.sim_transit.proofs.Kept.{valid-sized}
+use Rattle.sim_layout.specs.Layout.{simulationSize, transitFrom, settingOf, lengthOf, sentOf, clientWords, transitWords, view, valid}
+use Rattle.sim_layout.proofs.ValidLaws.{facts}
+
+-- the words of the head
+pub servers-word : (w : List ℕ) → getD w 0 0 ≡ settingOf w .n
+unfolding settingOf
+servers-word w = refl
+
+pub clients-word : (w : List ℕ) → getD w 3 0 ≡ settingOf w .clients
+unfolding settingOf
+clients-word w = refl
+
+pub most-word : (w : List ℕ) → getD w 6 0 ≡ view w .most
+unfolding view
+most-word w = refl
+
+-- those counted inside among the clients are the system's holders
+pub holders-counted : (w : List ℕ) (r clients : ℕ) → clients ≡ settingOf w .clients → r ≡ count (map isInside (blocks clientBlock clientPlace clients (clientWords w))) → r ≡ holders (view w)
+unfolding view
+holders-counted w r clients e p = rw e at p
+
+module _ (w : List ℕ) (ok : valid w ≡ true) where
+  pub words-long : length w ≡ simulationSize
+  words-long = facts w ok .long
+
+  pub few-servers : settingOf w .n ≤ systemServers
+  few-servers = range (settingOf w .n) (settingOf w .m) (settingOf w .f) (facts w ok .range) .servers
+
+  pub few-clients : settingOf w .clients ≤ systemClients
+  few-clients = within-range (settingOf w .clients) systemClients (facts w ok .some) .1
+
+  -- the messages in transit, as they are lent
+  pub lent-sized : Sized (lengthOf w) (take transitSize (drop transitFrom w))
+  unfolding transitWords
+  lent-sized = valid-sized (settingOf w .n) (settingOf w .clients) (sentOf w) (lengthOf w) (transitWords w) (facts w ok .transit)
+
+  pub slot-lent : (i : ℕ) → i < lengthOf w → (length (take transitSize (drop transitFrom w)) ≡ transitSize) × (i < systemMessages)
+  slot-lent i h = (lent-sized .size, omega (arith, lent-sized .few))
+
+  pub message-read : (i : ℕ) (m : Message) → i < lengthOf w → IsAt i (take transitSize (drop transitFrom w)) m → m ≡ slotAt (transitWords w) i .message
+  unfolding transitWords
+  message-read i m h A = A (settingOf w .n) (settingOf w .clients) (sentOf w) (lengthOf w) (facts w ok .transit) h
+
+-- what is said of the words that are lent is said of the messages in transit
+pub lent-said : (w : List ℕ) (P : List ℕ → Type 0) → P (take transitSize (drop transitFrom w)) → P (transitWords w)
+unfolding transitWords
+lent-said w P p = p
+
+pub number-said : (w : List ℕ) (i : ℕ) → slotAt (take transitSize (drop transitFrom w)) i .number ≡ slotAt (transitWords w) i .number
+unfolding transitWords
+number-said w i = refl
+
+pub delivered-said : (w : List ℕ) (i : ℕ) → slotAt (take transitSize (drop transitFrom w)) i .delivered ≡ slotAt (transitWords w) i .delivered
+unfolding transitWords
+delivered-said w i = refl

@@ -1,0 +1,24 @@
+-- `sim_transit::remove` meets its contract: the slots behind slot i move up, and the last used one is emptied.
+use Rattle.sim_transit.proofs.RemoveLaws.{removes}
+use borrow.Author.Needs.{needs}
+use Rattle.sim_transit.proofs.remove.Statement.{statement}
+use Rattle.sim_transit.proofs.remove.Tie as tie
+
+returns : tie.Need-returns
+returns c = removes _ _ _ _ _ (c .before .before .before .before .before .before .before .before .before .pre .0 .size) (c .before .before .before .before .before .before .before .before .before .pre .0 .few) (c .before .before .before .before .before .before .before .before .before .pre .1) (c .before .before .before .before .before .before .move-up .ensures) (c .before .before .clear .ensures)
+
+pub remove-spec : {M : Type 1} → statement M
+remove-spec =
+    tie.close
+    (tie.spec
+    (λ c. search needs)
+    (λ c. search needs)
+    (λ c. search needs)
+    (λ c. search needs)
+    (λ c κs. search needs)
+    (λ c. search needs)
+    (λ c. search needs)
+    (λ c. search needs)
+    (λ c κs. search needs)
+    (λ c. search needs)
+    returns)

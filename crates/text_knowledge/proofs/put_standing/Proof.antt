@@ -1,0 +1,23 @@
+-- `text_knowledge::put_standing` meets its contract: by the mark.
+use borrow.Author.Needs.{needs}
+use Rattle.text_knowledge.proofs.put_standing.Statement.{statement}
+use Rattle.text_knowledge.proofs.put_standing.Tie as tie
+
+returns : tie.Need-returns
+returns c = let d = c .before .before in rw (d .before .before .before .if1 .taken) (d .put .ensures)
+
+returns-2 : tie.Need-returns-2
+returns-2 c = let d = c .before .before in rw (d .before .before .before .if1 .left) (d .put2 .ensures)
+
+pub put-standing-spec : {M : Type 1} → statement M
+put-standing-spec =
+    tie.close
+    (tie.spec
+    (λ c. search needs)
+    (λ c κs. search needs)
+    (λ c. search needs)
+    returns
+    (λ c. search needs)
+    (λ c κs. search needs)
+    (λ c. search needs)
+    returns-2)

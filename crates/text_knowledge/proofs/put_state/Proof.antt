@@ -1,0 +1,27 @@
+-- `text_knowledge::put_state` meets its contract: the section, then the supporting servers.
+use Rattle.text_sheet.proofs.SheetLaws.{then}
+use Rattle.text_knowledge.specs.Knowledge.{stateText}
+use Rattle.client.specs.Record.{view}
+use borrow.Author.Needs.{needs}
+use Rattle.text_knowledge.proofs.put_state.Statement.{statement}
+use Rattle.text_knowledge.proofs.put_state.Tie as tie
+
+put-section-requires : tie.Need-put-section-requires
+put-section-requires c κs = search needs
+
+put-supporters-of-requires : tie.Need-put-supporters-of-requires
+put-supporters-of-requires c κs = search needs
+
+same-length : tie.Need-same-length
+same-length c = search needs
+
+returns : tie.Need-returns
+unfolding stateText view
+returns c =
+    let d₂ = c .before .before in
+    let d₁ = d₂ .before .before .before .before in
+    then _ _ _ (d₁ .put-section .ensures) (d₂ .put-supporters-of .ensures)
+
+pub put-state-spec : {M : Type 1} → statement M
+put-state-spec =
+    tie.close (tie.spec put-section-requires put-supporters-of-requires same-length returns)

@@ -1,0 +1,27 @@
+-- `text_knowledge::put_supporters` meets its contract: the word, then the numbers.
+use Rattle.text_sheet.proofs.SheetLaws.{then}
+use borrow.Author.Needs.{needs}
+use Rattle.text_knowledge.proofs.put_supporters.Statement.{statement}
+use Rattle.text_knowledge.proofs.put_supporters.Tie as tie
+
+slice-aggregate-put : tie.Need-slice-aggregate-put
+slice-aggregate-put c = search needs
+
+put-requires : tie.Need-put-requires
+put-requires c κs = search needs
+
+put-supports-requires : tie.Need-put-supports-requires
+put-supports-requires c κs = search needs
+
+same-length : tie.Need-same-length
+same-length c = search needs
+
+returns : tie.Need-returns
+returns c =
+    let d₂ = c .before .before in
+    let d₁ = d₂ .before .before .before .before in
+    then _ _ _ (d₁ .put .ensures) (d₂ .put-supports .ensures)
+
+pub put-supporters-spec : {M : Type 1} → statement M
+put-supporters-spec =
+    tie.close (tie.spec slice-aggregate-put put-requires put-supports-requires same-length returns)

@@ -1,0 +1,40 @@
+-- `text_screen::put_margin` meets its contract: the margin is the difference of 2 m and n + f.
+use native.Mathlib.Omega.{arith}
+use Rattle.text_sheet.proofs.SheetLaws.{then}
+use Rattle.text_screen.proofs.ScreenLaws.{margin-none, margin-some}
+use Rattle.quorum.proofs.ReturnLaws.{in-bounds}
+use Rattle.text_sheet.specs.Sheet.{puts}
+use borrow.Author.Needs.{needs}
+use Rattle.text_screen.proofs.put_margin.Statement.{statement}
+use Rattle.text_screen.proofs.put_margin.Tie as tie
+
+returns : tie.Need-returns
+unfolding puts
+returns c = let x = c .before .before .before .args in rw (margin-none (x .n) (x .m) (x .f) _ (c .before .in-range .ensures) (c .if1 .taken))
+
+mul-put-difference : tie.Need-mul-put-difference
+mul-put-difference c = let x = c .before .before .before .before .args in let b = in-bounds (x .n) (x .m) (x .f) _ (c .before .before .in-range .ensures) (c .before .if1 .left) in omega (arith, b)
+
+add-put-difference : tie.Need-add-put-difference
+add-put-difference c = let x = c .before .before .before .before .args in let b = in-bounds (x .n) (x .m) (x .f) _ (c .before .before .in-range .ensures) (c .before .if1 .left) in omega (arith, b)
+
+returns-2 : tie.Need-returns-2
+returns-2 c =
+    let d₂ = c .before .before in
+    let d₁ = d₂ .before .before .before .before .before in
+    let x = c .before .before .before .before .before .before .before .before .before .before .before .before .args in
+    rw (margin-some (x .n) (x .m) (x .f) _ (c .before .before .before .before .before .before .before .before .before .before .in-range .ensures) (c .before .before .before .before .before .before .before .before .before .if1 .left)) (then _ _ _ (d₁ .put-difference .ensures) (d₂ .put .ensures))
+
+pub put-margin-spec : {M : Type 1} → statement M
+put-margin-spec =
+    tie.close
+    (tie.spec
+    (λ c κs. search needs)
+    returns
+    mul-put-difference
+    add-put-difference
+    (λ c κs. search needs)
+    (λ c. search needs)
+    (λ c κs. search needs)
+    (λ c. search needs)
+    returns-2)

@@ -1,0 +1,143 @@
+// What the commissioning screen says of a setting, and the run of an unsafe one as a gallery script, as texts on a sheet
+// (screen/specs/Screen). For `commission`.
+ghost use mathlib.Core.Path.{_≡_};
+ghost use mathlib.Core.List.{[], _∷_};
+ghost use lib.IntN.{subℕ};
+ghost use Rattle.script_lines.specs.Printed.{eventLine};
+ghost use Rattle.quorum.specs.Run.{runEvent};
+ghost use Rattle.script_lines.specs.Words.{newline, text};
+ghost use Rattle.text_sheet.specs.Sheet.{sheet as sheetOf, puts};
+ghost use Rattle.text_screen.specs.Screen.{signed, marginText, refusedText, verdictText, eventsText, thresholdText, report, openingText, askedText, scriptText};
+use ids::Refusal;
+use quorum::Asked;
+use quorum::Threshold;
+use quorum::Verdict;
+use system::Event;
+use system::Setting;
+
+// The margin of a setting in range.
+fn put_margin(out: &mut [u8], at: usize, n: u32, m: u32, f: u32) -> usize
+    ensures { λ r. ⌜ sheetOf (now (out .exit)) r ≡ puts (marginText n m f) (sheetOf (now (out .entry)) at) ⌝ }
+{
+    if !quorum::in_range(n, m, f) {
+        return at;
+    }
+    let p = put_difference(out, at, 2 * m, n + f);
+    text_sheet::put(out, p, b"\n")
+}
+
+// `margin`, and a minus b with its sign.
+fn put_difference(out: &mut [u8], at: usize, a: u32, b: u32) -> usize
+    ensures { λ r. ⌜ sheetOf (now (out .exit)) r ≡ puts (text "margin " ∷ signed (subℕ a b)) (sheetOf (now (out .entry)) at) ⌝ }
+{
+    let p = text_sheet::put(out, at, b"margin ");
+    if a < b {
+        return text_sheet::put_with(out, p, b"-", b - a);
+    }
+    text_sheet::put_number(out, p, a - b)
+}
+
+pub fn put_refused(out: &mut [u8], at: usize, e: Refusal, why: &[u8]) -> usize
+    ensures { λ r. ⌜ sheetOf (now (out .exit)) r ≡ puts (refusedText e (now (why .entry))) (sheetOf (now (out .entry)) at) ⌝ }
+{
+    let p = text_sheet::put_with(out, at, b"no ", ids::code_of(e));
+    let q = text_sheet::put(out, p, why);
+    text_sheet::put(out, q, b"\n")
+}
+
+fn put_verdict(out: &mut [u8], at: usize, v: Verdict) -> usize
+    ensures { λ r. ⌜ sheetOf (now (out .exit)) r ≡ puts (verdictText v) (sheetOf (now (out .entry)) at) ⌝ }
+{
+    match v {
+        Verdict::Accepted(_) => text_sheet::put(out, at, b"ok\n"),
+        Verdict::Unsafe(_, _) => put_refused(out, at, Refusal::Unsafe, b" unsafe"),
+        Verdict::Stalls(_) => put_refused(out, at, Refusal::Stalls, b" stalls"),
+        Verdict::OutOfRange => put_refused(out, at, Refusal::ParameterOutOfRange, b" out of range"),
+    }
+}
+
+// The events in the run of an unsafe setting.
+fn put_events(out: &mut [u8], at: usize, v: Verdict) -> usize
+    ensures { λ r. ⌜ sheetOf (now (out .exit)) r ≡ puts (eventsText v) (sheetOf (now (out .entry)) at) ⌝ }
+{
+    match v {
+        Verdict::Unsafe(_, events) => {
+            let p = text_sheet::put_with(out, at, b"events ", events);
+            text_sheet::put(out, p, b"\n")
+        }
+        Verdict::Accepted(_) => at,
+        Verdict::Stalls(_) => at,
+        Verdict::OutOfRange => at,
+    }
+}
+
+fn put_threshold(out: &mut [u8], at: usize, t: Threshold) -> usize
+    ensures { λ r. ⌜ sheetOf (now (out .exit)) r ≡ puts (thresholdText t) (sheetOf (now (out .entry)) at) ⌝ }
+{
+    match t {
+        Threshold::Default(m) => {
+            let p = text_sheet::put_with(out, at, b"usual threshold ", m);
+            text_sheet::put(out, p, b"\n")
+        }
+        Threshold::OutOfRange => at,
+    }
+}
+
+// All that is said of a setting.
+pub fn put_report(out: &mut [u8], n: u32, m: u32, f: u32) -> usize
+    ensures { λ r. ⌜ sheetOf (now (out .exit)) r ≡ puts (report n m f) (sheetOf (now (out .entry)) 0) ⌝ }
+{
+    let v = quorum::check(n, m, f);
+    let p = put_verdict(out, 0, v);
+    let q = put_margin(out, p, n, m, f);
+    let t = put_events(out, q, v);
+    put_threshold(out, t, quorum::default_threshold(n))
+}
+
+fn put_event(out: &mut [u8], at: usize, e: Event) -> usize
+    ensures { λ r. ⌜ sheetOf (now (out .exit)) r ≡ puts (eventLine e ∷ (newline ∷ []) ∷ []) (sheetOf (now (out .entry)) at) ⌝ }
+{
+    let mut line = [0u8; 16];
+    let n = script_lines::put_event(&mut line, 0, e);
+    let p = text_sheet::put(out, at, &line[0..n]);
+    text_sheet::put(out, p, b"\n")
+}
+
+fn put_opening(out: &mut [u8], n: u32, m: u32, f: u32) -> usize
+    ensures { λ r. ⌜ sheetOf (now (out .exit)) r ≡ puts (openingText n m f) (sheetOf (now (out .entry)) 0) ⌝ }
+{
+    let mut line = [0u8; 51];
+    let s = Setting {
+        n,
+        m,
+        f,
+        clients: 2,
+    };
+    let k = script_lines::put_setting(&mut line, 0, s);
+    let p = text_sheet::put(out, 0, &line[0..k]);
+    text_sheet::put(out, p, b"\n")
+}
+
+// Event number `i` of the run.
+fn put_numbered(out: &mut [u8], at: usize, n: u32, m: u32, f: u32, i: u32) -> usize
+    ensures { λ r. ⌜ sheetOf (now (out .exit)) r ≡ puts (askedText (runEvent n m f i)) (sheetOf (now (out .entry)) at) ⌝ }
+{
+    let a = quorum::run_event(n, m, f, i);
+    match a {
+        Asked::Event(e) => put_event(out, at, e),
+        Asked::Refused(_) => at,
+    }
+}
+
+// The first `events` events of the run, as a script.
+pub fn put_script(out: &mut [u8], n: u32, m: u32, f: u32, events: u32) -> usize
+    ensures { λ r. ⌜ sheetOf (now (out .exit)) r ≡ puts (scriptText n m f events) (sheetOf (now (out .entry)) 0) ⌝ }
+{
+    let mut at = put_opening(out, n, m, f);
+    let mut i: u32 = 0;
+    while i < events {
+        i += 1;
+        at = put_numbered(out, at, n, m, f, i);
+    }
+    at
+}
