@@ -7,7 +7,7 @@ use Rattle.client_responses.specs.Figure1 as client
 use Rattle.client.specs.declared.Client.{Client}
 use Rattle.sends.proofs.ServerSends as server-sends
 use Rattle.sends.proofs.ClientSends as client-sends
-use Rattle.capi.specs.Parts.{serverOutcome, clientOutcome}
+use Rattle.capi.specs.Inner.{serverOutcome, clientOutcome}
 use Rattle.capi.specs.declared.ServerCall.{ServerCall}
 use Rattle.capi.specs.declared.ServerCall.the-variants.{Message as ServerMessage, Suspect, Check}
 use Rattle.capi.specs.declared.ClientCall.{ClientCall}

@@ -27,7 +27,7 @@ use Rattle.client.proofs.ValidLaws.{sizes-range}
 use Rattle.words.specs.Records.{maxWord, serverSize, clientSize, fitsHead, serverWords, clientWords}
 use Rattle.words.proofs.RecordsLaws.{head-fits}
 use Rattle.capi.specs.Steps.{codeOf, recordInto, serverNew, clientNew}
-use Rattle.capi.specs.Parts.{answerCode, answerRecord}
+use Rattle.capi.specs.Inner.{answerCode, answerRecord}
 
 module _ (n j : ℕ) (ws : List ℕ) where
   abbrev pub ServerMade : ℕ → List ℕ → Type 0

@@ -28,7 +28,7 @@ use Rattle.words.specs.Records.{serverSize, clientSize, holdsServer, serverFrom
 use Rattle.words.proofs.RecordsLaws.{server-held, client-held}
 use Rattle.words.proofs.RoundTrip.{server-read-back, client-read-back}
 use Rattle.capi.specs.Steps.{inWords, lent, withCounts, onServer, serverWith, serverMessage, serverSuspect, serverCheck, onClient, clientWith, clientMessage, clientBegin, clientExit, recordInto}
-use Rattle.capi.specs.Parts.{serverOutcome, clientOutcome}
+use Rattle.capi.specs.Inner.{serverOutcome, clientOutcome}
 use Rattle.capi.specs.declared.ServerCall.{ServerCall}
 use Rattle.capi.specs.declared.ServerCall.the-variants.{Message as ServerMessage, Suspect, Check}
 use Rattle.capi.specs.declared.ClientCall.{ClientCall}

@@ -49,7 +49,7 @@ use Rattle.words.specs.Records.{maxWord, recordHead, serverSize, clientSize, ho
 use Rattle.words.proofs.RecordsLaws.{server-held, client-held}
 use Rattle.sends.proofs.ServerSends.{never, size-few}
 use Rattle.capi.specs.Steps.{inWords, lent, Leaves, onServer, onClient, serverWith, clientWith, serverTakes, clientTakes}
-use Rattle.capi.specs.Parts.{answerCode, answerRecord, answerCounts, shortCode, shortAnswer, Storable, turnedWords, serverOutcome, clientOutcome}
+use Rattle.capi.specs.Inner.{answerCode, answerRecord, answerCounts, shortCode, shortAnswer, Storable, turnedWords, serverOutcome, clientOutcome}
 use Rattle.capi.specs.declared.ServerCall.{ServerCall}
 use Rattle.capi.specs.declared.ServerCall.the-variants.{Message as ServerMessage}
 use Rattle.capi.specs.declared.ClientCall.{ClientCall}

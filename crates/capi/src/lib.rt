@@ -15,7 +15,7 @@ ghost use Rattle.words.specs.Messages.{messageIn};
 ghost use Rattle.words.specs.Records.{maxWord, recordHead, serverSize, clientSize, serverWords, clientHeadWords, clientWords};
 ghost use Rattle.capi.specs.Calls.{readCode, readWords, writtenCode, writeCode, writeBuffer};
 ghost use Rattle.capi.specs.Steps.{lent, Leaves, codeOf, recordInto, serverMessage, serverSuspect, serverCheck, clientMessage, clientBegin, clientExit, serverNew, clientNew, onServer, onClient};
-ghost use Rattle.capi.specs.Parts.{answerCode, answerRecord, answerCounts, shortCode, shortAnswer, Storable, turnedWords, acceptedWords, serverOutcome, clientOutcome};
+ghost use Rattle.capi.specs.Inner.{answerCode, answerRecord, answerCounts, shortCode, shortAnswer, Storable, turnedWords, acceptedWords, serverOutcome, clientOutcome};
 use ids::ClientId;
 use ids::Refusal;
 use ids::ServerId;

@@ -16,7 +16,8 @@ use Rattle.script.specs.State.{valid}
 use Rattle.script.specs.declared.Progress.{Progress}
 use Rattle.script.specs.declared.Progress.the-variants.{Took, Refused}
 use Rattle.script.specs.Calls.{newAnswer, newWords, feedAnswer, FeedLeaves, finishAnswer, FinishLeaves}
-use Rattle.capi_script.specs.Calls.{codeOf, countsOf, roomOf, fed, ended, Leaves, shortOf}
+use Rattle.capi_script.specs.Calls.{codeOf, countsOf, roomOf, fed, ended, Leaves}
+use Rattle.capi_script.specs.Inner.{shortOf}
 
 pub refused-code : (p : Progress) (x : Refusal) (r : ℕ) → p ≡ Refused x → r ≡ code x → r ≡ codeOf p
 refused-code p x r e q = rw e q

@@ -1,15 +1,12 @@
 -- What the exported calls of a script return, 0 or a refusal's number, and what they leave in the slices they were lent.
 use Prim.Native.Nat.{ℕ, _≤_, _<_}
 use mathlib.Core.Path.{_≡_}
-use mathlib.Core.Bool.{Bool}
 use mathlib.Core.List.{List, [], _∷_}
 use lib.Dec.{ltb}
 use lib.ListN.{length}
 use lib.Seq.{sets}
 use Rattle.ids.specs.Choice.{if_then_else_}
 use Rattle.ids.specs.Refusals.{code}
-use Rattle.ids.specs.declared.Refusal.{Refusal}
-use Rattle.ids.specs.declared.Refusal.the-variants.{RoomShort, InvalidRecord}
 use Rattle.script.specs.declared.Progress.{Progress}
 use Rattle.script.specs.declared.Progress.the-variants.{Took, Refused}
 use Rattle.script.specs.Calls.{feedAnswer, finishAnswer}
@@ -39,7 +36,3 @@ pub record Leaves (L : Type 0) (p : Progress) (w out counts w′ out′ counts�
   pub lent : 2 ≤ length counts → L
   pub short : length counts < 2 → (w′ ≡ w) × (out′ ≡ out)
   pub counted : counts′ ≡ countsOf counts p
-
--- 21, 6: the refusal of a call without room, on words that are valid or not
-abbrev pub shortOf : Bool → Refusal
-shortOf b = if b then RoomShort else InvalidRecord

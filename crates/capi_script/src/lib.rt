@@ -6,7 +6,8 @@ ghost use lib.ListN.{length};
 ghost use Rattle.ids.specs.Refusals.{code};
 ghost use Rattle.script.specs.State.{valid};
 ghost use Rattle.script.specs.Calls.{newAnswer, newWords, FeedLeaves, FinishLeaves};
-ghost use Rattle.capi_script.specs.Calls.{codeOf, countsOf, fed, ended, Leaves, shortOf};
+ghost use Rattle.capi_script.specs.Calls.{codeOf, countsOf, fed, ended, Leaves};
+ghost use Rattle.capi_script.specs.Inner.{shortOf};
 use ids::Refusal;
 use script::Progress;
 

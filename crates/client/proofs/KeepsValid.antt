@@ -39,7 +39,7 @@ use Rattle.client_responses.proofs.HearLaws.{shown-place, place-fits}
 use Rattle.client.specs.declared.Client.{Client}
 use Rattle.client.specs.Record.{maxPlaces, rowWords, clientOf, headIn, view, store, validSizes, fitsSection, noMore, fitsTimestamp, validUpTo, valid}
 use Rattle.client.specs.Calls.{beginOutcome, exitOutcome, messageOutcomeUpTo, received, forClient, clientAfter}
-use Rattle.client.specs.Steps.{without}
+use Rattle.client.specs.Inner.{without}
 use Rattle.client.proofs.ValidLaws.{KnownUpTo, known-up-to, valid-up-to, known-padded, known-words, valid-known, valid-padded, sizes-range}
 use Rattle.client.proofs.RecordLaws.{store-view}
 use Rattle.client.proofs.StepLaws.{response-range, its-client}

@@ -42,7 +42,8 @@ use Rattle.client.specs.declared.Stepped.{Stepped}
 use Rattle.client.specs.declared.Turned.{Turned}
 use Rattle.client.specs.Record.{rowWords, clientOf, headIn, validSizes, valid, view, store}
 use Rattle.client.specs.Calls.{newResult, beginOutcome, exitOutcome, messageOutcome, messageOutcomeUpTo, forClient, received, rowAfter, turned, result}
-use Rattle.client.specs.Steps.{request, headWith, without, requests, releases, refusedNew, yields, isRefused, Answers}
+use Rattle.client.specs.Steps.{Answers}
+use Rattle.client.specs.Inner.{request, headWith, without, requests, releases, refusedNew, yields, isRefused}
 use Rattle.client.proofs.ValidLaws.{valid-known, valid-padded, padded-words, critical-below, sizes-range}
 use Rattle.client.proofs.RecordLaws.{row-without, row-again}
 

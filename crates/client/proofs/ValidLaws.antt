@@ -26,7 +26,7 @@ use Rattle.client_responses.proofs.CountLaws.{no-misfit}
 use Rattle.client.specs.declared.Client.{Client}
 use Rattle.client.specs.declared.Head.{Head}
 use Rattle.client.specs.Record.{clientOf, view, validSizesUpTo, validSizes, fitsSection, noMore, fitsTimestamp, validUpTo, valid}
-use Rattle.client.specs.Steps.{request, validPlaces}
+use Rattle.client.specs.Inner.{request, validPlaces}
 
 -- the tests of a section, by the count of the filled places
 below : (a b : ℕ) → ltb a b ≡ not (leb b a)

@@ -1,3 +1,4 @@
 pub mod Record
 pub mod Calls
 pub mod Steps
+pub mod Inner

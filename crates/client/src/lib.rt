@@ -13,7 +13,8 @@ ghost use Rattle.client_responses.specs.Figure1.{isRemainder, isTrying, isCriti
 ghost use Rattle.client_responses.specs.Row.{responsesIn};
 ghost use Rattle.client.specs.Record.{rowWords, clientOf, headIn, validSizes, fitsSection, noMore, fitsTimestamp, valid, view};
 ghost use Rattle.client.specs.Calls.{forClient, received, newResult, beginOutcome, exitOutcome, messageOutcome, result, turned};
-ghost use Rattle.client.specs.Steps.{request, headWith, validPlaces, isRefused, refusedNew, requests, releases, yields, Answers};
+ghost use Rattle.client.specs.Steps.{Answers};
+ghost use Rattle.client.specs.Inner.{request, headWith, validPlaces, isRefused, refusedNew, requests, releases, yields};
 use client_responses::Section;
 use ids::ClientId;
 use ids::Owner;

@@ -17,7 +17,8 @@ use Rattle.ids.specs.declared.Owner.{Owner}
 use Rattle.rows.specs.Rows.{requestsIn}
 use Rattle.rows.proofs.WordLaws.{requests-at}
 use Rattle.client_responses.specs.Figure1.{filled, count}
-use Rattle.client_responses.specs.Row.{shown, responsesIn, ownIsCurrent, misfit, pair, one}
+use Rattle.client_responses.specs.Row.{shown, responsesIn, ownIsCurrent, misfit}
+use Rattle.client_responses.specs.Inner.{pair, one}
 
 -- one place, by the test whether it is empty
 by-test : (b : Bool) (q : Request) → b ≡ same q noRequest → not b ≡ filled (shown q)

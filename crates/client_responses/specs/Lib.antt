@@ -1,2 +1,3 @@
 pub mod Figure1
 pub mod Row
+pub mod Inner

@@ -37,13 +37,6 @@ ownIsCurrent r o = not (isClient (r .client) o) || isRequest r o
 abbrev pub misfit : Request → Owner → Bool
 misfit r o = not (validOwner o && ownIsCurrent r o)
 
--- a place's two words, and 1 for a test that holds
-abbrev pub pair : ℕ → ℕ → Request
-pair k t = record { client = record { 0 = k }; timestamp = record { 0 = t } }
-
-abbrev pub one : Bool → ℕ
-one b = if b then 1 else 0
-
 -- lines 8 and 9: the row of request r after server j named owner o
 unfoldable pub heardRow : Request → List ℕ → ServerId → Owner → List ℕ
 heardRow r row j o =

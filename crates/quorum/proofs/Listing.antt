@@ -13,7 +13,7 @@ use Rattle.system.specs.Numbered.{at, span, clientNo, serverNo}
 use Rattle.system.specs.Setting.{takes, lost, unsafeRun}
 use Rattle.system.proofs.Branch.{branch}
 use Rattle.system.proofs.Restarts.{length-span}
-use Rattle.quorum.specs.Closed.{runLength, firstEntry, restart, secondEntry, eventAt}
+use Rattle.quorum.specs.Inner.{runLength, firstEntry, restart, secondEntry, eventAt}
 
 -- the events f (a + 1) to f (a + c)
 record Part : Type 0 where

@@ -25,7 +25,7 @@ use Rattle.quorum.specs.declared.Asked.the-variants.{Event, Refused}
 use Rattle.quorum.specs.declared.Threshold.the-variants.{Default, OutOfRange as Outside}
 use Rattle.quorum.specs.Check.{inRangeUpTo, inRange, margin, isUnsafe, isStalling, judged, verdict, numberOf, Demand3}
 use Rattle.quorum.specs.Run.{listedEvent, runEvent}
-use Rattle.quorum.specs.Closed.{runLength, longestRun, firstEntry, restart, secondEntry, eventAt}
+use Rattle.quorum.specs.Inner.{runLength, longestRun, firstEntry, restart, secondEntry, eventAt}
 use Rattle.quorum.specs.Threshold.{thresholdOf}
 use Rattle.quorum.proofs.Listing.{unsafe-length, unsafe-at}
 use Rattle.quorum.proofs.CheckLaws.{Range, range, margin-kept, is-unsafe, is-safe, unsafe-test}

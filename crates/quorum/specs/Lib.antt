@@ -1,4 +1,4 @@
 pub mod Check
 pub mod Run
-pub mod Closed
+pub mod Inner
 pub mod Threshold

@@ -9,7 +9,7 @@ ghost use Rattle.system.specs.declared.Event.the-variants.{Try};
 ghost use Rattle.ids.specs.Limits.{maxServers};
 ghost use Rattle.quorum.specs.Check.{inRangeUpTo, inRange, margin as marginOf, judged, verdict, Demand3};
 ghost use Rattle.quorum.specs.Run.{listedEvent, runEvent};
-ghost use Rattle.quorum.specs.Closed.{runLength, longestRun, firstEntry, restart as restartAt, secondEntry, eventAt};
+ghost use Rattle.quorum.specs.Inner.{runLength, longestRun, firstEntry, restart as restartAt, secondEntry, eventAt};
 ghost use Rattle.quorum.specs.Threshold.{thresholdOf};
 ghost use Rattle.system.specs.Numbered.{clientNo};
 use ids::ClientId;

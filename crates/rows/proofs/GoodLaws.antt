@@ -18,7 +18,8 @@ use Rattle.ids.proofs.ListLaws.{every-same}
 use Rattle.ids.proofs.RequestLaws.{same-true, same-refl}
 use Rattle.rows.specs.Rows.{requestsIn, fitsPlace, Padded}
 use Rattle.rows.proofs.WordLaws.{requests-at}
-use Rattle.rows.specs.Good.{empty, miss, misses, goodRow}
+use Rattle.rows.specs.Good.{empty, goodRow}
+use Rattle.rows.specs.Inner.{miss, misses}
 
 -- no miss is a test passed by every element
 step : (b : Bool) (n : ℕ) (r : Bool) → eqb n 0 ≡ r → eqb (miss b + n) 0 ≡ b && r

@@ -1,10 +1,9 @@
 -- When the words that a host hands over are a row in good order.
-use Prim.Native.Nat.{ℕ, _+_, _*_}
+use Prim.Native.Nat.{ℕ, _*_}
 use mathlib.Core.Bool.{Bool, _&&_}
-use mathlib.Core.List.{List, [], _∷_}
+use mathlib.Core.List.{List}
 use lib.Dec.{eqb, leb}
 use lib.ListN.{length, drop}
-use Rattle.ids.specs.Choice.{if_then_else_}
 use Rattle.ids.specs.Lists.{every}
 use Rattle.ids.specs.Requests.{same, noRequest}
 use Rattle.ids.specs.declared.Request.{Request}
@@ -12,14 +11,6 @@ use Rattle.rows.specs.Rows.{requestsIn, fitsPlace}
 
 abbrev pub empty : Request → Bool
 empty q = same q noRequest
-
--- how many fail a test
-abbrev pub miss : Bool → ℕ
-miss b = if b then 0 else 1
-
-unfoldable pub misses : (Request → Bool) → List Request → ℕ
-misses f [] = 0
-misses f (x ∷ l) = miss (f x) + misses f l
 
 unfoldable pub goodRow : List ℕ → ℕ → Bool
 goodRow row len =

@@ -28,7 +28,7 @@ use Rattle.server.specs.declared.Server.{Server}
 use Rattle.server.specs.declared.Stepped.{Stepped}
 use Rattle.server.specs.declared.Turned.{Turned}
 use Rattle.server.specs.Record.{valid, serverOf, view}
-use Rattle.server.specs.Parts.{refusing, doing}
+use Rattle.server.specs.Inner.{refusing, doing}
 use Rattle.server.specs.Calls.{emptyServer, blank, newResult, received, messageOutcomeUpTo, messageOutcome, suspectOutcome, checkOutcome}
 use Rattle.server.specs.Rows.{Turns}
 use Rattle.server.proofs.TurnLaws.{turns-refused, turns-done}

@@ -28,7 +28,7 @@ use Rattle.server_votes.proofs.ListLaws.{timestamp-first, timestamp-none}
 use Rattle.server.specs.declared.Head.{Head}
 use Rattle.server.specs.declared.Server.{Server}
 use Rattle.server.specs.Record.{ordered, once, validState, validSizesUpTo, serverOf, validUpTo, valid}
-use Rattle.server.specs.Parts.{repeats, fitsOwner}
+use Rattle.server.specs.Inner.{repeats, fitsOwner}
 use Rattle.server.proofs.ValidLaws.{once-cons}
 
 and-false : (a : Bool) → a && false ≡ false

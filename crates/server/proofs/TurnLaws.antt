@@ -29,7 +29,8 @@ use Rattle.server.specs.declared.Stepped.{Stepped}
 use Rattle.server.specs.declared.Turned.{Turned}
 use Rattle.server.specs.declared.Ruling.the-variants.{Done, Refused as Ruled}
 use Rattle.server.specs.Record.{serverOf}
-use Rattle.server.specs.Parts.{threeMails, sentAnswer, sentBuffer, refusing, doing, answersBy, buffersBy, answering, buffering, keeping}
+use Rattle.server.specs.Parts.{threeMails, sentAnswer, sentBuffer}
+use Rattle.server.specs.Inner.{refusing, doing, answersBy, buffersBy, answering, buffering, keeping}
 use Rattle.server.specs.Calls.{headAfter, rowAfter, result, taken}
 use Rattle.server.specs.Rows.{rulingOf, sentOf, Turns}
 

@@ -21,7 +21,7 @@ use Rattle.rows.specs.Queue.{timestampIn}
 use Rattle.ids.specs.Lists.{every}
 use Rattle.server.specs.Record.{ordered, once}
 use Rattle.rows.specs.Queues.{first, matching}
-use Rattle.server.specs.Parts.{repeats}
+use Rattle.server.specs.Inner.{repeats}
 use Rattle.rows.specs.declared.Wanted.the-variants.{Client}
 use Rattle.server_votes.proofs.ListLaws.{timestamp-first, timestamp-none}
 

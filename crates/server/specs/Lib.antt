@@ -3,3 +3,4 @@ pub mod Parts
 pub mod Calls
 pub mod Rows
 pub mod Told
+pub mod Inner

@@ -31,7 +31,8 @@ use Rattle.server_votes.specs.declared.Tag.{Tag}
 use Rattle.server_votes.specs.declared.Tag.the-variants.{Request as REQUEST, Yield as YIELD, Release as RELEASE, Inquiry as INQUIRY}
 use Rattle.server_votes.specs.Figure1.{State, candidates, promote, delete, inform, act, compare, receive}
 use Rattle.server_votes.specs.Queues.{view}
-use Rattle.server_votes.specs.Places.{Moves, MovesTwo, MovesOne, still, leading, mails, informed, joining, Followed, joined, standingOf}
+use Rattle.server_votes.specs.Places.{Moves, MovesOne, still, mails}
+use Rattle.server_votes.specs.Inner.{MovesTwo, leading, informed, joining, Followed, joined, standingOf}
 use Rattle.server_votes.proofs.MoveLaws.{moves-still, moves-telling}
 use Rattle.server_votes.proofs.RoomLaws.{informed-state, length-promoted, length-deleted, renewed-fits}
 

@@ -30,7 +30,8 @@ use Rattle.server_votes.specs.declared.Mail.the-variants.{Nothing, One}
 use Rattle.server_votes.specs.declared.Moved.{Moved}
 use Rattle.server_votes.specs.Figure1.{State, idle, enqueue, promote, delete}
 use Rattle.server_votes.specs.Queues.{view}
-use Rattle.server_votes.specs.Places.{mails, MovesOne, still, telling, overflowing, leading, joining, informed}
+use Rattle.server_votes.specs.Places.{mails, MovesOne, still, telling}
+use Rattle.server_votes.specs.Inner.{overflowing, leading, joining, informed}
 use Rattle.server_votes.proofs.ListLaws.{timestamp-first, timestamp-none}
 
 -- nothing sent, and one message sent

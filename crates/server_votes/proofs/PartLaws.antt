@@ -19,7 +19,7 @@ use Rattle.server_votes.specs.declared.Standing.{Standing}
 use Rattle.server_votes.specs.declared.Standing.the-variants.{Absent, With}
 use Rattle.server_votes.specs.Figure1.{candidates}
 use Rattle.server_votes.specs.Queues.{view}
-use Rattle.server_votes.specs.Places.{standingOf}
+use Rattle.server_votes.specs.Inner.{standingOf}
 use Rattle.server_votes.proofs.ListLaws.{timestamp-first, timestamp-none}
 
 module _ (row : List ℕ) (len : ℕ) (good : Padded row len) (k : ClientId) (at : ℕ) (e : at ≡ first (isClient k) (queueOf row len)) where

@@ -1,3 +1,4 @@
 pub mod Figure1
 pub mod Queues
 pub mod Places
+pub mod Inner

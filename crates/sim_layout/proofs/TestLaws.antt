@@ -18,7 +18,7 @@ use Rattle.system.specs.Limits.{systemClients, systemServers}
 use Rattle.system.specs.Places.{ClientPlace, worst}
 use Rattle.sim_blocks.specs.Blocks.{clientBlock, serverBlock, clientPlace, validClientBlock, validServerBlock}
 use Rattle.sim_layout.specs.Layout.{simulationSize, settingOf, clientWords, serverWords, transitWords, lengthOf, sentOf, mostOf, view, validFrom, itself, blank, valid, serversFrom, transitFrom, clientsFrom}
-use Rattle.sim_layout.specs.Parts.{blocksValid, partsValid}
+use Rattle.sim_layout.specs.Inner.{blocksValid, partsValid}
 use Rattle.sim_layout.proofs.ValidLaws.{Facts, facts, from-facts}
 use Rattle.sim_layout.proofs.LendLaws.{clients-rest, servers-rest}
 use Rattle.system.specs.Numbered.{clientNo, serverNo}

@@ -1,2 +1,3 @@
 pub mod Layout
 pub mod Parts
+pub mod Inner

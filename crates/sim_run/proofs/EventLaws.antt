@@ -18,7 +18,8 @@ use Rattle.sim_changes.specs.declared.Reply.{Reply}
 use Rattle.sim_changes.specs.declared.Reply.the-variants.{Accepted, Refused}
 use Rattle.sim_run.specs.declared.Counts.{Counts}
 use Rattle.sim_run.specs.Run.{Run, moved}
-use Rattle.sim_run.specs.Calls.{runIn, counted, Goes}
+use Rattle.sim_run.specs.Calls.{runIn, Goes}
+use Rattle.sim_run.specs.Inner.{counted}
 
 pub counted-refused : (c : Counts) (r : Reply) (x : Refusal) → r ≡ Refused x → c ≡ counted c r
 unfolding counted

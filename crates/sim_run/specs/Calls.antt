@@ -1,6 +1,6 @@
 -- What the calls on a run give and leave: counts and a simulation's words are a run.
 use mathlib.Core.Path.{_≡_}
-use Prim.Native.Nat.{ℕ, _+_, max}
+use Prim.Native.Nat.{ℕ}
 use mathlib.Core.Bool.{Bool, true, false}
 use mathlib.Core.List.{List}
 use lib.ListN.{length}
@@ -11,8 +11,7 @@ use Rattle.system.specs.declared.Event.{Event}
 use Rattle.system.specs.Runs.{isStepped}
 use Rattle.sim_layout.specs.Layout.{settingOf, view, valid}
 use Rattle.sim_changes.specs.Happens as bounded
-use Rattle.sim_changes.specs.declared.Reply.{Reply}
-use Rattle.sim_changes.specs.declared.Reply.the-variants.{Accepted, Refused}
+use Rattle.sim_changes.specs.declared.Reply.the-variants.{Refused}
 use Rattle.simulation.specs.Opens.{opens}
 use Rattle.sim_run.specs.declared.Counts.{Counts}
 use Rattle.sim_run.specs.declared.Begun.{Begun}
@@ -30,11 +29,6 @@ runIn c w = record { setting = settingOf w; system = view w; accepted = c .accep
 
 abbrev pub countsOf : Run → Counts
 countsOf r = record { accepted = r .accepted; holding = r .holding }
-
--- the counts after a reply
-unfoldable pub counted : Counts → Reply → Counts
-counted c (Refused x) = c
-counted c (Accepted sent holders) = record { accepted = c .accepted + 1; holding = max (c .holding) holders }
 
 -- a new run: 7 if it does not open
 unfoldable pub newAnswer : Bool → Setting → Begun

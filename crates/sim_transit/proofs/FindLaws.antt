@@ -15,7 +15,7 @@ use Rattle.ids.proofs.Choice.{decided}
 use Rattle.system.specs.Transit.{InTransit, pending, present}
 use Rattle.sim_transit.specs.Slots.{slotOf, slotAt, rows, slots, ascending, validSlots, slotSize, transitSize}
 use Rattle.sim_transit.specs.Calls.{Sized, FindsPending, FindsPresent}
-use Rattle.sim_transit.specs.Parts.{Ordered, Bound}
+use Rattle.sim_transit.specs.Inner.{Ordered, Bound}
 use Rattle.sim_transit.proofs.NumbersLaws.{rising}
 use Rattle.sim_transit.proofs.SlotLaws.{number-at, word-at}
 use Rattle.sim_transit.proofs.ValidLaws.{known, slots-cons, slots-around}

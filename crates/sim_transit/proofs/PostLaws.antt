@@ -25,9 +25,9 @@ use Rattle.wire.proofs.RoundTrip.{written-is-read, took}
 use Rattle.wire.proofs.Sequence.{length-bytesOfAll}
 use Rattle.words.specs.Messages.{noMessage}
 use Rattle.system.specs.Transit.{InTransit, numbered}
-use Rattle.sim_transit.specs.Slots.{slotOf, slotWords, slotAt, rows, slots, names, validSlot, ascending, andThen, messagesIn, transitSize, slotSize}
+use Rattle.sim_transit.specs.Slots.{slotOf, slotAt, rows, slots, names, validSlot, ascending, andThen, messagesIn, transitSize, slotSize}
+use Rattle.sim_transit.specs.Inner.{slotWords, PostsOne}
 use Rattle.sim_transit.specs.Calls.{Sized, Valid, Posts}
-use Rattle.sim_transit.specs.Parts.{PostsOne}
 use Rattle.sim_transit.proofs.RowsLaws.{rows-next, rows-same}
 use Rattle.sim_transit.proofs.NumbersLaws.{ascends, ascends-append}
 use Rattle.sim_transit.proofs.SlotLaws.{slot-again, words-valid}

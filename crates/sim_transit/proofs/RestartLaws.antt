@@ -12,7 +12,7 @@ use Rattle.ids.specs.declared.ServerId.{ServerId}
 use Rattle.system.specs.Transit.{InTransit, again}
 use Rattle.sim_transit.specs.Slots.{slotOf, slotAt, rows, slots, validSlot, transitSize, slotSize}
 use Rattle.sim_transit.specs.Calls.{Sized, Valid, Restarts}
-use Rattle.sim_transit.specs.Parts.{againWord}
+use Rattle.sim_transit.specs.Inner.{againWord}
 use Rattle.sim_transit.proofs.SlotLaws.{Seven, row-seven, word-at, restarted, slot-restarted, restarted-valid}
 use Rattle.sim_transit.proofs.ValidLaws.{Known, known, known-valid, slots-next, slots-same, slot-valid-at}
 use Rattle.sim_transit.proofs.ChangeLaws.{changed-known, store-before, store-behind, store-here}

@@ -15,7 +15,8 @@ use Rattle.ids.specs.Limits.{within, maxServers, maxShort}
 use Rattle.ids.specs.declared.ServerId.{ServerId}
 use Rattle.ids.proofs.Choice.{both, decided}
 use Rattle.ids.proofs.LimitsLaws.{within-range}
-use Rattle.wire.specs.Format.{known, words, fieldsOf, messageOf, valid, validNumbers, validFields, validFieldsUpTo}
+use Rattle.wire.specs.Format.{known, words, fieldsOf, messageOf, valid, validFields, validFieldsUpTo}
+use Rattle.wire.specs.Inner.{validNumbers}
 use Rattle.wire.specs.declared.Fields.{Fields}
 use Rattle.wire.specs.declared.Message.{Message}
 use Rattle.wire.proofs.NumbersLaws.{valid-sound, message-fields, valid-message, fields-again}
@@ -23,8 +24,8 @@ use Rattle.words.specs.Messages.{fits, fieldsFrom, crossing, asMessage, message
 use Rattle.words.specs.declared.Crossed.{Crossed}
 use Rattle.words.specs.declared.Crossed.the-variants.{Numbers, TooLarge}
 use Rattle.system.specs.Transit.{InTransit, isFor, again}
-use Rattle.sim_transit.specs.Slots.{slotOf, slotWords, slotAt, names, validSlot, slotSize, transitSize}
-use Rattle.sim_transit.specs.Parts.{againWord, namedFields}
+use Rattle.sim_transit.specs.Slots.{slotOf, slotAt, names, validSlot, slotSize, transitSize}
+use Rattle.sim_transit.specs.Inner.{slotWords, againWord, namedFields}
 use Rattle.system.specs.Limits.{systemMessages}
 
 -- seven words

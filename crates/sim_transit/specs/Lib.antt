@@ -1,3 +1,3 @@
 pub mod Slots
 pub mod Calls
-pub mod Parts
+pub mod Inner

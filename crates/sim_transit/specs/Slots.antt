@@ -5,9 +5,9 @@ use mathlib.Core.Bool.{Bool, true, false, _&&_}
 use mathlib.Core.List.{List, [], _∷_, map}
 use lib.Dec.{eqb, ltb, leb}
 use lib.ListN.{length, getD, take, drop}
-use Rattle.ids.specs.Choice.{if_then_else_, maybe}
+use Rattle.ids.specs.Choice.{maybe}
 use Rattle.ids.specs.Limits.{within}
-use Rattle.wire.specs.Format.{words, fieldsOf, messageOf}
+use Rattle.wire.specs.Format.{fieldsOf, messageOf}
 use Rattle.wire.specs.Calls.{readOf}
 use Rattle.wire.specs.declared.Message.{Message}
 use Rattle.wire.specs.declared.Parsed.{Parsed}
@@ -27,9 +27,6 @@ transitSize = slotSize * systemMessages
 -- what a slot's words hold
 unfoldable pub slotOf : List ℕ → InTransit
 slotOf ws = record { number = getD ws 0 0; delivered = eqb (getD ws 1 0) 1; message = messageOf (fieldsFrom (drop 2 ws)) }
-
-unfoldable pub slotWords : InTransit → List ℕ
-slotWords x = x .number ∷ ((if x .delivered then 1 else 0) ∷ words (fieldsOf (x .message)))
 
 -- the words of the first len slots, slot by slot
 unfoldable pub rows : ℕ → List ℕ → List (List ℕ)

@@ -10,7 +10,7 @@ ghost use Rattle.ids.specs.Lists.{every};
 ghost use Rattle.wire.specs.Format.{words as wordsOf, valid as validMessage};
 ghost use Rattle.sim_transit.specs.Slots.{rows, slots, slotAt, validSlot, ascending, validSlots, messagesIn, transitSize, slotSize};
 ghost use Rattle.sim_transit.specs.Calls.{Sized, FindsPending, FindsPresent, IsAt, Marks, Removes, Restarts, Posts};
-ghost use Rattle.sim_transit.specs.Parts.{namedFields, againWord, Bound, PostsOne};
+ghost use Rattle.sim_transit.specs.Inner.{namedFields, againWord, Bound, PostsOne};
 ghost use Rattle.system.specs.Limits.{systemMessages, lastNumber};
 use ids::ServerId;
 use system::MessageNumber;

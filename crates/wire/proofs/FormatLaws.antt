@@ -15,7 +15,8 @@ use Rattle.ids.specs.declared.ServerId.{ServerId}
 use Rattle.ids.specs.declared.Timestamp.{Timestamp}
 use Rattle.wire.proofs.BytesLaws.{stored-on}
 use Rattle.wire.specs.Bytes.{littleEndian, number, encode, decode, total}
-use Rattle.wire.specs.Format.{lengthOf, front, bytesOfFields, bytesOf, sizeOf, fieldsOf, messageOf, ownerOf, lengthIn, kindIn, fieldIn, fieldsIn, messageBytes, responseBytes}
+use Rattle.wire.specs.Format.{lengthOf, bytesOfFields, bytesOf, sizeOf, fieldsOf, messageOf, ownerOf, lengthIn, kindIn, fieldIn, fieldsIn, messageBytes, responseBytes}
+use Rattle.wire.specs.Inner.{front}
 use Rattle.wire.specs.declared.Message.{Message}
 use Rattle.wire.specs.declared.Message.the-variants.{Request, Yield, Release, Inquiry, Response, Check}
 use Rattle.wire.specs.declared.Fields.{Fields}

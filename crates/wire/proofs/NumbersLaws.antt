@@ -15,7 +15,8 @@ use Rattle.ids.specs.declared.Timestamp.{Timestamp}
 use Rattle.ids.proofs.Choice.{both, and-true}
 use Rattle.ids.proofs.LimitsLaws.{within-range, client-range, server-range, timestamp-range, request-range, parties-range, stamped-range}
 use Rattle.wire.specs.Bytes.{decode}
-use Rattle.wire.specs.Format.{validRest, validNamed, validNumbersUpTo, validFieldsUpTo, clientNamed, serverNamed, known, plain, answer, ownerClient, ownerTimestamp, fieldsOf, messageOf, ownerOf, valid, validUpTo, validResponse, validResponseUpTo, kindIn, fieldIn, fieldsIn}
+use Rattle.wire.specs.Format.{validRest, validNamed, validNumbersUpTo, validFieldsUpTo, clientNamed, serverNamed, known, plain, answer, ownerClient, ownerTimestamp, fieldsOf, messageOf, ownerOf, valid, validUpTo, validResponseUpTo, kindIn, fieldIn, fieldsIn}
+use Rattle.wire.specs.Inner.{validResponse}
 use Rattle.wire.specs.declared.Fields.{Fields}
 use Rattle.wire.specs.declared.Message.{Message}
 use Rattle.wire.specs.declared.Message.the-variants.{Request, Yield, Release, Inquiry, Response, Check}

@@ -76,10 +76,6 @@ serverNamed m = record { 0 = fieldsOf m .server }
 abbrev pub words : Fields → List ℕ
 words f = f .kind ∷ f .client ∷ f .server ∷ f .timestamp ∷ f .owner ∷ []
 
--- the bytes that every kind begins with: the length, then all but the owner
-unfoldable pub front : Fields → List ℕ
-front f = encode (header ++ 2 ∷ 2 ∷ 4 ∷ []) (lengthOf (f .kind) ∷ words f)
-
 -- the bytes of these numbers, their length first
 unfoldable pub bytesOfFields : Fields → List ℕ
 bytesOfFields f = encode (widths (f .kind)) (lengthOf (f .kind) ∷ words f)
@@ -98,9 +94,6 @@ validNamed = validOwner
 
 unfoldable pub validResponseUpTo : ℕ → ClientId → ServerId → Owner → Bool
 validResponseUpTo limit k j o = validPartiesUpTo limit k j && validNamed o
-
-abbrev pub validResponse : ClientId → ServerId → Owner → Bool
-validResponse = validResponseUpTo maxServers
 
 -- every number of the message is in its range, the server's up to a limit
 unfoldable pub validUpTo : ℕ → Message → Bool
@@ -161,9 +154,6 @@ validRest kind timestamp owner =
 unfoldable pub validNumbersUpTo : ℕ → Fields → Bool
 validNumbersUpTo limit f =
     validPartiesUpTo limit (record { 0 = f .client }) (record { 0 = f .server }) && validRest (f .kind) (f .timestamp) (f .owner)
-
-abbrev pub validNumbers : Fields → Bool
-validNumbers = validNumbersUpTo maxServers
 
 -- the same test of numbers that may be no message at all: a known kind, an owner only in a RESPONSE, all in range
 unfoldable pub validFieldsUpTo : ℕ → Fields → Bool

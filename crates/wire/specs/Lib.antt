@@ -2,3 +2,4 @@ pub mod Bytes
 pub mod Format
 pub mod Calls
 pub mod Step
+pub mod Inner

@@ -5,7 +5,7 @@ use native.Mathlib.Omega.{arith}
 use lib.ListN.{length}
 use Rattle.words.specs.Records.{clientSize}
 use Rattle.words.proofs.RecordsLaws.{client-held}
-use Rattle.capi.specs.Parts.{Storable}
+use Rattle.capi.specs.Inner.{Storable}
 use Rattle.capi.proofs.StepLaws.{refused-leaves, no-client, is-client, client-long, client-row-long, client-short-leaves, client-storable, client-done-leaves}
 use borrow.Author.Needs.{needs}
 use Rattle.capi.proofs.client_call.Statement.{statement}

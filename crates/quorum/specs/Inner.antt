@@ -1,4 +1,4 @@
--- The unsafe run's length and its event number i in closed form, as the code computes them; proofs/Listing shows them to be the run's.
+-- Definitions that only the contracts of private functions cite: no promise rests on them.
 use Prim.Native.Nat.{ℕ, _+_, _*_, _-_}
 use lib.Dec.{leb}
 use Rattle.ids.specs.Choice.{if_then_else_}

@@ -1,19 +1,24 @@
--- What the private functions do to words. Only they cite this.
+-- Definitions that only the contracts of private functions cite: no promise rests on them.
 use Prim.Native.Nat.{ℕ, _+_, _*_, _<_, _≤_}
 use mathlib.Core.Path.{_≡_}
 use mathlib.Core.Bool.{Bool, false, _&&_}
-use mathlib.Core.List.{List}
+use mathlib.Core.List.{List, _∷_}
 use lib.Dec.{eqb, leb}
 use lib.ListN.{length, getD, drop}
 use lib.Seq.{sets}
 use Rattle.ids.specs.Choice.{if_then_else_}
 use Rattle.ids.specs.Limits.{within}
 use Rattle.wire.specs.Calls.{readOf}
-use Rattle.wire.specs.Format.{validFields}
+use Rattle.wire.specs.Format.{validFields, words, fieldsOf}
 use Rattle.wire.specs.declared.Fields.{Fields}
 use Rattle.wire.specs.declared.Message.{Message}
 use Rattle.wire.specs.declared.Parsed.the-variants.{Accepted}
-use Rattle.sim_transit.specs.Slots.{slotWords, slotSize}
+use Rattle.sim_transit.specs.Slots.{slotSize}
+use Rattle.system.specs.Transit.{InTransit}
+
+-- the words of a slot
+unfoldable pub slotWords : InTransit → List ℕ
+slotWords x = x .number ∷ ((if x .delivered then 1 else 0) ∷ words (fieldsOf (x .message)))
 
 -- a message's numbers, in range and of parties that are there
 unfoldable pub namedFields : ℕ → ℕ → Fields → Bool

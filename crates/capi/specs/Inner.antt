@@ -1,4 +1,4 @@
--- What the private functions of the step calls are, and what they compute from a step's answer. No exported call cites these.
+-- Definitions that only the contracts of private functions cite: no promise rests on them.
 use Prim.Native.Nat.{ℕ, _≤_}
 use mathlib.Core.Path.{_≡_}
 use mathlib.Core.List.{List, [], _∷_}
