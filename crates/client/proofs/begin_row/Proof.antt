@@ -9,27 +9,6 @@ module _ (c : tie.Else2) where
   abbrev tested : tie.Else1
   tested = c .before .before
 
-returns : tie.Need-returns
-returns c = answers-refused _ _ _ _ _ _ (begin-invalid _ _ _ (c .before .before .valid-row .ensures) (c .before .if1 .taken)) (c .refuse .ensures)
-
-returns-2 : tie.Need-returns-2
-returns-2 c =
-    let s = c .before .before in
-    let v = s .before in
-    answers-refused _ _ _ _ _ _ (begin-elsewhere _ _ _ (v .before .valid-row .ensures) _ (v .if1 .left) (s .is-remainder .ensures) (c .before .if2 .taken)) (c .refuse2 .ensures)
-
-returns-3 : tie.Need-returns-3
-returns-3 c =
-    let s = c .before .before .before in
-    let v = tested s in
-    answers-refused _ _ _ _ _ _ (begin-spent _ _ _ (v .before .valid-row .ensures) _ (v .if1 .left) (s .before .is-remainder .ensures) (s .if2 .left) (c .before .if3 .taken)) (c .refuse3 .ensures)
-
-attempt-requires : tie.Need-attempt-requires
-attempt-requires c κs =
-    let t = c .before .before in
-    let v = tested (t .before .before) in
-    (tested-words _ _ _ (v .before .valid-row .ensures) (v .if1 .left), t .if3 .left)
-
 returns-4 : tie.Need-returns-4
 returns-4 c =
     let a = c .before .before .before .before in
@@ -45,15 +24,15 @@ begin-row-spec =
     (λ c κs. search needs)
     (λ c κs. search needs)
     (λ c. search needs)
-    returns
+    (λ c. search (answers-refused, begin-invalid))
     (λ c κs. search needs)
     (λ c κs. search needs)
     (λ c. search needs)
-    returns-2
+    (λ c. search (answers-refused, begin-elsewhere))
     (λ c κs. search needs)
     (λ c. search needs)
-    returns-3
-    attempt-requires
+    (λ c. search (answers-refused, begin-spent))
+    (λ c κs. search tested-words)
     (λ c. search needs)
     (λ c. search needs)
     returns-4)

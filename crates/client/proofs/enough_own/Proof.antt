@@ -4,13 +4,10 @@ use borrow.Author.Needs.{needs}
 use Rattle.client.proofs.enough_own.Statement.{statement}
 use Rattle.client.proofs.enough_own.Tie as tie
 
-returns : tie.Need-returns
-unfolding enough
-returns c = rw (c .own-count .ensures)
-
 pub enough-own-spec : {M : Type 1} → statement M
+unfolding enough
 enough-own-spec =
     tie.close
     (tie.spec
     (λ c κs. search needs)
-    returns)
+    (λ c. rw (c .own-count .ensures)))

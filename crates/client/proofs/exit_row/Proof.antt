@@ -9,21 +9,6 @@ module _ (c : tie.Else2) where
   abbrev tested : tie.Else1
   tested = c .before .before
 
-returns : tie.Need-returns
-returns c = answers-refused _ _ _ _ _ _ (exit-invalid _ _ _ (c .before .before .valid-row .ensures) (c .before .if1 .taken)) (c .refuse .ensures)
-
-returns-2 : tie.Need-returns-2
-returns-2 c =
-    let s = c .before .before in
-    let v = s .before in
-    answers-refused _ _ _ _ _ _ (exit-elsewhere _ _ _ (v .before .valid-row .ensures) _ (v .if1 .left) (s .is-critical .ensures) (c .before .if2 .taken)) (c .refuse2 .ensures)
-
-leave-requires : tie.Need-leave-requires
-leave-requires c κs =
-    let s = c .before .before in
-    let v = tested s in
-    (tested-words _ _ _ (v .before .valid-row .ensures) (v .if1 .left), critical-timestamp _ _ _ (v .before .valid-row .ensures) _ (v .if1 .left) (s .before .is-critical .ensures) (s .if2 .left))
-
 returns-3 : tie.Need-returns-3
 returns-3 c =
     let a = c .before .before .before .before in
@@ -38,12 +23,12 @@ exit-row-spec =
     (λ c κs. search needs)
     (λ c κs. search needs)
     (λ c. search needs)
-    returns
+    (λ c. search (answers-refused, exit-invalid))
     (λ c κs. search needs)
     (λ c κs. search needs)
     (λ c. search needs)
-    returns-2
-    leave-requires
+    (λ c. search (answers-refused, exit-elsewhere))
+    (λ c κs. (search tested-words, search critical-timestamp))
     (λ c. search needs)
     (λ c. search needs)
     returns-3)

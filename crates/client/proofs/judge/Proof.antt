@@ -5,20 +5,6 @@ use borrow.Author.Needs.{needs}
 use Rattle.client.proofs.judge.Statement.{statement}
 use Rattle.client.proofs.judge.Tie as tie
 
--- the filled places are counted
-module _ (c : tie.After-filled-count) where
-  abbrev counted : tie.Start
-  counted = c .before .before .before .before .before .before
-
-filled-count-requires : tie.Need-filled-count-requires
-filled-count-requires c κs = padded-words _ _ (c .before .before .before .before .before .pre)
-
-own-count-requires : tie.Need-own-count-requires
-own-count-requires c κs = padded-words _ _ (counted (c .before .before) .pre)
-
-decide-requires : tie.Need-decide-requires
-decide-requires c κs = counted (c .before .before .before .before .before) .pre
-
 returns : tie.Need-returns
 returns c =
     let d = c .before .before .before .before in
@@ -32,10 +18,10 @@ judge-spec =
     (tie.spec
     (λ c. search needs)
     (λ c. search needs)
-    filled-count-requires
+    (λ c κs. search padded-words)
     (λ c κs. search needs)
-    own-count-requires
-    decide-requires
+    (λ c κs. search padded-words)
+    (λ c κs. search needs)
     (λ c. search needs)
     (λ c. search needs)
     returns)

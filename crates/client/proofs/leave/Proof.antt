@@ -4,26 +4,6 @@ use borrow.Author.Needs.{needs}
 use Rattle.client.proofs.leave.Statement.{statement}
 use Rattle.client.proofs.leave.Tie as tie
 
--- the messages are written
-module _ (c : tie.After-release-all) where
-  abbrev roomy : tie.Else1
-  roomy = c .before .before .before
-
--- the head is moved
-module _ (c : tie.After-moved) where
-  abbrev cleared : tie.After-clear
-  cleared = c .before .before .before
-
-returns : tie.Need-returns
-returns c = exits-short _ _ _ _ (c .before .if1 .taken) (c .refuse .ensures)
-
-returns-2 : tie.Need-returns-2
-returns-2 c =
-    let z = cleared c in
-    let s = z .before .before .before .before in
-    let e = roomy s in
-    exits-done _ _ _ _ _ _ (e .before .before .before .before .pre .0) (e .if1 .left) (z .clear .ensures) (c .moved .ensures) (s .release-all .ensures)
-
 pub leave-spec : {M : Type 1} → statement M
 leave-spec =
     tie.close
@@ -31,7 +11,7 @@ leave-spec =
     (λ c. search needs)
     (λ c. search needs)
     (λ c κs. search needs)
-    returns
+    (λ c. search exits-short)
     (λ c. search needs)
     (λ c κs. search needs)
     (λ c κs. search needs)
@@ -39,4 +19,4 @@ leave-spec =
     (λ c κs. search needs)
     (λ c. search needs)
     (λ c. search needs)
-    returns-2)
+    (λ c. search exits-done))

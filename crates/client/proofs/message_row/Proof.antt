@@ -10,21 +10,6 @@ module _ (c : tie.Else2) where
   abbrev tested : tie.Else1
   tested = c .before .before
 
-returns : tie.Need-returns
-returns c = answers-refused _ _ _ _ _ _ (message-invalid _ _ _ (c .before .before .valid-row .ensures) _ (c .before .if1 .taken)) (c .refuse .ensures)
-
-returns-2 : tie.Need-returns-2
-returns-2 c =
-    let s = c .before .before in
-    let v = s .before in
-    answers-refused _ _ _ _ _ _ (message-bad _ _ _ (v .before .valid-row .ensures) _ _ (v .if1 .left) (s .valid-message .ensures) (c .before .if2 .taken)) (c .refuse2 .ensures)
-
-receive-requires : tie.Need-receive-requires
-receive-requires c κs =
-    let s = c .before .before in
-    let v = tested s in
-    (holds _ _ (v .before .valid-row .ensures) (v .if1 .left), holds _ _ (s .before .valid-message .ensures) (s .if2 .left))
-
 returns-3 : tie.Need-returns-3
 returns-3 c =
     let a = c .before .before .before .before in
@@ -39,12 +24,12 @@ message-row-spec =
     (λ c κs. search needs)
     (λ c κs. search needs)
     (λ c. search needs)
-    returns
+    (λ c. search (answers-refused, message-invalid))
     (λ c κs. search needs)
     (λ c κs. search needs)
     (λ c. search needs)
-    returns-2
-    receive-requires
+    (λ c. search (answers-refused, message-bad))
+    (λ c κs. (search holds, search holds))
     (λ c. search needs)
     (λ c. search needs)
     returns-3)

@@ -3,12 +3,9 @@ use borrow.Author.Needs.{needs}
 use Rattle.client.proofs.no_client.Statement.{statement}
 use Rattle.client.proofs.no_client.Tie as tie
 
-returns : tie.Need-returns
-returns c = rw (c .fresh .ensures)
-
 pub no-client-spec : {M : Type 1} → statement M
 no-client-spec =
     tie.close
     (tie.spec
     (λ c κs. search needs)
-    returns)
+    (λ c. rw (c .fresh .ensures)))

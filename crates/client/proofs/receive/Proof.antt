@@ -11,21 +11,6 @@ take-response-requires c κs =
     let s = m .before .before .before .before in
     (s .pre .0, rw (m .m .given .1) at (s .pre .1))
 
-take-check-requires : tie.Need-take-check-requires
-take-check-requires c κs = c .before .before .before .before .before .before .before .pre .0
-
-returns : tie.Need-returns
-returns c = rw (c .before .enum-told .given .1) (answers-refused _ _ _ _ _ _ refl (c .refuse .ensures))
-
-returns-2 : tie.Need-returns-2
-returns-2 c = rw (c .before .enum-told2 .given .1) (answers-refused _ _ _ _ _ _ refl (c .refuse2 .ensures))
-
-returns-3 : tie.Need-returns-3
-returns-3 c = rw (c .before .enum-told3 .given .1) (answers-refused _ _ _ _ _ _ refl (c .refuse3 .ensures))
-
-returns-4 : tie.Need-returns-4
-returns-4 c = rw (c .before .enum-told4 .given .1) (answers-refused _ _ _ _ _ _ refl (c .refuse4 .ensures))
-
 returns-5 : tie.Need-returns-5
 returns-5 c =
     let t = c .before .before .before .before in
@@ -51,11 +36,11 @@ receive-spec =
     (λ c. search needs)
     take-response-requires
     (λ c. search needs)
-    take-check-requires
-    returns
-    returns-2
-    returns-3
-    returns-4
+    (λ c κs. search needs)
+    (λ c. rw (c .before .enum-told .given .1) (answers-refused _ _ _ _ _ _ refl (c .refuse .ensures)))
+    (λ c. rw (c .before .enum-told2 .given .1) (answers-refused _ _ _ _ _ _ refl (c .refuse2 .ensures)))
+    (λ c. rw (c .before .enum-told3 .given .1) (answers-refused _ _ _ _ _ _ refl (c .refuse3 .ensures)))
+    (λ c. rw (c .before .enum-told4 .given .1) (answers-refused _ _ _ _ _ _ refl (c .refuse4 .ensures)))
     (λ c. search needs)
     (λ c. search needs)
     returns-5

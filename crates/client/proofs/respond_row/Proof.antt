@@ -37,12 +37,6 @@ module _ (c : tie.After-is-refused) where
   abbrev judged : tie.After-judge
   judged = c .before .before .before .before .before
 
-returns : tie.Need-returns
-returns c =
-    let t = c .before .before in
-    let s = t .before .before .before in
-    respond-elsewhere _ _ (s .pre .0) _ _ _ (t .is-trying .ensures) _ _ (c .before .if1 .taken) (c .moved .ensures)
-
 hear-requires : tie.Need-hear-requires
 hear-requires c κs =
     let e = c .before .before in
@@ -78,7 +72,7 @@ respond-row-spec =
     (tie.spec
     (λ c κs. search needs)
     (λ c κs. search needs)
-    returns
+    (λ c. search respond-elsewhere)
     (λ c κs. search needs)
     hear-requires
     judge-requires

@@ -9,12 +9,6 @@ module _ (c : tie.After-for-client) where
   abbrev entry : tie.Start
   entry = c .before .before .before
 
-returns : tie.Need-returns
-returns c =
-    let f = c .before .before in
-    let a = entry f .args in
-    answers-refused _ _ _ _ _ _ (check-elsewhere (a .h) _ (a .k) (a .j) _ (f .for-client .ensures) (a .t) (c .before .if1 .taken)) (c .refuse .ensures)
-
 returns-2 : tie.Need-returns-2
 returns-2 c =
     let r = c .before .before in
@@ -28,7 +22,7 @@ take-check-spec =
     (tie.spec
     (λ c κs. search needs)
     (λ c κs. search needs)
-    returns
+    (λ c. search (answers-refused, check-elsewhere))
     (λ c κs. search needs)
     (λ c. search needs)
     returns-2)

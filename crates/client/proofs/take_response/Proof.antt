@@ -11,12 +11,6 @@ module _ (c : tie.After-for-client) where
   abbrev entry : tie.Start
   entry = c .before .before .before
 
-returns : tie.Need-returns
-returns c =
-    let f = c .before .before in
-    let a = entry f .args in
-    answers-refused _ _ _ _ _ _ (response-elsewhere (a .h) _ (a .k) (a .j) _ (f .for-client .ensures) (a .o) (c .before .if1 .taken)) (c .refuse .ensures)
-
 respond-row-requires : tie.Need-respond-row-requires
 respond-row-requires c κs =
     let e = c .before .before in
@@ -37,7 +31,7 @@ take-response-spec =
     (tie.spec
     (λ c κs. search needs)
     (λ c κs. search needs)
-    returns
+    (λ c. search (answers-refused, response-elsewhere))
     respond-row-requires
     (λ c. search needs)
     (λ c. search needs)

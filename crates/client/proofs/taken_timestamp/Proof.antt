@@ -3,11 +3,9 @@ use borrow.Author.Tests.{le-leb, lt-leb}
 use Rattle.client.proofs.taken_timestamp.Statement.{statement}
 use Rattle.client.proofs.taken_timestamp.Tie as tie
 
-returns : tie.Need-returns
-returns c = simp (le-leb _ _ (c .before .if1 .taken))
-
-returns-2 : tie.Need-returns-2
-returns-2 c = simp (lt-leb _ _ (c .if1 .left))
-
 pub taken-timestamp-spec : {M : Type 1} → statement M
-taken-timestamp-spec = tie.close (tie.spec returns returns-2)
+taken-timestamp-spec =
+    tie.close
+    (tie.spec
+    (λ c. simp (le-leb _ _ (c .before .if1 .taken)))
+    (λ c. simp (lt-leb _ _ (c .if1 .left))))

@@ -16,43 +16,26 @@ module _ (c : tie.After-filled-count) where
   few : c .filled-count .result ≤ entry .args .h .n
   few = filled-few (now (entry .args .row)) _ _ (entry .pre) (c .filled-count .ensures)
 
-filled-count-requires : tie.Need-filled-count-requires
-filled-count-requires c κs = padded-words _ _ (c .before .before .before .before .pre)
-
-mul-size : tie.Need-mul-size
-mul-size c = omega (arith, few c)
-
-returns : tie.Need-returns
-returns c = let f = c .before .before in yields-short _ _ _ _ _ (f .filled-count .ensures) (c .before .if1 .taken) (c .refuse .ensures)
-
 send-round-requires : tie.Need-send-round-requires
 send-round-requires c κs =
     let e = c .before .before .before in
     let p = entry (e .before) .pre in
     (p .places, padded-words _ _ p, rw (e .before .filled-count .ensures) at (e .if1 .left))
 
-returns-2 : tie.Need-returns-2
-returns-2 c =
-    let z = c .before .before .before in
-    let s = z .before .before .before .before in
-    let q = s .before .before .before in
-    let e = q .before in
-    yields-done _ _ _ _ _ (e .before .filled-count .ensures) _ _ _ (entry (e .before) .pre) (e .if1 .left) (q .request-of .ensures) (s .send-round .ensures) (z .clear .ensures) (c .moved .ensures)
-
 pub yield-round-spec : {M : Type 1} → statement M
 yield-round-spec =
     tie.close
     (tie.spec
     (λ c. search needs)
-    filled-count-requires
-    mul-size
+    (λ c κs. search padded-words)
+    (λ c. omega (arith, few c))
     (λ c κs. search needs)
     (λ c. search needs)
-    returns
+    (λ c. search yields-short)
     (λ c κs. search needs)
     send-round-requires
     (λ c κs. search needs)
     (λ c κs. search needs)
     (λ c. search needs)
     (λ c. search needs)
-    returns-2)
+    (λ c. search yields-done))

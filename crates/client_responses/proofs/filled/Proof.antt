@@ -5,16 +5,10 @@ use mathlib.Core.Path.{_∙_}
 use Rattle.client_responses.proofs.filled.Statement.{statement}
 use Rattle.client_responses.proofs.filled.Tie as tie
 
-returns : tie.Need-returns
-returns c = filled-client _ _ (c .if1 .taken)
-
-returns-2 : tie.Need-returns-2
-returns-2 c = c .one-if .ensures ∙ filled-timestamp _ _ (c .before .if1 .left)
-
 pub filled-spec : {M : Type 1} → statement M
 filled-spec =
     tie.close
     (tie.spec
-    returns
+    (λ c. search filled-client)
     (λ c κs. search needs)
-    returns-2)
+    (λ c. c .one-if .ensures ∙ filled-timestamp _ _ (c .before .if1 .left)))

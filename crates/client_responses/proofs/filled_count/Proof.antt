@@ -18,21 +18,10 @@ module _ (c : tie.After-filled Inv-loop μ-loop) where
   abbrev turn : tie.In-loop Inv-loop μ-loop
   turn = c .before .before .before
 
-loop-holds : tie.Need-loop-holds Inv-loop μ-loop
-loop-holds c = counting-none _ _ _ (c .before .pre)
-
 add-found : tie.Need-add-found Inv-loop μ-loop
 add-found c =
     let t = turn c in
     omega (arith, counting-few _ _ _ _ _ (t .before .loop .inv) _ (t .loop-test .taken) (c .filled .ensures), t .before .loop .inv .size)
-
-loop-again : tie.Need-loop-again Inv-loop μ-loop
-loop-again c =
-    let t = turn c in
-    counting-more _ _ _ _ _ (t .before .loop .inv) _ (t .loop-test .taken) (c .filled .ensures)
-
-returns : tie.Need-returns Inv-loop μ-loop
-returns c = counting-all _ _ _ _ _ (c .before .loop .inv) (c .loop-test .left)
 
 pub filled-count-spec : {M : Type 1} → statement M
 filled-count-spec =
@@ -40,7 +29,7 @@ filled-count-spec =
     (tie.spec
     Inv-loop
     μ-loop
-    loop-holds
+    (λ c. search counting-none)
     (λ c. search needs)
     (λ c. search needs)
     (λ c. search needs)
@@ -52,5 +41,5 @@ filled-count-spec =
     add-found
     (λ c. search needs)
     (λ c. search needs)
-    loop-again
-    returns)
+    (λ c. search counting-more)
+    (λ c. search counting-all))

@@ -6,12 +6,6 @@ use mathlib.Core.Path.{_∙_}
 use Rattle.client_responses.proofs.misfit.Statement.{statement}
 use Rattle.client_responses.proofs.misfit.Tie as tie
 
-returns : tie.Need-returns
-returns c = c .one-if .ensures ∙ misfit-lone _ _ _ (c .before .if1 .taken)
-
-returns-2 : tie.Need-returns-2
-returns-2 c = misfit-untimed _ _ _ (c .before .if1 .left) (search needs) (c .if2 .taken)
-
 returns-3 : tie.Need-returns-3
 returns-3 c =
     let d = c .before .before in
@@ -27,8 +21,8 @@ misfit-spec =
     tie.close
     (tie.spec
     (λ c κs. search needs)
-    returns
-    returns-2
+    (λ c. c .one-if .ensures ∙ misfit-lone _ _ _ (c .before .if1 .taken))
+    (λ c. search misfit-untimed)
     (λ c. search needs)
     returns-3
     (λ c κs. search needs)

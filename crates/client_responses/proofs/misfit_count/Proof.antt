@@ -20,9 +20,6 @@ module _ (c : tie.After-misfit Inv-loop μ-loop) where
   abbrev turn : tie.In-loop Inv-loop μ-loop
   turn = c .before .before .before
 
-loop-holds : tie.Need-loop-holds Inv-loop μ-loop
-loop-holds c = counting-none _ _ _ (c .before .pre .1)
-
 misfit-requires : tie.Need-misfit-requires Inv-loop μ-loop
 misfit-requires c κs =
     let t = c .before .before in
@@ -34,21 +31,13 @@ add-found c =
     let t = turn c in
     omega (arith, counting-few _ _ _ _ _ (t .before .loop .inv) _ (t .loop-test .taken) (c .misfit .ensures), t .before .loop .inv .size)
 
-loop-again : tie.Need-loop-again Inv-loop μ-loop
-loop-again c =
-    let t = turn c in
-    counting-more _ _ _ _ _ (t .before .loop .inv) _ (t .loop-test .taken) (c .misfit .ensures)
-
-returns : tie.Need-returns Inv-loop μ-loop
-returns c = counting-all _ _ _ _ _ (c .before .loop .inv) (c .loop-test .left)
-
 pub misfit-count-spec : {M : Type 1} → statement M
 misfit-count-spec =
     tie.close
     (tie.spec
     Inv-loop
     μ-loop
-    loop-holds
+    (λ c. search counting-none)
     (λ c. search needs)
     (λ c. search needs)
     (λ c. search needs)
@@ -60,5 +49,5 @@ misfit-count-spec =
     add-found
     (λ c. search needs)
     (λ c. search needs)
-    loop-again
-    returns)
+    (λ c. search counting-more)
+    (λ c. search counting-all))

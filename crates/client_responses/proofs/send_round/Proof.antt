@@ -17,19 +17,10 @@ module _ (c : tie.After-request-at Inv-loop μ-loop) where
   abbrev turn : tie.In-loop Inv-loop μ-loop
   turn = c .before
 
-loop-holds : tie.Need-loop-holds Inv-loop μ-loop
-loop-holds c = let p = c .before .before .pre in replying-none _ _ _ _ (p .0) (p .1) (p .2)
-
-request-at-requires : tie.Need-request-at-requires Inv-loop μ-loop
-request-at-requires c κs = let v = c .before .loop .inv in (v .places, omega (arith, v .words))
-
 send-reply-requires : tie.Need-send-reply-requires Inv-loop μ-loop
 send-reply-requires c κs =
     let t = turn (c .before) in
     rw (c .before .request-at .ensures) (replying-fits _ _ _ _ _ _ _ (t .before .loop .inv) (t .loop-test .taken))
-
-loop-less : tie.Need-loop-less Inv-loop μ-loop
-loop-less c = omega arith
 
 loop-again : tie.Need-loop-again Inv-loop μ-loop
 loop-again c =
@@ -39,24 +30,18 @@ loop-again c =
     let e = rw (q .request-at .ensures) at (p .send-reply .ensures) in
     replying-more _ _ _ _ _ _ _ (t .before .loop .inv) (t .loop-test .taken) _ _ (e .0) (e .1)
 
-same-length : tie.Need-same-length Inv-loop μ-loop
-same-length c = c .before .loop .inv .size
-
-returns : tie.Need-returns Inv-loop μ-loop
-returns c = replying-all _ _ _ _ _ _ _ (c .before .loop .inv) (c .loop-test .left)
-
 pub send-round-spec : {M : Type 1} → statement M
 send-round-spec =
     tie.close
     (tie.spec
     Inv-loop
     μ-loop
-    loop-holds
+    (λ c. search replying-none)
     (λ c. search needs)
-    request-at-requires
+    (λ c κs. search needs)
     (λ c. search needs)
     send-reply-requires
-    loop-less
+    (λ c. omega arith)
     loop-again
-    same-length
-    returns)
+    (λ c. search needs)
+    (λ c. search replying-all))

@@ -11,31 +11,19 @@ Inv-loop from to₀ n i₀ to i = Copying from to₀ to i
 abbrev μ-loop : tie.MeasureT-loop
 μ-loop from to₀ n i₀ to i = n - i
 
-loop-holds : tie.Need-loop-holds Inv-loop μ-loop
-loop-holds c = copying-none _ _ (c .pre)
-
-loop-again : tie.Need-loop-again Inv-loop μ-loop
-loop-again c = copying-more _ _ _ _ (c .before .before .loop .inv) (c .before .loop-test .taken)
-
-same-length : tie.Need-same-length Inv-loop μ-loop
-same-length c = c .before .loop .inv .kept
-
-returns : tie.Need-returns Inv-loop μ-loop
-returns c = copying-all _ _ _ _ (c .before .loop .inv) (c .loop-test .left)
-
 pub copy-spec : {M : Type 1} → statement M
 copy-spec =
     tie.close
     (tie.spec
     Inv-loop
     μ-loop
-    loop-holds
+    (λ c. search copying-none)
     (λ c. search needs)
     (λ c. search needs)
     (λ c. search needs)
     (λ c. search needs)
     (λ c. search needs)
     (λ c. search needs)
-    loop-again
-    same-length
-    returns)
+    (λ c. search copying-more)
+    (λ c. search needs)
+    (λ c. search copying-all))

@@ -18,23 +18,11 @@ module _ (c : tie.After-used Inv-loop μ-loop) where
   abbrev turn : tie.In-loop Inv-loop μ-loop
   turn = c .before .before .before
 
-loop-holds : tie.Need-loop-holds Inv-loop μ-loop
-loop-holds c = counting-none _ _ _ _ (c .before .pre .1) (c .before .pre .0)
-
 add-bad : tie.Need-add-bad Inv-loop μ-loop
 add-bad c =
     let t = turn c in
     let v = t .before .loop .inv in
     omega (arith, counting-few _ _ _ _ _ _ v _ (t .loop-test .taken) (empty-at _ _ _ _ _ _ v _ (t .loop-test .taken) (c .used .ensures)), v .size)
-
-loop-again : tie.Need-loop-again Inv-loop μ-loop
-loop-again c =
-    let t = turn c in
-    let v = t .before .loop .inv in
-    counting-more _ _ _ _ _ _ v _ (t .loop-test .taken) (empty-at _ _ _ _ _ _ v _ (t .loop-test .taken) (c .used .ensures))
-
-returns : tie.Need-returns Inv-loop μ-loop
-returns c = counting-all _ _ _ _ _ _ (c .before .loop .inv) (c .loop-test .left)
 
 pub used-places-spec : {M : Type 1} → statement M
 used-places-spec =
@@ -42,7 +30,7 @@ used-places-spec =
     (tie.spec
     Inv-loop
     μ-loop
-    loop-holds
+    (λ c. search counting-none)
     (λ c. search needs)
     (λ c. search needs)
     (λ c. search needs)
@@ -54,5 +42,5 @@ used-places-spec =
     add-bad
     (λ c. search needs)
     (λ c. search needs)
-    loop-again
-    returns)
+    (λ c. search (counting-more, empty-at))
+    (λ c. search counting-all))

@@ -3,15 +3,9 @@ use borrow.Author.Tests.{le-leb, lt-leb}
 use Rattle.rows.proofs.wide.Statement.{statement}
 use Rattle.rows.proofs.wide.Tie as tie
 
-returns : tie.Need-returns
-returns c = simp (le-leb _ _ (c .if1 .taken))
-
-returns-2 : tie.Need-returns-2
-returns-2 c = simp (lt-leb _ _ (c .if1 .left))
-
 pub wide-spec : {M : Type 1} → statement M
 wide-spec =
     tie.close
     (tie.spec
-    returns
-    returns-2)
+    (λ c. simp (le-leb _ _ (c .if1 .taken)))
+    (λ c. simp (lt-leb _ _ (c .if1 .left))))

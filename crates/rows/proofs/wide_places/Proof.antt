@@ -18,23 +18,11 @@ module _ (c : tie.After-wide Inv-loop μ-loop) where
   abbrev turn : tie.In-loop Inv-loop μ-loop
   turn = c .before .before
 
-loop-holds : tie.Need-loop-holds Inv-loop μ-loop
-loop-holds c = counting-none _ _ 0 _ (omega arith) (c .before .pre)
-
 add-bad : tie.Need-add-bad Inv-loop μ-loop
 add-bad c =
     let t = turn c in
     let v = t .before .loop .inv in
     omega (arith, counting-few _ _ _ _ _ _ v _ (t .loop-test .taken) (fits-at _ _ _ _ _ _ v _ (t .loop-test .taken) (c .wide .ensures)), v .size)
-
-loop-again : tie.Need-loop-again Inv-loop μ-loop
-loop-again c =
-    let t = turn c in
-    let v = t .before .loop .inv in
-    counting-more _ _ _ _ _ _ v _ (t .loop-test .taken) (fits-at _ _ _ _ _ _ v _ (t .loop-test .taken) (c .wide .ensures))
-
-returns : tie.Need-returns Inv-loop μ-loop
-returns c = counting-all _ _ _ _ _ _ (c .before .loop .inv) (c .loop-test .left)
 
 pub wide-places-spec : {M : Type 1} → statement M
 wide-places-spec =
@@ -42,7 +30,7 @@ wide-places-spec =
     (tie.spec
     Inv-loop
     μ-loop
-    loop-holds
+    (λ c. counting-none _ _ 0 _ (omega arith) (c .before .pre))
     (λ c. search needs)
     (λ c. search needs)
     (λ c. search needs)
@@ -50,5 +38,5 @@ wide-places-spec =
     add-bad
     (λ c. search needs)
     (λ c. search needs)
-    loop-again
-    returns)
+    (λ c. search (counting-more, fits-at))
+    (λ c. counting-all _ _ _ _ _ _ (c .before .loop .inv) (c .loop-test .left)))

@@ -1,7 +1,6 @@
 -- `server::all_valid` meets its contract. The invariant: what stands before place i is valid. The measure is what is left of the queue.
 use denote.Ref.{now}
-use Prim.Native.Nat.{_+_, _*_, _-_, _≤_}
-use native.Mathlib.Omega.{arith}
+use Prim.Native.Nat.{_-_, _≤_}
 use mathlib.Core.Path.{_≡_, ap, _∙_}
 use mathlib.Core.List.{List}
 use lib.ListN.{length, getD}
@@ -34,9 +33,6 @@ module _ (c : tie.In-loop Inv-loop μ-loop) where
   abbrev entry : tie.Start Inv-loop μ-loop
   entry = c .before .before .before
 
-  inside : 2 * c .before .loop .i + 2 ≤ length (now (entry .args .row))
-  inside = omega (arith, entry .pre .within, entry .pre .places .even, c .loop-test .taken)
-
 -- the place is tested
 module _ (c : tie.After-valid-request Inv-loop μ-loop) where
   abbrev turn : tie.In-loop Inv-loop μ-loop
@@ -45,20 +41,11 @@ module _ (c : tie.After-valid-request Inv-loop μ-loop) where
   tested : c .valid-request .result ≡ validRequest (getD (places (entry turn)) (turn .before .loop .i) noRequest)
   tested = c .valid-request .ensures ∙ ap validRequest (c .before .request-at .ensures)
 
-loop-holds : tie.Need-loop-holds Inv-loop μ-loop
-loop-holds c = places-start _ _ (within (c .before)) (every validRequest)
-
-request-at-requires : tie.Need-request-at-requires Inv-loop μ-loop
-request-at-requires c κs = (entry c .pre .places, inside c)
-
 returns : tie.Need-returns Inv-loop μ-loop
 returns c = let t = turn (c .before) in valid-stops _ _ (within (entry t)) _ (t .loop-test .taken) _ _ (tested (c .before)) (t .before .loop .inv) (c .if1 .taken)
 
 loop-again : tie.Need-loop-again Inv-loop μ-loop
 loop-again c = let t = turn (c .before) in valid-on _ _ (within (entry t)) _ (t .loop-test .taken) _ _ (tested (c .before)) (t .before .loop .inv) (c .if1 .left)
-
-returns-2 : tie.Need-returns-2 Inv-loop μ-loop
-returns-2 c = valid-ends _ _ (within (c .before .before .before)) _ _ (c .loop-test .left) (c .before .loop .inv)
 
 pub all-valid-spec : {M : Type 1} → statement M
 all-valid-spec =
@@ -66,11 +53,11 @@ all-valid-spec =
     (tie.spec
     Inv-loop
     μ-loop
-    loop-holds
-    request-at-requires
+    (λ c. search places-start)
+    (λ c κs. search needs)
     (λ c κs. search needs)
     returns
     (λ c. search needs)
     (λ c. search needs)
     loop-again
-    returns-2)
+    (λ c. search valid-ends))

@@ -20,9 +20,6 @@ module _ (c : tie.Else1) where
   padded : Padded (now (from .args .row)) (from .args .h .votes .len)
   padded = server-padded _ _ (c .before .valid-row .ensures) (c .if1 .left)
 
-returns : tie.Need-returns
-returns c = let d = c .before .before in check-broken (entry d .args .h) _ _ _ (d .valid-row .ensures) (c .before .if1 .taken) (c .refuse .ensures)
-
 returns-2 : tie.Need-returns-2
 returns-2 c =
     let none = c .before .before in
@@ -42,7 +39,7 @@ check-row-spec =
     (tie.spec
     (λ c κs. search needs)
     (λ c κs. search needs)
-    returns
+    (λ c. search check-broken)
     (λ c. search needs)
     (λ c κs. search needs)
     (λ c κs. search needs)

@@ -1,6 +1,6 @@
 -- `server::in_order` meets its contract. The invariant: up to place i each stands before the next. The measure is what is left of the queue.
 use denote.Ref.{now}
-use Prim.Native.Nat.{_+_, _*_, _-_, _≤_}
+use Prim.Native.Nat.{_+_, _-_, _≤_}
 use native.Mathlib.Omega.{arith}
 use mathlib.Core.Path.{_≡_, _∙_}
 use mathlib.Core.List.{List}
@@ -34,9 +34,6 @@ module _ (c : tie.In-loop Inv-loop μ-loop) where
   abbrev entry : tie.Start Inv-loop μ-loop
   entry = c .before .before .before
 
-  inside : 2 * (c .before .loop .i + 1) + 2 ≤ length (now (entry .args .row))
-  inside = omega (arith, entry .pre .within, entry .pre .places .even, c .loop-test .taken)
-
 -- the two are compared
 module _ (c : tie.After-precedes Inv-loop μ-loop) where
   abbrev turn : tie.In-loop Inv-loop μ-loop
@@ -48,17 +45,8 @@ module _ (c : tie.After-precedes Inv-loop μ-loop) where
       let b = c .before .request-at2 .ensures in
       c .precedes .ensures ∙ (λ i. before (a i) (b i))
 
-loop-holds : tie.Need-loop-holds Inv-loop μ-loop
-loop-holds c = places-start _ _ (within (c .before)) ordered
-
 add-loop : tie.Need-add-loop Inv-loop μ-loop
 add-loop c = let e = c .before .before in omega (arith, passing-within _ _ (within e) ordered _ (c .loop .inv))
-
-request-at-requires : tie.Need-request-at-requires Inv-loop μ-loop
-request-at-requires c κs = (entry c .pre .places, omega (arith, inside c))
-
-request-at-requires-2 : tie.Need-request-at-requires-2 Inv-loop μ-loop
-request-at-requires-2 c κs = (entry (c .before) .pre .places, inside (c .before))
 
 returns : tie.Need-returns Inv-loop μ-loop
 returns c = let t = turn (c .before) in order-stops _ _ (within (entry t)) _ (t .loop-test .taken) _ (tested (c .before)) (t .before .loop .inv) (c .if1 .taken)
@@ -66,23 +54,20 @@ returns c = let t = turn (c .before) in order-stops _ _ (within (entry t)) _ (t 
 loop-again : tie.Need-loop-again Inv-loop μ-loop
 loop-again c = let t = turn (c .before) in order-on _ _ (within (entry t)) _ (t .loop-test .taken) _ (tested (c .before)) (t .before .loop .inv) (c .if1 .left)
 
-returns-2 : tie.Need-returns-2 Inv-loop μ-loop
-returns-2 c = order-ends _ _ (within (c .before .before .before)) _ (c .loop-test .left) (c .before .loop .inv)
-
 pub in-order-spec : {M : Type 1} → statement M
 in-order-spec =
     tie.close
     (tie.spec
     Inv-loop
     μ-loop
-    loop-holds
+    (λ c. search places-start)
     add-loop
-    request-at-requires
+    (λ c κs. search needs)
     (λ c. search needs)
-    request-at-requires-2
+    (λ c κs. search needs)
     (λ c κs. search needs)
     returns
     (λ c. search needs)
     (λ c. search needs)
     loop-again
-    returns-2)
+    (λ c. search order-ends))

@@ -28,14 +28,6 @@ module _ (c : tie.Else2) where
   abbrev one : tie.Else1
   one = c .before .before
 
-returns : tie.Need-returns
-returns c = let d = c .before .before in message-broken (entry d .args .h) _ _ _ (d .valid-row .ensures) _ (c .before .if1 .taken) (c .refuse .ensures)
-
-returns-2 : tie.Need-returns-2
-returns-2 c =
-    let v = c .before .before .before in
-    message-range (from v .args .h) _ _ _ (v .before .valid-row .ensures) (v .if1 .left) _ _ (c .before .before .valid-message .ensures) (c .before .if2 .taken) (c .refuse2 .ensures)
-
 take-row-requires : tie.Need-take-row-requires
 take-row-requires c κs = padded (one (c .before .before .before .before))
 
@@ -93,11 +85,11 @@ message-row-spec =
     (λ c κs. search needs)
     (λ c κs. search needs)
     (λ c. search needs)
-    returns
+    (λ c. search message-broken)
     (λ c κs. search needs)
     (λ c κs. search needs)
     (λ c. search needs)
-    returns-2
+    (λ c. search message-range)
     (λ c. search needs)
     take-row-requires
     (λ c. search needs)

@@ -20,17 +20,8 @@ module _ (c : tie.Else1) where
   padded : Padded (now (from .args .row)) (from .args .h .votes .len)
   padded = server-padded _ _ (c .before .valid-row .ensures) (c .if1 .left)
 
-returns : tie.Need-returns
-returns c = let d = c .before .before in suspect-broken (entry d .args .h) _ _ _ (d .valid-row .ensures) (c .before .if1 .taken) (c .refuse .ensures)
-
 delete-requires : tie.Need-delete-requires
 delete-requires c κs = let owned = c .before .before in padded (owned .before .before .before .before)
-
-returns-2 : tie.Need-returns-2
-returns-2 c =
-    let none = c .before in
-    let v = none .before .before .before .before in
-    suspect-nobody (from v .args .h) _ _ _ (v .before .valid-row .ensures) (v .if1 .left) (none .enum-told .given .1) (c .refuse2 .ensures)
 
 returns-3 : tie.Need-returns-3
 returns-3 c =
@@ -46,13 +37,13 @@ suspect-row-spec =
     (λ c κs. search needs)
     (λ c κs. search needs)
     (λ c. search needs)
-    returns
+    (λ c. search suspect-broken)
     (λ c. search needs)
     (λ c κs. search needs)
     (λ c. search needs)
     delete-requires
     (λ c κs. search needs)
     (λ c. search needs)
-    returns-2
+    (λ c. search suspect-nobody)
     (λ c. search needs)
     returns-3)

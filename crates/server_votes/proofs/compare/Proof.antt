@@ -21,9 +21,6 @@ module _ (c : tie.After-delete) where
   padded : Padded (c .delete .last .1 .1 .1 .0) (c .delete .result .votes .len)
   padded = deleted-padded _ (from .args .tag) (from .args .r) (from .args .v) _ (from .pre .0) _ _ _ (c .delete .ensures)
 
-returns : tie.Need-returns
-returns c = let e = entry (c .before .before) in compares-older _ _ (e .args .r) (e .args .v) _ (e .pre .0) _ _ (c .before .if1 .taken) (c .still .ensures)
-
 act-requires : tie.Need-act-requires
 act-requires c κs = padded (c .before .before .before)
 
@@ -34,19 +31,12 @@ returns-2 c =
     let e = from gone in
     compares-newer _ (e .args .tag) (e .args .r) (e .args .v) _ (e .pre .0) _ _ _ (gone .delete .ensures) _ _ _ (e .pre .1) (newer gone .if2 .taken) (acted .act .ensures) (c .joined .ensures)
 
-returns-3 : tie.Need-returns-3
-returns-3 c =
-    let acted = c .before .before in
-    let one = acted .before .before .before .before .before in
-    let e = entry (one .before) in
-    compares-same _ _ (e .args .r) (e .args .v) _ (e .pre .0) _ _ _ (one .if1 .left) (acted .before .before .if2 .left) (acted .act2 .ensures)
-
 pub compare-spec : {M : Type 1} → statement M
 compare-spec =
     tie.close
     (tie.spec
     (λ c κs. search needs)
-    returns
+    (λ c. search compares-older)
     (λ c κs. search needs)
     act-requires
     (λ c κs. search needs)
@@ -54,4 +44,4 @@ compare-spec =
     returns-2
     (λ c κs. search needs)
     (λ c. search needs)
-    returns-3)
+    (λ c. search compares-same))

@@ -4,9 +4,6 @@ use borrow.Author.Needs.{needs}
 use Rattle.wire.proofs.get16.Statement.{statement}
 use Rattle.wire.proofs.get16.Tie as tie
 
-returns : tie.Need-returns
-returns c = search number-two
-
 pub get16-spec : {M : Type 1} → statement M
 get16-spec =
     tie.close
@@ -15,4 +12,4 @@ get16-spec =
     (λ c. search needs)
     (λ c. search needs)
     (λ c κs. search needs)
-    returns)
+    (λ c. search number-two))

@@ -4,21 +4,6 @@ use borrow.Author.Needs.{needs}
 use Rattle.wire.proofs.lay.Statement.{statement}
 use Rattle.wire.proofs.lay.Tie as tie
 
-length-of-requires : tie.Need-length-of-requires
-length-of-requires c κs = search needs
-
-cast-if1 : tie.Need-cast-if1
-cast-if1 c = search needs
-
-returns : tie.Need-returns
-returns c = lay-short _ _ _ (c .before .length-of .ensures) (c .if1 .taken)
-
-put-fields-requires : tie.Need-put-fields-requires
-put-fields-requires c κs = search needs
-
-same-length : tie.Need-same-length
-same-length c = search needs
-
 returns-2 : tie.Need-returns-2
 returns-2 c =
     let b = c .before .before .before .before in
@@ -27,4 +12,10 @@ returns-2 c =
 pub lay-spec : {M : Type 1} → statement M
 lay-spec =
     tie.close
-    (tie.spec length-of-requires cast-if1 returns put-fields-requires same-length returns-2)
+    (tie.spec
+    (λ c κs. search needs)
+    (λ c. search needs)
+    (λ c. lay-short _ _ _ (c .before .length-of .ensures) (c .if1 .taken))
+    (λ c κs. search needs)
+    (λ c. search needs)
+    returns-2)

@@ -4,19 +4,19 @@ use borrow.Author.Needs.{needs}
 use Rattle.wire.proofs.put.Statement.{statement}
 use Rattle.wire.proofs.put.Tie as tie
 
-fields-of-requires : tie.Need-fields-of-requires
-fields-of-requires c κs = search needs
-
 put-fields-requires : tie.Need-put-fields-requires
 unfolding sizeOf
 put-fields-requires c κs = rw (c .fields-of .ensures) (c .before .before .before .pre)
-
-same-length : tie.Need-same-length
-same-length c = search needs
 
 returns : tie.Need-returns
 unfolding sizeOf bytesOf
 returns c = rw (c .before .before .before .fields-of .ensures) at (c .before .before .put-fields .ensures)
 
 pub put-spec : {M : Type 1} → statement M
-put-spec = tie.close (tie.spec fields-of-requires put-fields-requires same-length returns)
+put-spec =
+    tie.close
+    (tie.spec
+    (λ c κs. search needs)
+    put-fields-requires
+    (λ c. search needs)
+    returns)

@@ -4,12 +4,6 @@ use borrow.Author.Needs.{needs}
 use Rattle.wire.proofs.read.Statement.{statement}
 use Rattle.wire.proofs.read.Tie as tie
 
-returns : tie.Need-returns
-returns c = search read-message
-
-returns-2 : tie.Need-returns-2
-returns-2 c = search read-refused
-
 pub read-spec : {M : Type 1} → statement M
 read-spec =
     tie.close
@@ -18,5 +12,5 @@ read-spec =
     (λ c. search needs)
     (λ c κs. search needs)
     (λ c. search needs)
-    returns
-    returns-2)
+    (λ c. search read-message)
+    (λ c. search read-refused))

@@ -8,9 +8,6 @@ use borrow.Author.Needs.{needs}
 use Rattle.wire.proofs.read_fields.Statement.{statement}
 use Rattle.wire.proofs.read_fields.Tie as tie
 
-returns : tie.Need-returns
-returns c = ap numbersOf (read-short _ (c .if1 .taken))
-
 returns-2 : tie.Need-returns-2
 returns-2 c = ap numbersOf (read-unknown _ _ _ (c .before .before .before .if1 .left) (c .before .before .get16 .ensures) (c .before .is-kind .ensures) (not-true _ (c .if2 .taken)))
 
@@ -47,7 +44,7 @@ pub read-fields-spec : {M : Type 1} → statement M
 read-fields-spec =
     tie.close
     (tie.spec
-    returns
+    (λ c. ap numbersOf (read-short _ (c .if1 .taken)))
     (λ c κs. search needs)
     (λ c κs. search needs)
     returns-2

@@ -4,18 +4,12 @@ use borrow.Author.Needs.{needs}
 use Rattle.wire.proofs.size_of.Statement.{statement}
 use Rattle.wire.proofs.size_of.Tie as tie
 
-fields-of-requires : tie.Need-fields-of-requires
-fields-of-requires c κs = search needs
-
-length-of-requires : tie.Need-length-of-requires
-length-of-requires c κs = search needs
-
-cast-result : tie.Need-cast-result
-cast-result c = search needs
-
-returns : tie.Need-returns
-unfolding sizeOf
-returns c = rw (c .before .fields-of .ensures) at (c .length-of .ensures)
-
 pub size-of-spec : {M : Type 1} → statement M
-size-of-spec = tie.close (tie.spec fields-of-requires length-of-requires cast-result returns)
+unfolding sizeOf
+size-of-spec =
+    tie.close
+    (tie.spec
+    (λ c κs. search needs)
+    (λ c κs. search needs)
+    (λ c. search needs)
+    (λ c. rw (c .before .fields-of .ensures) at (c .length-of .ensures)))

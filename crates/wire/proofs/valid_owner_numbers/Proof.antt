@@ -4,11 +4,12 @@ use Rattle.wire.proofs.NumbersLaws.{owner-zero, owner-some}
 use Rattle.wire.proofs.valid_owner_numbers.Statement.{statement}
 use Rattle.wire.proofs.valid_owner_numbers.Tie as tie
 
-returns : tie.Need-returns
-returns c = owner-zero _ (c .before .args .timestamp) (c .if1 .taken)
-
 returns-2 : tie.Need-returns-2
 returns-2 c = owner-some (c .before .args .owner) (c .before .args .timestamp) (omega arith) (omega arith) (c .if1 .left)
 
 pub valid-owner-numbers-spec : {M : Type 1} → statement M
-valid-owner-numbers-spec = tie.close (tie.spec returns returns-2)
+valid-owner-numbers-spec =
+    tie.close
+    (tie.spec
+    (λ c. search owner-zero)
+    returns-2)

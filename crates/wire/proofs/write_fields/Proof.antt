@@ -5,18 +5,6 @@ use borrow.Author.Needs.{needs}
 use Rattle.wire.proofs.write_fields.Statement.{statement}
 use Rattle.wire.proofs.write_fields.Tie as tie
 
-valid-fields-requires : tie.Need-valid-fields-requires
-valid-fields-requires c κs = search needs
-
-returns : tie.Need-returns
-returns c = numbers-invalid _ _ _ (c .before .valid-fields .ensures) (not-true _ (c .if1 .taken))
-
-lay-requires : tie.Need-lay-requires
-lay-requires c κs = search needs
-
-same-length : tie.Need-same-length
-same-length c = search needs
-
 returns-2 : tie.Need-returns-2
 returns-2 c =
     let b = c .before .before .before .before in
@@ -24,4 +12,10 @@ returns-2 c =
 
 pub write-fields-spec : {M : Type 1} → statement M
 write-fields-spec =
-    tie.close (tie.spec valid-fields-requires returns lay-requires same-length returns-2)
+    tie.close
+    (tie.spec
+    (λ c κs. search needs)
+    (λ c. numbers-invalid _ _ _ (c .before .valid-fields .ensures) (not-true _ (c .if1 .taken)))
+    (λ c κs. search needs)
+    (λ c. search needs)
+    returns-2)
