@@ -1,11 +1,7 @@
 -- `capi::client_made` meets its contract: each arm is given which answer it is.
-use native.Mathlib.Omega.{arith}
 use borrow.Author.Needs.{needs}
 use Rattle.capi.proofs.client_made.Statement.{statement}
 use Rattle.capi.proofs.client_made.Tie as tie
-
-put-client-requires : tie.Need-put-client-requires
-put-client-requires c κs = let e = c .before .before .before .before .before .before .before .before in omega (arith, e .pre .0, e .pre .1)
 
 returns : tie.Need-returns
 returns c =
@@ -22,7 +18,7 @@ client-made-spec =
     (tie.spec
     (λ c. search needs)
     (λ c. search needs)
-    put-client-requires
+    (λ c κs. search needs)
     (λ c. search needs)
     (λ c κs. search needs)
     (λ c. search needs)

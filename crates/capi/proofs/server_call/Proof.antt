@@ -38,9 +38,6 @@ module _ (c : tie.After-server-step) where
   short : c .server-step .result .ruling ≡ Done → c .server-step .result .head .votes .len ≤ maxWord
   short = server-short _ _ (tested .before .holds-server .ensures) (tested .if1 .left) _ _ (loaded .server-head .ensures) (copied .copy .ensures) (entry .args .call) _ _ (c .server-step .ensures)
 
-returns : tie.Need-returns
-returns c = refused-leaves _ _ _ _ _ _ (no-server _ _ (c .before .before .holds-server .ensures) _ (c .before .if1 .taken)) (c .code-of .ensures)
-
 server-head-requires : tie.Need-server-head-requires
 server-head-requires c κs = server-held _ (is-server _ _ (c .before .before .holds-server .ensures) (c .before .if1 .left)) .head
 
@@ -50,14 +47,6 @@ part-copy-end c = omega (arith, long (c .before .before .before))
 server-finish-requires : tie.Need-server-finish-requires
 server-finish-requires c κs = let made = c .before .before .before .before .before in (omega (arith, long (tested made), kept made), short made)
 
-returns-2 : tie.Need-returns-2
-returns-2 c =
-    let finished = c .before .before .before .before .before .before in
-    let made = finished .before .before .before .before .before .before in
-    let e = entry made in
-    server-leaves _ _ (tested made .before .holds-server .ensures) (tested made .if1 .left) _ _ (loaded made .server-head .ensures) (copied made .copy .ensures) (e .args .call) _ _ (made .server-step .ensures)
-    _ _ (now (e .args .out)) _ (now (e .args .sent)) _ (finished .server-finish .ensures)
-
 pub server-call-spec : {M : Type 1} → statement M
 server-call-spec =
     tie.close
@@ -65,7 +54,7 @@ server-call-spec =
     (λ c κs. search needs)
     (λ c κs. search needs)
     (λ c. search needs)
-    returns
+    (λ c. search (refused-leaves, no-server))
     server-head-requires
     (λ c. search needs)
     (λ c. search needs)
@@ -79,4 +68,4 @@ server-call-spec =
     (λ c. search needs)
     (λ c. search needs)
     (λ c. search needs)
-    returns-2)
+    (λ c. search server-leaves))

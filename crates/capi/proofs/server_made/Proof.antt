@@ -1,11 +1,7 @@
 -- `capi::server_made` meets its contract: each arm is given which answer it is.
-use native.Mathlib.Omega.{arith}
 use borrow.Author.Needs.{needs}
 use Rattle.capi.proofs.server_made.Statement.{statement}
 use Rattle.capi.proofs.server_made.Tie as tie
-
-put-server-requires : tie.Need-put-server-requires
-put-server-requires c κs = let e = c .before .before .before .before .before .before .before .before in (omega (arith, e .pre .0, e .pre .1), e .pre .2)
 
 returns : tie.Need-returns
 returns c =
@@ -22,7 +18,7 @@ server-made-spec =
     (tie.spec
     (λ c. search needs)
     (λ c. search needs)
-    put-server-requires
+    (λ c κs. search needs)
     (λ c. search needs)
     (λ c κs. search needs)
     (λ c. search needs)

@@ -9,9 +9,6 @@ returns c = let made = c .before .before in rw (made .before .before .before .ca
 returns-2 : tie.Need-returns-2
 returns-2 c = let made = c .before .before in rw (made .before .before .enum-told .given .1) (made .suspect-row .ensures)
 
-returns-3 : tie.Need-returns-3
-returns-3 c = rw (c .before .before .enum-told2 .given .1) (c .check-row .ensures)
-
 pub server-step-spec : {M : Type 1} → statement M
 server-step-spec =
     tie.close
@@ -27,4 +24,4 @@ server-step-spec =
     (λ c. search needs)
     returns-2
     (λ c. search needs)
-    returns-3)
+    (λ c. rw (c .before .before .enum-told2 .given .1) (c .check-row .ensures)))

@@ -27,9 +27,6 @@ cast-new-2 c = let (a, b, d) = head-small _ _ _ (sym (c .before .fits-head .ensu
 cast-new-3 : tie.Need-cast-new-3
 cast-new-3 c = let (a, b, d) = head-small _ _ _ (sym (c .before .fits-head .ensures) ∙ not-false _ (c .if2 .left)) in omega arith
 
-client-made-requires : tie.Need-client-made-requires
-client-made-requires c κs = (c .before .before .before .before .if1 .left, client-new-whole _ _ _ _ (c .before .new .ensures))
-
 returns-3 : tie.Need-returns-3
 returns-3 c =
     let made = c .before .before in
@@ -50,6 +47,6 @@ sigma-client-new-spec =
     cast-new-2
     cast-new-3
     (λ c κs. search needs)
-    client-made-requires
+    (λ c κs. search client-new-whole)
     (λ c. search needs)
     returns-3)

@@ -5,22 +5,10 @@ use borrow.Author.Needs.{needs}
 use Rattle.capi_quorum.proofs.put_two.Statement.{statement}
 use Rattle.capi_quorum.proofs.put_two.Tie as tie
 
-code-of-requires : tie.Need-code-of-requires
-code-of-requires c κs = search needs
-
 returns : tie.Need-returns
 returns c =
     let a = c .before .before .before .args in
     two-short (now (a .words)) (a .a) (a .b) (a .code) _ (c .before .if1 .taken) (c .code-of .ensures)
-
-slice-write-words : tie.Need-slice-write-words
-slice-write-words c = search needs
-
-slice-write-words-2 : tie.Need-slice-write-words-2
-slice-write-words-2 c = search needs
-
-same-length : tie.Need-same-length
-same-length c = search needs
 
 returns-2 : tie.Need-returns-2
 returns-2 c =
@@ -30,4 +18,10 @@ returns-2 c =
 pub put-two-spec : {M : Type 1} → statement M
 put-two-spec =
     tie.close
-    (tie.spec code-of-requires returns slice-write-words slice-write-words-2 same-length returns-2)
+    (tie.spec
+    (λ c κs. search needs)
+    returns
+    (λ c. search needs)
+    (λ c. search needs)
+    (λ c. search needs)
+    returns-2)

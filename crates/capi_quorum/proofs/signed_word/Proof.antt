@@ -3,24 +3,13 @@ use Rattle.capi_quorum.proofs.SignedLaws.{turned-fits, turned-casts, tu
 use Rattle.capi_quorum.proofs.signed_word.Statement.{statement}
 use Rattle.capi_quorum.proofs.signed_word.Tie as tie
 
-sub-result : tie.Need-sub-result
-sub-result c = turned-fits (c .before .args .x) (c .before .fits .x) (c .if1 .taken)
-
-cast-result : tie.Need-cast-result
-cast-result c = turned-casts (c .before .args .x) (c .before .fits .x) (c .if1 .taken)
-
-sub-result-2 : tie.Need-sub-result-2
-sub-result-2 c = turned-low (c .before .args .x) (c .before .fits .x) (c .if1 .taken)
-
-returns : tie.Need-returns
-returns c = negative-word (c .before .args .x) (c .before .fits .x) (c .if1 .taken)
-
-cast-result-2 : tie.Need-cast-result-2
-cast-result-2 c = positive-casts (c .before .args .x) (c .before .fits .x) (c .if1 .left)
-
-returns-2 : tie.Need-returns-2
-returns-2 c = positive-word (c .before .args .x) (c .before .fits .x) (c .if1 .left)
-
 pub signed-word-spec : {M : Type 1} → statement M
 signed-word-spec =
-    tie.close (tie.spec sub-result cast-result sub-result-2 returns cast-result-2 returns-2)
+    tie.close
+    (tie.spec
+    (λ c. search turned-fits)
+    (λ c. turned-casts (c .before .args .x) (c .before .fits .x) (c .if1 .taken))
+    (λ c. search turned-low)
+    (λ c. search negative-word)
+    (λ c. positive-casts (c .before .args .x) (c .before .fits .x) (c .if1 .left))
+    (λ c. search positive-word))

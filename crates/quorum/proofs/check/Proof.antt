@@ -4,9 +4,6 @@ use borrow.Author.Needs.{needs}
 use Rattle.quorum.proofs.check.Statement.{statement}
 use Rattle.quorum.proofs.check.Tie as tie
 
-in-range-requires : tie.Need-in-range-requires
-in-range-requires c κs = search needs
-
 returns : tie.Need-returns
 returns c =
     let a = c .before .before .args in
@@ -23,4 +20,10 @@ returns-2 c =
     check-judges (a .n) (a .m) (a .f) _ (c .before .before .in-range .ensures) _ (c .before .if1 .left) (c .judge .ensures)
 
 pub check-spec : {M : Type 1} → statement M
-check-spec = tie.close (tie.spec in-range-requires returns judge-requires returns-2)
+check-spec =
+    tie.close
+    (tie.spec
+    (λ c κs. search needs)
+    returns
+    judge-requires
+    returns-2)

@@ -4,18 +4,6 @@ use borrow.Author.Needs.{needs}
 use Rattle.quorum.proofs.in_range_up_to.Statement.{statement}
 use Rattle.quorum.proofs.in_range_up_to.Tie as tie
 
-within-limit-requires : tie.Need-within-limit-requires
-within-limit-requires c κs = search needs
-
-returns : tie.Need-returns
-returns c = search no-servers
-
-within-limit-requires-2 : tie.Need-within-limit-requires-2
-within-limit-requires-2 c κs = search needs
-
-returns-2 : tie.Need-returns-2
-returns-2 c = search no-threshold
-
 returns-3 : tie.Need-returns-3
 returns-3 c =
     let d = c .before .before .before in
@@ -24,4 +12,10 @@ returns-3 c =
 
 pub in-range-up-to-spec : {M : Type 1} → statement M
 in-range-up-to-spec =
-    tie.close (tie.spec within-limit-requires returns within-limit-requires-2 returns-2 returns-3)
+    tie.close
+    (tie.spec
+    (λ c κs. search needs)
+    (λ c. search no-servers)
+    (λ c κs. search needs)
+    (λ c. search no-threshold)
+    returns-3)

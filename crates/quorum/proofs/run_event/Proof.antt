@@ -4,19 +4,16 @@ use borrow.Author.Needs.{needs}
 use Rattle.quorum.proofs.run_event.Statement.{statement}
 use Rattle.quorum.proofs.run_event.Tie as tie
 
-in-range-requires : tie.Need-in-range-requires
-in-range-requires c κs = search needs
-
-returns : tie.Need-returns
-returns c = search event-refuses
-
 listed-requires : tie.Need-listed-requires
 listed-requires c κs =
     let a = c .before .before .args in
     in-bounds (a .n) (a .m) (a .f) _ (c .before .in-range .ensures) (c .if1 .left)
 
-returns-2 : tie.Need-returns-2
-returns-2 c = search event-listed
-
 pub run-event-spec : {M : Type 1} → statement M
-run-event-spec = tie.close (tie.spec in-range-requires returns listed-requires returns-2)
+run-event-spec =
+    tie.close
+    (tie.spec
+    (λ c κs. search needs)
+    (λ c. search event-refuses)
+    listed-requires
+    (λ c. search event-listed))

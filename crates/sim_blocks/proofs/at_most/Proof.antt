@@ -15,20 +15,11 @@ Inv-loop words most i₀ i = Passing (λ x. leb x most) 0 words (length words) i
 abbrev μ-loop : tie.MeasureT-loop
 μ-loop words most i₀ i = length words - i
 
-loop-holds : tie.Need-loop-holds Inv-loop μ-loop
-loop-holds c = most-none _ _
-
 returns : tie.Need-returns Inv-loop μ-loop
 returns c = most-failed _ _ _ (c .before .before .before .loop .inv) (omega arith) (c .if1 .taken)
 
-loop-less : tie.Need-loop-less Inv-loop μ-loop
-loop-less c = omega arith
-
 loop-again : tie.Need-loop-again Inv-loop μ-loop
 loop-again c = most-more _ _ _ (c .before .before .before .loop .inv) (omega arith) (c .if1 .left)
-
-returns-2 : tie.Need-returns-2 Inv-loop μ-loop
-returns-2 c = most-all _ _ _ (c .before .loop .inv) (omega arith)
 
 pub at-most-spec : {M : Type 1} → statement M
 at-most-spec =
@@ -36,11 +27,11 @@ at-most-spec =
     (tie.spec
     Inv-loop
     μ-loop
-    loop-holds
+    (λ c. most-none _ _)
     (λ c. search needs)
     (λ c. search needs)
     returns
     (λ c. search needs)
-    loop-less
+    (λ c. omega arith)
     loop-again
-    returns-2)
+    (λ c. most-all _ _ _ (c .before .loop .inv) (omega arith)))

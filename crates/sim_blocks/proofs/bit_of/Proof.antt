@@ -3,11 +3,9 @@ use borrow.Author.Tests.{eq-eqb, ne-eqb}
 use Rattle.sim_blocks.proofs.bit_of.Statement.{statement}
 use Rattle.sim_blocks.proofs.bit_of.Tie as tie
 
-returns : tie.Need-returns
-returns c = rw (eq-eqb (c .before .args .x) 0 (c .if1 .taken))
-
-returns-2 : tie.Need-returns-2
-returns-2 c = rw (ne-eqb (c .before .args .x) 0 (c .if1 .left))
-
 pub bit-of-spec : {M : Type 1} → statement M
-bit-of-spec = tie.close (tie.spec returns returns-2)
+bit-of-spec =
+    tie.close
+    (tie.spec
+    (λ c. rw (eq-eqb (c .before .args .x) 0 (c .if1 .taken)))
+    (λ c. rw (ne-eqb (c .before .args .x) 0 (c .if1 .left))))

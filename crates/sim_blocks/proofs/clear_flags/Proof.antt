@@ -17,30 +17,18 @@ Inv-loop b₀ i₀ b i = (length b₀ ≡ clientBlock) × Clearing b₀ flagsFro
 abbrev μ-loop : tie.MeasureT-loop
 μ-loop b₀ i₀ b i = systemServers - i
 
-loop-holds : tie.Need-loop-holds Inv-loop μ-loop
-loop-holds c = (c .pre, clearing-none _ _ _)
-
-loop-less : tie.Need-loop-less Inv-loop μ-loop
-loop-less c = omega arith
-
-loop-again : tie.Need-loop-again Inv-loop μ-loop
-loop-again c = (c .before .loop .inv .0, clearing-more _ _ _ _ _ (c .before .loop .inv .1) (omega arith))
-
-returns : tie.Need-returns Inv-loop μ-loop
-returns c = all-cleared _ _ _ (c .before .loop .inv .1) (omega arith)
-
 pub clear-flags-spec : {M : Type 1} → statement M
 clear-flags-spec =
     tie.close
     (tie.spec
     Inv-loop
     μ-loop
-    loop-holds
+    (λ c. search clearing-none)
     (λ c. search needs)
     (λ c. search needs)
     (λ c. search needs)
     (λ c. search needs)
-    loop-less
-    loop-again
+    (λ c. omega arith)
+    (λ c. search clearing-more)
     (λ c. search needs)
-    returns)
+    (λ c. search all-cleared))

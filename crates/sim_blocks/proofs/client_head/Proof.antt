@@ -4,9 +4,6 @@ use borrow.Author.Needs.{needs}
 use Rattle.sim_blocks.proofs.client_head.Statement.{statement}
 use Rattle.sim_blocks.proofs.client_head.Tie as tie
 
-client-head-requires : tie.Need-client-head-requires
-client-head-requires c κs = client-held _ (c .before .before .pre .1) .head
-
 pub client-head-spec : {M : Type 1} → statement M
 client-head-spec =
     tie.close
@@ -14,5 +11,5 @@ client-head-spec =
     (λ c. search needs)
     (λ c. search needs)
     (λ c. search needs)
-    client-head-requires
+    (λ c κs. client-held _ (c .before .before .pre .1) .head)
     (λ c. search needs))

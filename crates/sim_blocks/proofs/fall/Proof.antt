@@ -9,17 +9,14 @@ use borrow.Author.Needs.{needs}
 use Rattle.sim_blocks.proofs.fall.Statement.{statement}
 use Rattle.sim_blocks.proofs.fall.Tie as tie
 
-slice-write-b : tie.Need-slice-write-b
-slice-write-b c = search needs
-
-clear-flags-requires : tie.Need-clear-flags-requires
-clear-flags-requires c κs = simp length-set (c .before .before .pre)
-
 same-length : tie.Need-same-length
 same-length c = ap length (c .before .before .clear-flags .ensures) ∙ length-cleared (set (now (c .before .before .before .before .before .args .b)) 0 0) ∙ length-set (now (c .before .before .before .before .before .args .b)) 0 0
 
-returns : tie.Need-returns
-returns c = c .before .before .clear-flags .ensures
-
 pub fall-spec : {M : Type 1} → statement M
-fall-spec = tie.close (tie.spec slice-write-b clear-flags-requires same-length returns)
+fall-spec =
+    tie.close
+    (tie.spec
+    (λ c. search needs)
+    (λ c κs. search needs)
+    same-length
+    (λ c. search needs))

@@ -32,17 +32,8 @@ module _ (c : tie.After-valid-row) where
   its : clientOf (head .client-head .result) (take (clientSize - recordHead) (drop recordHead (words entry))) ≡ clientFrom (words entry)
   its = client-lent (words entry) _ (entry .pre) (head .client-head .ensures)
 
-client-head-requires : tie.Need-client-head-requires
-client-head-requires c κs = client-held _ (c .before .pre) .head
-
-part-valid-row-end : tie.Need-part-valid-row-end
-part-valid-row-end c = omega (arith, long (c .before .before))
-
 returns : tie.Need-returns
 returns c = let v = c .before in client-broken _ _ _ _ _ _ (its v) _ (v .valid-row .ensures) (c .if1 .taken)
-
-shared-slice-read-if2 : tie.Need-shared-slice-read-if2
-shared-slice-read-if2 c = omega (arith, long (entry (c .before .before)))
 
 returns-2 : tie.Need-returns-2
 returns-2 c = let v = c .before .before .before in servers-differ _ _ _ _ _ _ (its v) _ (v .valid-row .ensures) (c .before .before .if1 .left) (c .if2 .taken)
@@ -87,13 +78,13 @@ pub fits-client-spec : {M : Type 1} → statement M
 fits-client-spec =
     tie.close
     (tie.spec
-    client-head-requires
+    (λ c κs. client-held _ (c .before .pre) .head)
     (λ c. search needs)
     (λ c. search needs)
-    part-valid-row-end
+    (λ c. omega (arith, long (c .before .before)))
     (λ c κs. search needs)
     returns
-    shared-slice-read-if2
+    (λ c. omega (arith, long (entry (c .before .before))))
     returns-2
     shared-slice-read-if3
     returns-3

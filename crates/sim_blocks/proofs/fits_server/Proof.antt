@@ -42,17 +42,8 @@ module _ (c : tie.Else1) where
       let a = entry tested .args in
       length-fits (a .n) (a .clients) (a .j) _ _ (its tested) _ (tested .valid-row .ensures) (c .if1 .left) (entry tested .pre)
 
-server-head-requires : tie.Need-server-head-requires
-server-head-requires c κs = server-held _ (c .before .pre) .head
-
-part-valid-row-end : tie.Need-part-valid-row-end
-part-valid-row-end c = omega (arith, long (c .before .before))
-
 returns : tie.Need-returns
 returns c = let v = c .before in server-broken _ _ _ _ _ (its v) _ (v .valid-row .ensures) (c .if1 .taken)
-
-shared-slice-read-if2 : tie.Need-shared-slice-read-if2
-shared-slice-read-if2 c = omega (arith, long (entry (tested (c .before))))
 
 returns-2 : tie.Need-returns-2
 returns-2 c = let e = c .before .before in let v = tested e in server-count-differs _ _ _ _ _ (its v) _ (v .valid-row .ensures) (e .if1 .left) (c .if2 .taken)
@@ -70,9 +61,6 @@ returns-3 c =
 module _ (c : tie.Else3) where
   abbrev good : tie.Else1
   good = c .before .before .before .before .before
-
-shared-slice-read-if4 : tie.Need-shared-slice-read-if4
-shared-slice-read-if4 c = omega (arith, long (entry (tested (good (c .before)))))
 
 returns-4 : tie.Need-returns-4
 returns-4 c =
@@ -102,18 +90,18 @@ pub fits-server-spec : {M : Type 1} → statement M
 fits-server-spec =
     tie.close
     (tie.spec
-    server-head-requires
+    (λ c κs. server-held _ (c .before .pre) .head)
     (λ c. search needs)
     (λ c. search needs)
-    part-valid-row-end
+    (λ c. omega (arith, long (c .before .before)))
     (λ c κs. search needs)
     returns
-    shared-slice-read-if2
+    (λ c. omega (arith, long (entry (tested (c .before)))))
     returns-2
     shared-slice-read-if3
     (λ c. search needs)
     returns-3
-    shared-slice-read-if4
+    (λ c. omega (arith, long (entry (tested (good (c .before))))))
     returns-4
     shared-slice-read-requests-named
     cast-requests-named

@@ -16,20 +16,8 @@ Inv-loop words count₀ i₀ count i = Counting words count i
 abbrev μ-loop : tie.MeasureT-loop
 μ-loop words count₀ i₀ count i = systemServers - i
 
-loop-holds : tie.Need-loop-holds Inv-loop μ-loop
-loop-holds c = counting-none _ (c .before .pre)
-
 add-count : tie.Need-add-count Inv-loop μ-loop
 add-count c = omega (arith, c .before .before .before .loop .inv .few, c .before .before .before .loop .inv .within, one-at-most (getD (now (c .before .before .before .before .before .args .words)) (c .before .before .before .loop .i) 0) _ (c .bit-of .ensures))
-
-loop-less : tie.Need-loop-less Inv-loop μ-loop
-loop-less c = omega arith
-
-loop-again : tie.Need-loop-again Inv-loop μ-loop
-loop-again c = counting-more _ _ _ (c .before .before .before .loop .inv) _ (omega arith) (c .bit-of .ensures)
-
-returns : tie.Need-returns Inv-loop μ-loop
-returns c = counting-all _ _ _ (c .before .loop .inv) (omega arith)
 
 pub flags-set-spec : {M : Type 1} → statement M
 flags-set-spec =
@@ -37,12 +25,12 @@ flags-set-spec =
     (tie.spec
     Inv-loop
     μ-loop
-    loop-holds
+    (λ c. search counting-none)
     (λ c. search needs)
     (λ c. search needs)
     (λ c κs. search needs)
     add-count
     (λ c. search needs)
-    loop-less
-    loop-again
-    returns)
+    (λ c. omega arith)
+    (λ c. search counting-more)
+    (λ c. search counting-all))

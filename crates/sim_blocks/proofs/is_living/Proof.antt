@@ -4,11 +4,9 @@ use borrow.Author.Needs.{needs}
 use Rattle.sim_blocks.proofs.is_living.Statement.{statement}
 use Rattle.sim_blocks.proofs.is_living.Tie as tie
 
-shared-slice-read-result : tie.Need-shared-slice-read-result
-shared-slice-read-result c = search needs
-
-returns : tie.Need-returns
-returns c = living-word _
-
 pub is-living-spec : {M : Type 1} → statement M
-is-living-spec = tie.close (tie.spec shared-slice-read-result returns)
+is-living-spec =
+    tie.close
+    (tie.spec
+    (λ c. search needs)
+    (λ c. living-word _))

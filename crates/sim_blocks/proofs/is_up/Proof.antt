@@ -4,11 +4,9 @@ use borrow.Author.Needs.{needs}
 use Rattle.sim_blocks.proofs.is_up.Statement.{statement}
 use Rattle.sim_blocks.proofs.is_up.Tie as tie
 
-shared-slice-read-result : tie.Need-shared-slice-read-result
-shared-slice-read-result c = search needs
-
-returns : tie.Need-returns
-returns c = up-word _
-
 pub is-up-spec : {M : Type 1} → statement M
-is-up-spec = tie.close (tie.spec shared-slice-read-result returns)
+is-up-spec =
+    tie.close
+    (tie.spec
+    (λ c. search needs)
+    (λ c. up-word _))

@@ -1,16 +1,8 @@
 -- `sim_blocks::put_client` meets its contract: head and row are two parts of the block, written one after the other.
-use denote.Ref.{now}
 use Rattle.sim_blocks.proofs.BlockParts.{client-put-back}
 use borrow.Author.Needs.{needs}
 use Rattle.sim_blocks.proofs.put_client.Statement.{statement}
 use Rattle.sim_blocks.proofs.put_client.Tie as tie
-
-returns : tie.Need-returns
-returns c =
-    let two = c .before .before in
-    let one = two .before .before .before .before in
-    let d = one .before .before .before .before in
-    client-put-back (now (d .args .b)) _ (d .args .h) (now (d .args .row)) _ (d .pre .0) (d .pre .1) (one .put-client-head .ensures) (two .copy .ensures)
 
 pub put-client-spec : {M : Type 1} → statement M
 put-client-spec =
@@ -25,4 +17,4 @@ put-client-spec =
     (λ c. search needs)
     (λ c κs. search needs)
     (λ c. search needs)
-    returns)
+    (λ c. search client-put-back))

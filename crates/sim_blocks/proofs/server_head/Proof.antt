@@ -4,9 +4,6 @@ use borrow.Author.Needs.{needs}
 use Rattle.sim_blocks.proofs.server_head.Statement.{statement}
 use Rattle.sim_blocks.proofs.server_head.Tie as tie
 
-server-head-requires : tie.Need-server-head-requires
-server-head-requires c κs = server-held _ (c .before .before .pre .1) .head
-
 pub server-head-spec : {M : Type 1} → statement M
 server-head-spec =
     tie.close
@@ -14,5 +11,5 @@ server-head-spec =
     (λ c. search needs)
     (λ c. search needs)
     (λ c. search needs)
-    server-head-requires
+    (λ c κs. server-held _ (c .before .before .pre .1) .head)
     (λ c. search needs))

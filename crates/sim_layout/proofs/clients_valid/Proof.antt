@@ -1,6 +1,5 @@
 -- `sim_layout::clients_valid` meets its contract. The invariant: the first i blocks are valid.
 use Rattle.sim_layout.proofs.LoopLaws.{Passed, passed-none, passed-more, passed-all, passed-fails}
-use denote.Ref.{now}
 use Prim.Native.Nat.{ℕ, _-_}
 use Rattle.sim_blocks.specs.Blocks.{validClientBlock, clientBlock}
 use Rattle.sim_layout.specs.Layout.{clientWords}
@@ -15,39 +14,17 @@ Inv-loop w n m clients i₀ i = Passed (λ (i : ℕ). validClientBlock n m clien
 abbrev μ-loop : tie.MeasureT-loop
 μ-loop w n m clients i₀ i = clients - i
 
-loop-holds : tie.Need-loop-holds Inv-loop μ-loop
-loop-holds c =
-    let a = c .before .args in
-    passed-none (λ (i : ℕ). validClientBlock (a .n) (a .m) (a .clients) (clientNo i)) clientBlock (a .clients) (clientWords (now (a .w)))
-
-returns : tie.Need-returns Inv-loop μ-loop
-returns c =
-    let d = c .before .before .before in
-    let a = d .before .before .args in
-    passed-fails (λ (i : ℕ). validClientBlock (a .n) (a .m) (a .clients) (clientNo i)) clientBlock (a .clients) (clientWords (now (a .w))) _ (d .loop .inv) _ (c .before .before .loop-test .taken) (c .before .client-valid .ensures) (c .if1 .taken)
-
-loop-again : tie.Need-loop-again Inv-loop μ-loop
-loop-again c =
-    let d = c .before .before .before in
-    let a = d .before .before .args in
-    passed-more (λ (i : ℕ). validClientBlock (a .n) (a .m) (a .clients) (clientNo i)) clientBlock (a .clients) (clientWords (now (a .w))) _ (d .loop .inv) _ (c .before .before .loop-test .taken) (c .before .client-valid .ensures) (c .if1 .left)
-
-returns-2 : tie.Need-returns-2 Inv-loop μ-loop
-returns-2 c =
-    let a = c .before .before .before .args in
-    passed-all (λ (i : ℕ). validClientBlock (a .n) (a .m) (a .clients) (clientNo i)) clientBlock (a .clients) (clientWords (now (a .w))) _ (c .before .loop .inv) (c .loop-test .left)
-
 pub clients-valid-spec : {M : Type 1} → statement M
 clients-valid-spec =
     tie.close
     (tie.spec
     Inv-loop
     μ-loop
-    loop-holds
+    (λ c. search passed-none)
     (λ c. search needs)
     (λ c κs. search needs)
-    returns
+    (λ c. search passed-fails)
     (λ c. search needs)
     (λ c. search needs)
-    loop-again
-    returns-2)
+    (λ c. search passed-more)
+    (λ c. search passed-all))

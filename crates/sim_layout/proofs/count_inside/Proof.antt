@@ -16,9 +16,6 @@ Inv-loop w clients found₀ i₀ found i = (i ≤ clients) × Found clientPlace 
 abbrev μ-loop : tie.MeasureT-loop
 μ-loop w clients found₀ i₀ found i = clients - i
 
-loop-holds : tie.Need-loop-holds Inv-loop μ-loop
-loop-holds c = (zero-le, found-none clientPlace (clientWords (now (c .before .args .w))))
-
 loop-again : tie.Need-loop-again Inv-loop μ-loop
 loop-again c =
     let d = c .before .before .before in
@@ -27,23 +24,17 @@ loop-again c =
     let same = found-same clientPlace l _ _ (d .loop .inv .1) _ (c .before .is-inside .ensures) in
     (omega (arith, c .before .before .loop-test .taken), ⊎-elim (λ x. more _ (x .0 .taken) (x .1)) (λ x. same _ (x .0 .left) (x .1)) (c .if1 .came))
 
-returns : tie.Need-returns Inv-loop μ-loop
-returns c =
-    let a = c .before .before .before .args in
-    let v = c .before .loop .inv in
-    found-all clientPlace (clientWords (now (a .w))) _ (a .clients) _ (v .0) (c .loop-test .left) (v .1)
-
 pub count-inside-spec : {M : Type 1} → statement M
 count-inside-spec =
     tie.close
     (tie.spec
     Inv-loop
     μ-loop
-    loop-holds
+    (λ c. (zero-le, found-none clientPlace (clientWords (now (c .before .args .w)))))
     (λ c. search needs)
     (λ c κs. search needs)
     (λ c. search needs)
     (λ c. search needs)
     (λ c. search needs)
     loop-again
-    returns)
+    (λ c. search found-all))

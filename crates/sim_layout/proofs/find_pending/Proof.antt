@@ -8,18 +8,6 @@ use borrow.Author.Needs.{needs}
 use Rattle.sim_layout.proofs.find_pending.Statement.{statement}
 use Rattle.sim_layout.proofs.find_pending.Tie as tie
 
-shared-slice-read-len : tie.Need-shared-slice-read-len
-shared-slice-read-len c = omega (arith, words-long _ (c .before .before .pre))
-
-cast-len : tie.Need-cast-len
-cast-len c = record { fits = omega (arith, lent-sized _ (c .before .before .pre) .few) }
-
-part-find-pending-end : tie.Need-part-find-pending-end
-part-find-pending-end c = omega (arith, words-long _ (c .before .before .pre))
-
-find-pending-requires : tie.Need-find-pending-requires
-find-pending-requires c κs = lent-sized _ (c .before .before .before .pre)
-
 returns : tie.Need-returns
 returns c = let d = c .before .before .before .before in lent-said (now (d .args .w)) (λ t. FindsPending (d .args .number .0) (lengthOf (now (d .args .w))) t (c .find-pending .result)) (c .find-pending .ensures)
 
@@ -27,10 +15,10 @@ pub find-pending-spec : {M : Type 1} → statement M
 find-pending-spec =
     tie.close
     (tie.spec
-    shared-slice-read-len
-    cast-len
+    (λ c. omega (arith, words-long _ (c .before .before .pre)))
+    (λ c. record { fits = omega (arith, lent-sized _ (c .before .before .pre) .few) })
     (λ c. search needs)
     (λ c. search needs)
-    part-find-pending-end
-    find-pending-requires
+    (λ c. omega (arith, words-long _ (c .before .before .pre)))
+    (λ c κs. search lent-sized)
     returns)

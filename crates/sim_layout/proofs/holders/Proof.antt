@@ -1,5 +1,4 @@
 -- `sim_layout::holders` meets its contract: they are counted among the clients of the setting.
-use denote.Ref.{now}
 use native.Mathlib.Omega.{arith}
 use Rattle.sim_layout.proofs.ReadLaws.{words-long, few-clients, holders-counted}
 use borrow.Author.Needs.{needs}
@@ -9,13 +8,10 @@ use Rattle.sim_layout.proofs.holders.Tie as tie
 count-inside-requires : tie.Need-count-inside-requires
 count-inside-requires c κs = let d = c .before .before in (words-long _ (d .pre), omega (arith, few-clients _ (d .pre), c .clients .ensures))
 
-returns : tie.Need-returns
-returns c = let d = c .before .before .before in holders-counted (now (d .args .w)) _ _ (c .before .clients .ensures) (c .count-inside .ensures)
-
 pub holders-spec : {M : Type 1} → statement M
 holders-spec =
     tie.close
     (tie.spec
     (λ c κs. search needs)
     count-inside-requires
-    returns)
+    (λ c. search holders-counted))

@@ -5,16 +5,10 @@ use borrow.Author.Needs.{needs}
 use Rattle.sim_layout.proofs.in_transit.Statement.{statement}
 use Rattle.sim_layout.proofs.in_transit.Tie as tie
 
-shared-slice-read-result : tie.Need-shared-slice-read-result
-shared-slice-read-result c = omega (arith, words-long _ (c .before .pre))
-
-cast-result : tie.Need-cast-result
-cast-result c = record { fits = omega (arith, lent-sized _ (c .before .pre) .few) }
-
 pub in-transit-spec : {M : Type 1} → statement M
 in-transit-spec =
     tie.close
     (tie.spec
-    shared-slice-read-result
-    cast-result
+    (λ c. omega (arith, words-long _ (c .before .pre)))
+    (λ c. record { fits = omega (arith, lent-sized _ (c .before .pre) .few) })
     (λ c. search needs))

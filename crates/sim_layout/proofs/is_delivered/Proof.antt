@@ -7,9 +7,6 @@ use borrow.Author.Needs.{needs}
 use Rattle.sim_layout.proofs.is_delivered.Statement.{statement}
 use Rattle.sim_layout.proofs.is_delivered.Tie as tie
 
-part-is-delivered-end : tie.Need-part-is-delivered-end
-part-is-delivered-end c = omega (arith, words-long _ (c .before .pre .0))
-
 is-delivered-requires : tie.Need-is-delivered-requires
 is-delivered-requires c κs = let d = c .before .before in slot-lent _ (d .pre .0) _ (d .pre .1)
 
@@ -22,6 +19,6 @@ is-delivered-spec =
     (tie.spec
     (λ c. search needs)
     (λ c. search needs)
-    part-is-delivered-end
+    (λ c. omega (arith, words-long _ (c .before .pre .0)))
     is-delivered-requires
     returns)

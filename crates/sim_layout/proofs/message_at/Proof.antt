@@ -1,19 +1,12 @@
 -- `sim_layout::message_at` meets its contract: the slots are lent, and slot i of them is the simulation's.
-use denote.Ref.{now}
 use native.Mathlib.Omega.{arith}
 use Rattle.sim_layout.proofs.ReadLaws.{words-long, slot-lent, message-read}
 use borrow.Author.Needs.{needs}
 use Rattle.sim_layout.proofs.message_at.Statement.{statement}
 use Rattle.sim_layout.proofs.message_at.Tie as tie
 
-part-message-at-end : tie.Need-part-message-at-end
-part-message-at-end c = omega (arith, words-long _ (c .before .pre .0))
-
 message-at-requires : tie.Need-message-at-requires
 message-at-requires c κs = let d = c .before .before in slot-lent _ (d .pre .0) _ (d .pre .1)
-
-returns : tie.Need-returns
-returns c = let d = c .before .before .before in message-read (now (d .args .w)) (d .pre .0) (d .args .i) _ (d .pre .1) (c .message-at .ensures)
 
 pub message-at-spec : {M : Type 1} → statement M
 message-at-spec =
@@ -21,6 +14,6 @@ message-at-spec =
     (tie.spec
     (λ c. search needs)
     (λ c. search needs)
-    part-message-at-end
+    (λ c. omega (arith, words-long _ (c .before .pre .0)))
     message-at-requires
-    returns)
+    (λ c. search message-read))

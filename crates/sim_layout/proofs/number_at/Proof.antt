@@ -7,9 +7,6 @@ use borrow.Author.Needs.{needs}
 use Rattle.sim_layout.proofs.number_at.Statement.{statement}
 use Rattle.sim_layout.proofs.number_at.Tie as tie
 
-part-number-at-end : tie.Need-part-number-at-end
-part-number-at-end c = omega (arith, words-long _ (c .before .pre .0))
-
 number-at-requires : tie.Need-number-at-requires
 number-at-requires c κs = let d = c .before .before in slot-lent _ (d .pre .0) _ (d .pre .1)
 
@@ -22,6 +19,6 @@ number-at-spec =
     (tie.spec
     (λ c. search needs)
     (λ c. search needs)
-    part-number-at-end
+    (λ c. omega (arith, words-long _ (c .before .pre .0)))
     number-at-requires
     returns)

@@ -5,19 +5,13 @@ use Rattle.sim_layout.proofs.ReadLaws.{servers-word, words-long, few-se
 use Rattle.sim_layout.proofs.servers.Statement.{statement}
 use Rattle.sim_layout.proofs.servers.Tie as tie
 
-shared-slice-read-result : tie.Need-shared-slice-read-result
-shared-slice-read-result c = omega (arith, words-long _ (c .before .pre))
-
 cast-result : tie.Need-cast-result
 cast-result c = let d = c .before in record { fits = omega (arith, servers-word (now (d .args .w)), few-servers _ (d .pre)) }
-
-returns : tie.Need-returns
-returns c = servers-word (now (c .before .args .w))
 
 pub servers-spec : {M : Type 1} → statement M
 servers-spec =
     tie.close
     (tie.spec
-    shared-slice-read-result
+    (λ c. omega (arith, words-long _ (c .before .pre)))
     cast-result
-    returns)
+    (λ c. search servers-word))

@@ -1,67 +1,42 @@
 -- `sim_layout::valid` meets its contract: each return is one case of the definition.
 use Rattle.sim_layout.proofs.TestLaws.{size-wrong, range-wrong, clients-wrong, parts-decide, bounds}
 use denote.Ref.{now}
+use mathlib.Core.Path.{_≡_}
+use mathlib.Core.List.{List}
+use Prim.Native.Nat.{ℕ, _≤_}
+use lib.ListN.{length, getD}
+use Rattle.system.specs.Limits.{systemServers, systemClients}
+use Rattle.sim_layout.specs.Layout.{simulationSize}
 use native.Mathlib.Omega.{arith}
 use borrow.Author.Needs.{needs}
 use Rattle.sim_layout.proofs.valid.Statement.{statement}
 use Rattle.sim_layout.proofs.valid.Tie as tie
 
-returns : tie.Need-returns
-returns c =
-    let d = c .before .before in
-    let a = d .args in
-    size-wrong (now (a .w)) (c .if1 .taken)
+-- the setting and the clients are in range
+module _ (c : tie.Else3) where
+  abbrev words : List ℕ
+  words = now (c .before .before .before .before .before .before .before .before .before .before .args .w)
 
-returns-2 : tie.Need-returns-2
-returns-2 c =
-    let d = c .before .before .before .before .before .before .before in
-    let a = d .args in
-    range-wrong (now (a .w)) (c .before .before .before .before .before .if1 .left) _ (c .before .in-range-up-to .ensures) (c .if2 .taken)
-
-returns-3 : tie.Need-returns-3
-returns-3 c =
-    let d = c .before .before .before .before .before .before .before .before .before .before in
-    let a = d .args in
-    clients-wrong (now (a .w)) (c .before .before .before .before .before .before .before .before .if1 .left) _ (c .before .before .before .before .in-range-up-to .ensures) (c .before .before .before .if2 .left) _ (c .before .within-limit .ensures) (c .if3 .taken)
-
-cast-parts-valid : tie.Need-cast-parts-valid
-cast-parts-valid c =
-    let d = c .before .before .before .before .before .before .before .before .before .before in
-    let a = d .args in
-    omega (arith, bounds (now (a .w)) (c .before .before .before .before .before .before .before .before .if1 .left) _ (c .before .before .before .before .in-range-up-to .ensures) (c .before .before .before .if2 .left) _ (c .before .within-limit .ensures) (c .if3 .left))
-
-cast-parts-valid-2 : tie.Need-cast-parts-valid-2
-cast-parts-valid-2 c =
-    let d = c .before .before .before .before .before .before .before .before .before .before in
-    let a = d .args in
-    omega (arith, bounds (now (a .w)) (c .before .before .before .before .before .before .before .before .if1 .left) _ (c .before .before .before .before .in-range-up-to .ensures) (c .before .before .before .if2 .left) _ (c .before .within-limit .ensures) (c .if3 .left))
-
-parts-valid-requires : tie.Need-parts-valid-requires
-parts-valid-requires c κs =
-    let d = c .before .before .before .before .before .before .before .before .before .before in
-    let a = d .args in
-    bounds (now (a .w)) (c .before .before .before .before .before .before .before .before .if1 .left) _ (c .before .before .before .before .in-range-up-to .ensures) (c .before .before .before .if2 .left) _ (c .before .within-limit .ensures) (c .if3 .left)
-
-returns-4 : tie.Need-returns-4
-returns-4 c =
-    let d = c .before .before .before .before .before .before .before .before .before .before .before in
-    let a = d .args in
-    parts-decide (now (a .w)) (c .before .before .before .before .before .before .before .before .before .if1 .left) _ (c .before .before .before .before .before .in-range-up-to .ensures) (c .before .before .before .before .if2 .left) _ (c .before .before .within-limit .ensures) _ (c .before .if3 .left) (c .parts-valid .ensures)
+  inside : (length words ≡ simulationSize) × (getD words 0 0 ≤ systemServers) × (getD words 3 0 ≤ systemClients)
+  inside =
+      let r = c .before .before .before in
+      bounds words (r .before .before .before .before .before .if1 .left) _ (r .before .in-range-up-to .ensures) (r .if2 .left)
+      _ (c .before .within-limit .ensures) (c .if3 .left)
 
 pub valid-spec : {M : Type 1} → statement M
 valid-spec =
     tie.close
     (tie.spec
-    returns
+    (λ c. search size-wrong)
     (λ c. search needs)
     (λ c. search needs)
     (λ c. search needs)
     (λ c κs. search needs)
-    returns-2
+    (λ c. search range-wrong)
     (λ c. search needs)
     (λ c κs. search needs)
-    returns-3
-    cast-parts-valid
-    cast-parts-valid-2
-    parts-valid-requires
-    returns-4)
+    (λ c. search clients-wrong)
+    (λ c. omega (arith, inside c))
+    (λ c. omega (arith, inside c))
+    (λ c κs. inside c)
+    (λ c. search parts-decide))

@@ -18,10 +18,6 @@ Inv-loop w clients most₀ i₀ most i = (i ≤ clients) × (most ≡ worst (blo
 abbrev μ-loop : tie.MeasureT-loop
 μ-loop w clients most₀ i₀ most i = clients - i
 
-loop-holds : tie.Need-loop-holds Inv-loop μ-loop
-loop-holds c =
-    (zero-le, worst-start clientPlace (clientWords (now (c .before .args .w))))
-
 loop-again : tie.Need-loop-again Inv-loop μ-loop
 loop-again c =
     let d = c .before .before .before in
@@ -29,23 +25,17 @@ loop-again c =
     let lt = c .before .before .loop-test .taken in
     (omega (arith, lt), worst-step clientPlace (clientWords (now (a .w))) _ _ _ _ (d .loop .inv .1) (c .before .downs-of .ensures) (c .larger .ensures))
 
-returns : tie.Need-returns Inv-loop μ-loop
-returns c =
-    let a = c .before .before .before .args in
-    let v = c .before .loop .inv in
-    worst-end clientPlace (clientWords (now (a .w))) _ (a .clients) _ (v .0) (c .loop-test .left) (v .1)
-
 pub worst-down-spec : {M : Type 1} → statement M
 worst-down-spec =
     tie.close
     (tie.spec
     Inv-loop
     μ-loop
-    loop-holds
+    (λ c. (zero-le, worst-start clientPlace (clientWords (now (c .before .args .w)))))
     (λ c. search needs)
     (λ c κs. search needs)
     (λ c κs. search needs)
     (λ c. search needs)
     (λ c. search needs)
     loop-again
-    returns)
+    (λ c. search worst-end))

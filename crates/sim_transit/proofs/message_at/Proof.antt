@@ -4,9 +4,6 @@ use borrow.Author.Needs.{needs}
 use Rattle.sim_transit.proofs.message_at.Statement.{statement}
 use Rattle.sim_transit.proofs.message_at.Tie as tie
 
-returns : tie.Need-returns
-returns c = message-found _ _ (c .before .before .before .pre .0) (c .before .before .before .pre .1) _ (c .message-in .ensures)
-
 pub message-at-spec : {M : Type 1} → statement M
 message-at-spec =
     tie.close
@@ -20,4 +17,4 @@ message-at-spec =
     (λ c. search needs)
     (λ c. search needs)
     (λ c κs. search needs)
-    returns)
+    (λ c. search message-found))

@@ -4,15 +4,6 @@ use borrow.Author.Needs.{needs}
 use Rattle.sim_transit.proofs.named.Statement.{statement}
 use Rattle.sim_transit.proofs.named.Tie as tie
 
-returns : tie.Need-returns
-returns c = named-range _ _ _ _ (c .before .valid-fields .ensures) (c .if1 .taken)
-
-returns-2 : tie.Need-returns-2
-returns-2 c = named-client _ _ _ _ (c .before .before .before .before .valid-fields .ensures) (c .before .before .before .if1 .left) _ (c .before .within-limit .ensures) (c .if2 .taken)
-
-returns-3 : tie.Need-returns-3
-returns-3 c = named-server _ _ _ _ (c .before .before .before .before .before .before .before .valid-fields .ensures) (c .before .before .before .before .before .before .if1 .left) _ (c .before .before .before .before .within-limit .ensures) (c .before .before .before .if2 .left) _ (c .before .within-limit2 .ensures) (c .if3 .taken)
-
 returns-4 : tie.Need-returns-4
 returns-4 c = named-owner _ _ _ _ (c .before .before .before .before .before .before .before .before .valid-fields .ensures) (c .before .before .before .before .before .before .before .if1 .left) _ (c .before .before .before .before .before .within-limit .ensures) (c .before .before .before .before .if2 .left) _ (c .before .before .within-limit2 .ensures) (c .before .if3 .left)
 
@@ -21,12 +12,12 @@ named-spec =
     tie.close
     (tie.spec
     (λ c κs. search needs)
-    returns
+    (λ c. search named-range)
     (λ c. search needs)
     (λ c κs. search needs)
-    returns-2
+    (λ c. search named-client)
     (λ c. search needs)
     (λ c κs. search needs)
-    returns-3
+    (λ c. search named-server)
     (λ c. search needs)
     returns-4)

@@ -6,14 +6,14 @@ use borrow.Author.Needs.{needs}
 use Rattle.sim_transit.proofs.post_one.Statement.{statement}
 use Rattle.sim_transit.proofs.post_one.Tie as tie
 
+-- the message ends within the bytes
 add-result : tie.Need-add-result
-add-result c = omega (arith, fitting-inside (c .before .before .before .before .before .before .before .before .before .before .before .args .at) (c .before .before .before .before .before .before .before .before .before .before .before .args .number) (c .before .before .before .before .before .before .before .before .before .before .before .args .from) (now (c .before .before .before .before .before .before .before .before .before .before .before .args .bytes)) (now (c .before .before .before .before .before .before .before .before .before .before .before .args .t)) _ (read-rest (now (c .before .before .before .before .before .before .before .before .before .before .before .args .bytes)) (c .before .before .before .before .before .before .before .before .before .before .before .args .from) _ (c .before .before .before .before .before .before .before .read-fields .ensures)) (c .before .before .before .before .before .before .before .before .before .before .before .pre .1) _ _ (c .before .before .before .before .before .p .given .1))
-
-returns : tie.Need-returns
-returns c = one-posted (c .before .before .before .before .before .before .before .before .before .before .before .args .at) (c .before .before .before .before .before .before .before .before .before .before .before .args .number) (c .before .before .before .before .before .before .before .before .before .before .before .args .from) (now (c .before .before .before .before .before .before .before .before .before .before .before .args .bytes)) (now (c .before .before .before .before .before .before .before .before .before .before .before .args .t)) _ (read-rest (now (c .before .before .before .before .before .before .before .before .before .before .before .args .bytes)) (c .before .before .before .before .before .before .before .before .before .before .before .args .from) _ (c .before .before .before .before .before .before .before .read-fields .ensures)) (c .before .before .before .before .before .before .before .before .before .before .before .pre .1) _ _ _ (c .before .before .before .before .before .p .given .1) (c .before .before .put-slot .ensures)
-
-returns-2 : tie.Need-returns-2
-returns-2 c = none-posted (c .before .before .before .before .before .before .args .at) (c .before .before .before .before .before .before .args .number) (c .before .before .before .before .before .before .args .from) (now (c .before .before .before .before .before .before .args .bytes)) (now (c .before .before .before .before .before .before .args .t)) _ (read-rest (now (c .before .before .before .before .before .before .args .bytes)) (c .before .before .before .before .before .before .args .from) _ (c .before .before .read-fields .ensures)) (c .before .before .before .before .before .before .pre .1) _ (c .enum-told .given .1)
+add-result c =
+    let p = c .before .before .before .before .before in
+    let r = p .before .before in
+    let e = r .before .before .before .before in
+    omega (arith, fitting-inside (e .args .at) (e .args .number) (e .args .from) (now (e .args .bytes)) (now (e .args .t))
+    _ (read-rest (now (e .args .bytes)) (e .args .from) _ (r .read-fields .ensures)) (e .pre .1) _ _ (p .p .given .1))
 
 pub post-one-spec : {M : Type 1} → statement M
 post-one-spec =
@@ -28,5 +28,5 @@ post-one-spec =
     add-result
     (λ c. search needs)
     (λ c. search needs)
-    returns
-    returns-2)
+    (λ c. search (one-posted, read-rest))
+    (λ c. search (none-posted, read-rest)))

@@ -4,9 +4,6 @@ use borrow.Author.Needs.{needs}
 use Rattle.sim_transit.proofs.remove.Statement.{statement}
 use Rattle.sim_transit.proofs.remove.Tie as tie
 
-returns : tie.Need-returns
-returns c = removes _ _ _ _ _ (c .before .before .before .before .before .before .before .before .before .pre .0 .size) (c .before .before .before .before .before .before .before .before .before .pre .0 .few) (c .before .before .before .before .before .before .before .before .before .pre .1) (c .before .before .before .before .before .before .move-up .ensures) (c .before .before .clear .ensures)
-
 pub remove-spec : {M : Type 1} → statement M
 remove-spec =
     tie.close
@@ -21,4 +18,4 @@ remove-spec =
     (λ c. search needs)
     (λ c κs. search needs)
     (λ c. search needs)
-    returns)
+    (λ c. search removes))

@@ -13,21 +13,6 @@ Inv-loop t len i₀ i = Blank t len i
 abbrev μ-loop : tie.MeasureT-loop
 μ-loop t len i₀ i = transitSize - i
 
-loop-holds : tie.Need-loop-holds Inv-loop μ-loop
-loop-holds c = blank-none _ _ (c .pre .size) (c .pre .few)
-
-returns : tie.Need-returns Inv-loop μ-loop
-returns c = blank-failed _ _ (c .before .before .before .before .pre .size) _ (c .before .before .before .loop .inv) (c .before .before .loop-test .taken) (c .if1 .taken)
-
-loop-less : tie.Need-loop-less Inv-loop μ-loop
-loop-less c = omega arith
-
-loop-again : tie.Need-loop-again Inv-loop μ-loop
-loop-again c = blank-more _ _ (c .before .before .before .before .pre .size) _ (c .before .before .before .loop .inv) (c .before .before .loop-test .taken) (c .if1 .left)
-
-returns-2 : tie.Need-returns-2 Inv-loop μ-loop
-returns-2 c = blank-all _ _ (c .before .before .pre .size) _ (c .before .loop .inv) (omega arith)
-
 pub rest-zero-spec : {M : Type 1} → statement M
 rest-zero-spec =
     tie.close
@@ -35,11 +20,11 @@ rest-zero-spec =
     Inv-loop
     μ-loop
     (λ c. search needs)
-    loop-holds
+    (λ c. search blank-none)
     (λ c. search needs)
     (λ c. search needs)
-    returns
+    (λ c. search blank-failed)
     (λ c. search needs)
-    loop-less
-    loop-again
-    returns-2)
+    (λ c. omega arith)
+    (λ c. search blank-more)
+    (λ c. search blank-all))

@@ -15,9 +15,6 @@ cast-m c = let e = c .before .before .before .before .before .before in omega (a
 cast-n : tie.Need-cast-n
 cast-n c = let e = c .before .before .before .before .before .before .before in omega (arith, headed-small (now (e .args .words)) (e .pre))
 
-returns : tie.Need-returns
-returns c = search client-headed
-
 pub client-head-spec : {M : Type 1} → statement M
 client-head-spec =
     tie.close
@@ -31,4 +28,4 @@ client-head-spec =
     cast-m
     (λ c. search needs)
     cast-n
-    returns)
+    (λ c. search client-headed))

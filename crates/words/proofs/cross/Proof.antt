@@ -5,29 +5,20 @@ use borrow.Author.Needs.{needs}
 use Rattle.words.proofs.cross.Statement.{statement}
 use Rattle.words.proofs.cross.Tie as tie
 
-returns : tie.Need-returns
-returns c = search cross-length
-
-returns-2 : tie.Need-returns-2
-returns-2 c = search cross-large
-
 fields-of-words-requires : tie.Need-fields-of-words-requires
 fields-of-words-requires c κs = cross-small (now (c .before .before .before .before .before .before .before .before .before .args .words)) (c .before .before .before .before .before .before .before .if1 .left) _ (c .before .before .fit .ensures) (c .before .if2 .left)
-
-returns-3 : tie.Need-returns-3
-returns-3 c = search cross-numbers
 
 pub cross-spec : {M : Type 1} → statement M
 cross-spec =
     tie.close
     (tie.spec
-    returns
+    (λ c. search cross-length)
     (λ c. search needs)
     (λ c. search needs)
     (λ c. search needs)
     (λ c. search needs)
     (λ c κs. search needs)
-    returns-2
+    (λ c. search cross-large)
     (λ c. search needs)
     fields-of-words-requires
-    returns-3)
+    (λ c. search cross-numbers))

@@ -4,9 +4,6 @@ use Rattle.words.proofs.RecordsLaws.{client-head-put}
 use Rattle.words.proofs.put_client_head.Statement.{statement}
 use Rattle.words.proofs.put_client_head.Tie as tie
 
-returns : tie.Need-returns
-returns c = search client-head-put
-
 pub put-client-head-spec : {M : Type 1} → statement M
 put-client-head-spec =
     tie.close
@@ -17,4 +14,4 @@ put-client-head-spec =
     (λ c κs. search needs)
     (λ c κs. search needs)
     (λ c. search needs)
-    returns)
+    (λ c. search client-head-put))

@@ -4,9 +4,6 @@ use Rattle.words.proofs.RecordsLaws.{server-head-put}
 use Rattle.words.proofs.put_server_head.Statement.{statement}
 use Rattle.words.proofs.put_server_head.Tie as tie
 
-returns : tie.Need-returns
-returns c = search server-head-put
-
 pub put-server-head-spec : {M : Type 1} → statement M
 put-server-head-spec =
     tie.close
@@ -18,4 +15,4 @@ put-server-head-spec =
     (λ c. search needs)
     (λ c κs. search needs)
     (λ c. search needs)
-    returns)
+    (λ c. search server-head-put))

@@ -9,17 +9,11 @@ use Rattle.words.proofs.server_head.Tie as tie
 cast-client : tie.Need-cast-t9
 cast-client c = let e = c .before .before in omega (arith, headed-small (now (e .args .words)) (e .pre))
 
-cast-len : tie.Need-cast-len
-cast-len c = omega (arith, c .shared-slice-known4 .given 4)
-
 cast-id : tie.Need-cast-t9-2
 cast-id c = let e = c .before .before .before .before .before .before in omega (arith, headed-small (now (e .args .words)) (e .pre))
 
 cast-n : tie.Need-cast-n
 cast-n c = let e = c .before .before .before .before .before .before .before in omega (arith, headed-small (now (e .args .words)) (e .pre))
-
-returns : tie.Need-returns
-returns c = search server-headed
 
 pub server-head-spec : {M : Type 1} → statement M
 server-head-spec =
@@ -30,9 +24,9 @@ server-head-spec =
     (λ c. search needs)
     (λ c κs. search needs)
     (λ c. search needs)
-    cast-len
+    (λ c. omega (arith, c .shared-slice-known4 .given 4))
     (λ c. search needs)
     cast-id
     (λ c. search needs)
     cast-n
-    returns)
+    (λ c. search server-headed))
