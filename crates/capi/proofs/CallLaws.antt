@@ -69,7 +69,8 @@ module _ (ws out : List ℕ) (g : Crossed) (e : g ≡ crossing ws) where
   pub write-large : (r : ℕ) → g ≡ TooLarge → r ≡ code NumberOutOfRange → (r ≡ writeCode (messageIn ws) (length out)) × (out ≡ writeBuffer (messageIn ws) out)
   write-large r a c = let q : crossing ws ≡ TooLarge = cc in (rw (q, c), rw q)
 
-  pub write-numbers : (f : Fields) (w : Written) (r : ℕ) (l : List ℕ) → g ≡ Numbers f → w ≡ writeNumbers f (length out) → l ≡ numbersAfter f out → r ≡ writtenCode w
+  pub write-numbers : (f : Fields) (w : Written) (r : ℕ) (l : List ℕ) → g ≡ Numbers f → w ≡ writeNumbers f (length out)
+      → l ≡ numbersAfter f out → r ≡ writtenCode w
       → (r ≡ writeCode (messageIn ws) (length out)) × (l ≡ writeBuffer (messageIn ws) out)
   write-numbers f w r l a b c d =
       let q : crossing ws ≡ Numbers f = cc in

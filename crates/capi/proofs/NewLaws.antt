@@ -52,11 +52,13 @@ module _ (n j : ℕ) (ws : List ℕ) where
     pub server-new-wide : (r : ℕ) (x : Bool) → x ≡ fitsHead n j 0 → not x ≡ true → r ≡ code ParameterOutOfRange → ServerMade r ws
     server-new-wide r x e m c =
         ⊎-elim
-        (λ (v : server.validSizes n (record { 0 = j }) ≡ true). let z : true ≡ false = sym (server-sizes-small v) ∙ sym e ∙ not-true x m in let y : _≡_ {A = ℕ} 0 1 = cc in absurd (omega arith))
+        (λ (v : server.validSizes n (record { 0 = j }) ≡ true). let z : true ≡ false = sym (server-sizes-small v) ∙ sym e ∙
+        not-true x m in let y : _≡_ {A = ℕ} 0 1 = cc in absurd (omega arith))
         (λ (v : server.validSizes n (record { 0 = j }) ≡ false). server-new-not r v c)
         (decided (server.validSizes n (record { 0 = j })))
 
-    pub server-new-done : (x : ServerStepped) (r : ℕ) (ws′ : List ℕ) → x ≡ server-calls.newResult n (record { 0 = j }) → r ≡ answerCode (x .answer) → ws′ ≡ answerRecord (serverWords (x .server)) ws (x .answer) → ServerMade r ws′
+    pub server-new-done : (x : ServerStepped) (r : ℕ) (ws′ : List ℕ) → x ≡ server-calls.newResult n (record { 0 = j })
+        → r ≡ answerCode (x .answer) → ws′ ≡ answerRecord (serverWords (x .server)) ws (x .answer) → ServerMade r ws′
     unfolding serverNew server-calls.newResult
     server-new-done x r ws′ e c p =
         ⊎-elim
@@ -65,10 +67,12 @@ module _ (n j : ℕ) (ws : List ℕ) where
         (decided (server.validSizes n (record { 0 = j })))
 
 -- a new server's record has its whole row, and nobody waits
-pub server-new-whole : (n : ℕ) (j : ServerId) (x : ServerStepped) → x ≡ server-calls.newResult n j → (length (x .server .row) ≡ server.rowWords) × (x .server .head .votes .len ≤ maxWord)
+pub server-new-whole : (n : ℕ) (j : ServerId) (x : ServerStepped) → x ≡ server-calls.newResult n j
+    → (length (x .server .row) ≡ server.rowWords) × (x .server .head .votes .len ≤ maxWord)
 unfolding server-calls.newResult
 server-new-whole n j x e =
-    ⊎-elim (λ (v : server.validSizes n j ≡ true). rw (e, v) (refl, omega arith)) (λ (v : server.validSizes n j ≡ false). rw (e, v) (refl, omega arith)) (decided (server.validSizes n j))
+    ⊎-elim (λ (v : server.validSizes n j ≡ true). rw (e, v) (refl, omega arith))
+        (λ (v : server.validSizes n j ≡ false). rw (e, v) (refl, omega arith)) (decided (server.validSizes n j))
 
 module _ (n m k : ℕ) (ws : List ℕ) where
   abbrev pub ClientMade : ℕ → List ℕ → Type 0
@@ -93,11 +97,13 @@ module _ (n m k : ℕ) (ws : List ℕ) where
     pub client-new-wide : (r : ℕ) (x : Bool) → x ≡ fitsHead n m k → not x ≡ true → r ≡ code ParameterOutOfRange → ClientMade r ws
     client-new-wide r x e u c =
         ⊎-elim
-        (λ (v : client.validSizes n m && validClient (record { 0 = k }) ≡ true). let z : true ≡ false = sym (client-sizes-small v) ∙ sym e ∙ not-true x u in let y : _≡_ {A = ℕ} 0 1 = cc in absurd (omega arith))
+        (λ (v : client.validSizes n m && validClient (record { 0 = k }) ≡ true). let z : true ≡ false = sym (client-sizes-small v) ∙ sym e ∙
+        not-true x u in let y : _≡_ {A = ℕ} 0 1 = cc in absurd (omega arith))
         (λ (v : client.validSizes n m && validClient (record { 0 = k }) ≡ false). client-new-not r v c)
         (decided (client.validSizes n m && validClient (record { 0 = k })))
 
-    pub client-new-done : (x : ClientStepped) (r : ℕ) (ws′ : List ℕ) → x ≡ client-calls.newResult n m (record { 0 = k }) → r ≡ answerCode (x .answer) → ws′ ≡ answerRecord (clientWords (x .client)) ws (x .answer) → ClientMade r ws′
+    pub client-new-done : (x : ClientStepped) (r : ℕ) (ws′ : List ℕ) → x ≡ client-calls.newResult n m (record { 0 = k })
+        → r ≡ answerCode (x .answer) → ws′ ≡ answerRecord (clientWords (x .client)) ws (x .answer) → ClientMade r ws′
     unfolding clientNew client-calls.newResult
     client-new-done x r ws′ e c p =
         ⊎-elim

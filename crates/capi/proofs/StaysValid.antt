@@ -50,7 +50,8 @@ pub record ValidServer (ws : List ℕ) : Type 0 where
   pub valid : server.valid held ≡ true
 
 module _ (ws : List ℕ) (call : ServerCall) where
-  next-server : (s : Server) (q : Step votes.State) → length (s .row) ≡ server.rowWords → serverOutcome call s ≡ stepped q → ValidServer (serverWith s (q .state))
+  next-server : (s : Server) (q : Step votes.State) → length (s .row) ≡ server.rowWords → serverOutcome call s ≡ stepped q
+      → ValidServer (serverWith s (q .state))
   next-server s q l e =
       let a = server-accepted call s q e in
       record {
@@ -59,7 +60,8 @@ module _ (ws : List ℕ) (call : ServerCall) where
         valid = a .after;
       }
 
-  from-outcome : (s : Server) (p : Step (List ℕ)) → length (s .row) ≡ server.rowWords → (o : Outcome votes.State) → serverOutcome call s ≡ o → inWords (serverWith s) o ≡ stepped p → ValidServer (p .state)
+  from-outcome : (s : Server) (p : Step (List ℕ)) → length (s .row) ≡ server.rowWords → (o : Outcome votes.State) → serverOutcome call s ≡ o
+      → inWords (serverWith s) o ≡ stepped p → ValidServer (p .state)
   from-outcome s p l (refused e) h g = absurd (never e p g)
   from-outcome s p l (stepped q) h g =
       let z : record { state = serverWith s (q .state); sent = q .sent } ≡ p = cc in
@@ -88,7 +90,8 @@ module _ (ws : List ℕ) (call : ServerCall) where
 module _ (ws out sent : List ℕ) (p : Step (List ℕ)) where
   pub server-message-stays-valid : (ms : List ℕ) → lent out sent (serverMessage ws ms) ≡ stepped p → ValidServer (recordInto ws (stepped p))
   server-message-stays-valid ms e =
-      server-stays ws (ServerMessage (messageOr (messageIn ms))) p (server-takes-words ws (messageIn ms) (messageOr (messageIn ms)) refl ∙ lent-stepped out sent (serverMessage ws ms) p e)
+      server-stays ws (ServerMessage (messageOr (messageIn ms))) p (server-takes-words ws (messageIn ms) (messageOr (messageIn ms)) refl ∙
+          lent-stepped out sent (serverMessage ws ms) p e)
 
   pub server-suspect-stays-valid : lent out sent (serverSuspect ws) ≡ stepped p → ValidServer (recordInto ws (stepped p))
   server-suspect-stays-valid e = server-stays ws Suspect p (lent-stepped out sent (serverSuspect ws) p e)
@@ -102,24 +105,28 @@ pub record ValidClient (ws : List ℕ) : Type 0 where
   pub read : clientIn ws ≡ some held
   pub valid : client.valid held ≡ true
 
-kept : (call : ClientCall) (c : Client) (q : Step client-state.State) → clientOutcome call c ≡ stepped q → client.valid (client-calls.clientAfter c (stepped q)) ≡ true
+kept : (call : ClientCall) (c : Client) (q : Step client-state.State) → clientOutcome call c ≡ stepped q
+    → client.valid (client-calls.clientAfter c (stepped q)) ≡ true
 kept (ClientMessage m) c q e = message-valid c q (client-accepted (ClientMessage m) c q e .before) m e
 kept Begin c q e = begin-valid c q (client-accepted Begin c q e .before) e
 kept Exit c q e = exit-valid c q (client-accepted Exit c q e .before) e
 
 module _ (ws : List ℕ) (call : ClientCall) where
-  next-client : (c : Client) (q : Step client-state.State) → length (c .row) ≡ client.rowWords → clientOutcome call c ≡ stepped q → ValidClient (clientWith c (q .state))
+  next-client : (c : Client) (q : Step client-state.State) → length (c .row) ≡ client.rowWords → clientOutcome call c ≡ stepped q
+      → ValidClient (clientWith c (q .state))
   next-client c q l e =
       let v = kept call c q e in
       let a = client-accepted call c q e in
       let g = padded-words (c .row) (c .head .n) (valid-padded c (a .before)) in
       record {
         held = client-calls.clientAfter c (stepped q);
-        read = client-read-back (client-calls.clientAfter c (stepped q)) v (length-row-of (length (c .row)) (map place (q .state .responses)) (simp length-map (omega (arith, g, a .long))) ∙ l);
+        read = client-read-back (client-calls.clientAfter c (stepped q)) v
+            (length-row-of (length (c .row)) (map place (q .state .responses)) (simp length-map (omega (arith, g, a .long))) ∙ l);
         valid = v;
       }
 
-  from-client-outcome : (c : Client) (p : Step (List ℕ)) → length (c .row) ≡ client.rowWords → (o : Outcome client-state.State) → clientOutcome call c ≡ o → inWords (clientWith c) o ≡ stepped p → ValidClient (p .state)
+  from-client-outcome : (c : Client) (p : Step (List ℕ)) → length (c .row) ≡ client.rowWords → (o : Outcome client-state.State)
+      → clientOutcome call c ≡ o → inWords (clientWith c) o ≡ stepped p → ValidClient (p .state)
   from-client-outcome c p l (refused e) h g = absurd (never e p g)
   from-client-outcome c p l (stepped q) h g =
       let z : record { state = clientWith c (q .state); sent = q .sent } ≡ p = cc in
@@ -148,7 +155,8 @@ module _ (ws : List ℕ) (call : ClientCall) where
 module _ (ws out sent : List ℕ) (p : Step (List ℕ)) where
   pub client-message-stays-valid : (ms : List ℕ) → lent out sent (clientMessage ws ms) ≡ stepped p → ValidClient (recordInto ws (stepped p))
   client-message-stays-valid ms e =
-      client-stays ws (ClientMessage (messageOr (messageIn ms))) p (client-takes-words ws (messageIn ms) (messageOr (messageIn ms)) refl ∙ lent-stepped out sent (clientMessage ws ms) p e)
+      client-stays ws (ClientMessage (messageOr (messageIn ms))) p (client-takes-words ws (messageIn ms) (messageOr (messageIn ms)) refl ∙
+          lent-stepped out sent (clientMessage ws ms) p e)
 
   pub client-begin-stays-valid : lent out sent (clientBegin ws) ≡ stepped p → ValidClient (recordInto ws (stepped p))
   client-begin-stays-valid e = client-stays ws Begin p (lent-stepped out sent (clientBegin ws) p e)

@@ -64,10 +64,12 @@ whole ws vs e =
     sets-eq vs ws 0 (omega arith) ∙ rw (z, drop-length ws) (append-nil vs)
 
 -- the words behind a head, lent and back as the row
-pub row-copied : (ws row back : List ℕ) → recordHead + length row ≤ length ws → back ≡ row → putMid recordHead (recordHead + length row - recordHead) ws back ≡ sets ws recordHead row
+pub row-copied : (ws row back : List ℕ) → recordHead + length row ≤ length ws → back ≡ row
+    → putMid recordHead (recordHead + length row - recordHead) ws back ≡ sets ws recordHead row
 row-copied ws row back h e =
     let z : recordHead + length row - recordHead ≡ length row = omega arith in
-    rw (e, z, drop-drop (length row) recordHead ws) (sym (append-assoc (take recordHead ws) row (drop (recordHead + length row) ws)) ∙ sym (sets-eq row ws recordHead h))
+    rw (e, z, drop-drop (length row) recordHead ws) (sym (append-assoc (take recordHead ws) row (drop (recordHead + length row) ws)) ∙
+        sym (sets-eq row ws recordHead h))
 
 module _ (ws : List ℕ) (n : ℕ) (l : length ws ≡ recordHead + n) where
   rest-long : length (drop recordHead ws) ≡ n
@@ -90,7 +92,8 @@ module _ (ws : List ℕ) (n : ℕ) (l : length ws ≡ recordHead + n) where
     row-then-head = rw row-back (head-over ∙ sym (whole ws (head ++ row) (simp length-append (omega (arith, l, r, h)))))
 
 -- A REFUSED CALL changes nothing
-pub refused-leaves : (o : Outcome (List ℕ)) (e : Refusal) (r : ℕ) (ws out sent : List ℕ) → o ≡ refused e → r ≡ code e → Leaves (lent out sent o) r ws ws out out sent sent
+pub refused-leaves : (o : Outcome (List ℕ)) (e : Refusal) (r : ℕ) (ws out sent : List ℕ) → o ≡ refused e → r ≡ code e
+    → Leaves (lent out sent o) r ws ws out out sent sent
 unfolding withRoom
 refused-leaves o e r ws out sent p c = rw p (record { returned = c; stored = refl; written = refl; counted = refl })
 
@@ -99,9 +102,11 @@ short-answers : {A : Type 0} (o : Outcome A) (room r : ℕ) → r ≡ shortAnswe
 unfolding withRoom
 short-answers (refused e) room r h = h
 short-answers (stepped p) room r h =
-    ⊎-elim (λ (t : ltb room (sizeOfAll (p .sent)) ≡ true). rw t at h) (λ (t : ltb room (sizeOfAll (p .sent)) ≡ false). rw t at h) (decided (ltb room (sizeOfAll (p .sent))))
+    ⊎-elim (λ (t : ltb room (sizeOfAll (p .sent)) ≡ true). rw t at h) (λ (t : ltb room (sizeOfAll (p .sent)) ≡ false). rw t at h)
+        (decided (ltb room (sizeOfAll (p .sent))))
 
-short-leaves : {A : Type 0} (g : A → List ℕ) (ws out sent : List ℕ) (o : Outcome A) (r : ℕ) → length sent < 2 → r ≡ shortCode o → Leaves (lent out sent (inWords g o)) r ws ws out out sent sent
+short-leaves : {A : Type 0} (g : A → List ℕ) (ws out sent : List ℕ) (o : Outcome A) (r : ℕ) → length sent < 2 → r ≡ shortCode o
+    → Leaves (lent out sent (inWords g o)) r ws ws out out sent sent
 unfolding withRoom
 short-leaves g ws out sent (refused e) r l h = record { returned = h; stored = refl; written = refl; counted = refl }
 short-leaves g ws out sent (stepped p) r l h =
@@ -117,10 +122,12 @@ module _ {A : Type 0} where
   room-stepped room (stepped x) p h = passed (ltb room (sizeOfAll (x .sent))) (never RoomShort p) h .1
 
   -- what an accepted step answers fits the words it is stored in
-  fitting : (x : Outcome A) (a : Answer) → a ≡ answerOf x → ((p : Step A) → x ≡ stepped p → (length (p .sent) ≤ maxWord) × (sizeOfAll (p .sent) ≤ maxWord)) → Storable a
+  fitting : (x : Outcome A) (a : Answer) → a ≡ answerOf x
+      → ((p : Step A) → x ≡ stepped p → (length (p .sent) ≤ maxWord) × (sizeOfAll (p .sent) ≤ maxWord)) → Storable a
   fitting (refused e) a q k = record { few = λ i n h. let z : _≡_ {A = ℕ} 0 1 = cc in absurd (omega arith) }
   fitting (stepped p) a q k =
-      record { few = λ i n h. let c₁ : length (p .sent) ≡ i = cc in let c₂ : sizeOfAll (p .sent) ≡ n = cc in (omega (arith, k p refl .0), omega (arith, k p refl .1)) }
+      record { few = λ i n h. let c₁ : length (p .sent) ≡ i = cc in let c₂ : sizeOfAll (p .sent) ≡ n = cc in
+          (omega (arith, k p refl .0), omega (arith, k p refl .1)) }
 
 -- THE SERVER'S CALL
 -- the messages of a step are three at most
@@ -138,9 +145,11 @@ module _ (a b c : Mail) where
   three-storable x room e =
       let ms : List Message = threeMails a b c in
       ⊎-elim
-      (λ (t : ltb room (sizeOfAll ms) ≡ true). record { few = λ i n h. let k : x ≡ Refused RoomShort = rw t at e in let z : _≡_ {A = ℕ} 0 1 = cc in absurd (omega arith) })
+      (λ (t : ltb room (sizeOfAll ms) ≡ true). record
+      { few = λ i n h. let k : x ≡ Refused RoomShort = rw t at e in let z : _≡_ {A = ℕ} 0 1 = cc in absurd (omega arith) })
       (λ (t : ltb room (sizeOfAll ms) ≡ false).
-      record { few = λ i n h. let k : x ≡ Sent (length ms) (sizeOfAll ms) = rw t at e in let c₁ : length ms ≡ i = cc in let c₂ : sizeOfAll ms ≡ n = cc in (omega (arith, three-few), omega (arith, three-few, size-few ms)) })
+      record { few = λ i n h. let k : x ≡ Sent (length ms) (sizeOfAll ms) = rw t at e in let c₁ : length ms ≡ i = cc in let c₂ : sizeOfAll
+          ms ≡ n = cc in (omega (arith, three-few), omega (arith, three-few, size-few ms)) })
       (decided (ltb room (sizeOfAll ms)))
 
 -- a step that was made, from what sending its messages answers
@@ -162,7 +171,8 @@ module _ (p : Step (List ℕ)) (ws out sent : List ℕ) where
       (decided (ltb (length out) (sizeOfAll (p .sent))))
 
 -- a step on a row, as the outcome on its record's words
-turned-words : (h : ServerHead) (row after : List ℕ) (o : Outcome votes.State) (t : ServerTurned) → Turns h row o t after → turnedWords t after ≡ inWords (serverWith (server.serverOf h row)) o
+turned-words : (h : ServerHead) (row after : List ℕ) (o : Outcome votes.State) (t : ServerTurned) → Turns h row o t after
+    → turnedWords t after ≡ inWords (serverWith (server.serverOf h row)) o
 turned-words h row after (refused e) t T = rw (T .ruled)
 turned-words h row after (stepped p) t T = rw (T .ruled, T .head, T .row, T .sent)
 
@@ -186,7 +196,8 @@ module _ (ws : List ℕ) (b : Bool) (e : b ≡ holdsServer ws) where
       its-server = rw (eh, er, whole-row ws server.rowWords server-long)
 
       module _ (call : ServerCall) (t : ServerTurned) (after : List ℕ) (T : Turns h row (serverOutcome call (server.serverOf h row)) t after) where
-        by-outcome : (o : Outcome votes.State) → serverOutcome call (server.serverOf h row) ≡ o → Turns h row o t after → (length after ≡ length row) × (t .ruling ≡ Done → t .head .votes .len ≤ maxWord)
+        by-outcome : (o : Outcome votes.State) → serverOutcome call (server.serverOf h row) ≡ o → Turns h row o t after
+            → (length after ≡ length row) × (t .ruling ≡ Done → t .head .votes .len ≤ maxWord)
         by-outcome (refused x) q T =
             (ap length (T .row), λ d. let k : Ruled x ≡ Done = sym (T .ruled) ∙ d in let z : _≡_ {A = ℕ} 0 1 = cc in absurd (omega arith))
         by-outcome (stepped p) q T =
@@ -208,7 +219,9 @@ module _ (ws : List ℕ) (b : Bool) (e : b ≡ holdsServer ws) where
         server-leaves r ws′ out out′ sent sent′ L = rw on-server L
 
 -- THE CLIENT'S CALL
-pub client-short-answers : (call : ClientCall) (h : ClientHead) (row copy after o l : List ℕ) (t : ClientTurned) (r : ℕ) → copy ≡ row → Answers h copy (clientOutcome call (client.clientOf h copy)) o t after l → r ≡ shortAnswer (t .answer) → r ≡ shortCode (clientOutcome call (client.clientOf h row))
+pub client-short-answers : (call : ClientCall) (h : ClientHead) (row copy after o l : List ℕ) (t : ClientTurned) (r : ℕ) → copy ≡ row
+    → Answers h copy (clientOutcome call (client.clientOf h copy)) o t after l → r ≡ shortAnswer (t .answer)
+    → r ≡ shortCode (clientOutcome call (client.clientOf h row))
 client-short-answers call h row copy after o l t r c (a, b, d) e =
     rw (← c) (short-answers (clientOutcome call (client.clientOf h copy)) (length o) r (rw a at e))
 
@@ -227,7 +240,8 @@ module _ (ws : List ℕ) (l : length ws ≡ clientSize) (h : ClientHead) where
   done-leaves : (o : Outcome client-state.State) (t : ClientTurned) (row′ : List ℕ) (out out′ sent sent′ ws′ : List ℕ) (r : ℕ) → 2 ≤ length sent
       → ((p : Step client-state.State) → o ≡ stepped p → 2 * length (p .state .responses) ≤ client.rowWords)
       → Answers h row o out t row′ out′
-      → (r ≡ answerCode (t .answer)) × (ws′ ≡ answerRecord (clientHeadWords (t .head)) (putMid recordHead client.rowWords ws row′) (t .answer)) × (sent′ ≡ answerCounts sent (t .answer))
+      → (r ≡ answerCode (t .answer)) × (ws′ ≡ answerRecord (clientHeadWords (t .head)) (putMid recordHead client.rowWords ws row′) (t .answer))
+          × (sent′ ≡ answerCounts sent (t .answer))
       → Leaves (lent out sent (inWords (clientWith (client.clientOf h row)) o)) r ws ws′ out out′ sent sent′
   unfolding withRoom clientWords
   done-leaves (refused e) t row′ out out′ sent sent′ ws′ r g few (a, b, c) (er, ew, es) =
@@ -235,7 +249,8 @@ module _ (ws : List ℕ) (l : length ws ≡ clientSize) (h : ClientHead) where
   done-leaves (stepped p) t row′ out out′ sent sent′ ws′ r g few (a, b, c) (er, ew, es) =
       ⊎-elim
       (λ (u : ltb (length out) (sizeOfAll (p .sent)) ≡ true).
-      rw u (record { returned = rw (a, u) at er; stored = rw (a, b, u, put-same recordHead client.rowWords ws) at ew; written = rw u at c; counted = rw (a, u) at es }))
+      rw u (record
+          { returned = rw (a, u) at er; stored = rw (a, b, u, put-same recordHead client.rowWords ws) at ew; written = rw u at c; counted = rw (a, u) at es }))
       (λ (u : ltb (length out) (sizeOfAll (p .sent)) ≡ false).
       let k : List ℕ = client-calls.rowAfter row (stepped p) in
       let d : row′ ≡ k = rw u at b in
@@ -244,7 +259,9 @@ module _ (ws : List ℕ) (l : length ws ≡ clientSize) (h : ClientHead) where
       rw (u, le-ltb _ _ g)
       (record {
         returned = rw (a, u) at er;
-        stored = w ∙ row-then-head ws client.rowWords l k (clientHeadWords (client-calls.headAfter h (stepped p))) (length-row-of (length row) (map place (p .state .responses)) f ∙ long) (length-head-words (client-calls.headAfter h (stepped p)));
+        stored = w ∙ row-then-head ws client.rowWords l k (clientHeadWords (client-calls.headAfter h (stepped p)))
+            (length-row-of (length row) (map place (p .state .responses)) f ∙ long)
+            (length-head-words (client-calls.headAfter h (stepped p)));
         written = rw u at c;
         counted = rw (a, u) at es;
       }))
@@ -277,10 +294,12 @@ module _ (ws : List ℕ) (b : Bool) (e : b ≡ holdsClient ws) where
       on-client f = rw (is-client n, ← its-client)
 
       module _ (call : ClientCall) (out sent : List ℕ) where
-        pub client-short-leaves : (r : ℕ) → length sent < 2 → r ≡ shortCode (clientOutcome call its) → Leaves (lent out sent (onClient ws (clientOutcome call))) r ws ws out out sent sent
+        pub client-short-leaves : (r : ℕ) → length sent < 2 → r ≡ shortCode (clientOutcome call its)
+            → Leaves (lent out sent (onClient ws (clientOutcome call))) r ws ws out out sent sent
         client-short-leaves r l k = rw (on-client (clientOutcome call)) (short-leaves (clientWith its) ws out sent (clientOutcome call its) r l k)
 
-        module _ (t : ClientTurned) (row′ out′ : List ℕ) (A : Answers h (take client.rowWords (drop recordHead ws)) (clientOutcome call its) out t row′ out′) where
+        module _ (t : ClientTurned) (row′ out′ : List ℕ)
+            (A : Answers h (take client.rowWords (drop recordHead ws)) (clientOutcome call its) out t row′ out′) where
           pub client-storable : Storable (t .answer)
           client-storable =
               fitting (withRoom (length out) (clientOutcome call its)) (t .answer) (rw (A .0))
@@ -290,12 +309,14 @@ module _ (ws : List ℕ) (b : Bool) (e : b ≡ holdsClient ws) where
               (omega (arith, a .most .few), omega (arith, a .most .small)))
 
           pub client-done-leaves : (r : ℕ) (ws′ sent′ : List ℕ) → 2 ≤ length sent
-              → (r ≡ answerCode (t .answer)) × (ws′ ≡ answerRecord (clientHeadWords (t .head)) (putMid recordHead client.rowWords ws row′) (t .answer)) × (sent′ ≡ answerCounts sent (t .answer))
+              → (r ≡ answerCode (t .answer)) × (ws′ ≡ answerRecord (clientHeadWords (t .head)) (putMid recordHead client.rowWords ws row′) (t .answer))
+                  × (sent′ ≡ answerCounts sent (t .answer))
               → Leaves (lent out sent (onClient ws (clientOutcome call))) r ws ws′ out out′ sent sent′
           client-done-leaves r ws′ sent′ l F =
               rw (on-client (clientOutcome call))
               (done-leaves ws client-long h (clientOutcome call its) t row′ out out′ sent sent′ ws′ r l
-              (λ p k. let a = client-accepted call its p k in omega (arith, a .long, padded-words (its .row) (its .head .n) (valid-padded its (a .before)), client-row-long)) A F)
+              (λ p k. let a = client-accepted call its p k in omega
+              (arith, a .long, padded-words (its .row) (its .head .n) (valid-padded its (a .before)), client-row-long)) A F)
 
 -- words that are no message: the step refuses what stands for them
 server-takes : (x : Option Message) (s : Server) → server-calls.messageOutcome s (messageOr x) ≡ serverTakes x s

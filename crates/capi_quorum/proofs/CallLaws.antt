@@ -61,13 +61,16 @@ module _ (n m f : ℕ) (ws new : List ℕ) (r : ℕ) (v : Verdict) (e : (v ≡ v
   read : toZ w32 (ofZ w32 (marginIn v)) ≡ marginIn v
   read = rw (e .0) (carried n m f)
 
-  pub setting-accepted : (x : ℤ) (w : ℕ) → v ≡ Accepted x → w ≡ signedWord (toZ w32 (ofZ w32 x)) → (r ≡ withWords 2 ws 0) × (new ≡ given ws (w ∷ 0 ∷ [])) → Tells n m f ws r new
+  pub setting-accepted : (x : ℤ) (w : ℕ) → v ≡ Accepted x → w ≡ signedWord (toZ w32 (ofZ w32 x))
+      → (r ≡ withWords 2 ws 0) × (new ≡ given ws (w ∷ 0 ∷ [])) → Tells n m f ws r new
   setting-accepted x w a s p = rw (← (e .0), a) (p .0, rw (← (s ∙ ap signedWord (rw a at read))) (p .1), rw a at (e .1))
 
-  pub setting-unsafe : (x : ℤ) (k w c : ℕ) → v ≡ Unsafe x k → w ≡ signedWord (toZ w32 (ofZ w32 x)) → c ≡ code NotSafe → (r ≡ withWords 2 ws c) × (new ≡ given ws (w ∷ k ∷ [])) → Tells n m f ws r new
+  pub setting-unsafe : (x : ℤ) (k w c : ℕ) → v ≡ Unsafe x k → w ≡ signedWord (toZ w32 (ofZ w32 x)) → c ≡ code NotSafe
+      → (r ≡ withWords 2 ws c) × (new ≡ given ws (w ∷ k ∷ [])) → Tells n m f ws r new
   setting-unsafe x k w c a s q p = rw (← (e .0), a) (rw q at (p .0), rw (← (s ∙ ap signedWord (rw a at read))) (p .1), rw a at (e .1))
 
-  pub setting-stalls : (x : ℤ) (w c : ℕ) → v ≡ Stalls x → w ≡ signedWord (toZ w32 (ofZ w32 x)) → c ≡ code Stalling → (r ≡ withWords 2 ws c) × (new ≡ given ws (w ∷ 0 ∷ [])) → Tells n m f ws r new
+  pub setting-stalls : (x : ℤ) (w c : ℕ) → v ≡ Stalls x → w ≡ signedWord (toZ w32 (ofZ w32 x)) → c ≡ code Stalling
+      → (r ≡ withWords 2 ws c) × (new ≡ given ws (w ∷ 0 ∷ [])) → Tells n m f ws r new
   setting-stalls x w c a s q p = rw (← (e .0), a) (rw q at (p .0), rw (← (s ∙ ap signedWord (rw a at read))) (p .1), rw a at (e .1))
 
   pub setting-refused : v ≡ OutOfRange → r ≡ code ParameterOutOfRange → Tells n m f ws r ws
@@ -82,11 +85,13 @@ module _ (n m f i : ℕ) (ws new : List ℕ) (r : ℕ) (v : Asked) (e : v ≡ ru
   event-refused x a p = rw (← e, a) (p, refl)
 
 module _ (n : ℕ) (ws : List ℕ) (v : Threshold) (e : v ≡ thresholdOf n) where
-  pub threshold-short : (x r : ℕ) → v ≡ Default x → length ws < 1 → r ≡ code RoomShort → (r ≡ thresholdCode (thresholdOf n) ws) × (ws ≡ thresholdWords (thresholdOf n) ws)
+  pub threshold-short : (x r : ℕ) → v ≡ Default x → length ws < 1 → r ≡ code RoomShort
+      → (r ≡ thresholdCode (thresholdOf n) ws) × (ws ≡ thresholdWords (thresholdOf n) ws)
   threshold-short x r a h p = rw (← e, a, lt-ltb (length ws) 1 h) (p, refl)
 
   pub threshold-given : (x : ℕ) → v ≡ Default x → 1 ≤ length ws → (0 ≡ thresholdCode (thresholdOf n) ws) × (set ws 0 x ≡ thresholdWords (thresholdOf n) ws)
   threshold-given x a h = rw (← e, a, le-ltb (length ws) 1 h) (refl, refl)
 
-  pub threshold-refused : (r : ℕ) → v ≡ Outside → r ≡ code ParameterOutOfRange → (r ≡ thresholdCode (thresholdOf n) ws) × (ws ≡ thresholdWords (thresholdOf n) ws)
+  pub threshold-refused : (r : ℕ) → v ≡ Outside → r ≡ code ParameterOutOfRange
+      → (r ≡ thresholdCode (thresholdOf n) ws) × (ws ≡ thresholdWords (thresholdOf n) ws)
   threshold-refused r a p = rw (← e, a) (p, refl)

@@ -156,7 +156,9 @@ none-filled zero = refl
 none-filled (suc n) = omega (arith, none-filled n)
 
 module _ {limit : ℕ} (n m : ℕ) (k : ClientId) (R : InRangeUpTo limit n m k) (t : Timestamp) where
-  without-fits : (a : Section) → fitsTimestamp a t ≡ true → fitsSection (enough m) a (record { client = k; timestamp = t }) (replicate n Nobody) ≡ true → noMore a m (replicate n Nobody) ≡ true → FitsUpTo limit n m k (without n a t)
+  without-fits : (a : Section) → fitsTimestamp a t ≡ true
+      → fitsSection (enough m) a (record { client = k; timestamp = t }) (replicate n Nobody) ≡ true → noMore a m (replicate n Nobody) ≡ true
+      → FitsUpTo limit n m k (without n a t)
   unfolding validOwner
   without-fits a h g b =
       record {
@@ -211,7 +213,8 @@ current-own r Nobody h = refl
 current-own r (Of q) h = by-client (eqb (q .client .0) (r .client .0)) (eqb (q .timestamp .0) (r .timestamp .0)) h
 
 module _ (r : Request) (l : List Owner) (j : ServerId) (o : Owner) (f : Owner → Bool) where
-  every-chosen : (a b : Bool) → current r o ≡ b → every f l ≡ true → (current r o ≡ true → f o ≡ true) → every f (if a && b then set l (j .0 - 1) o else l) ≡ true
+  every-chosen : (a b : Bool) → current r o ≡ b → every f l ≡ true → (current r o ≡ true → f o ≡ true)
+      → every f (if a && b then set l (j .0 - 1) o else l) ≡ true
   every-chosen true true e h g = every-set f l (j .0 - 1) o h (g e)
   every-chosen true false e h g = h
   every-chosen false b e h g = h
@@ -296,14 +299,16 @@ few-filled m l h = leb-false m (count (map filled l)) (not-true _ h)
 
 -- lines 7 to 18, by the section
 module _ {limit : ℕ} (n m : ℕ) (k : ClientId) (j : ServerId) (o : Owner) (v : validOwner o ≡ true) where
-  responds-by : (a : Section) (t : Timestamp) (l : List Owner) → FitsUpTo limit n m k (record { section = a; timestamp = t; responses = l }) → FitsUpTo limit n m k (responds (enough m) n k j o (record { section = a; timestamp = t; responses = l }) .state)
+  responds-by : (a : Section) (t : Timestamp) (l : List Owner) → FitsUpTo limit n m k (record { section = a; timestamp = t; responses = l })
+      → FitsUpTo limit n m k (responds (enough m) n k j o (record { section = a; timestamp = t; responses = l }) .state)
   unfolding responds
   responds-by Remainder t l F = F
   responds-by Critical t l F = F
   responds-by Trying t l F =
       let r : Request = record { client = k; timestamp = t } in
       judge-fits n m k t (heard r l j o) (trying-fits n m k (F .ranges) t (F .timestamp)) (heard-length r l j o ∙ F .long)
-      (heard-every r l j o validOwner (F .owners) (λ h. v)) (heard-every r l j o (ownIsCurrent r) (F .own) (current-own r o)) (omega (arith, heard-count r l j o filled, few-filled m l (F .section)))
+      (heard-every r l j o validOwner (F .owners) (λ h. v)) (heard-every r l j o (ownIsCurrent r) (F .own) (current-own r o))
+      (omega (arith, heard-count r l j o filled, few-filled m l (F .section)))
 
   pub responds-fits : (s : State) → FitsUpTo limit n m k s → FitsUpTo limit n m k (responds (enough m) n k j o s .state)
   responds-fits s F = responds-by (s .section) (s .timestamp) (s .responses) F
@@ -321,7 +326,8 @@ module _ {limit : ℕ} (n m : ℕ) (k : ClientId) (s : State) (R : InRangeUpTo l
   pub tries-fits : s .timestamp .0 ≤ lastTry → FitsUpTo limit n m k (tries n k s .state)
   unfolding tries next
   tries-fits h =
-      trying-fits n m k R (record { 0 = s .timestamp .0 + 1 }) (rw (le-leb 1 (s .timestamp .0 + 1) (omega arith)) (lt-ltb (s .timestamp .0 + 1) maxTimestamp (omega arith)))
+      trying-fits n m k R (record { 0 = s .timestamp .0 + 1 })
+          (rw (le-leb 1 (s .timestamp .0 + 1) (omega arith)) (lt-ltb (s .timestamp .0 + 1) maxTimestamp (omega arith)))
 
   pub exits-fits : FitsUpTo limit n m k (exits n k s .state)
   unfolding exits
@@ -340,7 +346,8 @@ pub stored-again : (c : Client) → valid c ≡ true → length (c .row) ≡ row
 stored-again c v long = store-view c long (valid-padded c v)
 
 -- by value a step's record is the one that its state is stored as
-pub after-stored : (c : Client) (s : Step State) → length (c .row) ≡ rowWords → clientAfter c (stepped s) ≡ store (c .head .n) (c .head .m) (c .head .id) (s .state)
+pub after-stored : (c : Client) (s : Step State) → length (c .row) ≡ rowWords
+    → clientAfter c (stepped s) ≡ store (c .head .n) (c .head .m) (c .head .id) (s .state)
 unfolding store
 after-stored c s long = ap (λ (k : ℕ). clientOf (headIn (c .head .n) (c .head .m) (c .head .id) (s .state)) (rowOf k (map place (s .state .responses)))) long
 
@@ -385,7 +392,8 @@ module _ (c : Client) (s : Step State) (v : valid c ≡ true) where
       let (a, h₁) = passed (not (valid c)) (never InvalidRecord s) h in
       let (b, h₂) = taken (isRemainder (view c .section)) (never WrongSection s) h₁ in
       let (d, h₃) = taken (mayTry (view c)) (never TimestampsSpent s) h₂ in
-      after maxServers c s v (tries (c .head .n) (c .head .id) (view c)) (cc) (tries-fits (c .head .n) (c .head .m) (c .head .id) (view c) ranges (leb-true (view c .timestamp .0) lastTry d))
+      after maxServers c s v (tries (c .head .n) (c .head .id) (view c)) (cc)
+          (tries-fits (c .head .n) (c .head .m) (c .head .id) (view c) ranges (leb-true (view c .timestamp .0) lastTry d))
 
   pub exit-valid : exitOutcome c ≡ stepped s → valid (clientAfter c (stepped s)) ≡ true
   unfolding exitOutcome

@@ -42,4 +42,5 @@ row-again row n good = ap (rowOf (length row)) (places-shown (take n (requestsIn
 -- storing what a record shows gives the record again
 pub store-view : (c : Client) → length (c .row) ≡ rowWords → Padded (c .row) (c .head .n) → store (c .head .n) (c .head .m) (c .head .id) (view c) ≡ c
 unfolding store view
-store-view c long good = ap (clientOf (c .head)) (ap (λ (k : ℕ). rowOf k (map place (responsesIn (c .row) (c .head .n)))) (sym long) ∙ row-again (c .row) (c .head .n) good)
+store-view c long good = ap (clientOf (c .head)) (ap (λ (k : ℕ). rowOf k (map place (responsesIn (c .row) (c .head .n)))) (sym long) ∙
+    row-again (c .row) (c .head .n) good)

@@ -57,29 +57,37 @@ module _ (h : Head) (row : List ℕ) (x : Outcome State) (o : List ℕ) (r : Tur
     unfolding withRoom
     answers-short g p = rw (q, lt-ltb _ _ g) (p, refl, refl)
 
-    pub answers-done : (after l : List ℕ) → sizeOfAll (s .sent) ≤ length o → r ≡ turned h (stepped s) → after ≡ rowAfter row (stepped s) → l ≡ sets o 0 (bytesOfAll (s .sent)) → Answers h row x o r after l
+    pub answers-done : (after l : List ℕ) → sizeOfAll (s .sent) ≤ length o → r ≡ turned h (stepped s) → after ≡ rowAfter row (stepped s)
+        → l ≡ sets o 0 (bytesOfAll (s .sent)) → Answers h row x o r after l
     unfolding withRoom
     answers-done after l g p a e = rw (q, le-ltb _ _ g) (p, a, e)
 
 -- the same by value
 module _ (c : Client) (x : Outcome State) (o : List ℕ) (t : Turned) (after l : List ℕ) (A : Answers (c .head) (c .row) x o t after l) where
-  pub by-value : (r : Stepped) → r ≡ record { client = clientOf (t .head) after; answer = t .answer } → (r ≡ result c (withRoom (length o) x)) × (l ≡ sentInto o (withRoom (length o) x))
+  pub by-value : (r : Stepped) → r ≡ record { client = clientOf (t .head) after; answer = t .answer }
+      → (r ≡ result c (withRoom (length o) x)) × (l ≡ sentInto o (withRoom (length o) x))
   by-value r e = (rw (A .0, A .1) at e, A .2)
 
 -- a step that sends nothing needs no room
-pub answers-stay : (h : Head) (row : List ℕ) (x : Outcome State) (o : List ℕ) (r : Turned) (s : State) → x ≡ stepped (stay s) → rowOf (length row) (map place (s .responses)) ≡ row
+pub answers-stay : (h : Head) (row : List ℕ) (x : Outcome State) (o : List ℕ) (r : Turned) (s : State) → x ≡ stepped (stay s)
+    → rowOf (length row) (map place (s .responses)) ≡ row
     → r ≡ record { head = headIn (h .n) (h .m) (h .id) s; answer = Sent 0 0 } → Answers h row x o r row o
 unfolding sizeOfAll bytesOfAll
 answers-stay h row x o r s q e p = answers-done h row x o r (stay s) q row o (omega arith) p (sym e) refl
 
 -- a message to each server, and the row emptied
-module _ (h : Head) (row : List ℕ) (f : ServerId → Message) (plain : (j : ServerId) → sizeOf (f j) ≡ messageBytes) (x : Outcome State) (a : Section) (t : Timestamp) (o : List ℕ) (r : Turned) (q : x ≡ stepped (record { state = without (h .n) a t; sent = toAll f (h .n) })) where
+module _ (h : Head) (row : List ℕ) (f : ServerId → Message) (plain : (j : ServerId) → sizeOf (f j) ≡ messageBytes) (x : Outcome State)
+    (a : Section) (t : Timestamp) (o : List ℕ) (r : Turned) (q : x ≡ stepped (record { state = without (h .n) a t; sent = toAll f (h .n) }))
+    where
   all-short : length o < messageBytes * h .n → r ≡ turned h (refused RoomShort) → Answers h row x o r row o
   all-short g p = answers-short h row x o r _ q (omega (arith, size-toAll f plain (h .n))) p
 
-  all-done : (after l : List ℕ) → 2 * h .n ≤ length row → messageBytes * h .n ≤ length o → r ≡ record { head = headWith h a t; answer = Sent (h .n) (messageBytes * h .n) } → after ≡ replicate (length row) 0 → l ≡ sets o 0 (bytesOfAll (toAll f (h .n))) → Answers h row x o r after l
+  all-done : (after l : List ℕ) → 2 * h .n ≤ length row → messageBytes * h .n ≤ length o
+      → r ≡ record { head = headWith h a t; answer = Sent (h .n) (messageBytes * h .n) } → after ≡ replicate (length row) 0
+      → l ≡ sets o 0 (bytesOfAll (toAll f (h .n))) → Answers h row x o r after l
   all-done after l k g p z e =
-      answers-done h row x o r _ q after l (omega (arith, size-toAll f plain (h .n))) (rw (length-toAll f (h .n), size-toAll f plain (h .n)) p) (z ∙ sym (row-without (length row) (h .n) k)) e
+      answers-done h row x o r _ q after l (omega (arith, size-toAll f plain (h .n))) (rw (length-toAll f (h .n), size-toAll f plain (h .n)) p) (z ∙
+          sym (row-without (length row) (h .n) k)) e
 
 -- `attempt` and `leave`
 module _ (h : Head) (row : List ℕ) (o : List ℕ) (r : Turned) where
@@ -108,10 +116,12 @@ module _ (h : Head) (row : List ℕ) (o : List ℕ) (r : Turned) where
     exits-short = all-short h row (releases (h .id) (h .timestamp)) (release-plain (h .id) (h .timestamp)) _ _ _ o r its-exit g p
 
   module _ (after l : List ℕ) (k : 2 * h .n ≤ length row) (g : messageBytes * h .n ≤ length o) (z : after ≡ replicate (length row) 0) where
-    pub tries-done : r ≡ record { head = headWith h Trying taken; answer = Sent (h .n) (messageBytes * h .n) } → l ≡ sets o 0 (bytesOfAll (toAll (requests (h .id) taken) (h .n))) → Answers h row tried o r after l
+    pub tries-done : r ≡ record { head = headWith h Trying taken; answer = Sent (h .n) (messageBytes * h .n) }
+        → l ≡ sets o 0 (bytesOfAll (toAll (requests (h .id) taken) (h .n))) → Answers h row tried o r after l
     tries-done p e = all-done h row (requests (h .id) taken) (request-plain (h .id) taken) _ _ _ o r its-try after l k g p z e
 
-    pub exits-done : r ≡ record { head = headWith h Remainder taken; answer = Sent (h .n) (messageBytes * h .n) } → l ≡ sets o 0 (bytesOfAll (toAll (releases (h .id) (h .timestamp)) (h .n))) → Answers h row exited o r after l
+    pub exits-done : r ≡ record { head = headWith h Remainder taken; answer = Sent (h .n) (messageBytes * h .n) }
+        → l ≡ sets o 0 (bytesOfAll (toAll (releases (h .id) (h .timestamp)) (h .n))) → Answers h row exited o r after l
     exits-done p e = all-done h row (releases (h .id) (h .timestamp)) (release-plain (h .id) (h .timestamp)) _ _ _ o r its-exit after l k g p z e
 
 -- `begin_row`, `exit_row` and `message_row`: which test decides the outcome
@@ -148,7 +158,8 @@ module _ (h : Head) (row : List ℕ) (x : Bool) (p : x ≡ valid (clientOf h row
       exit-leaves u = rw (holds x (valid (clientOf h row)) p t, holds y (isCritical (h .section)) q u)
 
       pub critical-timestamp : not y ≡ false → h .timestamp .0 < maxTimestamp
-      critical-timestamp u = critical-below (h .section) (h .timestamp) (holds y (isCritical (h .section)) q u) (valid-known (clientOf h row) (holds x (valid (clientOf h row)) p t) .timestamp)
+      critical-timestamp u = critical-below (h .section) (h .timestamp) (holds y (isCritical (h .section)) q u)
+          (valid-known (clientOf h row) (holds x (valid (clientOf h row)) p t) .timestamp)
 
   -- what the inner steps ask
   pub tested-words : not x ≡ false → 2 * h .n ≤ length row
@@ -192,31 +203,39 @@ module _ (h : Head) (row : List ℕ) (found : ℕ) (o : List ℕ) (r : Turned) (
   pub yields-short : length o < messageBytes * found → r ≡ turned h (refused RoomShort) → Answers h row (stepped yielded) o r row o
   yields-short g p = answers-short h row (stepped yielded) o r yielded refl (omega (arith, its-size)) p
 
-  pub yields-done : (q : Request) (after l : List ℕ) → Padded row (h .n) → messageBytes * found ≤ length o → q ≡ request h → l ≡ sets o 0 (bytesOfAll (round q 1 (responsesIn row (h .n)))) → after ≡ replicate (length row) 0
+  pub yields-done : (q : Request) (after l : List ℕ) → Padded row (h .n) → messageBytes * found ≤ length o → q ≡ request h
+      → l ≡ sets o 0 (bytesOfAll (round q 1 (responsesIn row (h .n)))) → after ≡ replicate (length row) 0
       → r ≡ record { head = headWith h Trying (h .timestamp); answer = Sent found (messageBytes * found) } → Answers h row (stepped yielded) o r after l
   yields-done q after l good g e w z p =
-      answers-done h row (stepped yielded) o r yielded refl after l (omega (arith, its-size)) (rw (its-length, its-size) p) (z ∙ sym (row-without (length row) (h .n) (padded-words row (h .n) good))) (rw e at w)
+      answers-done h row (stepped yielded) o r yielded refl after l (omega (arith, its-size)) (rw (its-length, its-size) p) (z ∙
+          sym (row-without (length row) (h .n) (padded-words row (h .n) good))) (rw e at w)
 
 -- what the verdicts decide
 module _ (full mine : Bool) (h : Head) (row : List ℕ) (good : Padded row (h .n)) where
   abbrev decided : Step State
   decided = decide full mine (h .n) (request h) (responsesIn row (h .n))
 
-  pub decide-waits : (o : List ℕ) (r : Turned) → not full ≡ true → r ≡ record { head = headWith h Trying (h .timestamp); answer = Sent 0 0 } → Answers h row (stepped decided) o r row o
+  pub decide-waits : (o : List ℕ) (r : Turned) → not full ≡ true → r ≡ record { head = headWith h Trying (h .timestamp); answer = Sent 0 0 }
+      → Answers h row (stepped decided) o r row o
   decide-waits o r t p =
       let e : full ≡ false = fails full full refl t in
-      answers-stay h row (stepped decided) o r (record { section = Trying; timestamp = h .timestamp; responses = responsesIn row (h .n) }) (rw e) (row-again row (h .n) good) p
+      answers-stay h row (stepped decided) o r (record { section = Trying; timestamp = h .timestamp; responses = responsesIn row (h .n) })
+          (rw e) (row-again row (h .n) good) p
 
   module _ (t : not full ≡ false) where
-    pub decide-enters : (o : List ℕ) (r : Turned) → mine ≡ true → r ≡ record { head = headWith h Critical (h .timestamp); answer = Sent 0 0 } → Answers h row (stepped decided) o r row o
+    pub decide-enters : (o : List ℕ) (r : Turned) → mine ≡ true
+        → r ≡ record { head = headWith h Critical (h .timestamp); answer = Sent 0 0 } → Answers h row (stepped decided) o r row o
     decide-enters o r u p =
         let e : full ≡ true = holds full full refl t in
-        answers-stay h row (stepped decided) o r (record { section = Critical; timestamp = h .timestamp; responses = responsesIn row (h .n) }) (rw (e, u)) (row-again row (h .n) good) p
+        answers-stay h row (stepped decided) o r
+            (record { section = Critical; timestamp = h .timestamp; responses = responsesIn row (h .n) }) (rw (e, u))
+            (row-again row (h .n) good) p
 
     pub decide-yields : mine ≡ false → stepped decided ≡ stepped (yields (h .n) (request h) (responsesIn row (h .n)))
     decide-yields u = let e : full ≡ true = holds full full refl t in rw (e, u)
 
-pub verdicts : (m n : ℕ) (r q : Request) (l : List Owner) (found mine : ℕ) → found ≡ count (map filled l) → q ≡ r → mine ≡ count (own q l) → stepped (judge (enough m) n r l) ≡ stepped (decide (leb m found) (leb m mine) n r l)
+pub verdicts : (m n : ℕ) (r q : Request) (l : List Owner) (found mine : ℕ) → found ≡ count (map filled l) → q ≡ r → mine ≡ count (own q l)
+    → stepped (judge (enough m) n r l) ≡ stepped (decide (leb m found) (leb m mine) n r l)
 unfolding judge enough
 verdicts m n r q l found mine f e g = rw (f, g, e)
 
@@ -239,7 +258,8 @@ module _ (h : Head) (row : List ℕ) (v : valid (clientOf h row) ≡ true) (j : 
   unfolding responds view
   elsewhere t = rw (fails x (isTrying (h .section)) p t)
 
-  pub respond-elsewhere : (b : List ℕ) (r : Turned) → not x ≡ true → r ≡ record { head = headWith h (h .section) (h .timestamp); answer = Sent 0 0 } → Answers h row (responded h row j o) b r row b
+  pub respond-elsewhere : (b : List ℕ) (r : Turned) → not x ≡ true
+      → r ≡ record { head = headWith h (h .section) (h .timestamp); answer = Sent 0 0 } → Answers h row (responded h row j o) b r row b
   unfolding view
   respond-elsewhere b r t e = answers-stay h row (responded h row j o) b r (view (clientOf h row)) (elsewhere t) (row-again row (h .n) good) e
 
@@ -265,7 +285,8 @@ module _ (h : Head) (row : List ℕ) (j : ServerId) (o : Owner) (old : Request) 
   stays-by (refused e) p a n = let z : true ≡ false = ap (λ (x : Turned). isRefused (x .answer)) (sym p) ∙ n in absurd (true≢false z)
   stays-by (stepped s) p a n = a ∙ ap (λ (k : ℕ). rowOf k (map place (s .state .responses))) (H .size)
 
-  undone-by : (w : Outcome State) → r ≡ turned h w → left ≡ rowAfter mid w → isRefused (r .answer) ≡ true → (after : List ℕ) → Put left after (j .0 - 1) old → after ≡ rowAfter row w
+  undone-by : (w : Outcome State) → r ≡ turned h w → left ≡ rowAfter mid w → isRefused (r .answer) ≡ true → (after : List ℕ)
+      → Put left after (j .0 - 1) old → after ≡ rowAfter row w
   undone-by (refused e) p a n after P = H .undone after (rw a at P)
   undone-by (stepped s) p a n after P = let z : true ≡ false = sym n ∙ ap (λ (x : Turned). isRefused (x .answer)) p in absurd (true≢false z)
 
@@ -303,7 +324,9 @@ module _ (h : Head) (row : List ℕ) (v : valid (clientOf h row) ≡ true) (j : 
     pub check-short : length o < messageBytes → r ≡ turned h (refused RoomShort) → Answers h row told o r row o
     check-short s e = answers-short h row told o r _ its-release (omega (arith, one-size)) e
 
-    pub check-done : (b : List ℕ) (n : ℕ) → messageBytes ≤ length o → n ≡ 0 + sizeOf (Release (h .id) j t) → b ≡ sets o 0 (bytesOf (Release (h .id) j t)) → r ≡ record { head = headWith h (h .section) (h .timestamp); answer = Sent 1 n } → Answers h row told o r row b
+    pub check-done : (b : List ℕ) (n : ℕ) → messageBytes ≤ length o → n ≡ 0 + sizeOf (Release (h .id) j t)
+        → b ≡ sets o 0 (bytesOf (Release (h .id) j t)) → r ≡ record { head = headWith h (h .section) (h .timestamp); answer = Sent 1 n }
+        → Answers h row told o r row b
     unfolding view
     check-done b n s z e p =
         let k : n ≡ sizeOfAll (Release (h .id) j t ∷ []) = omega (arith, one-size, release-plain (h .id) t j) in
@@ -327,7 +350,8 @@ module _ (h : Head) (row : List ℕ) (k : ClientId) (j : ServerId) (x : Bool) (p
     pub its-server : j .0 ≤ h .n
     its-server = leb-true (j .0) (h .n) (its-parts .1)
 
-    pub response-taken : (o : Owner) → received (clientOf h row) (Response k j o) ≡ stepped (responds (enough (h .m)) (h .n) (h .id) j o (view (clientOf h row)))
+    pub response-taken : (o : Owner)
+        → received (clientOf h row) (Response k j o) ≡ stepped (responds (enough (h .m)) (h .n) (h .id) j o (view (clientOf h row)))
     response-taken o = rw (holds x (forClient h k j) p t, its-client)
 
     pub check-taken : (s : Timestamp) → received (clientOf h row) (Check k j s) ≡ stepped (checked (h .id) j s (view (clientOf h row)))
@@ -352,8 +376,10 @@ module _ (n m : ℕ) (k : ClientId) (x : Bool) (p : x ≡ validSizes n m) where
 
     stored-fresh : store n m k (fresh n) ≡ clientOf (headIn n m k (fresh n)) (replicate rowWords 0)
     unfolding store
-    stored-fresh = let s = sizes-range n m (holds x (validSizes n m) p t) in ap (clientOf (headIn n m k (fresh n))) (row-without rowWords n (omega (arith, s .1)))
+    stored-fresh = let s = sizes-range n m (holds x (validSizes n m) p t) in ap (clientOf (headIn n m k (fresh n)))
+        (row-without rowWords n (omega (arith, s .1)))
 
-    pub new-done : (c : Client) → not y ≡ false → c ≡ clientOf (headIn n m k (fresh n)) (replicate rowWords 0) → _≡_ {A = Stepped} (record { client = c; answer = Sent 0 0 }) (newResult n m k)
+    pub new-done : (c : Client) → not y ≡ false → c ≡ clientOf (headIn n m k (fresh n)) (replicate rowWords 0)
+        → _≡_ {A = Stepped} (record { client = c; answer = Sent 0 0 }) (newResult n m k)
     unfolding newResult
     new-done c u e = rw (holds x (validSizes n m) p t, holds y (validClient k) q u, e, stored-fresh)

@@ -92,7 +92,8 @@ module _ (row : List ℕ) (i : ℕ) (x : Request) where
         rest = rw (z, e, drop-set-lt n (requestsIn row) i x h) (good .rest);
       }
 
-  chosen-shown : (b : Bool) (n : ℕ) (o : Owner) → i < n → fitsPlace x ≡ true → shown x ≡ o → responsesIn (chosen b) n ≡ (if b then set (responsesIn row n) i o else responsesIn row n)
+  chosen-shown : (b : Bool) (n : ℕ) (o : Owner) → i < n → fitsPlace x ≡ true → shown x ≡ o
+      → responsesIn (chosen b) n ≡ (if b then set (responsesIn row n) i o else responsesIn row n)
   chosen-shown false n o h f e = refl
   chosen-shown true n o h f e = rw (put-requests row (chosen true) i x (put-it f), take-set-lt n (requestsIn row) i x h, map-set, e)
 
@@ -100,7 +101,8 @@ module _ (row : List ℕ) (i : ℕ) (x : Request) where
   module _ (after : List ℕ) (old : Request) (e : old ≡ getD (requestsIn row) i noRequest) (places : Places row) where
     undone-requests : (b : Bool) → fitsPlace x ≡ true → Put (chosen b) after i old → requestsIn after ≡ requestsIn row
     undone-requests true f P =
-        put-requests (chosen true) after i old P ∙ ap (λ (l : List Request). set l i old) (put-requests row (chosen true) i x (put-it f)) ∙ set-set (requestsIn row) i x old
+        put-requests (chosen true) after i old P ∙ ap (λ (l : List Request). set l i old) (put-requests row (chosen true) i x (put-it f)) ∙
+            set-set (requestsIn row) i x old
         ∙ ap (λ (q : Request). set (requestsIn row) i q) e ∙ set-getD (requestsIn row) i noRequest
     undone-requests false f P = put-requests row after i old P ∙ ap (λ (q : Request). set (requestsIn row) i q) e ∙ set-getD (requestsIn row) i noRequest
 
@@ -132,7 +134,9 @@ module _ (r : Request) (row : List ℕ) (j : ServerId) (o : Owner) (v : validOwn
 
     place-shows : getD (responsesIn row n) (j .0 - 1) Nobody ≡ shown (placeOf row j)
     place-shows =
-        ap (λ (d : Owner). getD (responsesIn row n) (j .0 - 1) d) (sym nobody-shown) ∙ List·getD-map shown (take n (requestsIn row)) (j .0 - 1) noRequest ∙ ap shown (getD-take n (requestsIn row) (j .0 - 1) noRequest inside)
+        ap (λ (d : Owner). getD (responsesIn row n) (j .0 - 1) d) (sym nobody-shown) ∙
+            List·getD-map shown (take n (requestsIn row)) (j .0 - 1) noRequest ∙
+            ap shown (getD-take n (requestsIn row) (j .0 - 1) noRequest inside)
 
     pub heardRow-shown : responsesIn (heardRow r row j o) n ≡ heard r (responsesIn row n) j o
     unfolding heardRow heard

@@ -42,7 +42,8 @@ module _ (r : Request) (j : ServerId) (q : Request) where
     unfolding reply
     reply-inquiry t = let e : before r q ≡ false = cc in rw (ne-eqb (q .client .0) (r .client .0) n, e)
 
-  by-tests : (a b : Bool) → sizeOf (if a then YIELD (r .client) j (r .timestamp) else if b then REQUEST (r .client) j (r .timestamp) else INQUIRY (r .client) j (r .timestamp)) ≡ messageBytes
+  by-tests : (a b : Bool) → sizeOf (if a then YIELD (r .client) j (r .timestamp) else if b then REQUEST (r .client) j (r .timestamp) else
+      INQUIRY (r .client) j (r .timestamp)) ≡ messageBytes
   by-tests true b = yield-plain (r .client) (r .timestamp) j
   by-tests false true = request-plain (r .client) (r .timestamp) j
   by-tests false false = inquiry-plain (r .client) (r .timestamp) j
@@ -64,7 +65,8 @@ module _ (r : Request) (j : ServerId) (q : Request) where
       pub replies-fit : at + sizeOfAll (replies r j (shown q)) ≤ length o → at + sizeOf m ≤ length o
       replies-fit h = rw (one, sizeOfAll-one) at h
 
-      pub replies-one : (l : List ℕ) (n : ℕ) → (n ≡ at + sizeOf m) × (l ≡ sets o at (bytesOf m)) → (n ≡ at + sizeOfAll (replies r j (shown q))) × (l ≡ sets o at (bytesOfAll (replies r j (shown q))))
+      pub replies-one : (l : List ℕ) (n : ℕ) → (n ≡ at + sizeOf m) × (l ≡ sets o at (bytesOf m))
+          → (n ≡ at + sizeOfAll (replies r j (shown q))) × (l ≡ sets o at (bytesOfAll (replies r j (shown q))))
       replies-one l n h = rw (one, sizeOfAll-one, bytesOfAll-one) h
 
 module _ (r : Request) where
@@ -116,17 +118,20 @@ module _ (r : Request) (ws : List ℕ) (n : ℕ) (o : List ℕ) where
 
   module _ (b : List ℕ) (at i : ℕ) (R : Replying r ws n o b at i) where
     module _ (h : i < n) where
-      next : round r 1 (take (i + 1) (responsesIn ws n)) ≡ round r 1 (take i (responsesIn ws n)) ++ replies r (record { 0 = i + 1 }) (shown (getD (requestsIn ws) i noRequest))
+      next : round r 1 (take (i + 1) (responsesIn ws n)) ≡ round r 1 (take i (responsesIn ws n)) ++ replies r (record { 0 = i + 1 })
+          (shown (getD (requestsIn ws) i noRequest))
       next =
           let z = length-responses ws n (R .words) in
           let s : i < length (responsesIn ws n) = omega arith in
           let s′ : i ≤ length (responsesIn ws n) = omega arith in
           let e : 1 + i ≡ suc i = omega arith in
-          rw (add-one, take-suc (responsesIn ws n) i (shown noRequest), round-more, length-take-le, List·getD-map shown (take n (requestsIn ws)) i noRequest, getD-take, e)
+          rw (add-one, take-suc (responsesIn ws n) i (shown noRequest), round-more, length-take-le,
+              List·getD-map shown (take n (requestsIn ws)) i noRequest, getD-take, e)
 
       pub replying-fits : at + sizeOfAll (replies r (record { 0 = i + 1 }) (shown (getD (requestsIn ws) i noRequest))) ≤ length b
       replying-fits =
-          let e : sizeOfAll (round r 1 (take (i + 1) (responsesIn ws n))) ≡ sizeOfAll (round r 1 (take i (responsesIn ws n))) + sizeOfAll (replies r (record { 0 = i + 1 }) (shown (getD (requestsIn ws) i noRequest))) = rw (next, sizeOfAll-append) in
+          let e : sizeOfAll (round r 1 (take (i + 1) (responsesIn ws n))) ≡ sizeOfAll (round r 1 (take i (responsesIn ws n))) + sizeOfAll
+              (replies r (record { 0 = i + 1 }) (shown (getD (requestsIn ws) i noRequest))) = rw (next, sizeOfAll-append) in
           omega (arith, e, R .room, R .size, R .behind, size-round r 1 (take (i + 1) (responsesIn ws n)), count-take filled (i + 1) (responsesIn ws n))
 
       pub replying-more : (b′ : List ℕ) (at′ : ℕ) → at′ ≡ at + sizeOfAll (replies r (record { 0 = i + 1 }) (shown (getD (requestsIn ws) i noRequest)))
@@ -141,7 +146,8 @@ module _ (r : Request) (ws : List ℕ) (n : ℕ) (o : List ℕ) where
             room = R .room;
             size = ap length p ∙ length-sets b at (bytesOfAll m) ∙ R .size;
             behind = rw (next, sizeOfAll-append) (omega (arith, R .behind));
-            done = rw (next, bytesOfAll-append) (stored-on o b b′ (bytesOfAll d) (bytesOfAll m) 0 at (R .done) p (omega (arith, R .behind, length-bytesOfAll d)));
+            done = rw (next,
+                bytesOfAll-append) (stored-on o b b′ (bytesOfAll d) (bytesOfAll m) 0 at (R .done) p (omega (arith, R .behind, length-bytesOfAll d)));
           }
 
     pub replying-all : n ≤ i → b ≡ sets o 0 (bytesOfAll (round r 1 (responsesIn ws n)))

@@ -44,7 +44,8 @@ module _ (f : ServerId → Message) (plain : (j : ServerId) → sizeOf (f j) ≡
     pub sending-fits : j < n → at + sizeOf (f (record { 0 = j + 1 })) ≤ length l
     sending-fits h = omega (arith, S .room, S .size, S .behind, plain (record { 0 = j + 1 }))
 
-    pub sending-more : (l′ : List ℕ) (r : ℕ) → j < n → r ≡ at + sizeOf (f (record { 0 = j + 1 })) → l′ ≡ sets l at (bytesOf (f (record { 0 = j + 1 }))) → Sending f n o l′ r (j + 1)
+    pub sending-more : (l′ : List ℕ) (r : ℕ) → j < n → r ≡ at + sizeOf (f (record { 0 = j + 1 }))
+        → l′ ≡ sets l at (bytesOf (f (record { 0 = j + 1 }))) → Sending f n o l′ r (j + 1)
     unfolding toAll
     sending-more l′ r h e p =
         record {
@@ -52,7 +53,8 @@ module _ (f : ServerId → Message) (plain : (j : ServerId) → sizeOf (f j) ≡
           room = S .room;
           size = ap length p ∙ length-sets l at (bytesOf (f (record { 0 = j + 1 }))) ∙ S .size;
           behind = omega (arith, S .behind, plain (record { 0 = j + 1 }));
-          done = rw add-one (put-next o l l′ 0 at (toAll f j) (f (record { 0 = suc j })) (S .done) (omega (arith, S .behind, size-toAll f plain j)) (rw add-one at p));
+          done = rw add-one
+              (put-next o l l′ 0 at (toAll f j) (f (record { 0 = suc j })) (S .done) (omega (arith, S .behind, size-toAll f plain j)) (rw add-one at p));
         }
 
     pub sending-all : n ≤ j → l ≡ sets o 0 (bytesOfAll (toAll f n))

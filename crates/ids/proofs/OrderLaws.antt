@@ -16,7 +16,8 @@ abbrev pub Earlier : Request → Request → Type 0
 Earlier a b =
     (a .timestamp .0 < b .timestamp .0) ⊎ ((a .timestamp .0 ≡ b .timestamp .0) × (a .client .0 < b .client .0))
 
-earlier : (a b : Request) (e : Bool) → eqb (a .timestamp .0) (b .timestamp .0) ≡ e → (if e then ltb (a .client .0) (b .client .0) else ltb (a .timestamp .0) (b .timestamp .0)) ≡ true → Earlier a b
+earlier : (a b : Request) (e : Bool) → eqb (a .timestamp .0) (b .timestamp .0) ≡ e
+    → (if e then ltb (a .client .0) (b .client .0) else ltb (a .timestamp .0) (b .timestamp .0)) ≡ true → Earlier a b
 earlier a b true e t = inr (eqb-true _ _ e, ltb-true _ _ t)
 earlier a b false e t = inl (ltb-true _ _ t)
 
@@ -47,7 +48,8 @@ total : (a b : Request) → Earlier a b ⊎ ((a ≡ b) ⊎ Earlier b a)
 total a b =
     ⊎-elim (λ l. inl (inl l))
     (⊎-elim
-    (λ t. ⊎-elim (λ l. inl (inr (t, l))) (⊎-elim (λ k. inr (inl (same-numbers a b t k))) (λ g. inr (inr (inr (omega arith))))) (compared (a .client .0) (b .client .0)))
+    (λ t. ⊎-elim (λ l. inl (inr (t, l))) (⊎-elim (λ k. inr (inl (same-numbers a b t k))) (λ g. inr (inr (inr (omega arith)))))
+    (compared (a .client .0) (b .client .0)))
     (λ g. inr (inr (inl g))))
     (compared (a .timestamp .0) (b .timestamp .0))
 

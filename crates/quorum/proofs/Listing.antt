@@ -43,7 +43,8 @@ past-span : (d : Event) (f : ℕ → Event) (a c i : ℕ) → c < i → (l : Lis
 past-span d f a zero i p l = let z : i ≡ i - 0 = omega arith in ap (λ (x : ℕ). at d l x) z
 past-span d f a (suc c) zero p l = absurd (omega arith)
 past-span d f a (suc c) (suc zero) p l = absurd (omega arith)
-past-span d f a (suc c) (suc (suc i)) p l = past-span d f (suc a) c (suc i) (omega arith) l ∙ (let z : suc i - c ≡ suc (suc i) - suc c = omega arith in ap (λ (x : ℕ). at d l x) z)
+past-span d f a (suc c) (suc (suc i)) p l = past-span d f (suc a) c (suc i) (omega arith) l ∙
+    (let z : suc i - c ≡ suc (suc i) - suc c = omega arith in ap (λ (x : ℕ). at d l x) z)
 
 -- event number i stands in part c, from 0
 hit : (d : Event) (none : Part) (l : List Part) (c i : ℕ) → total (take c l) < i → i ≤ total (take (suc c) l) →

@@ -56,7 +56,8 @@ abbrev is : Request → Request → Bool
 is r x = same x r
 
 without-head : (b : Bool) (x : Request) (l m : List Request) (n : ℕ) → (n < length l → m ≡ take n l ++ drop (suc n) l)
-    → (if b then 0 else suc n) < suc (length l) → (if b then l else x ∷ m) ≡ take (if b then 0 else suc n) (x ∷ l) ++ drop (suc (if b then 0 else suc n)) (x ∷ l)
+    → (if b then 0 else suc n) < suc (length l)
+        → (if b then l else x ∷ m) ≡ take (if b then 0 else suc n) (x ∷ l) ++ drop (suc (if b then 0 else suc n)) (x ∷ l)
 without-head true x l m n e h = refl
 without-head false x l m n e h = ap (λ (t : List Request). x ∷ t) (e (omega arith))
 
@@ -65,7 +66,8 @@ unfolding without first
 without-first r [] h = absurd (omega arith)
 without-first r (x ∷ l) h = without-head (same x r) x l (without r l) (first (is r) l) (without-first r l) h
 
-absent-head : (b : Bool) (x : Request) (l m : List Request) (n : ℕ) → (length l ≤ n → m ≡ l) → suc (length l) ≤ (if b then 0 else suc n) → (if b then l else x ∷ m) ≡ x ∷ l
+absent-head : (b : Bool) (x : Request) (l m : List Request) (n : ℕ) → (length l ≤ n → m ≡ l) → suc (length l) ≤ (if b then 0 else suc n)
+    → (if b then l else x ∷ m) ≡ x ∷ l
 absent-head true x l m n e h = absurd (omega arith)
 absent-head false x l m n e h = ap (λ (t : List Request). x ∷ t) (e (omega arith))
 

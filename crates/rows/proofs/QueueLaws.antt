@@ -22,7 +22,8 @@ abbrev empties : ℕ → List Request
 empties n = replicate n noRequest
 
 -- a row whose places hold the list l and then empty ones
-pub holding : (row after : List ℕ) (len k : ℕ) (l : List Request) → length after ≡ length row → Places after → requestsIn after ≡ l ++ empties k → length l ≡ len → Holds row after len l
+pub holding : (row after : List ℕ) (len k : ℕ) (l : List Request) → length after ≡ length row → Places after
+    → requestsIn after ≡ l ++ empties k → length l ≡ len → Holds row after len l
 holding row after len k l size good e n =
     let all : length (requestsIn after) ≡ length l + k = ap length e ∙ simp (length-append, length-replicate) in
     let z : length (requestsIn after) - len ≡ k = omega arith in
@@ -56,10 +57,16 @@ module _ (row : List ℕ) (len : ℕ) (good : Padded row len) (at : ℕ) where
       let n = length-queue row len good in
       let p : length (take at (queueOf row len)) ≡ at = length-take-le at (queueOf row len) (omega arith) in
       let q : length (take at (queueOf row len)) + length (drop (suc at) (queueOf row len)) ≡ len - 1 = simp length-drop (omega arith) in
-      let u : requestsIn row ≡ take at (queueOf row len) ++ getD (queueOf row len) at noRequest ∷ (drop (suc at) (queueOf row len) ++ empties (length (requestsIn row) - len)) =
-      row-split row len good ∙ ap (λ (x : List Request). x ++ empties (length (requestsIn row) - len)) (split-at (queueOf row len) at noRequest (omega arith)) ∙ append-assoc (take at (queueOf row len)) _ _ in
-      rw (append-assoc) (subst (λ (x : List Request). Shifted noRequest x (take at (queueOf row len) ++ (drop (suc at) (queueOf row len) ++ noRequest ∷ empties (length (requestsIn row) - len))) at (len - 1)) (sym u)
-      (shifted noRequest (take at (queueOf row len)) (drop (suc at) (queueOf row len)) (empties (length (requestsIn row) - len)) (getD (queueOf row len) at noRequest) noRequest at (len - 1) p q))
+      let u : requestsIn row ≡ take at (queueOf row len) ++ getD (queueOf row len) at noRequest ∷ (drop (suc at) (queueOf row len) ++ empties
+          (length (requestsIn row) - len)) =
+      row-split row len good ∙
+          ap (λ (x : List Request). x ++ empties (length (requestsIn row) - len)) (split-at (queueOf row len) at noRequest (omega arith)) ∙
+          append-assoc (take at (queueOf row len)) _ _ in
+      rw (append-assoc) (subst (λ (x : List Request). Shifted noRequest x
+          (take at (queueOf row len) ++ (drop (suc at) (queueOf row len) ++ noRequest ∷ empties (length (requestsIn row) - len))) at
+          (len - 1)) (sym u)
+      (shifted noRequest (take at (queueOf row len)) (drop (suc at) (queueOf row len)) (empties (length (requestsIn row) - len))
+      (getD (queueOf row len) at noRequest) noRequest at (len - 1) p q))
 
   pub insertion : (r : Request) → at ≤ len → 2 * (len + 1) ≤ length row → Shifted noRequest (inserted row len at r) (requestsIn row) at len
   unfolding inserted
@@ -69,8 +76,11 @@ module _ (row : List ℕ) (len : ℕ) (good : Padded row len) (at : ℕ) where
       let p : length (take at (queueOf row len)) ≡ at = length-take-le at (queueOf row len) (omega arith) in
       let q : length (take at (queueOf row len)) + length (drop at (queueOf row len)) ≡ len = simp length-drop (omega arith) in
       let u : requestsIn row ≡ take at (queueOf row len) ++ (drop at (queueOf row len) ++ noRequest ∷ empties (length (requestsIn row) - suc len)) =
-      row-split row len good ∙ rw k (ap (λ (x : List Request). x ++ (noRequest ∷ empties (length (requestsIn row) - suc len))) (sym (take-append-drop at (queueOf row len))) ∙ append-assoc (take at (queueOf row len)) _ _) in
-      rw (append-assoc) (subst (λ (x : List Request). Shifted noRequest (take at (queueOf row len) ++ (r ∷ (drop at (queueOf row len) ++ empties (length (requestsIn row) - suc len)))) x at len) (sym u)
+      row-split row len good ∙
+          rw k (ap (λ (x : List Request). x ++ (noRequest ∷ empties (length (requestsIn row) - suc len))) (sym (take-append-drop at (queueOf row len))) ∙
+          append-assoc (take at (queueOf row len)) _ _) in
+      rw (append-assoc) (subst (λ (x : List Request). Shifted noRequest
+          (take at (queueOf row len) ++ (r ∷ (drop at (queueOf row len) ++ empties (length (requestsIn row) - suc len)))) x at len) (sym u)
       (shifted noRequest (take at (queueOf row len)) (drop at (queueOf row len)) (empties (length (requestsIn row) - suc len)) r noRequest at len p q))
 
 -- the places `lo` to `hi` are being moved: X has them one place further down than Y; the row, which was row₀, is at place i and holds `held`
@@ -94,16 +104,19 @@ module _ (X Y : List Request) (lo hi : ℕ) (row₀ : List ℕ) where
   pub rising-start : Places row₀ → X ≡ requestsIn row₀ → Shifted noRequest X Y lo hi → Rising X Y lo hi row₀ row₀ lo
   rising-start p e S =
       let n : length X ≡ length (requestsIn row₀) = ap length e in
-      record { shape = S; low = omega arith; high = S .order; size = refl; room = omega (arith, S .inside, p .even); places = p; done = sym e ∙ rise-start noRequest X Y lo hi S }
+      record { shape = S; low = omega arith; high = S .order; size = refl; room = omega (arith, S .inside, p .even); places = p;
+          done = sym e ∙ rise-start noRequest X Y lo hi S }
 
   pub sinking-start : Places row₀ → Y ≡ requestsIn row₀ → Shifted noRequest X Y lo hi → Sinking X Y lo hi row₀ row₀ hi
   sinking-start p e S =
       let n : length Y ≡ length (requestsIn row₀) = ap length e in
-      record { shape = S; low = S .order; high = omega arith; size = refl; room = omega (arith, S .inside, S .size, p .even); places = p; done = sym e ∙ sink-start noRequest X Y lo hi S }
+      record { shape = S; low = S .order; high = omega arith; size = refl; room = omega (arith, S .inside, S .size, p .even); places = p;
+          done = sym e ∙ sink-start noRequest X Y lo hi S }
 
   module _ (held : List Request) (row : List ℕ) (i : ℕ) (M : Moving X Y lo hi row₀ held row i) (after : List ℕ) where
     -- a place is put, and `next` is what the row holds then
-    moved-on : (k : ℕ) (q : Request) (next : List Request) (j : ℕ) → Put row after k q → set held k q ≡ next → lo ≤ j → j ≤ hi → Moving X Y lo hi row₀ next after j
+    moved-on : (k : ℕ) (q : Request) (next : List Request) (j : ℕ) → Put row after k q → set held k q ≡ next → lo ≤ j → j ≤ hi
+        → Moving X Y lo hi row₀ next after j
     moved-on k q next j P e l h =
         let s = put-size row after k q P in
         record {
@@ -136,18 +149,22 @@ module _ (row : List ℕ) (len : ℕ) (good : Padded row len) (at : ℕ) where
 
   -- what the two loops leave, once the last place is put
   module _ (mid after : List ℕ) (i : ℕ) where
-    pub removed-by-loop : (x : Request) → at < len → len - 1 ≤ i → Rising (requestsIn row) (removed row len at) at (len - 1) row mid i → Put mid after (len - 1) x → x ≡ noRequest
+    pub removed-by-loop : (x : Request) → at < len → len - 1 ≤ i → Rising (requestsIn row) (removed row len at) at (len - 1) row mid i
+        → Put mid after (len - 1) x → x ≡ noRequest
         → Holds row after (len - 1) (take at (queueOf row len) ++ drop (suc at) (queueOf row len))
     unfolding removed
     removed-by-loop x h g M P e =
         let n = length-queue row len good in
-        let l : length (take at (queueOf row len) ++ drop (suc at) (queueOf row len)) ≡ len - 1 = simp (length-append, length-take-le at (queueOf row len) (omega arith), length-drop) (omega arith) in
-        let last : getD (removed row len at) (len - 1) noRequest ≡ x = getD-at (take at (queueOf row len) ++ drop (suc at) (queueOf row len)) noRequest _ noRequest (len - 1) l ∙ sym e in
+        let l : length (take at (queueOf row len) ++ drop (suc at) (queueOf row len)) ≡ len - 1 = simp (length-append,
+            length-take-le at (queueOf row len) (omega arith), length-drop) (omega arith) in
+        let last : getD (removed row len at) (len - 1) noRequest ≡ x = getD-at
+            (take at (queueOf row len) ++ drop (suc at) (queueOf row len)) noRequest _ noRequest (len - 1) l ∙ sym e in
         let all : requestsIn after ≡ removed row len at =
         put-requests mid after (len - 1) x P ∙ rw last at (rise-end noRequest _ _ _ _ (M .shape) i (requestsIn mid) (M .done) (omega (arith, M .high))) in
         holding row after (len - 1) (suc (length (requestsIn row) - len)) _ (put-size mid after (len - 1) x P ∙ M .size) (P .places (M .places)) all l
 
-    pub inserted-by-loop : (r : Request) → at ≤ len → 2 * (len + 1) ≤ length row → i ≤ at → Sinking (inserted row len at r) (requestsIn row) at len row mid i → Put mid after at r
+    pub inserted-by-loop : (r : Request) → at ≤ len → 2 * (len + 1) ≤ length row → i ≤ at
+        → Sinking (inserted row len at r) (requestsIn row) at len row mid i → Put mid after at r
         → Holds row after (len + 1) (take at (queueOf row len) ++ r ∷ drop at (queueOf row len))
     unfolding inserted
     inserted-by-loop r h room g M P =
@@ -164,13 +181,17 @@ module _ (row : List ℕ) (len : ℕ) (good : Padded row len) (r : Request) (at 
   pub slot-within : at ≡ 0 + first (matching Later r) (queueOf row len) → at ≤ len
   slot-within e = omega (arith, first-within (before r) (queueOf row len), length-queue row len good)
 
-  pub inserted-at-slot : (after : List ℕ) → at ≡ 0 + first (matching Later r) (queueOf row len) → Holds row after (len + 1) (take at (queueOf row len) ++ r ∷ drop at (queueOf row len)) → Holds row after (len + 1) (insert r (queueOf row len))
+  pub inserted-at-slot : (after : List ℕ) → at ≡ 0 + first (matching Later r) (queueOf row len)
+      → Holds row after (len + 1) (take at (queueOf row len) ++ r ∷ drop at (queueOf row len))
+      → Holds row after (len + 1) (insert r (queueOf row len))
   inserted-at-slot after e H =
       let a : at ≡ first (before r) (queueOf row len) = e ∙ zero-add _ in
       rw (insert-first r (queueOf row len), ← a) H
 
   module _ (e : at ≡ 0 + first (matching Pair r) (queueOf row len)) where
-    pub removed-where-found : (after : List ℕ) → at < len → Holds row after (len - 1) (take at (queueOf row len) ++ drop (suc at) (queueOf row len)) → Holds row after (len - 1) (without r (queueOf row len))
+    pub removed-where-found : (after : List ℕ) → at < len
+        → Holds row after (len - 1) (take at (queueOf row len) ++ drop (suc at) (queueOf row len))
+        → Holds row after (len - 1) (without r (queueOf row len))
     removed-where-found after h H =
         let n = length-queue row len good in
         let a : at ≡ first (λ x. same x r) (queueOf row len) = e ∙ zero-add _ in
@@ -206,5 +227,6 @@ module _ (row mid after : List ℕ) where
   pub holds-again : (n : ℕ) (l : List Request) → length mid ≡ length row → Holds mid after n l → Holds row after n l
   holds-again n l s H = record { size = H .size ∙ s; good = H .good; list = H .list }
 
-  pub holds-then : (n k : ℕ) (l : List Request) (f : List Request → List Request) → Holds row mid n l → Holds mid after k (f (queueOf mid n)) → Holds row after k (f l)
+  pub holds-then : (n k : ℕ) (l : List Request) (f : List Request → List Request) → Holds row mid n l
+      → Holds mid after k (f (queueOf mid n)) → Holds row after k (f l)
   holds-then n k l f G H = holds-again k (f l) (G .size) (record { size = H .size; good = H .good; list = H .list ∙ ap f (G .list) })

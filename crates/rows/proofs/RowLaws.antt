@@ -56,11 +56,13 @@ module _ (n : ℕ) (l : List Request) (room : length l ≤ n) where
       let k = length-row-of (2 * n) l (omega arith) in
       let m : length (requestsIn (rowOf (2 * n) l)) ≡ n = rw (row-of-requests, length-append, length-replicate) (omega arith) in
       holding (rowOf (2 * n) l) (rowOf (2 * n) l) (length l) (n - length l) l refl
-      (record { even = omega arith; small = rw row-of-requests (every-append fitsPlace l (replicate (n - length l) noRequest) small (every-same fitsPlace (n - length l) noRequest refl)) })
+      (record { even = omega arith; small = rw row-of-requests
+      (every-append fitsPlace l (replicate (n - length l) noRequest) small (every-same fitsPlace (n - length l) noRequest refl)) })
       row-of-requests refl .good
 
 -- a list in a row of so many words
-pub row-of-holds : (row : List ℕ) (n : ℕ) (l : List Request) → length row ≡ 2 * n → length l ≤ n → every fitsPlace l ≡ true → Holds row (rowOf (length row) l) (length l) l
+pub row-of-holds : (row : List ℕ) (n : ℕ) (l : List Request) → length row ≡ 2 * n → length l ≤ n → every fitsPlace l ≡ true
+    → Holds row (rowOf (length row) l) (length l) l
 row-of-holds row n l e h f =
     rw e (record { size = length-row-of (2 * n) l (omega arith) ∙ sym e; good = row-of-padded n l h f; list = row-of-queue n l h })
 

@@ -37,7 +37,8 @@ requests-set [] i q = refl
 requests-set (k ∷ []) zero q = refl
 requests-set (k ∷ []) (suc i) q = rw (next-place i)
 requests-set (k ∷ (t ∷ ws)) zero q = refl
-requests-set (k ∷ (t ∷ ws)) (suc i) q = rw (next-place i) (ap (λ (l : List Request). record { client = record { 0 = k }; timestamp = record { 0 = t } } ∷ l) (requests-set ws i q))
+requests-set (k ∷ (t ∷ ws)) (suc i) q = rw (next-place i)
+    (ap (λ (l : List Request). record { client = record { 0 = k }; timestamp = record { 0 = t } } ∷ l) (requests-set ws i q))
 
 -- the words of a row of places are those of its requests: what is said of the requests is said of every word
 pub row-again : (ws : List ℕ) → length ws ≡ 2 * length (requestsIn ws) → requestWords (requestsIn ws) ≡ ws
@@ -81,7 +82,8 @@ module _ (row : List ℕ) (i : ℕ) (h : 2 * i + 2 ≤ length row) where
   client-small p = leb-true _ _ (rw (requests-at row i h) at (small-at p))
 
 -- a request's words stored
-pub put-stored : (row : List ℕ) (i : ℕ) (r : Request) → r .client .0 ≤ maxClient → Put row (set (set row (2 * i) (r .client .0)) (2 * i + 1) (r .timestamp .0)) i r
+pub put-stored : (row : List ℕ) (i : ℕ) (r : Request) → r .client .0 ≤ maxClient
+    → Put row (set (set row (2 * i) (r .client .0)) (2 * i + 1) (r .timestamp .0)) i r
 put-stored row i r h = rw add-one (put-made row (sets row (2 * i) (wordsOf r)) i r refl (λ p. le-leb _ _ h))
 
 -- one place's words stored at another
@@ -89,7 +91,10 @@ module _ (row : List ℕ) (from to : ℕ) (h : 2 * from + 2 ≤ length row) wher
   unmoved : (v : ℕ) → getD (set row (2 * to) v) (2 * from + 1) 0 ≡ getD row (suc (2 * from)) 0
   unmoved v = getD-set-other row (2 * to) (2 * from + 1) v 0 (λ e. omega arith) ∙ rw add-one refl
 
-  pub put-copied : Put row (set (set row (2 * to) (getD row (2 * from) 0)) (2 * to + 1) (getD (set row (2 * to) (getD row (2 * from) 0)) (2 * from + 1) 0)) to (getD (requestsIn row) from noRequest)
+  pub put-copied : Put row
+      (set (set row (2 * to) (getD row (2 * from) 0)) (2 * to + 1) (getD (set row (2 * to) (getD row (2 * from) 0)) (2 * from + 1) 0)) to
+      (getD (requestsIn row) from noRequest)
   put-copied =
       let q = requests-at row from h in
-      rw (unmoved, add-one, q) (put-made row (sets row (2 * to) (wordsOf (placeAt row (2 * from)))) to (placeAt row (2 * from)) refl (λ p. rw q at (small-at row from h p)))
+      rw (unmoved, add-one,
+          q) (put-made row (sets row (2 * to) (wordsOf (placeAt row (2 * from)))) to (placeAt row (2 * from)) refl (λ p. rw q at (small-at row from h p)))

@@ -25,7 +25,8 @@ within-fed room r [] = refl
 within-fed room r (b ∷ s) =
     ⊎-elim
     (λ (e : ltb room maxPrinted ≡ true). rw e)
-    (λ (e : ltb room maxPrinted ≡ false). rw e (ap (λ (p : Printed Reader). record { now = p .now; out = taken r b .out ++ p .out }) (within-fed (room - length (taken r b .out)) (taken r b .now) s)))
+    (λ (e : ltb room maxPrinted ≡ false). rw e
+    (ap (λ (p : Printed Reader). record { now = p .now; out = taken r b .out ++ p .out }) (within-fed (room - length (taken r b .out)) (taken r b .now) s)))
     (decided (ltb room maxPrinted))
 
 -- no more than it was given
@@ -71,7 +72,8 @@ session-fed (c ∷ cs) r s =
     first = ap (fed r) (sym (take-take (q .used) (c .given) s few)) ∙ within-fed (c .room) r (take (c .given) s)
 
 -- The promise of the calls: once all of the input is taken in, what was printed, and then the end, is the output of the whole.
-pub any-cuts : (input : List ℕ) (cs : List Call) → session empty input cs .left ≡ [] → session empty input cs .out ++ finished (session empty input cs .now) ≡ output input
+pub any-cuts : (input : List ℕ) (cs : List Call) → session empty input cs .left ≡ []
+    → session empty input cs .out ++ finished (session empty input cs .now) ≡ output input
 unfolding fed
 any-cuts input cs e =
     let t : Session = session empty input cs in

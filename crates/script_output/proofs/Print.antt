@@ -19,5 +19,12 @@ use Rattle.script_output.specs.Output.{linesOf, answerLine, answers, eve
 use Rattle.script_output.specs.Samples.{lines, All, samples, example, twoHolders, yieldRound, redelivery, ownerlessAnswer, lostRelease, fallenOwner, epochs, refusals, empty, firstLineEmpty, firstLineUnknown, firstLineShort, firstLineZeroLed, firstLinePast32Bits, firstLineOf40Bytes, firstLineOf41Bytes, servers0, servers32, threshold0, thresholdAboveN, faultsAboveN, clients0, clients17, noLastNewline, emptyLastLine, stallingSetting}
 
 pub samples-print : All samples
-unfolding before equal timestampIn insert enqueue without promote delete inform act receive suspect check enough toAll tries exits next heard reply round judge responds checked inRangeUpTo added numbered pending replaced downFrom worst deliver event withPlaces after start runBy acceptedEvents mostHolders digit digits number lastDigits decimal same word rest spaced commandIn eventOf eventIn fourIn settingIn headerLine okLine noLine endLine refusedLine linesOf answerLine answers eventsIn endOf played printedFor output lines samples example twoHolders yieldRound redelivery ownerlessAnswer lostRelease fallenOwner epochs refusals empty firstLineEmpty firstLineUnknown firstLineShort firstLineZeroLed firstLinePast32Bits firstLineOf40Bytes firstLineOf41Bytes servers0 servers32 threshold0 thresholdAboveN faultsAboveN clients0 clients17 noLastNewline emptyLastLine stallingSetting
-samples-print = (refl, (refl, (refl, (refl, (refl, (refl, (refl, (refl, (refl, (refl, (refl, (refl, (refl, (refl, (refl, (refl, (refl, (refl, (refl, (refl, (refl, (refl, (refl, (refl, (refl, (refl, (refl, tt)))))))))))))))))))))))))))
+unfolding before equal timestampIn insert enqueue without promote delete inform act receive suspect check enough toAll tries exits next
+    heard reply round judge responds checked inRangeUpTo added numbered pending replaced downFrom worst deliver event withPlaces after start
+    runBy acceptedEvents mostHolders digit digits number lastDigits decimal same word rest spaced commandIn eventOf eventIn fourIn settingIn
+    headerLine okLine noLine endLine refusedLine linesOf answerLine answers eventsIn endOf played printedFor output lines samples example
+    twoHolders yieldRound redelivery ownerlessAnswer lostRelease fallenOwner epochs refusals empty firstLineEmpty firstLineUnknown
+    firstLineShort firstLineZeroLed firstLinePast32Bits firstLineOf40Bytes firstLineOf41Bytes servers0 servers32 threshold0 thresholdAboveN
+    faultsAboveN clients0 clients17 noLastNewline emptyLastLine stallingSetting
+samples-print = (refl, (refl, (refl, (refl, (refl,
+    (refl, (refl, (refl, (refl, (refl, (refl, (refl, (refl, (refl, (refl, (refl, (refl, (refl, (refl, (refl, (refl, (refl, (refl, (refl, (refl, (refl, (refl, tt)))))))))))))))))))))))))))

@@ -140,7 +140,8 @@ bytes-told (b ∷ s) st l = rest-cons (reader st l) b s ∙ go (bytes-told s) (d
 -- the run so far, and the events to come
 module _ (s : Setting) where
   -- a line that is read, and what the whole says of it
-  line-bad : (r : Script) (l : List ℕ) → r .answered < maxLines → eventIn l ≡ none → lineTaken r l ≡ record { now = onward r (r .run); out = noLine (suc (r .answered)) BadLine }
+  line-bad : (r : Script) (l : List ℕ) → r .answered < maxLines → eventIn l ≡ none
+      → lineTaken r l ≡ record { now = onward r (r .run); out = noLine (suc (r .answered)) BadLine }
   unfolding lineTaken
   line-bad r l lt e = rw (lt-ltb (r .answered) maxLines lt, e)
 
@@ -185,7 +186,8 @@ module _ (s : Setting) where
   unfolding worked
   told-line r l ls = told-cons (running r) l ls
 
-  module _ (ls : List (List ℕ)) (ih : (r : Script) → r .run .setting ≡ s → r .answered ≤ maxLines → told (running r) ls ≡ toCome r (take (maxLines - r .answered) ls))
+  module _ (ls : List (List ℕ)) (ih : (r : Script) → r .run .setting ≡ s → r .answered ≤ maxLines
+      → told (running r) ls ≡ toCome r (take (maxLines - r .answered) ls))
       (r : Script) (q : r .run .setting ≡ s) (l : List ℕ) where
     -- what the whole says of this line
     bad-told : (tl : List (List ℕ)) → eventIn l ≡ none → noLine (suc (r .answered)) BadLine ++ toCome (onward r (r .run)) tl ≡ toCome r (l ∷ tl)
@@ -199,9 +201,11 @@ module _ (s : Setting) where
     unfolding plays
     event-told tl x e =
         let o : Result = happens s (r .run .system) x in
-        let w : next (r .run) x .system ≡ after (r .run .system) o = moved-system (r .run) _ ∙ ap (λ (t : Setting). after (r .run .system) (happens t (r .run .system) x)) q in
+        let w : next (r .run) x .system ≡ after (r .run .system) o = moved-system (r .run) _ ∙
+            ap (λ (t : Setting). after (r .run .system) (happens t (r .run .system) x)) q in
         sym (append-assoc (answerLine (suc (r .answered)) (r .run .system) o) (answers s (suc (suc (r .answered))) (next (r .run) x .system) tl) _) ∙
-        (ap (λ (v : System). (answerLine (suc (r .answered)) (r .run .system) o ++ answers s (suc (suc (r .answered))) v tl) ++ endRun (plays (next (r .run) x) (eventsIn tl))) w ∙
+        (ap (λ (v : System). (answerLine (suc (r .answered)) (r .run .system) o ++ answers s (suc (suc (r .answered))) v tl) ++ endRun
+        (plays (next (r .run) x) (eventsIn tl))) w ∙
         (ap (λ (y : List ℕ). y ++ endRun (plays (next (r .run) x) (eventsIn tl))) (sym (answers-event (suc (r .answered)) (r .run .system) l tl x e)) ∙
         ap (λ (es : List Event). answers s (suc (r .answered)) (r .run .system) (l ∷ tl) ++ endRun (plays (r .run) es)) (sym (events-event l tl x e))))
 
@@ -212,13 +216,15 @@ module _ (s : Setting) where
         one-more : maxLines - r .answered ≡ suc (maxLines - suc (r .answered))
         one-more = omega (arith, lt)
 
-        go : (o : Option Event) → eventIn l ≡ o → lineTaken r l .out ++ told (running (lineTaken r l .now)) ls ≡ toCome r (l ∷ take (maxLines - suc (r .answered)) ls)
+        go : (o : Option Event) → eventIn l ≡ o
+            → lineTaken r l .out ++ told (running (lineTaken r l .now)) ls ≡ toCome r (l ∷ take (maxLines - suc (r .answered)) ls)
         go none e =
             ap (λ (p : Printed Script). p .out ++ told (running (p .now)) ls) (line-bad r l lt e) ∙
             (ap (λ (x : List ℕ). noLine (suc (r .answered)) BadLine ++ x) (ih (onward r (r .run)) q lt) ∙ bad-told (take (maxLines - suc (r .answered)) ls) e)
         go (some x) e =
             ap (λ (p : Printed Script). p .out ++ told (running (p .now)) ls) (line-event r l x q lt e) ∙
-            (ap (λ (y : List ℕ). answerLine (suc (r .answered)) (r .run .system) (happens s (r .run .system) x) ++ y) (ih (onward r (next (r .run) x)) (moved-setting (r .run) _ ∙ q) lt) ∙
+            (ap (λ (y : List ℕ). answerLine (suc (r .answered)) (r .run .system) (happens s (r .run .system) x) ++ y)
+            (ih (onward r (next (r .run) x)) (moved-setting (r .run) _ ∙ q) lt) ∙
             event-told (take (maxLines - suc (r .answered)) ls) x e)
 
     -- the last line that is read was answered: it is not
@@ -229,7 +235,8 @@ module _ (s : Setting) where
         (ap (λ (p : Printed Script). p .out ++ told (running (p .now)) ls) (line-unread r l ge) ∙
         (ih r q le ∙ (ap (λ (k : ℕ). toCome r (take k ls)) z ∙ sym (ap (λ (k : ℕ). toCome r (take k (l ∷ ls))) z))))
 
-  running-told : (ls : List (List ℕ)) (r : Script) → r .run .setting ≡ s → r .answered ≤ maxLines → told (running r) ls ≡ toCome r (take (maxLines - r .answered) ls)
+  running-told : (ls : List (List ℕ)) (r : Script) → r .run .setting ≡ s → r .answered ≤ maxLines
+      → told (running r) ls ≡ toCome r (take (maxLines - r .answered) ls)
   unfolding workedAll
   running-told [] r q le = to-come-none r ∙ ap (λ (x : List (List ℕ)). toCome r x) (sym (take-nil (maxLines - r .answered)))
   running-told (l ∷ ls) r q le =
@@ -244,11 +251,13 @@ closed-told [] = refl
 closed-told (l ∷ ls) = closed-told ls
 
 -- a script that runs: the counts that its run keeps are those of its events
-whole-run : (s : Setting) (ls : List (List ℕ)) → told (running (unanswered (started s))) ls ≡ answers s 1 (fresh s) (take maxLines ls) ++ endOf s (eventsIn (take maxLines ls))
+whole-run : (s : Setting) (ls : List (List ℕ))
+    → told (running (unanswered (started s))) ls ≡ answers s 1 (fresh s) (take maxLines ls) ++ endOf s (eventsIn (take maxLines ls))
 unfolding endOf
 whole-run s ls =
     running-told s ls (unanswered (started s)) refl (omega arith) ∙
-    ap (λ (r : Run). answers s 1 (fresh s) (take maxLines ls) ++ endLine (r .accepted) (r .holding) (r .system .most)) (plays-counted s (eventsIn (take maxLines ls)))
+    ap (λ (r : Run). answers s 1 (fresh s) (take maxLines ls) ++ endLine (r .accepted) (r .holding) (r .system .most))
+        (plays-counted s (eventsIn (take maxLines ls)))
 
 refused-told : (x : List ℕ) (ls : List (List ℕ)) → x ++ told closed ls ≡ x
 refused-told x ls = ap (λ (y : List ℕ). x ++ y) (closed-told ls) ∙ append-nil x
@@ -271,7 +280,8 @@ lines-told (l ∷ ls) = told-cons opening l ls ∙ opened-told (settingIn l) ls
 -- The whole script, byte by byte.
 pub whole : (input : List ℕ) → fed empty input .out ++ finished (fed empty input .now) ≡ output input
 unfolding output
-whole input = ap (λ (x : List ℕ). rest (record { stage = opening; line = x }) input) (sym (take-nil maxKept)) ∙ (bytes-told input opening [] ∙ lines-told (linesOf input))
+whole input = ap (λ (x : List ℕ). rest (record { stage = opening; line = x }) input) (sym (take-nil maxKept)) ∙
+    (bytes-told input opening [] ∙ lines-told (linesOf input))
 
 -- In two parts, and so in any: what the first prints, then what the second prints behind it.
 pub in-parts : (r : Reader) (a b : List ℕ) → fed r (a ++ b) ≡ record { now = fed (fed r a .now) b .now; out = fed r a .out ++ fed (fed r a .now) b .out }
@@ -279,4 +289,5 @@ unfolding fed
 in-parts r [] b = refl
 in-parts r (x ∷ a) b =
     ap (λ (p : Printed Reader). record { now = p .now; out = taken r x .out ++ p .out }) (in-parts (taken r x .now) a b) ∙
-    ap (λ (y : List ℕ). record { now = fed (fed r (x ∷ a) .now) b .now; out = y }) (sym (append-assoc (taken r x .out) (fed (taken r x .now) a .out) (fed (fed (taken r x .now) a .now) b .out)))
+    ap (λ (y : List ℕ). record { now = fed (fed r (x ∷ a) .now) b .now; out = y })
+        (sym (append-assoc (taken r x .out) (fed (taken r x .now) a .out) (fed (fed (taken r x .now) a .now) b .out)))

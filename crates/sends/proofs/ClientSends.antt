@@ -68,12 +68,14 @@ judge-few wins n r l =
     (λ (a : wins (map filled l) ≡ true).
     ⊎-elim
     (λ (b : wins (map (isRequest r) l) ≡ true). rw (a, b) (nothing (length l)))
-    (λ (b : wins (map (isRequest r) l) ≡ false). rw (a, b) (record { few = omega (arith, length-round r 1 l, count-few l); small = omega (arith, size-round r 1 l, count-few l) }))
+    (λ (b : wins (map (isRequest r) l) ≡ false). rw (a, b)
+    (record { few = omega (arith, length-round r 1 l, count-few l); small = omega (arith, size-round r 1 l, count-few l) }))
     (decided (wins (map (isRequest r) l))))
     (λ (a : wins (map filled l) ≡ false). rw a (nothing (length l)))
     (decided (wins (map filled l)))
 
-pub responds-few : (wins : Quorum) (n : ℕ) (k : ClientId) (j : ServerId) (o : Owner) (c : State) → AtMost (length (c .responses)) (responds wins n k j o c .sent)
+pub responds-few : (wins : Quorum) (n : ℕ) (k : ClientId) (j : ServerId) (o : Owner) (c : State)
+    → AtMost (length (c .responses)) (responds wins n k j o c .sent)
 unfolding responds
 responds-few wins n k j o c =
     let r : Pair = record { client = k; timestamp = c .timestamp } in
@@ -88,7 +90,8 @@ released k j t = record { few = omega arith; small = rw sizeOfAll-one (omega (ar
 pub checked-few : (k : ClientId) (j : ServerId) (t : Timestamp) (c : State) → AtMost 1 (checked k j t c .sent)
 unfolding checked
 checked-few k j t c =
-    ⊎-elim (λ (e : eqb (t .0) (c .timestamp .0) ≡ true). rw e (nothing 1)) (λ (e : eqb (t .0) (c .timestamp .0) ≡ false). rw e (released k j t)) (decided (eqb (t .0) (c .timestamp .0)))
+    ⊎-elim (λ (e : eqb (t .0) (c .timestamp .0) ≡ true). rw e (nothing 1))
+        (λ (e : eqb (t .0) (c .timestamp .0) ≡ false). rw e (released k j t)) (decided (eqb (t .0) (c .timestamp .0)))
 
 to-all : (f : ServerId → Message) → ((j : ServerId) → sizeOf (f j) ≡ messageBytes) → (n : ℕ) → AtMost n (toAll f n)
 to-all f h n = record { few = omega (arith, length-toAll f n); small = omega (arith, size-toAll f h n) }
@@ -115,7 +118,8 @@ module _ (n : ℕ) where
       (λ (a : wins (map filled l) ≡ false). rw a g)
       (decided (wins (map filled l)))
 
-  responds-long : (wins : Quorum) (k : ClientId) (j : ServerId) (o : Owner) (c : State) → length (c .responses) ≤ n → length (responds wins n k j o c .state .responses) ≤ n
+  responds-long : (wins : Quorum) (k : ClientId) (j : ServerId) (o : Owner) (c : State) → length (c .responses) ≤ n
+      → length (responds wins n k j o c .state .responses) ≤ n
   unfolding responds
   responds-long wins k j o c g =
       let r : Pair = record { client = k; timestamp = c .timestamp } in
@@ -179,7 +183,8 @@ module _ (c : Client) (p : Step State) where
       let h₃ = entered (mayTry (view c)) (never TimestampsSpent p) h₂ in
       let g : tries (c .head .n) (c .head .id) (view c) ≡ p = cc in
       let v : valid c ≡ true = not-false (valid c) a in
-      record { before = v; most = rw (← g) (tries-few (c .head .n) (c .head .id) (view c)); long = rw (← g, length-replicate (c .head .n) Nobody) (omega arith) }
+      record { before = v; most = rw (← g) (tries-few (c .head .n) (c .head .id) (view c));
+          long = rw (← g, length-replicate (c .head .n) Nobody) (omega arith) }
 
   pub exit-accepted : exitOutcome c ≡ stepped p → Accepted
   unfolding exitOutcome exits
@@ -188,11 +193,13 @@ module _ (c : Client) (p : Step State) where
       let h₂ = entered (isCritical (view c .section)) (never WrongSection p) h₁ in
       let g : exits (c .head .n) (c .head .id) (view c) ≡ p = cc in
       let v : valid c ≡ true = not-false (valid c) a in
-      record { before = v; most = rw (← g) (exits-few (c .head .n) (c .head .id) (view c)); long = rw (← g, length-replicate (c .head .n) Nobody) (omega arith) }
+      record { before = v; most = rw (← g) (exits-few (c .head .n) (c .head .id) (view c));
+          long = rw (← g, length-replicate (c .head .n) Nobody) (omega arith) }
 
 -- what passes f: the messages with which request r replies to server j
 abbrev pub Replies : (Message → Bool) → Pair → ServerId → Type 0
-Replies f r j = (f (Yield (r .client) j (r .timestamp)) ≡ true) × (f (Request (r .client) j (r .timestamp)) ≡ true) × (f (Inquiry (r .client) j (r .timestamp)) ≡ true)
+Replies f r j = (f (Yield (r .client) j (r .timestamp)) ≡ true) × (f (Request (r .client) j (r .timestamp)) ≡ true) × (f
+    (Inquiry (r .client) j (r .timestamp)) ≡ true)
 
 module _ (f : Message → Bool) where
   all-pass : (g : ServerId → Message) (n : ℕ) → ((j : ℕ) → 1 ≤ j → j ≤ n → f (g (record { 0 = j })) ≡ true) → every f (toAll g n) ≡ true
@@ -210,14 +217,16 @@ module _ (f : Message → Bool) where
   unfolding reply
   reply-passes r j o h = chosen (eqb (o .client .0) (r .client .0)) (before r o) _ _ _ (h .0) (h .1) (h .2)
 
-  round-passes : (r : Pair) (n j : ℕ) (l : List Owner) → 1 ≤ j → j + length l ≤ suc n → ((i : ℕ) → 1 ≤ i → i ≤ n → Replies f r (record { 0 = i })) → every f (round r j l) ≡ true
+  round-passes : (r : Pair) (n j : ℕ) (l : List Owner) → 1 ≤ j → j + length l ≤ suc n
+      → ((i : ℕ) → 1 ≤ i → i ≤ n → Replies f r (record { 0 = i })) → every f (round r j l) ≡ true
   unfolding round
   round-passes r n j [] a b h = refl
   round-passes r n j (Nobody ∷ l) a b h = round-passes r n (suc j) l (omega arith) (omega arith) h
   round-passes r n j (Of o ∷ l) a b h =
       rw (reply-passes r (record { 0 = j }) o (h j a (omega arith))) (round-passes r n (suc j) l (omega arith) (omega arith) h)
 
-  judge-passes : (wins : Quorum) (n : ℕ) (r : Pair) (l : List Owner) → length l ≤ n → ((i : ℕ) → 1 ≤ i → i ≤ n → Replies f r (record { 0 = i })) → every f (judge wins n r l .sent) ≡ true
+  judge-passes : (wins : Quorum) (n : ℕ) (r : Pair) (l : List Owner) → length l ≤ n
+      → ((i : ℕ) → 1 ≤ i → i ≤ n → Replies f r (record { 0 = i })) → every f (judge wins n r l .sent) ≡ true
   unfolding judge
   judge-passes wins n r l few h =
       ⊎-elim
@@ -229,16 +238,19 @@ module _ (f : Message → Bool) where
       (λ (a : wins (map filled l) ≡ false). rw a refl)
       (decided (wins (map filled l)))
 
-  pub tries-passes : (n : ℕ) (k : ClientId) (c : State) → ((j : ℕ) → 1 ≤ j → j ≤ n → f (Request k (record { 0 = j }) (next (c .timestamp))) ≡ true) → every f (tries n k c .sent) ≡ true
+  pub tries-passes : (n : ℕ) (k : ClientId) (c : State)
+      → ((j : ℕ) → 1 ≤ j → j ≤ n → f (Request k (record { 0 = j }) (next (c .timestamp))) ≡ true) → every f (tries n k c .sent) ≡ true
   unfolding tries
   tries-passes n k c h = all-pass _ n h
 
-  pub exits-passes : (n : ℕ) (k : ClientId) (c : State) → ((j : ℕ) → 1 ≤ j → j ≤ n → f (Release k (record { 0 = j }) (c .timestamp)) ≡ true) → every f (exits n k c .sent) ≡ true
+  pub exits-passes : (n : ℕ) (k : ClientId) (c : State) → ((j : ℕ) → 1 ≤ j → j ≤ n → f (Release k (record { 0 = j }) (c .timestamp)) ≡ true)
+      → every f (exits n k c .sent) ≡ true
   unfolding exits
   exits-passes n k c h = all-pass _ n h
 
   pub responds-passes : (wins : Quorum) (n : ℕ) (k : ClientId) (j : ServerId) (o : Owner) (c : State) → length (c .responses) ≤ n
-      → (isTrying (c .section) ≡ true → (i : ℕ) → 1 ≤ i → i ≤ n → Replies f (record { client = k; timestamp = c .timestamp }) (record { 0 = i })) → every f (responds wins n k j o c .sent) ≡ true
+      → (isTrying (c .section) ≡ true → (i : ℕ) → 1 ≤ i → i ≤ n → Replies f (record { client = k; timestamp = c .timestamp }) (record { 0 = i }))
+          → every f (responds wins n k j o c .sent) ≡ true
   unfolding responds
   responds-passes wins n k j o c few h =
       let r : Pair = record { client = k; timestamp = c .timestamp } in
@@ -250,10 +262,12 @@ module _ (f : Message → Bool) where
   pub checked-passes : (k : ClientId) (j : ServerId) (t : Timestamp) (c : State) → f (Release k j t) ≡ true → every f (checked k j t c .sent) ≡ true
   unfolding checked
   checked-passes k j t c h =
-      ⊎-elim (λ (e : eqb (t .0) (c .timestamp .0) ≡ true). rw e refl) (λ (e : eqb (t .0) (c .timestamp .0) ≡ false). rw (e, h)) (decided (eqb (t .0) (c .timestamp .0)))
+      ⊎-elim (λ (e : eqb (t .0) (c .timestamp .0) ≡ true). rw e refl) (λ (e : eqb (t .0) (c .timestamp .0) ≡ false). rw (e, h))
+          (decided (eqb (t .0) (c .timestamp .0)))
 
 -- every number that a client in a fitting state sends is in its range
-stamped : (k : ClientId) (j : ℕ) (t : Timestamp) → validClient k ≡ true → 1 ≤ j → j ≤ maxServers → 1 ≤ t .0 → t .0 ≤ maxTimestamp → validStamped k (record { 0 = j }) t ≡ true
+stamped : (k : ClientId) (j : ℕ) (t : Timestamp) → validClient k ≡ true → 1 ≤ j → j ≤ maxServers → 1 ≤ t .0 → t .0 ≤ maxTimestamp
+    → validStamped k (record { 0 = j }) t ≡ true
 unfolding validStampedUpTo validPartiesUpTo
 stamped k j t v a b c d = rw (v, le-leb 1 j a, le-leb j maxServers b, le-leb 1 (t .0) c, le-leb (t .0) maxTimestamp d)
 
@@ -271,7 +285,8 @@ module _ (n m : ℕ) (k : ClientId) (s : State) (F : Fits n m k s) where
   pub tries-valid : s .timestamp .0 ≤ lastTry → every format.valid (tries n k s .sent) ≡ true
   unfolding format.validUpTo next
   tries-valid h =
-      tries-passes format.valid n k s (λ j a b. stamped k j (next (s .timestamp)) (F .ranges .client) a (omega (arith, F .ranges .few)) (omega arith) (omega arith))
+      tries-passes format.valid n k s
+          (λ j a b. stamped k j (next (s .timestamp)) (F .ranges .client) a (omega (arith, F .ranges .few)) (omega arith) (omega arith))
 
   pub exits-valid : isCritical (s .section) ≡ true → every format.valid (exits n k s .sent) ≡ true
   unfolding format.validUpTo
@@ -284,9 +299,11 @@ module _ (n m : ℕ) (k : ClientId) (s : State) (F : Fits n m k s) where
   responds-valid wins j o =
       responds-passes format.valid wins n k j o s (omega (arith, F .long)) (λ t i a b.
       let (c, d) = in-trying (s .section) (s .timestamp) t (F .timestamp) in
-      let v : validStamped k (record { 0 = i }) (s .timestamp) ≡ true = stamped k i (s .timestamp) (F .ranges .client) a (omega (arith, F .ranges .few)) c (omega arith) in
+      let v : validStamped k (record { 0 = i }) (s .timestamp) ≡ true = stamped k i (s .timestamp) (F .ranges .client) a
+          (omega (arith, F .ranges .few)) c (omega arith) in
       (v, v, v))
 
-pub checked-valid : (k : ClientId) (j : ServerId) (t : Timestamp) (s : State) → format.valid (Check k j t) ≡ true → every format.valid (checked k j t s .sent) ≡ true
+pub checked-valid : (k : ClientId) (j : ServerId) (t : Timestamp) (s : State) → format.valid (Check k j t) ≡ true
+    → every format.valid (checked k j t s .sent) ≡ true
 unfolding format.validUpTo
 checked-valid k j t s v = checked-passes format.valid k j t s v

@@ -63,12 +63,14 @@ module _ (j : ServerId) where
   delete-few : (r : Pair) (q : State) → length (delete j r q .sent) ≤ 1
   unfolding delete
   delete-few r q =
-      ⊎-elim (λ (t : isRequest r (q .owner) ≡ true). rw t (promote-few (q .queue))) (λ (t : isRequest r (q .owner) ≡ false). rw t (omega arith)) (decided (isRequest r (q .owner)))
+      ⊎-elim (λ (t : isRequest r (q .owner) ≡ true). rw t (promote-few (q .queue)))
+          (λ (t : isRequest r (q .owner) ≡ false). rw t (omega arith)) (decided (isRequest r (q .owner)))
 
   inform-few : (k : ClientId) (q : State) → length (inform j k q .sent) ≤ 1
   unfolding inform
   inform-few k q =
-      ⊎-elim (λ (t : isClient k (q .owner) ≡ true). rw t (omega arith)) (λ (t : isClient k (q .owner) ≡ false). rw t (omega arith)) (decided (isClient k (q .owner)))
+      ⊎-elim (λ (t : isClient k (q .owner) ≡ true). rw t (omega arith)) (λ (t : isClient k (q .owner) ≡ false). rw t (omega arith))
+          (decided (isClient k (q .owner)))
 
   yielded-few : (b : Bool) (l : List Pair) (q : State) → length ((if b then promote j l else stay q) .sent) ≤ 1
   yielded-few true l q = promote-few l
@@ -81,7 +83,8 @@ module _ (j : ServerId) where
   act-few : (tag : Tag) (r : Pair) (q : State) → length (act j tag r q .sent) ≤ 2
   unfolding act
   act-few REQUEST r q =
-      ⊎-elim (λ (t : isClient (r .client) (q .owner) ≡ true). rw t (omega arith)) (λ (t : isClient (r .client) (q .owner) ≡ false). rw t (omega arith)) (decided (isClient (r .client) (q .owner)))
+      ⊎-elim (λ (t : isClient (r .client) (q .owner) ≡ true). rw t (omega arith))
+          (λ (t : isClient (r .client) (q .owner) ≡ false). rw t (omega arith)) (decided (isClient (r .client) (q .owner)))
   act-few YIELD r q =
       let a : Step State = if isRequest r (q .owner) then promote j (insert r (q .queue)) else stay q in
       rw length-append (omega (arith, yielded-few (isRequest r (q .owner)) (insert r (q .queue)) q, inform-few (r .client) (a .state)))
@@ -89,14 +92,17 @@ module _ (j : ServerId) where
   act-few INQUIRY r q = omega (arith, inquired-few (q .owner) (r .client) q)
 
   compared-few : (older newer : Bool) (tag : Tag) (r p : Pair) (q : State)
-      → length ((if older then stay q else if newer then record { state = act j tag r (delete j p q .state) .state; sent = delete j p q .sent ++ act j tag r (delete j p q .state) .sent } else act j tag r q) .sent) ≤ 3
+      → length ((if older then stay q else if newer then record
+          { state = act j tag r (delete j p q .state) .state; sent = delete j p q .sent ++ act j tag r (delete j p q .state) .sent } else
+          act j tag r q) .sent) ≤ 3
   compared-few true newer tag r p q = omega arith
   compared-few false true tag r p q = rw length-append (omega (arith, delete-few p q, act-few tag r (delete j p q .state)))
   compared-few false false tag r p q = omega (arith, act-few tag r q)
 
   received-few : (o : Option Timestamp) (tag : Tag) (r : Pair) (q : State) → length (maybe o (act j tag r q) (compare j tag r q) .sent) ≤ 3
   received-few none tag r q = omega (arith, act-few tag r q)
-  received-few (some t) tag r q = compared-few (ltb (r .timestamp .0) (t .0)) (ltb (t .0) (r .timestamp .0)) tag r (record { client = r .client; timestamp = t }) q
+  received-few (some t) tag r q = compared-few (ltb (r .timestamp .0) (t .0)) (ltb (t .0) (r .timestamp .0)) tag r
+      (record { client = r .client; timestamp = t }) q
 
   pub receive-few : (tag : Tag) (r : Pair) (q : State) → length (receive j tag r q .sent) ≤ 3
   unfolding receive
@@ -162,7 +168,8 @@ module _ (s : Server) (p : Step State) where
 
   taken-short : (tag : Tag) (k : ClientId) (j : ServerId) (t : Timestamp) → server-calls.taken s tag k j t ≡ stepped p → Short p
   taken-short tag k j t e =
-      held-short (receive (s .head .id) tag (record { client = k; timestamp = t }) (server.view s)) (receive-few (s .head .id) tag (record { client = k; timestamp = t }) (server.view s))
+      held-short (receive (s .head .id) tag (record { client = k; timestamp = t }) (server.view s))
+          (receive-few (s .head .id) tag (record { client = k; timestamp = t }) (server.view s))
       (entered (eqb (j .0) (s .head .id .0)) (never NotForServer p) e)
 
   received-short : (m : Message) → server-calls.received s m ≡ stepped p → Short p
@@ -216,7 +223,8 @@ module _ (s : Server) (p : Step State) where
       let (a, h) = passed (not (server.valid s)) (never InvalidRecord p) e in
       let v : server.valid s ≡ true = not-false (server.valid s) a in
       let g : check (s .head .id) (server.view s) ≡ p = cc in
-      accepted v (check-keeps-valid s v p e) (rw (← g) (record { few = check-few (s .head .id) (server.view s); room = rw (check-same (s .head .id) (server.view s)) (its-room v) }))
+      accepted v (check-keeps-valid s v p e)
+          (rw (← g) (record { few = check-few (s .head .id) (server.view s); room = rw (check-same (s .head .id) (server.view s)) (its-room v) }))
 
 -- the owner and the queue pass g
 pub record Knows (g : Pair → Bool) (q : State) : Type 0 where
@@ -243,7 +251,8 @@ module _ (g : Pair → Bool) (f : Message → Bool) (j : ServerId)
   delete-passes r q k =
       ⊎-elim
       (λ (t : isRequest r (q .owner) ≡ true). rw t (promote-passes (q .queue) (k .queue)))
-      (λ (t : isRequest r (q .owner) ≡ false). rw t (record { sent = refl; left = record { owner = k .owner; queue = every-without g r (q .queue) (k .queue) } }))
+      (λ (t : isRequest r (q .owner) ≡ false). rw t
+      (record { sent = refl; left = record { owner = k .owner; queue = every-without g r (q .queue) (k .queue) } }))
       (decided (isRequest r (q .owner)))
 
   inform-passes : (r : Pair) (q : State) → g r ≡ true → Knows g q → every f (inform j (r .client) q .sent) ≡ true
@@ -254,7 +263,8 @@ module _ (g : Pair → Bool) (f : Message → Bool) (j : ServerId)
       (λ (t : isClient (r .client) (q .owner) ≡ false). rw (t, tells r (q .owner) a (k .owner)))
       (decided (isClient (r .client) (q .owner)))
 
-  admit-passes : (r : Pair) (o : Owner) (l : List Pair) → g r ≡ true → byOwner o true g ≡ true → f (Response (r .client) j (admit r (record { owner = o; queue = l }) .owner)) ≡ true
+  admit-passes : (r : Pair) (o : Owner) (l : List Pair) → g r ≡ true → byOwner o true g ≡ true
+      → f (Response (r .client) j (admit r (record { owner = o; queue = l }) .owner)) ≡ true
   admit-passes r Nobody l a h = tells r (Of r) a a
   admit-passes r (Of o) l a h = tells r (Of o) a h
 
@@ -281,16 +291,20 @@ module _ (g : Pair → Bool) (f : Message → Bool) (j : ServerId)
   act-passes INQUIRY r q a k = inquiry-passes (q .owner) r q a k
 
   compared-passes : (older newer : Bool) (tag : Tag) (r p : Pair) (q : State) → g r ≡ true → Knows g q
-      → every f ((if older then stay q else if newer then record { state = act j tag r (delete j p q .state) .state; sent = delete j p q .sent ++ act j tag r (delete j p q .state) .sent } else act j tag r q) .sent) ≡ true
+      → every f ((if older then stay q else if newer then record
+          { state = act j tag r (delete j p q .state) .state; sent = delete j p q .sent ++ act j tag r (delete j p q .state) .sent } else
+          act j tag r q) .sent) ≡ true
   compared-passes true newer tag r p q a k = refl
   compared-passes false true tag r p q a k =
       let d : Passes g f (delete j p q) = delete-passes p q k in
       every-append f (delete j p q .sent) (act j tag r (delete j p q .state) .sent) (d .sent) (act-passes tag r (delete j p q .state) a (d .left))
   compared-passes false false tag r p q a k = act-passes tag r q a k
 
-  received-passes : (o : Option Timestamp) (tag : Tag) (r : Pair) (q : State) → g r ≡ true → Knows g q → every f (maybe o (act j tag r q) (compare j tag r q) .sent) ≡ true
+  received-passes : (o : Option Timestamp) (tag : Tag) (r : Pair) (q : State) → g r ≡ true → Knows g q
+      → every f (maybe o (act j tag r q) (compare j tag r q) .sent) ≡ true
   received-passes none tag r q a k = act-passes tag r q a k
-  received-passes (some t) tag r q a k = compared-passes (ltb (r .timestamp .0) (t .0)) (ltb (t .0) (r .timestamp .0)) tag r (record { client = r .client; timestamp = t }) q a k
+  received-passes (some t) tag r q a k = compared-passes (ltb (r .timestamp .0) (t .0)) (ltb (t .0) (r .timestamp .0)) tag r
+      (record { client = r .client; timestamp = t }) q a k
 
   pub receive-passes : (tag : Tag) (r : Pair) (q : State) → g r ≡ true → Knows g q → every f (receive j tag r q .sent) ≡ true
   unfolding receive
@@ -304,7 +318,8 @@ module _ (g : Pair → Bool) (f : Message → Bool) (j : ServerId)
   unfolding suspect
   suspect-passes q k = suspected-passes (q .owner) q k
 
-  checked-passes : (o : Owner) (q : State) → byOwner o true g ≡ true → every f (byOwner o (stay q) (λ x. tell q (Check (x .client) j (x .timestamp))) .sent) ≡ true
+  checked-passes : (o : Owner) (q : State) → byOwner o true g ≡ true
+      → every f (byOwner o (stay q) (λ x. tell q (Check (x .client) j (x .timestamp))) .sent) ≡ true
   checked-passes Nobody q h = refl
   checked-passes (Of x) q h = rw (asks x h)
 

@@ -61,7 +61,8 @@ module _ (h : Head) (row : List ℕ) (r : Turned) (b : Bool) (e : b ≡ valid (s
     module _ (m : Message) (v : Bool) (f : v ≡ format.valid m) where
       pub message-range : not v ≡ true → r ≡ refusing h NumberOutOfRange → Turns h row (messageOutcome s m) r row
       unfolding messageOutcomeUpTo
-      message-range t p = let z : format.valid m ≡ false = sym f ∙ not-true v t in turns-refused h row (messageOutcome s m) r NumberOutOfRange (rw (sound n, z)) p
+      message-range t p = let z : format.valid m ≡ false = sym f ∙
+          not-true v t in turns-refused h row (messageOutcome s m) r NumberOutOfRange (rw (sound n, z)) p
 
       module _ (t : not v ≡ false) where
         its-kind : messageOutcome s m ≡ received s m
@@ -96,19 +97,23 @@ module _ (h : Head) (row : List ℕ) (r : Turned) (b : Bool) (e : b ≡ valid (s
       check-asks : checkOutcome s ≡ stepped (tell (view s) (Check (x .client) (h .id) (x .timestamp)))
       unfolding checkOutcome check
       check-asks =
-          rw (sound n) (ap {B = Outcome State} stepped (ap (λ (w : Owner). byOwner w (stay (view s)) (λ y. tell (view s) (Check (y .client) (h .id) (y .timestamp)))) q))
+          rw (sound n)
+              (ap {B = Outcome State} stepped (ap (λ (w : Owner). byOwner w (stay (view s)) (λ y. tell (view s) (Check (y .client) (h .id) (y .timestamp)))) q))
 
       pub check-asked : m ≡ telling (h .votes) (Check (x .client) (h .id) (x .timestamp)) → r ≡ doing h m → Turns h row (checkOutcome s) r row
       check-asked p a =
-          let one = moves-telling row row m (h .votes) (tell (view s) (Check (x .client) (h .id) (x .timestamp))) (holds-still row (h .votes .len) good) refl _ p refl in
+          let one = moves-telling row row m (h .votes) (tell (view s) (Check (x .client) (h .id) (x .timestamp)))
+              (holds-still row (h .votes .len) good) refl _ p refl in
           turns-done h row (checkOutcome s) r row m _ check-asks (one .moves) (ap (λ (y : Moved). y .full) p) a
 
-    pub check-idle : Padded row (h .votes .len) → (m : Moved) → h .votes .owner ≡ Nobody → m ≡ still (h .votes) → r ≡ doing h m → Turns h row (checkOutcome s) r row
+    pub check-idle : Padded row (h .votes .len) → (m : Moved) → h .votes .owner ≡ Nobody → m ≡ still (h .votes) → r ≡ doing h m
+        → Turns h row (checkOutcome s) r row
     unfolding checkOutcome check
     check-idle good m q p a =
         let one = stays (h .votes) row good m p in
         let w : checkOutcome s ≡ stepped (stay (view s)) =
-        rw (sound n) (ap {B = Outcome State} stepped (ap (λ (w : Owner). byOwner w (stay (view s)) (λ y. tell (view s) (Check (y .client) (h .id) (y .timestamp)))) q)) in
+        rw (sound n) (ap {B = Outcome State} stepped
+            (ap (λ (w : Owner). byOwner w (stay (view s)) (λ y. tell (view s) (Check (y .client) (h .id) (y .timestamp)))) q)) in
         turns-done h row (checkOutcome s) r row m _ w (one .moves) (ap (λ (y : Moved). y .full) p) a
 
 -- a new server

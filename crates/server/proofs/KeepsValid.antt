@@ -92,7 +92,8 @@ single-once [] s = refl
 single-once (x ∷ l) s = rw (s .0) (single-once l (s .1))
 
 -- a client that is not in a list is not its head's, nor in its tail
-head-other : (k : ClientId) (x : Pair) (l : List Pair) (b : Bool) → eqb (x .client .0) (k .0) ≡ b → timestampIn k (x ∷ l) ≡ none → (eqb (x .client .0) (k .0) ≡ false) × (timestampIn k l ≡ none)
+head-other : (k : ClientId) (x : Pair) (l : List Pair) (b : Bool) → eqb (x .client .0) (k .0) ≡ b → timestampIn k (x ∷ l) ≡ none
+    → (eqb (x .client .0) (k .0) ≡ false) × (timestampIn k l ≡ none)
 unfolding timestampIn
 head-other k x l true e n = let z : _≡_ {A = Option Timestamp} (some (x .timestamp)) none = rw e at n in let y : _≡_ {A = ℕ} 0 1 = cc in absurd (omega arith)
 head-other k x l false e n = (e, rw e at n)
@@ -119,7 +120,8 @@ module _ (r : Pair) where
   insert-sorted (x ∷ l) s n =
       let o = head-other (r .client) x l _ refl n in
       let rest = insert-sorted l (s .1) (o .1) in
-      ⊎-elim (λ (t : before r x ≡ true). rw t (t, s)) (λ (t : before r x ≡ false). rw t (insert-above x l (s .0) (later x (o .0) t), rest)) (decided (before r x))
+      ⊎-elim (λ (t : before r x ≡ true). rw t (t, s)) (λ (t : before r x ≡ false). rw t (insert-above x l (s .0) (later x (o .0) t), rest))
+          (decided (before r x))
 
   absent-insert : (k : ClientId) (l : List Pair) → eqb (r .client .0) (k .0) ≡ false → timestampIn k l ≡ none → timestampIn k (insert r l) ≡ none
   unfolding insert
@@ -127,7 +129,8 @@ module _ (r : Pair) where
   absent-insert k (x ∷ l) e n =
       let o = head-other k x l _ refl n in
       let rest = absent-insert k l e (o .1) in
-      ⊎-elim (λ (t : before r x ≡ true). rw t (absent-cons k r (x ∷ l) e n)) (λ (t : before r x ≡ false). rw t (absent-cons k x (insert r l) (o .0) rest)) (decided (before r x))
+      ⊎-elim (λ (t : before r x ≡ true). rw t (absent-cons k r (x ∷ l) e n))
+          (λ (t : before r x ≡ false). rw t (absent-cons k x (insert r l) (o .0) rest)) (decided (before r x))
 
   flip : (a b : ℕ) → eqb a b ≡ false → eqb b a ≡ false
   flip a b e = ne-eqb b a (λ h. eqb-false a b e (sym h))
@@ -138,7 +141,9 @@ module _ (r : Pair) where
   insert-single (x ∷ l) s n =
       let o = head-other (r .client) x l _ refl n in
       let rest = insert-single l (s .1) (o .1) in
-      ⊎-elim (λ (t : before r x ≡ true). rw t (n, s)) (λ (t : before r x ≡ false). rw t (absent-insert (x .client) l (flip (x .client .0) (r .client .0) (o .0)) (s .0), rest)) (decided (before r x))
+      ⊎-elim (λ (t : before r x ≡ true). rw t (n, s))
+          (λ (t : before r x ≡ false). rw t (absent-insert (x .client) l (flip (x .client .0) (r .client .0) (o .0)) (s .0), rest))
+          (decided (before r x))
 
   -- removal
   above-past : (x y : Pair) (l : List Pair) → before x y ≡ true → Above y l → Above x l
@@ -206,14 +211,16 @@ module _ (j : ServerId) where
       let (a, b) = both (validRequest h) (every validRequest l) e in
       record { owner = a; all = b; behind = refl; sorted = s .1; single = u }
 
-  keep-behind : (o : Owner) (l m : List Pair) → length m ≤ length l → behindOwner (record { owner = o; queue = l }) ≡ true → behindOwner (record { owner = o; queue = m }) ≡ true
+  keep-behind : (o : Owner) (l m : List Pair) → length m ≤ length l → behindOwner (record { owner = o; queue = l }) ≡ true
+      → behindOwner (record { owner = o; queue = m }) ≡ true
   keep-behind Nobody l m h e =
       let z : length l ≡ 0 = eqb-true _ _ e in
       let y : length m ≡ 0 = omega arith in
       eq-eqb _ _ y
   keep-behind (Of r) l m h e = refl
 
-  keep-single : (o : Owner) (l : List Pair) (r : Pair) → Single (candidates (record { owner = o; queue = l })) → Single (candidates (record { owner = o; queue = without r l }))
+  keep-single : (o : Owner) (l : List Pair) (r : Pair) → Single (candidates (record { owner = o; queue = l }))
+      → Single (candidates (record { owner = o; queue = without r l }))
   keep-single Nobody l r s = without-single r l s
   keep-single (Of x) l r s = (absent-without r (x .client) l (s .0), without-single r l (s .1))
 
@@ -240,7 +247,8 @@ module _ (j : ServerId) where
   empty-queue [] e = refl
   empty-queue (x ∷ l) e = let z : suc (length l) ≡ 0 = eqb-true _ _ e in absurd (omega arith)
 
-  enqueue-good : (r o : Pair) (l : List Pair) (t : Option Timestamp) → timestampIn (r .client) l ≡ t → validRequest r ≡ true → eqb (o .client .0) (r .client .0) ≡ false
+  enqueue-good : (r o : Pair) (l : List Pair) (t : Option Timestamp) → timestampIn (r .client) l ≡ t → validRequest r ≡ true
+      → eqb (o .client .0) (r .client .0) ≡ false
       → Good (record { owner = Of o; queue = l }) → Good (record { owner = Of o; queue = maybe t (insert r l) (λ u. l) })
   enqueue-good r o l none e v n g =
       record {
@@ -252,7 +260,8 @@ module _ (j : ServerId) where
       }
   enqueue-good r o l (some t) e v n g = g
 
-  pub request-good : (r : Pair) (o : Owner) (l : List Pair) → validRequest r ≡ true → Good (record { owner = o; queue = l }) → Good (act j REQUEST r (record { owner = o; queue = l }) .state)
+  pub request-good : (r : Pair) (o : Owner) (l : List Pair) → validRequest r ≡ true → Good (record { owner = o; queue = l })
+      → Good (act j REQUEST r (record { owner = o; queue = l }) .state)
   unfolding act enqueue validOwner timestampIn
   request-good r Nobody l v g =
       let z : l ≡ [] = empty-queue l (g .behind) in
@@ -298,7 +307,8 @@ module _ (j : ServerId) where
       (decided (ltb (t .0) (r .timestamp .0))))
       (decided (ltb (r .timestamp .0) (t .0)))
 
-  by-standing : (o : Option Timestamp) (tag : Tag) (r : Pair) (q : State) → validRequest r ≡ true → Good q → Good (maybe o (act j tag r q) (compare j tag r q) .state)
+  by-standing : (o : Option Timestamp) (tag : Tag) (r : Pair) (q : State) → validRequest r ≡ true → Good q
+      → Good (maybe o (act j tag r q) (compare j tag r q) .state)
   by-standing none tag r q v g = act-good tag r q v g
   by-standing (some t) tag r q v g = compare-good tag r q t v g
 
@@ -344,7 +354,8 @@ requests-fit (r ∷ l) v =
     rw (request-fits r a) (requests-fit l b)
 
 -- the record of a good state is valid: head h's numbers, and the queue in as many words as the row has, which are places
-pub stored-valid : (limit : ℕ) (h : Head) (row : List ℕ) (n : ℕ) (p : Step State) → validSizesUpTo limit (h .n) (h .id) ≡ true → length row ≡ 2 * n → length (p .state .queue) ≤ n → Good (p .state)
+pub stored-valid : (limit : ℕ) (h : Head) (row : List ℕ) (n : ℕ) (p : Step State) → validSizesUpTo limit (h .n) (h .id) ≡ true
+    → length row ≡ 2 * n → length (p .state .queue) ≤ n → Good (p .state)
     → validUpTo limit (record { head = headAfter h (stepped p); row = rowAfter row (stepped p) }) ≡ true
 unfolding validUpTo
 stored-valid limit h row n p z e f g =
@@ -385,15 +396,18 @@ module _ (limit : ℕ) (s : Server) (v : validUpTo limit s ≡ true) where
       rw (← h) (kept x (ltb-false _ _ t) g))
       (decided (ltb (length (s .row)) (2 * length (x .state .queue))))
 
-  pub taken-keeps-valid : (tag : Tag) (k : ClientId) (j : ServerId) (t : Timestamp) (p : Step State) → validStampedUpTo limit k j t ≡ true → taken s tag k j t ≡ stepped p → validUpTo limit (serverAfter s (stepped p)) ≡ true
+  pub taken-keeps-valid : (tag : Tag) (k : ClientId) (j : ServerId) (t : Timestamp) (p : Step State) → validStampedUpTo limit k j t ≡ true
+      → taken s tag k j t ≡ stepped p → validUpTo limit (serverAfter s (stepped p)) ≡ true
   taken-keeps-valid tag k j t p w e =
       let r = stamped-request limit k j t w in
       ⊎-elim
-      (λ (d : eqb (j .0) (s .head .id .0) ≡ true). held-keeps _ p (receive-good (s .head .id) tag (record { client = k; timestamp = t }) (view s) r its-good) (rw d at e))
+      (λ (d : eqb (j .0) (s .head .id .0) ≡ true). held-keeps _ p
+      (receive-good (s .head .id) tag (record { client = k; timestamp = t }) (view s) r its-good) (rw d at e))
       (λ (d : eqb (j .0) (s .head .id .0) ≡ false). not-stepped NotForServer p (rw d at e))
       (decided (eqb (j .0) (s .head .id .0)))
 
-  received-keeps : (m : Message) (p : Step State) → format.validUpTo limit m ≡ true → received s m ≡ stepped p → validUpTo limit (serverAfter s (stepped p)) ≡ true
+  received-keeps : (m : Message) (p : Step State) → format.validUpTo limit m ≡ true → received s m ≡ stepped p
+      → validUpTo limit (serverAfter s (stepped p)) ≡ true
   unfolding format.validUpTo
   received-keeps (Request k j t) p w e = taken-keeps-valid REQUEST k j t p w e
   received-keeps (Yield k j t) p w e = taken-keeps-valid YIELD k j t p w e
@@ -411,7 +425,8 @@ module _ (limit : ℕ) (s : Server) (v : validUpTo limit s ≡ true) where
       (decided (format.validUpTo limit m))
 
   pub suspect-keeps : validUpTo limit (serverAfter s (stepped (suspect (s .head .id) (view s)))) ≡ true
-  suspect-keeps = kept (suspect (s .head .id) (view s)) (omega (arith, suspect-shortens (s .head .id) (view s), its-room)) (suspect-good (s .head .id) (view s) its-good)
+  suspect-keeps = kept (suspect (s .head .id) (view s)) (omega (arith, suspect-shortens (s .head .id) (view s), its-room))
+      (suspect-good (s .head .id) (view s) its-good)
 
   pub check-keeps : validUpTo limit (serverAfter s (stepped (check (s .head .id) (view s)))) ≡ true
   unfolding check
@@ -424,7 +439,9 @@ module _ (s : Server) (v : valid s ≡ true) where
   pub message-keeps-valid : (m : Message) (p : Step State) → messageOutcome s m ≡ stepped p → valid (serverAfter s (stepped p)) ≡ true
   message-keeps-valid m p e = message-keeps maxServers s v m p e
 
-  suspected : (o : Owner) (p : Step State) → byOwner {B = Outcome State} o (refused NoOwner) (λ x. stepped (suspect (s .head .id) (view s))) ≡ stepped p → suspect (s .head .id) (view s) ≡ p
+  suspected : (o : Owner) (p : Step State)
+      → byOwner {B = Outcome State} o (refused NoOwner) (λ x. stepped (suspect (s .head .id) (view s))) ≡ stepped p
+      → suspect (s .head .id) (view s) ≡ p
   suspected Nobody p e = not-stepped NoOwner p e
   suspected (Of x) p e = cc
 

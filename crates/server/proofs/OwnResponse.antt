@@ -61,7 +61,8 @@ aside : (p : Pair) (k : ClientId) (o : Owner) → isClient k o ≡ false → eqb
 aside p k Nobody e = and-false (eqb (k .0) (p .client .0))
 aside p k (Of x) e = go (decided (same x p)) (decided (eqb (k .0) (p .client .0)))
   where
-    go : (same x p ≡ true) ⊎ (same x p ≡ false) → (eqb (k .0) (p .client .0) ≡ true) ⊎ (eqb (k .0) (p .client .0) ≡ false) → eqb (k .0) (p .client .0) && same x p ≡ false
+    go : (same x p ≡ true) ⊎ (same x p ≡ false) → (eqb (k .0) (p .client .0) ≡ true) ⊎ (eqb (k .0) (p .client .0) ≡ false)
+        → eqb (k .0) (p .client .0) && same x p ≡ false
     go (inr s) t = rw (s, and-false (eqb (k .0) (p .client .0)))
     go (inl s) (inr t) = rw t
     go (inl s) (inl t) =
@@ -74,7 +75,8 @@ unfolding timestampIn
 not-head p h l n = go (decided (same h p))
   where
     go : (same h p ≡ true) ⊎ (same h p ≡ false) → same h p ≡ false
-    go (inl e) = let z : _≡_ {A = Option Timestamp} (some (h .timestamp)) none = rw (client-of h p e) at n in let y : _≡_ {A = ℕ} 0 1 = cc in absurd (omega arith)
+    go (inl e) = let z : _≡_ {A = Option Timestamp} (some (h .timestamp)) none = rw (client-of h p e) at n in let y : _≡_ {A = ℕ} 0 1 =
+        cc in absurd (omega arith)
     go (inr e) = e
 
 module _ (j : ServerId) (p : Pair) where
@@ -135,7 +137,8 @@ module _ (j : ServerId) (p : Pair) where
       go false = refl
   request-tells r (Of o) l = go (decided (eqb (o .client .0) (r .client .0)))
     where
-      go : (eqb (o .client .0) (r .client .0) ≡ true) ⊎ (eqb (o .client .0) (r .client .0) ≡ false) → Tells p (Of o) (act j REQUEST r (record { owner = Of o; queue = l }))
+      go : (eqb (o .client .0) (r .client .0) ≡ true) ⊎ (eqb (o .client .0) (r .client .0) ≡ false)
+          → Tells p (Of o) (act j REQUEST r (record { owner = Of o; queue = l }))
       go (inl e) = rw e (sym (not-both (same o p)))
       go (inr e) = rw (e, aside p (r .client) (Of o) e) (sym (not-both (same o p)))
 
@@ -147,7 +150,8 @@ module _ (j : ServerId) (p : Pair) where
 
   yield-tells : (r : Pair) (q : State) → same r p && isRequest p (q .owner) ≡ false → Tells p (q .owner) (act j YIELD r q)
   unfolding act
-  yield-tells r q g = then-inform (r .client) (q .owner) (if isRequest r (q .owner) then promote j (insert r (q .queue)) else stay q) (go (decided (isRequest r (q .owner))) (q .owner) refl)
+  yield-tells r q g = then-inform (r .client) (q .owner) (if isRequest r (q .owner) then promote j (insert r (q .queue)) else stay q)
+      (go (decided (isRequest r (q .owner))) (q .owner) refl)
     where
       go : (isRequest r (q .owner) ≡ true) ⊎ (isRequest r (q .owner) ≡ false) → (o : Owner) → q .owner ≡ o →
           Tells p (q .owner) (if isRequest r (q .owner) then promote j (insert r (q .queue)) else stay q)
@@ -155,7 +159,8 @@ module _ (j : ServerId) (p : Pair) where
       go (inl t) Nobody e = clash false (rw e at t) refl
       go (inl t) (Of x) e = here (decided (isRequest p (q .owner)))
         where
-          here : (isRequest p (q .owner) ≡ true) ⊎ (isRequest p (q .owner) ≡ false) → Tells p (q .owner) (if isRequest r (q .owner) then promote j (insert r (q .queue)) else stay q)
+          here : (isRequest p (q .owner) ≡ true) ⊎ (isRequest p (q .owner) ≡ false)
+              → Tells p (q .owner) (if isRequest r (q .owner) then promote j (insert r (q .queue)) else stay q)
           here (inr u) = rw t (promote-tells (insert r (q .queue)) (q .owner) u)
           here (inl u) =
               let a : x ≡ r = same-true x r (rw e at t) in
@@ -188,7 +193,8 @@ module _ (j : ServerId) (p : Pair) where
   Leaves : Pair → Owner → Owner → Type 0
   Leaves r o after = (after ≡ o) ⊎ ((o ≡ Nobody) × (after ≡ Of r))
 
-  act-owner : (tag : Tag) (r : Pair) (o : Owner) (l : List Pair) → isClient (r .client) o ≡ false → Leaves r o (act j tag r (record { owner = o; queue = l }) .state .owner)
+  act-owner : (tag : Tag) (r : Pair) (o : Owner) (l : List Pair) → isClient (r .client) o ≡ false
+      → Leaves r o (act j tag r (record { owner = o; queue = l }) .state .owner)
   unfolding act Leaves
   act-owner REQUEST r Nobody l e = inr (refl, refl)
   act-owner REQUEST r (Of x) l e = inl (rw e)
@@ -254,7 +260,8 @@ module _ (j : ServerId) (p : Pair) where
           let x-p : same x p ≡ true = rw e at b in
           rw x-old at x-p
 
-  both-tell : (tag : Tag) (r : Pair) (t : Timestamp) (q : State) → Good q → timestampIn (r .client) (candidates q) ≡ some t → ltb (t .0) (r .timestamp .0) ≡ true →
+  both-tell : (tag : Tag) (r : Pair) (t : Timestamp) (q : State) → Good q → timestampIn (r .client) (candidates q) ≡ some t
+      → ltb (t .0) (r .timestamp .0) ≡ true →
       Tells p (q .owner) (delete j (older-pair r t) q then act j tag r)
   unfolding older-pair Leaves
   both-tell tag r t q g e lt =
@@ -280,21 +287,25 @@ module _ (j : ServerId) (p : Pair) where
       by-leaving (inl x) m = rw x m
       by-leaving (inr x) m = clash false (rw (x .0) at m) refl
 
-      after-old : {r : Pair} {o after : Owner} → (after ≡ o) ⊎ ((o ≡ Nobody) × (after ≡ Of r)) → isRequest p o ≡ false → same r p ≡ false → isRequest p after ≡ false
+      after-old : {r : Pair} {o after : Owner} → (after ≡ o) ⊎ ((o ≡ Nobody) × (after ≡ Of r)) → isRequest p o ≡ false → same r p ≡ false
+          → isRequest p after ≡ false
       after-old (inl x) m s = rw x m
       after-old (inr x) m s = rw (x .1) s
 
-      add-up : (b m a : Bool) {x y : ℕ} → x ≡ bit (m && not b) → y ≡ bit (a && not m) → (m ≡ true → a ≡ true) → (b ≡ true → m ≡ false → a ≡ false) → x + y ≡ bit (a && not b)
+      add-up : (b m a : Bool) {x y : ℕ} → x ≡ bit (m && not b) → y ≡ bit (a && not m) → (m ≡ true → a ≡ true)
+          → (b ≡ true → m ≡ false → a ≡ false) → x + y ≡ bit (a && not b)
       add-up b true a u v f h = rw (u, v, f refl) (let z : bit (not b) + 0 ≡ bit (not b) = omega arith in z)
       add-up true false a u v f h = rw (u, v, h refl refl)
       add-up false false a u v f h = rw (u, v) (omega arith)
 
-  compare-tells : (tag : Tag) (r : Pair) (q : State) (t : Timestamp) → Good q → timestampIn (r .client) (candidates q) ≡ some t → givesBack tag r p (q .owner) ≡ false →
+  compare-tells : (tag : Tag) (r : Pair) (q : State) (t : Timestamp) → Good q → timestampIn (r .client) (candidates q) ≡ some t
+      → givesBack tag r p (q .owner) ≡ false →
       Tells p (q .owner) (compare j tag r q t)
   unfolding older-pair
   compare-tells tag r q t g e n = go (decided (ltb (r .timestamp .0) (t .0))) (decided (ltb (t .0) (r .timestamp .0)))
     where
-      go : (ltb (r .timestamp .0) (t .0) ≡ true) ⊎ (ltb (r .timestamp .0) (t .0) ≡ false) → (ltb (t .0) (r .timestamp .0) ≡ true) ⊎ (ltb (t .0) (r .timestamp .0) ≡ false) →
+      go : (ltb (r .timestamp .0) (t .0) ≡ true) ⊎ (ltb (r .timestamp .0) (t .0) ≡ false)
+          → (ltb (t .0) (r .timestamp .0) ≡ true) ⊎ (ltb (t .0) (r .timestamp .0) ≡ false) →
           Tells p (q .owner) (compare j tag r q t)
       go (inl a) b = rw a (stay-tells q)
       go (inr a) (inl b) = rw (a, b) (both-tell tag r t q g e b)
@@ -309,7 +320,8 @@ module _ (j : ServerId) (p : Pair) where
       go (some t) e = compare-tells tag r q t g e n
 
   -- the owner gives its vote back: it is told if it is the first again
-  yields-back : (l : List Pair) → own p (receive j YIELD p (record { owner = Of p; queue = l }) .sent) ≡ bit (isRequest p (receive j YIELD p (record { owner = Of p; queue = l }) .state .owner))
+  yields-back : (l : List Pair) → own p (receive j YIELD p (record { owner = Of p; queue = l }) .sent) ≡ bit
+      (isRequest p (receive j YIELD p (record { owner = Of p; queue = l }) .state .owner))
   unfolding receive timestampIn act
   yields-back l =
       let first : Step State = promote j (insert p l) in
@@ -340,7 +352,9 @@ own-response j tag r q v p = go (decided (givesBack tag r p (q .owner)))
     back RELEASE e = clash false e refl
     back INQUIRY e = clash false e refl
 
-    yielded : (o : Owner) (l : List Pair) → same r p && isRequest p o ≡ true → own p (receive j YIELD r (record { owner = o; queue = l }) .sent) ≡ bit (isRequest p (receive j YIELD r (record { owner = o; queue = l }) .state .owner))
+    yielded : (o : Owner) (l : List Pair) → same r p && isRequest p o ≡ true → own p
+        (receive j YIELD r (record { owner = o; queue = l }) .sent) ≡ bit
+        (isRequest p (receive j YIELD r (record { owner = o; queue = l }) .state .owner))
     yielded Nobody l e = clash false (both (same r p) false e .1) refl
     yielded (Of x) l e = let b = both (same r p) (same x p) e in rw (same-true r p (b .0), same-true x p (b .1)) (yields-back j p l)
 
@@ -353,11 +367,13 @@ own-response j tag r q v p = go (decided (givesBack tag r p (q .owner)))
         rw (y, or-true j p (not (isRequest p (q .owner))), and-true j p (isRequest p (receive j tag r q .state .owner)), is) (yielded (q .owner) (q .queue) e)
 
 -- a suspected owner, and a check
-pub own-response-suspect : (j : ServerId) (q : State) → validState q ≡ true → (p : Pair) → own p (suspect j q .sent) ≡ bit (becomes p (q .owner) false (suspect j q .state .owner))
+pub own-response-suspect : (j : ServerId) (q : State) → validState q ≡ true → (p : Pair)
+    → own p (suspect j q .sent) ≡ bit (becomes p (q .owner) false (suspect j q .state .owner))
 unfolding suspect
 own-response-suspect j q v p = rw (or-false j p (not (isRequest p (q .owner)))) (go (q .owner) refl)
   where
-    go : (o : Owner) → q .owner ≡ o → own p (byOwner (q .owner) (stay q) (λ x. delete j x q) .sent) ≡ bit (isRequest p (byOwner (q .owner) (stay q) (λ x. delete j x q) .state .owner) && not (isRequest p (q .owner)))
+    go : (o : Owner) → q .owner ≡ o → own p (byOwner (q .owner) (stay q) (λ x. delete j x q) .sent) ≡ bit
+        (isRequest p (byOwner (q .owner) (stay q) (λ x. delete j x q) .state .owner) && not (isRequest p (q .owner)))
     go Nobody e = rw e refl
     go (Of x) e = rw e (rw e at (delete-tells j p x q (valid-good q v .single)))
 

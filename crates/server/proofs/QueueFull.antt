@@ -33,7 +33,8 @@ module _ (j : ServerId) where
   unfolding receive
   receive-shorter tag r q n = go (timestampIn (r .client) (candidates q))
     where
-      compared : (t : Timestamp) → (ltb (r .timestamp .0) (t .0) ≡ true) ⊎ (ltb (r .timestamp .0) (t .0) ≡ false) → (ltb (t .0) (r .timestamp .0) ≡ true) ⊎ (ltb (t .0) (r .timestamp .0) ≡ false) →
+      compared : (t : Timestamp) → (ltb (r .timestamp .0) (t .0) ≡ true) ⊎ (ltb (r .timestamp .0) (t .0) ≡ false)
+          → (ltb (t .0) (r .timestamp .0) ≡ true) ⊎ (ltb (t .0) (r .timestamp .0) ≡ false) →
           length (compare j tag r q t .state .queue) ≤ length (q .queue)
       compared t (inl a) b = rw a (omega arith)
       compared t (inr a) (inl b) =
@@ -46,5 +47,6 @@ module _ (j : ServerId) where
       go (some t) = compared t (decided (ltb (r .timestamp .0) (t .0))) (decided (ltb (t .0) (r .timestamp .0)))
 
   -- no message but a REQUEST is refused 14
-  pub full-by-request : (words : ℕ) (tag : Tag) (r : Pair) (q : State) → (tag ≡ REQUEST → ⊥) → 2 * length (q .queue) ≤ words → held words (receive j tag r q) ≡ stepped (receive j tag r q)
+  pub full-by-request : (words : ℕ) (tag : Tag) (r : Pair) (q : State) → (tag ≡ REQUEST → ⊥) → 2 * length (q .queue) ≤ words
+      → held words (receive j tag r q) ≡ stepped (receive j tag r q)
   full-by-request words tag r q n h = rw (le-ltb words (2 * length (receive j tag r q .state .queue)) (omega (arith, receive-shorter tag r q n)))

@@ -36,7 +36,8 @@ and-false true = refl
 and-false false = refl
 
 -- the owner's tests, gathered
-owner-tests : (o : Owner) (l : List Request) (a d : Bool) → a && byOwner o (eqb (length l) 0) (λ r. true) && d && once (candidates (record { owner = o; queue = l })) ≡ a && fitsOwner o l && d && once l
+owner-tests : (o : Owner) (l : List Request) (a d : Bool)
+    → a && byOwner o (eqb (length l) 0) (λ r. true) && d && once (candidates (record { owner = o; queue = l })) ≡ a && fitsOwner o l && d && once l
 owner-tests Nobody l a d = refl
 owner-tests (Of r) l a d =
     ⊎-elim
@@ -44,7 +45,8 @@ owner-tests (Of r) l a d =
     (λ (t : repeats (r ∷ l) ≡ false). rw (once-cons r l false t, t))
     (decided (repeats (r ∷ l)))
 
-pub state-tests : (o : Owner) (l : List Request) → validState (record { owner = o; queue = l }) ≡ validOwner o && every validRequest l && fitsOwner o l && ordered l && once l
+pub state-tests : (o : Owner) (l : List Request)
+    → validState (record { owner = o; queue = l }) ≡ validOwner o && every validRequest l && fitsOwner o l && ordered l && once l
 unfolding validState
 state-tests o l = owner-tests o l (validOwner o && every validRequest l) (ordered l)
 
@@ -87,7 +89,8 @@ module _ (row : List ℕ) (len : ℕ) (good : Padded row len) (o : Owner) where
       (decided (ltb f (length (queueOf row len))))
 
 module _ (v : Votes) (row : List ℕ) (a : Bool) (p : a ≡ validOwner (v .owner)) where
-  tests : validState (view v row) ≡ validOwner (v .owner) && every validRequest (queueOf row (v .len)) && fitsOwner (v .owner) (queueOf row (v .len)) && ordered (queueOf row (v .len)) && once (queueOf row (v .len))
+  tests : validState (view v row) ≡ validOwner (v .owner) && every validRequest (queueOf row (v .len)) && fitsOwner (v .owner)
+      (queueOf row (v .len)) && ordered (queueOf row (v .len)) && once (queueOf row (v .len))
   tests = state-tests (v .owner) (queueOf row (v .len))
 
   pub votes-1 : not a ≡ true → false ≡ validState (view v row)
@@ -134,17 +137,20 @@ row-padded row len b e n = good-padded row len (sym e ∙ not-false b n)
 module _ (limit : ℕ) (x : Server) (v : validUpTo limit x ≡ true) where
   sizes-and-row : validSizesUpTo limit (x .head .n) (x .head .id) && goodRow (x .row) (x .head .votes .len) ≡ true
   unfolding validUpTo
-  sizes-and-row = both (validSizesUpTo limit (x .head .n) (x .head .id) && goodRow (x .row) (x .head .votes .len)) (validState (view (x .head .votes) (x .row))) v .0
+  sizes-and-row = both (validSizesUpTo limit (x .head .n) (x .head .id) && goodRow (x .row) (x .head .votes .len))
+      (validState (view (x .head .votes) (x .row))) v .0
 
   pub valid-sized : validSizesUpTo limit (x .head .n) (x .head .id) ≡ true
   valid-sized = both (validSizesUpTo limit (x .head .n) (x .head .id)) (goodRow (x .row) (x .head .votes .len)) sizes-and-row .0
 
   pub valid-padded : Padded (x .row) (x .head .votes .len)
-  valid-padded = good-padded (x .row) (x .head .votes .len) (both (validSizesUpTo limit (x .head .n) (x .head .id)) (goodRow (x .row) (x .head .votes .len)) sizes-and-row .1)
+  valid-padded = good-padded (x .row) (x .head .votes .len)
+      (both (validSizesUpTo limit (x .head .n) (x .head .id)) (goodRow (x .row) (x .head .votes .len)) sizes-and-row .1)
 
   pub valid-state : validState (view (x .head .votes) (x .row)) ≡ true
   unfolding validUpTo
-  valid-state = both (validSizesUpTo limit (x .head .n) (x .head .id) && goodRow (x .row) (x .head .votes .len)) (validState (view (x .head .votes) (x .row))) v .1
+  valid-state = both (validSizesUpTo limit (x .head .n) (x .head .id) && goodRow (x .row) (x .head .votes .len))
+      (validState (view (x .head .votes) (x .row))) v .1
 
 -- a valid server's row is in good order
 pub server-padded : (x : Server) (b : Bool) → b ≡ valid x → not b ≡ false → Padded (x .row) (x .head .votes .len)

@@ -39,7 +39,8 @@ module _ (m : Mail) where
   pub one-room : (x : Message) (at n : ℕ) → m ≡ One x → at + sizeOfAll (mails m) ≤ n → at + sizeOf x ≤ n
   one-room x at n e h = rw (e, sizeOfAll-one) at h
 
-  pub one-put : (x : Message) (o l : List ℕ) (at r : ℕ) → m ≡ One x → (r ≡ at + sizeOf x) × (l ≡ sets o at (bytesOf x)) → (r ≡ at + sizeOfAll (mails m)) × (l ≡ sets o at (bytesOfAll (mails m)))
+  pub one-put : (x : Message) (o l : List ℕ) (at r : ℕ) → m ≡ One x → (r ≡ at + sizeOf x) × (l ≡ sets o at (bytesOf x))
+      → (r ≡ at + sizeOfAll (mails m)) × (l ≡ sets o at (bytesOfAll (mails m)))
   one-put x o l at r e p = rw (e, sizeOfAll-one, bytesOfAll-one) p
 
 pub mail-small : (m : Mail) → sizeOfAll (mails m) < 65536
@@ -60,13 +61,15 @@ module _ (a b c : Mail) where
   unfolding threeMails
   three-count = simp length-append
 
-  pub three-put : (o l₁ l₂ l₃ : List ℕ) (x y : ℕ) → (x ≡ 0 + sizeOfAll (mails a)) × (l₁ ≡ sets o 0 (bytesOfAll (mails a))) → (y ≡ x + sizeOfAll (mails b)) × (l₂ ≡ sets l₁ x (bytesOfAll (mails b)))
+  pub three-put : (o l₁ l₂ l₃ : List ℕ) (x y : ℕ) → (x ≡ 0 + sizeOfAll (mails a)) × (l₁ ≡ sets o 0 (bytesOfAll (mails a)))
+      → (y ≡ x + sizeOfAll (mails b)) × (l₂ ≡ sets l₁ x (bytesOfAll (mails b)))
       → l₃ ≡ sets l₂ y (bytesOfAll (mails c)) → l₃ ≡ sets o 0 (bytesOfAll (threeMails a b c))
   unfolding threeMails
   three-put o l₁ l₂ l₃ x y p q r =
       let i = length-bytesOfAll (mails a) in
       let k = length-bytesOfAll (mails b) in
-      let s : l₂ ≡ sets o 0 (bytesOfAll (mails a) ++ bytesOfAll (mails b)) = stored-on o l₁ l₂ (bytesOfAll (mails a)) (bytesOfAll (mails b)) 0 x (p .1) (q .1) (omega arith) in
+      let s : l₂ ≡ sets o 0 (bytesOfAll (mails a) ++ bytesOfAll (mails b)) = stored-on o l₁ l₂ (bytesOfAll (mails a)) (bytesOfAll (mails b))
+          0 x (p .1) (q .1) (omega arith) in
       let n : length (bytesOfAll (mails a) ++ bytesOfAll (mails b)) ≡ y = simp length-append (omega arith) in
       rw (bytesOfAll-append, bytesOfAll-append) (stored-on o l₂ l₃ (bytesOfAll (mails a) ++ bytesOfAll (mails b)) (bytesOfAll (mails c)) 0 y s r (omega arith))
 
@@ -75,6 +78,7 @@ module _ (ms : List Message) (o : List ℕ) (n : ℕ) (e : n ≡ sizeOfAll ms) w
   unfolding sentAnswer sentBuffer
   send-short h = (rw (← e, lt-ltb _ _ h), rw (← e, lt-ltb _ _ h))
 
-  pub send-done : (k : ℕ) (l : List ℕ) → n ≤ length o → k ≡ length ms → l ≡ sets o 0 (bytesOfAll ms) → (Sent k n ≡ sentAnswer ms (length o)) × (l ≡ sentBuffer ms o)
+  pub send-done : (k : ℕ) (l : List ℕ) → n ≤ length o → k ≡ length ms → l ≡ sets o 0 (bytesOfAll ms)
+      → (Sent k n ≡ sentAnswer ms (length o)) × (l ≡ sentBuffer ms o)
   unfolding sentAnswer sentBuffer
   send-done k l h p q = (rw (← e, le-ltb _ _ h, p), rw (← e, le-ltb _ _ h, q))

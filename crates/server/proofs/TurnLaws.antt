@@ -59,7 +59,8 @@ module _ (h : Head) (row : List ℕ) (tag : Tag) (k : ClientId) (j : ServerId) (
   pub takes-not : (j .0 ≡ h .id .0 → ⊥) → r ≡ refusing h NotForServer → Turns h row (taken (serverOf h row) tag k j t) r row
   takes-not n p = turns-refused h row (taken (serverOf h row) tag k j t) r NotForServer (rw (ne-eqb _ _ n)) p
 
-  module _ (after : List ℕ) (m : Moved) (same : j .0 ≡ h .id .0) (M : Moves row after m (receive (h .id) tag (record { client = k; timestamp = t }) (view (h .votes) row))) where
+  module _ (after : List ℕ) (m : Moved) (same : j .0 ≡ h .id .0)
+      (M : Moves row after m (receive (h .id) tag (record { client = k; timestamp = t }) (view (h .votes) row))) where
     pub takes-full : m .full ≡ true → r ≡ refusing h QueueFull → Turns h row (taken (serverOf h row) tag k j t) r after
     takes-full f p =
         let e = M .kept f in
@@ -81,13 +82,15 @@ module _ (t : Turned) (out : List ℕ) where
   pub answers-refused : (e : Refusal) → t .ruling ≡ Ruled e → (Refused e ≡ answering t (length out)) × (out ≡ buffering t out)
   answers-refused e p = (rw p, rw p)
 
-  pub answers-done : (a : Answer) (l : List ℕ) → t .ruling ≡ Done → (a ≡ sentAnswer (threeMails (t .first) (t .second) (t .third)) (length out)) × (l ≡ sentBuffer (threeMails (t .first) (t .second) (t .third)) out)
+  pub answers-done : (a : Answer) (l : List ℕ) → t .ruling ≡ Done
+      → (a ≡ sentAnswer (threeMails (t .first) (t .second) (t .third)) (length out)) × (l ≡ sentBuffer (threeMails (t .first) (t .second) (t .third)) out)
       → (a ≡ answering t (length out)) × (l ≡ buffering t out)
   answers-done a l p q = rw p q
 
 -- a call by value is the call on its row: answer, record and buffer are those of the outcome
 module _ (s : Server) (out : List ℕ) where
-  by-outcome : (o : Outcome State) → (keeping s (headAfter (s .head) o) (rowAfter (s .row) o) (answersBy (rulingOf o) (sentOf o) (length out)) ≡ result s (withRoom (length out) o))
+  by-outcome : (o : Outcome State)
+      → (keeping s (headAfter (s .head) o) (rowAfter (s .row) o) (answersBy (rulingOf o) (sentOf o) (length out)) ≡ result s (withRoom (length out) o))
       × (buffersBy (rulingOf o) (sentOf o) out ≡ sentInto out (withRoom (length out) o))
   unfolding withRoom sentAnswer sentBuffer
   by-outcome (refused e) = (refl, refl)

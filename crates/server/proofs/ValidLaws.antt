@@ -53,7 +53,8 @@ module _ (l : List Request) (i : ℕ) (h : suc i < length l) (b : Bool) (e : b �
 
   ordered-on : not b ≡ false → ordered (drop i l) ≡ ordered (drop (suc i) l)
   unfolding ordered
-  ordered-on n = let t : before (getD l i noRequest) (getD l (suc i) noRequest) ≡ true = sym e ∙ not-false b n in ap ordered two ∙ rw t (ap ordered (sym (drop-cons l (suc i) noRequest h)))
+  ordered-on n = let t : before (getD l i noRequest) (getD l (suc i) noRequest) ≡ true = sym e ∙ not-false b n in ap ordered two ∙
+      rw t (ap ordered (sym (drop-cons l (suc i) noRequest h)))
 
   ordered-stops : not b ≡ true → ordered (drop i l) ≡ false
   unfolding ordered
@@ -151,7 +152,8 @@ module _ (P : List Request) (len : ℕ) (w : len ≤ length P) where
     single-ends h p = sym (p .left ∙ once-ends (take len P) i (omega (arith, held)))
 
 -- a client that stands again further on, by the search for it
-module _ (P : List Request) (len i at : ℕ) (w : len ≤ length P) (h : i < len) (x : Request) (p : x ≡ getD P i noRequest) (e : at ≡ i + 1 + first (matching Client x) (drop (i + 1) (take len P))) where
+module _ (P : List Request) (len i at : ℕ) (w : len ≤ length P) (h : i < len) (x : Request) (p : x ≡ getD P i noRequest)
+    (e : at ≡ i + 1 + first (matching Client x) (drop (i + 1) (take len P))) where
   pub repeats-by-search : ltb at len ≡ repeats (drop i (take len P))
   repeats-by-search =
       let l : List Request = take len P in

@@ -66,9 +66,12 @@ module _ (v : Votes) (row : List ℕ) (good : Padded row (v .len)) where
       unfolding act
       requests-first m o p =
           rw o
-          (moves-telling row row m (record { owner = Of r; len = v .len }) (tell (record { owner = Of r; queue = queueOf row (v .len) }) (Response (r .client) j (Of r))) (holds-still row (v .len) good) refl _ p refl)
+          (moves-telling row row m (record { owner = Of r; len = v .len })
+          (tell (record { owner = Of r; queue = queueOf row (v .len) }) (Response (r .client) j (Of r))) (holds-still row (v .len) good)
+          refl _ p refl)
 
-      pub requests : (after : List ℕ) (m : Moved) (o : Request) → b ≡ false → v .owner ≡ Of o → MovesOne row after m (joining j r (view v row)) → MovesOne row after m (act j REQUEST r (view v row))
+      pub requests : (after : List ℕ) (m : Moved) (o : Request) → b ≡ false → v .owner ≡ Of o
+          → MovesOne row after m (joining j r (view v row)) → MovesOne row after m (act j REQUEST r (view v row))
       unfolding act
       requests after m o f a p = let c : isClient (r .client) (v .owner) ≡ false = cc in rw c (rw a (rw a at p))
 
@@ -97,7 +100,8 @@ only : (row after : List ℕ) (p : Moved) (s : Step State) → MovesOne row afte
 only row after p s one = sym (append-nil (mails (p .first))) ∙ sym (append-nil (mails (p .first) ++ [])) ∙ rw (one .second, one .third) at (one .moves .sent)
 
 -- `inform` behind a part that sent at most one message
-module _ (j : ServerId) (k : ClientId) (row after : List ℕ) (p : Moved) (s : Step State) (one : MovesOne row after p s) (fits : 2 * length (s .state .queue) ≤ length row) (m : Moved) (f : Followed j k p m) where
+module _ (j : ServerId) (k : ClientId) (row after : List ℕ) (p : Moved) (s : Step State) (one : MovesOne row after p s)
+    (fits : 2 * length (s .state .queue) ≤ length row) (m : Moved) (f : Followed j k p m) where
   pub follows : MovesTwo row after m (s then inform j k)
   follows =
       let g = goes row after p s (one .moves) fits in
@@ -118,7 +122,8 @@ module _ (j : ServerId) (k : ClientId) (row after : List ℕ) (p : Moved) (s : S
 module _ (j : ServerId) (r : Request) (v : Votes) (row : List ℕ) (good : Padded row (v .len)) where
   -- YIELD
   module _ (b : Bool) (e : b ≡ isRequest r (v .owner)) where
-    pub yields : (after : List ℕ) (p m : Moved) → b ≡ true → MovesOne row after p (promote j (insert r (queueOf row (v .len)))) → Followed j (r .client) p m → MovesTwo row after m (act j YIELD r (view v row))
+    pub yields : (after : List ℕ) (p m : Moved) → b ≡ true → MovesOne row after p (promote j (insert r (queueOf row (v .len))))
+        → Followed j (r .client) p m → MovesTwo row after m (act j YIELD r (view v row))
     unfolding act
     yields after p m t one f =
         let c : isRequest r (v .owner) ≡ true = cc in
@@ -157,10 +162,12 @@ module _ (j : ServerId) (tag : Tag) (r : Request) (q : State) (row after : List 
 
 -- a part with at most two messages after one with at most one, where both have room
 module _ (row mid end : List ℕ) (d a m : Moved) (s : Step State) (g : State → Step State) where
-  after : MovesOne row mid d s → 2 * length (s .state .queue) ≤ length row → MovesTwo mid end a (g (s .state)) → 2 * length (g (s .state) .state .queue) ≤ length row → m ≡ joined d a → Moves row end m (s then g)
+  after : MovesOne row mid d s → 2 * length (s .state .queue) ≤ length row → MovesTwo mid end a (g (s .state))
+      → 2 * length (g (s .state) .state .queue) ≤ length row → m ≡ joined d a → Moves row end m (s then g)
   after one room two fits e =
       let size = holds row mid d s (one .moves) room .size in
-      let behind : mails (a .first) ++ mails (a .second) ≡ g (s .state) .sent = sym (append-nil (mails (a .first) ++ mails (a .second))) ∙ rw (two .third) at (two .moves .sent) in
+      let behind : mails (a .first) ++ mails (a .second) ≡ g (s .state) .sent = sym (append-nil (mails (a .first) ++ mails (a .second))) ∙
+          rw (two .third) at (two .moves .sent) in
       let full : m .full ≡ false = ap (λ (x : Moved). x .full) e ∙ goes mid end a (g (s .state)) (two .moves) (rw size fits) in
       record {
         full = full ∙ sym (le-ltb _ _ fits);
@@ -182,19 +189,24 @@ module _ (j : ServerId) (tag : Tag) (r : Request) (v : Votes) (row : List ℕ) (
     pub deleted-padded : Padded mid (d .votes .len)
     deleted-padded = holds row mid d _ (one .moves) (delete-fits v row good j old) .good
 
-    pub compares-newer : (end : List ℕ) (a m : Moved) → timestampIn (r .client) (candidates (view v row)) ≡ some t → t .0 < r .timestamp .0 → MovesTwo mid end a (act j tag r (view (d .votes) mid)) → m ≡ joined d a
+    pub compares-newer : (end : List ℕ) (a m : Moved) → timestampIn (r .client) (candidates (view v row)) ≡ some t → t .0 < r .timestamp .0
+        → MovesTwo mid end a (act j tag r (view (d .votes) mid)) → m ≡ joined d a
         → Moves row end m (compare j tag r (view v row) t)
     compares-newer end a m st h two e =
         let le : t .0 ≤ r .timestamp .0 = omega arith in
-        let room : 2 * length (act j tag r (delete j old (view v row) .state) .state .queue) ≤ length row = omega (arith, renewed-fits j r tag t (view v row) st, fits v row good) in
+        let room : 2 * length (act j tag r (delete j old (view v row) .state) .state .queue) ≤ length row = omega (arith,
+            renewed-fits j r tag t (view v row) st, fits v row good) in
         rw (le-ltb _ _ le, lt-ltb _ _ h)
-        (after row mid end d a m _ (act j tag r) one (delete-fits v row good j old) (rw (left row mid d _ (one .moves) (delete-fits v row good j old)) at two) room e)
+        (after row mid end d a m _ (act j tag r) one (delete-fits v row good j old)
+        (rw (left row mid d _ (one .moves) (delete-fits v row good j old)) at two) room e)
 
-  pub compares-same : (end : List ℕ) (m : Moved) → t .0 ≤ r .timestamp .0 → r .timestamp .0 ≤ t .0 → MovesTwo row end m (act j tag r (view v row)) → Moves row end m (compare j tag r (view v row) t)
+  pub compares-same : (end : List ℕ) (m : Moved) → t .0 ≤ r .timestamp .0 → r .timestamp .0 ≤ t .0
+      → MovesTwo row end m (act j tag r (view v row)) → Moves row end m (compare j tag r (view v row) t)
   compares-same end m h g two = rw (le-ltb _ _ h, le-ltb _ _ g) (two .moves)
 
 -- lines 26 to 45, by where the sender stands
-module _ (j : ServerId) (tag : Tag) (r : Request) (q : State) (row after : List ℕ) (m : Moved) (w : Standing) (e : w ≡ standingOf (timestampIn (r .client) (candidates q))) where
+module _ (j : ServerId) (tag : Tag) (r : Request) (q : State) (row after : List ℕ) (m : Moved) (w : Standing)
+    (e : w ≡ standingOf (timestampIn (r .client) (candidates q))) where
   pub receives-new : w ≡ Absent → MovesTwo row after m (act j tag r q) → Moves row after m (receive j tag r q)
   unfolding receive
   receives-new a two = rw (absent (timestampIn (r .client) (candidates q)) w e a) (two .moves)

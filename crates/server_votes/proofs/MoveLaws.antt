@@ -36,7 +36,8 @@ use Rattle.server_votes.proofs.ListLaws.{timestamp-first, timestamp-non
 
 -- nothing sent, and one message sent
 module _ (row after : List ℕ) (m : Moved) (v : Votes) (s : Step State) (H : Holds row after (v .len) (s .state .queue)) (o : v .owner ≡ s .state .owner) where
-  sends : (x : Mail) → m ≡ record { votes = v; full = false; first = x; second = Nothing; third = Nothing } → mails x ++ [] ++ [] ≡ s .sent → MovesOne row after m s
+  sends : (x : Mail) → m ≡ record { votes = v; full = false; first = x; second = Nothing; third = Nothing } → mails x ++ [] ++ [] ≡ s .sent
+      → MovesOne row after m s
   sends x e p =
       record {
         moves = record {
@@ -57,7 +58,8 @@ module _ (row after : List ℕ) (m : Moved) (v : Votes) (s : Step State) (H : Ho
   moves-telling x e p = sends (One x) e p
 
 -- the row is too short, and stays
-pub moves-overflowing : (row : List ℕ) (m : Moved) (v : Votes) (s : Step State) (x : Message) → length row < 2 * length (s .state .queue) → m ≡ overflowing v x → x ∷ [] ≡ s .sent → MovesOne row row m s
+pub moves-overflowing : (row : List ℕ) (m : Moved) (v : Votes) (s : Step State) (x : Message) → length row < 2 * length (s .state .queue)
+    → m ≡ overflowing v x → x ∷ [] ≡ s .sent → MovesOne row row m s
 moves-overflowing row m v s x h e p =
     let not-so : m .full ≡ false → ⊥ = λ f. false≢true (sym (rw e at f)) in
     record {
@@ -66,9 +68,11 @@ moves-overflowing row m v s x h e p =
       third = rw e;
     }
 
-pub moves-leading : (row after : List ℕ) (j : ServerId) (h : Request) (l : List Request) (m : Moved) (n : ℕ) → Holds row after n l → m ≡ leading j h n → MovesOne row after m (promote j (h ∷ l))
+pub moves-leading : (row after : List ℕ) (j : ServerId) (h : Request) (l : List Request) (m : Moved) (n : ℕ) → Holds row after n l
+    → m ≡ leading j h n → MovesOne row after m (promote j (h ∷ l))
 unfolding promote
-moves-leading row after j h l m n H e = moves-telling row after m (record { owner = Of h; len = n }) (promote j (h ∷ l)) H refl (Response (h .client) j (Of h)) e refl
+moves-leading row after j h l m n H e = moves-telling row after m (record { owner = Of h; len = n }) (promote j (h ∷ l)) H refl
+    (Response (h .client) j (Of h)) e refl
 
 module _ (row : List ℕ) (len : ℕ) (good : Padded row len) where
   empty : len ≡ 0 → Holds row row 0 []
@@ -95,8 +99,10 @@ module _ (row : List ℕ) (len : ℕ) (good : Padded row len) where
       whole : queueOf row len ≡ h ∷ drop 1 (queueOf row len)
       whole = rw e (head-first n)
 
-      pub promoted-head : (after : List ℕ) → Holds row after (len - 1) (drop 1 (queueOf row len)) → m ≡ leading j h (len - 1) → MovesOne row after m (promote j (queueOf row len))
-      promoted-head after H p = subst (λ (t : List Request). MovesOne row after m (promote j t)) (sym whole) (moves-leading row after j h (drop 1 (queueOf row len)) m (len - 1) H p)
+      pub promoted-head : (after : List ℕ) → Holds row after (len - 1) (drop 1 (queueOf row len)) → m ≡ leading j h (len - 1)
+          → MovesOne row after m (promote j (queueOf row len))
+      promoted-head after H p = subst (λ (t : List Request). MovesOne row after m (promote j t)) (sym whole)
+          (moves-leading row after j h (drop 1 (queueOf row len)) m (len - 1) H p)
 
       module _ (r : Request) (b : Bool) (o : b ≡ before r h) where
         inserted-list : (x : Bool) → before r h ≡ x → insert r (queueOf row len) ≡ (if x then r ∷ queueOf row len else h ∷ insert r (drop 1 (queueOf row len)))
@@ -106,10 +112,12 @@ module _ (row : List ℕ) (len : ℕ) (good : Padded row len) where
         pub rotated-first : b ≡ true → m ≡ leading j r len → MovesOne row row m (promote j (insert r (queueOf row len)))
         rotated-first t p = rw (inserted-list true (sym o ∙ t)) (moves-leading row row j r (queueOf row len) m len (holds-still row len good) p)
 
-        pub rotated-behind : (mid after : List ℕ) (k : ℕ) → b ≡ false → Holds row mid (len - 1) (drop 1 (queueOf row len)) → k ≡ len - 1 + 1 → Holds mid after (len - 1 + 1) (insert r (queueOf mid (len - 1)))
+        pub rotated-behind : (mid after : List ℕ) (k : ℕ) → b ≡ false → Holds row mid (len - 1) (drop 1 (queueOf row len)) → k ≡ len - 1 + 1
+            → Holds mid after (len - 1 + 1) (insert r (queueOf mid (len - 1)))
             → m ≡ leading j h k → MovesOne row after m (promote j (insert r (queueOf row len)))
         rotated-behind mid after k f H q G p =
-            rw (inserted-list false (sym o ∙ f)) (moves-leading row after j h (insert r (drop 1 (queueOf row len))) m k (rw q (holds-then row mid after (len - 1) (len - 1 + 1) _ (insert r) H G)) p)
+            rw (inserted-list false (sym o ∙ f)) (moves-leading row after j h (insert r (drop 1 (queueOf row len))) m k
+                (rw q (holds-then row mid after (len - 1) (len - 1 + 1) _ (insert r) H G)) p)
 
 -- Delete: the owner's place goes to the head of the queue, any other's is closed
 module _ (j : ServerId) (r : Request) (v : Votes) (row after : List ℕ) (b : Bool) (o : b ≡ isRequest r (v .owner)) (m : Moved) where
@@ -117,19 +125,23 @@ module _ (j : ServerId) (r : Request) (v : Votes) (row after : List ℕ) (b : Bo
   unfolding delete
   deleted-owner t p = let e : isRequest r (v .owner) ≡ true = cc in rw e p
 
-  pub deleted-waiting : (n : ℕ) → b ≡ false → Holds row after n (without r (queueOf row (v .len))) → m ≡ still (record { owner = v .owner; len = n }) → MovesOne row after m (delete j r (view v row))
+  pub deleted-waiting : (n : ℕ) → b ≡ false → Holds row after n (without r (queueOf row (v .len)))
+      → m ≡ still (record { owner = v .owner; len = n }) → MovesOne row after m (delete j r (view v row))
   unfolding delete
   deleted-waiting n f H p =
       let e : isRequest r (v .owner) ≡ false = cc in
-      rw e (moves-still row after m (record { owner = v .owner; len = n }) (stay (record { owner = v .owner; queue = without r (queueOf row (v .len)) })) H refl p refl)
+      rw e (moves-still row after m (record { owner = v .owner; len = n })
+          (stay (record { owner = v .owner; queue = without r (queueOf row (v .len)) })) H refl p refl)
 
 -- r waits, unless its client does already, or the row is too short
-module _ (j : ServerId) (r : Request) (v : Votes) (row : List ℕ) (good : Padded row (v .len)) (at : ℕ) (e : at ≡ first (at-client (r .client)) (queueOf row (v .len))) (m : Moved) where
+module _ (j : ServerId) (r : Request) (v : Votes) (row : List ℕ) (good : Padded row (v .len)) (at : ℕ)
+    (e : at ≡ first (at-client (r .client)) (queueOf row (v .len))) (m : Moved) where
   pub joined-again : at < v .len → m ≡ telling v (Response (r .client) j (v .owner)) → MovesOne row row m (joining j r (view v row))
   unfolding enqueue
   joined-again l p =
       let n = length-queue row (v .len) good in
-      rw (timestamp-first (r .client) (queueOf row (v .len)) (omega arith)) (moves-telling row row m v (tell (view v row) (Response (r .client) j (v .owner))) (holds-still row (v .len) good) refl _ p refl)
+      rw (timestamp-first (r .client) (queueOf row (v .len)) (omega arith))
+          (moves-telling row row m v (tell (view v row) (Response (r .client) j (v .owner))) (holds-still row (v .len) good) refl _ p refl)
 
   module _ (g : v .len ≤ at) where
     new : timestampIn (r .client) (queueOf row (v .len)) ≡ none
@@ -141,13 +153,18 @@ module _ (j : ServerId) (r : Request) (v : Votes) (row : List ℕ) (good : Padde
         let n = length-queue row (v .len) good in
         let i = length-insert r (queueOf row (v .len)) in
         let over : length row < 2 * length (insert r (queueOf row (v .len))) = omega arith in
-        rw new (moves-overflowing row m v (tell (record { owner = v .owner; queue = insert r (queueOf row (v .len)) }) (Response (r .client) j (v .owner))) _ over p refl)
+        rw new (moves-overflowing row m v
+            (tell (record { owner = v .owner; queue = insert r (queueOf row (v .len)) }) (Response (r .client) j (v .owner))) _ over p refl)
 
-    pub joined-new : (after : List ℕ) (n : ℕ) → n ≡ v .len + 1 → Holds row after (v .len + 1) (insert r (queueOf row (v .len))) → m ≡ telling (record { owner = v .owner; len = n }) (Response (r .client) j (v .owner)) → MovesOne row after m (joining j r (view v row))
+    pub joined-new : (after : List ℕ) (n : ℕ) → n ≡ v .len + 1 → Holds row after (v .len + 1) (insert r (queueOf row (v .len)))
+        → m ≡ telling (record { owner = v .owner; len = n }) (Response (r .client) j (v .owner))
+        → MovesOne row after m (joining j r (view v row))
     unfolding enqueue
     joined-new after n q H p =
         rw new
-        (moves-telling row after m (record { owner = v .owner; len = n }) (tell (record { owner = v .owner; queue = insert r (queueOf row (v .len)) }) (Response (r .client) j (v .owner))) (rw q H) refl _ p refl)
+        (moves-telling row after m (record { owner = v .owner; len = n })
+        (tell (record { owner = v .owner; queue = insert r (queueOf row (v .len)) }) (Response (r .client) j (v .owner))) (rw q H) refl _ p
+        refl)
 
 -- RESPONSE to a client that is not the owner
 module _ (j : ServerId) (k : ClientId) (o : Owner) (b : Bool) (e : b ≡ isClient k o) where

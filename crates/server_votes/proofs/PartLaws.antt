@@ -35,7 +35,8 @@ module _ (row : List ℕ) (len : ℕ) (good : Padded row len) (k : ClientId) (at
 
 -- line 27, by the owner
 module _ (k : ClientId) (v : Votes) (row : List ℕ) where
-  pub stands-behind-nobody : (s : Standing) → v .owner ≡ Nobody → s ≡ standingOf (timestampIn k (queueOf row (v .len))) → s ≡ standingOf (timestampIn k (candidates (view v row)))
+  pub stands-behind-nobody : (s : Standing) → v .owner ≡ Nobody → s ≡ standingOf (timestampIn k (queueOf row (v .len)))
+      → s ≡ standingOf (timestampIn k (candidates (view v row)))
   stands-behind-nobody s e p = rw e p
 
   module _ (o : Request) (e : v .owner ≡ Of o) where
@@ -43,6 +44,7 @@ module _ (k : ClientId) (v : Votes) (row : List ℕ) where
     unfolding timestampIn
     stands-as-owner h = rw (e, eq-eqb _ _ h)
 
-    pub stands-behind : (s : Standing) → (o .client .0 ≡ k .0 → ⊥) → s ≡ standingOf (timestampIn k (queueOf row (v .len))) → s ≡ standingOf (timestampIn k (candidates (view v row)))
+    pub stands-behind : (s : Standing) → (o .client .0 ≡ k .0 → ⊥) → s ≡ standingOf (timestampIn k (queueOf row (v .len)))
+        → s ≡ standingOf (timestampIn k (candidates (view v row)))
     unfolding timestampIn
     stands-behind s n p = rw (e, ne-eqb _ _ n) p

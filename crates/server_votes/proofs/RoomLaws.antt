@@ -38,7 +38,8 @@ unfolding promote
 length-promoted j [] = omega arith
 length-promoted j (h ∷ l) = omega arith
 
-deleted-head : (b : Bool) (j : ServerId) (r : Request) (q : State) → length ((if b then promote j (q .queue) else stay (record { owner = q .owner; queue = without r (q .queue) })) .state .queue) ≤ length (q .queue)
+deleted-head : (b : Bool) (j : ServerId) (r : Request) (q : State)
+    → length ((if b then promote j (q .queue) else stay (record { owner = q .owner; queue = without r (q .queue) })) .state .queue) ≤ length (q .queue)
 deleted-head true j r q = omega (arith, length-promoted j (q .queue))
 deleted-head false j r q = length-without r (q .queue)
 
@@ -57,7 +58,9 @@ module _ (j : ServerId) (r : Request) where
   length-enqueued l = enqueued-head (timestampIn (r .client) l) l
 
   module _ (l : List Request) where
-    requested-head : (b : Bool) (o : Owner) → length ((if b then stay (record { owner = o; queue = l }) else tell (admit r (record { owner = o; queue = l })) (Response (r .client) j (admit r (record { owner = o; queue = l }) .owner))) .state .queue) ≤ suc (length l)
+    requested-head : (b : Bool) (o : Owner) → length ((if b then stay (record { owner = o; queue = l }) else tell
+        (admit r (record { owner = o; queue = l }))
+        (Response (r .client) j (admit r (record { owner = o; queue = l }) .owner))) .state .queue) ≤ suc (length l)
     requested-head true o = omega arith
     requested-head false Nobody = omega arith
     requested-head false (Of o) = length-enqueued l
@@ -102,20 +105,26 @@ module _ (j : ServerId) (r : Request) where
     old = record { client = r .client; timestamp = t }
 
     renewed-head : (b : Bool) (q : State) → (b ≡ false → length (without old (q .queue)) < length (q .queue))
-        → length (act j tag r ((if b then promote j (q .queue) else stay (record { owner = q .owner; queue = without old (q .queue) })) .state) .state .queue) ≤ length (q .queue)
+        → length (act j tag r
+            ((if b then promote j (q .queue) else stay (record { owner = q .owner; queue = without old (q .queue) })) .state) .state .queue) ≤ length
+            (q .queue)
     renewed-head true q n = promoted-acted tag (q .queue)
     renewed-head false q n = omega (arith, length-acted tag (record { owner = q .owner; queue = without old (q .queue) }), n refl)
 
     -- if the pair is not the owner's, it waits
-    waiting-head : (b : Bool) (o : Request) (l : List Request) → at-client (r .client) o ≡ b → (if b then some (o .timestamp) else timestampIn (r .client) l) ≡ some t → isRequest old (Of o) ≡ false → timestampIn (r .client) l ≡ some t
+    waiting-head : (b : Bool) (o : Request) (l : List Request) → at-client (r .client) o ≡ b
+        → (if b then some (o .timestamp) else timestampIn (r .client) l) ≡ some t → isRequest old (Of o) ≡ false
+        → timestampIn (r .client) l ≡ some t
     waiting-head true o l a e f = let z : true ≡ false = sym (its-pair (r .client) t o true a refl cc) ∙ f in cc
     waiting-head false o l a e f = e
 
-    waiting : (o : Owner) (l : List Request) → timestampIn (r .client) (candidates (record { owner = o; queue = l })) ≡ some t → isRequest old o ≡ false → timestampIn (r .client) l ≡ some t
+    waiting : (o : Owner) (l : List Request) → timestampIn (r .client) (candidates (record { owner = o; queue = l })) ≡ some t
+        → isRequest old o ≡ false → timestampIn (r .client) l ≡ some t
     unfolding timestampIn
     waiting Nobody l e f = e
     waiting (Of o) l e f = waiting-head (at-client (r .client) o) o l refl e f
 
-    pub renewed-fits : (q : State) → timestampIn (r .client) (candidates q) ≡ some t → length (act j tag r (delete j old q .state) .state .queue) ≤ length (q .queue)
+    pub renewed-fits : (q : State) → timestampIn (r .client) (candidates q) ≡ some t
+        → length (act j tag r (delete j old q .state) .state .queue) ≤ length (q .queue)
     unfolding delete
     renewed-fits q e = renewed-head (isRequest old (q .owner)) q (λ f. without-standing (r .client) t (q .queue) (waiting (q .owner) (q .queue) e f))

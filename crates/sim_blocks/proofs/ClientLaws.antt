@@ -56,7 +56,8 @@ module _ (n m clients k : ℕ) (b : List ℕ) (B : Frame n b) where
   abbrev with : State → List ℕ
   with s = sets b 1 (clientWords (client.store n m (record { 0 = k }) s))
 
-  module _ (s : State) (F : Fits n m (record { 0 = k }) s) (names : every (named clients) (s .responses) ≡ true) (clear : isRemainder (s .section) ≡ true → every zeroWord (flags b) ≡ true) where
+  module _ (s : State) (F : Fits n m (record { 0 = k }) s) (names : every (named clients) (s .responses) ≡ true) (clear : isRemainder (s .section) ≡ true
+      → every zeroWord (flags b) ≡ true) where
     abbrev kept : Client
     kept = client.store n m (record { 0 = k }) s
 
@@ -140,6 +141,8 @@ module _ (n m clients k : ℕ) (b : List ℕ) (ok : validClientBlock n m clients
         fallen = λ h. outside-clear n m clients k b facts (outside (clientPlace b .living) (isRemainder (clientPlace b .state .section)) (inl h));
       }
 
-  pub stored-client : (s : State) → Fits n m (record { 0 = k }) s → every (named clients) (s .responses) ≡ true → (isRemainder (s .section) ≡ true → every zeroWord (flags b) ≡ true)
-      → ClientIs n m clients k (sets b 1 (clientWords (client.store n m (record { 0 = k }) s))) (record { living = clientPlace b .living; state = s; downs = clientPlace b .downs })
+  pub stored-client : (s : State) → Fits n m (record { 0 = k }) s → every (named clients) (s .responses) ≡ true
+      → (isRemainder (s .section) ≡ true → every zeroWord (flags b) ≡ true)
+      → ClientIs n m clients k (sets b 1 (clientWords (client.store n m (record { 0 = k }) s)))
+          (record { living = clientPlace b .living; state = s; downs = clientPlace b .downs })
   stored-client s F names clear = stored-frame n m clients k b frame s F names clear

@@ -42,17 +42,20 @@ named-none clients (suc n) = named-none clients n
 
 -- a RESPONSE that names one of the clients leaves responses that do, and a section that is the remainder only if it was
 module _ (wins : Quorum) (n clients : ℕ) (k : ClientId) (j : ServerId) (o : Owner) (v : named clients o ≡ true) where
-  judged : (a b : Bool) (x y z : Step State) → every (named clients) (x .state .responses) ≡ true → every (named clients) (y .state .responses) ≡ true → every (named clients) (z .state .responses) ≡ true
+  judged : (a b : Bool) (x y z : Step State) → every (named clients) (x .state .responses) ≡ true
+      → every (named clients) (y .state .responses) ≡ true → every (named clients) (z .state .responses) ≡ true
       → every (named clients) ((if a then (if b then x else y) else z) .state .responses) ≡ true
   judged true true x y z f g h = f
   judged true false x y z f g h = g
   judged false b x y z f g h = h
 
-  trying : (t : Timestamp) (l : List Owner) → every (named clients) l ≡ true → every (named clients) (judge wins n (record { client = k; timestamp = t }) l .state .responses) ≡ true
+  trying : (t : Timestamp) (l : List Owner) → every (named clients) l ≡ true
+      → every (named clients) (judge wins n (record { client = k; timestamp = t }) l .state .responses) ≡ true
   unfolding judge
   trying t l h = judged (wins (map filled l)) (wins (map (isRequest (record { client = k; timestamp = t })) l)) _ _ _ h (named-none clients n) h
 
-  by-section : (a : Section) (t : Timestamp) (l : List Owner) → every (named clients) l ≡ true → every (named clients) (responds wins n k j o (record { section = a; timestamp = t; responses = l }) .state .responses) ≡ true
+  by-section : (a : Section) (t : Timestamp) (l : List Owner) → every (named clients) l ≡ true
+      → every (named clients) (responds wins n k j o (record { section = a; timestamp = t; responses = l }) .state .responses) ≡ true
   unfolding responds
   by-section Remainder t l h = h
   by-section Critical t l h = h
@@ -63,13 +66,15 @@ module _ (wins : Quorum) (n clients : ℕ) (k : ClientId) (j : ServerId) (o : Ow
   pub responds-names : (s : State) → every (named clients) (s .responses) ≡ true → every (named clients) (responds wins n k j o s .state .responses) ≡ true
   responds-names s h = by-section (s .section) (s .timestamp) (s .responses) h
 
-  never-left : (a b : Bool) (x y z : Step State) → isRemainder (x .state .section) ≡ false → isRemainder (y .state .section) ≡ false → isRemainder (z .state .section) ≡ false
+  never-left : (a b : Bool) (x y z : Step State) → isRemainder (x .state .section) ≡ false → isRemainder (y .state .section) ≡ false
+      → isRemainder (z .state .section) ≡ false
       → isRemainder ((if a then (if b then x else y) else z) .state .section) ≡ false
   never-left true true x y z f g h = f
   never-left true false x y z f g h = g
   never-left false b x y z f g h = h
 
-  left-by : (a : Section) (t : Timestamp) (l : List Owner) → isRemainder (responds wins n k j o (record { section = a; timestamp = t; responses = l }) .state .section) ≡ isRemainder a
+  left-by : (a : Section) (t : Timestamp) (l : List Owner)
+      → isRemainder (responds wins n k j o (record { section = a; timestamp = t; responses = l }) .state .section) ≡ isRemainder a
   unfolding responds judge
   left-by Remainder t l = refl
   left-by Critical t l = refl
@@ -119,12 +124,14 @@ module _ (n m clients k : ℕ) (b : List ℕ) (ok : validClientBlock n m clients
   times = refl
 
   -- what the calls do
-  pub begin-outcome : isRemainder (clientPlace b .state .section) ≡ true → mayTry (clientPlace b .state) ≡ true → beginOutcome (clientFrom (clientRecord b)) ≡ stepped (tries n (record { 0 = k }) (clientPlace b .state))
+  pub begin-outcome : isRemainder (clientPlace b .state .section) ≡ true → mayTry (clientPlace b .state) ≡ true
+      → beginOutcome (clientFrom (clientRecord b)) ≡ stepped (tries n (record { 0 = k }) (clientPlace b .state))
   unfolding beginOutcome
   begin-outcome h g =
       rw (B .valid, shows, h, g, B .servers, B .number)
 
-  pub exit-outcome : isCritical (clientPlace b .state .section) ≡ true → exitOutcome (clientFrom (clientRecord b)) ≡ stepped (exits n (record { 0 = k }) (clientPlace b .state))
+  pub exit-outcome : isCritical (clientPlace b .state .section) ≡ true
+      → exitOutcome (clientFrom (clientRecord b)) ≡ stepped (exits n (record { 0 = k }) (clientPlace b .state))
   unfolding exitOutcome
   exit-outcome h = rw (B .valid, shows, h, B .servers, B .number)
 
@@ -132,7 +139,8 @@ module _ (n m clients k : ℕ) (b : List ℕ) (ok : validClientBlock n m clients
   for-me j h = rw (B .number, B .servers, eq-eqb k k refl, le-leb (j .0) n h)
 
   pub response-outcome : (j : ServerId) (o : Owner) → format.valid (Response (record { 0 = k }) j o) ≡ true → j .0 ≤ n
-      → messageOutcome (clientFrom (clientRecord b)) (Response (record { 0 = k }) j o) ≡ stepped (responds (enough m) n (record { 0 = k }) j o (clientPlace b .state))
+      → messageOutcome (clientFrom (clientRecord b)) (Response (record { 0 = k }) j o) ≡ stepped
+          (responds (enough m) n (record { 0 = k }) j o (clientPlace b .state))
   unfolding messageOutcomeUpTo
   response-outcome j o w h = rw (B .valid, w, for-me j h, shows, B .servers, B .threshold)
 
@@ -147,27 +155,33 @@ module _ (n m clients k : ℕ) (b : List ℕ) (ok : validClientBlock n m clients
 
   -- what they leave
   pub tries-block : isRemainder (clientPlace b .state .section) ≡ true → mayTry (clientPlace b .state) ≡ true
-      → ClientIs n m clients k (written n m k b (tries n (record { 0 = k }) (clientPlace b .state) .state)) (placed b (tries n (record { 0 = k }) (clientPlace b .state) .state))
+      → ClientIs n m clients k (written n m k b (tries n (record { 0 = k }) (clientPlace b .state) .state))
+          (placed b (tries n (record { 0 = k }) (clientPlace b .state) .state))
   unfolding tries
   tries-block h g =
-      stored-client n m clients k b ok (tries n me (at .state) .state) (tries-fits n m me (at .state) (fits .ranges) (leb-true (at .state .timestamp .0) lastTry g)) (named-none clients n)
+      stored-client n m clients k b ok (tries n me (at .state) .state)
+          (tries-fits n m me (at .state) (fits .ranges) (leb-true (at .state .timestamp .0) lastTry g)) (named-none clients n)
       (λ e. remainder-clear n m clients k b ok h)
 
   -- an exit ends the epoch: the flags are cleared before its record is written
-  pub exits-block : every zeroWord (flags b) ≡ true → ClientIs n m clients k (written n m k b (exits n (record { 0 = k }) (clientPlace b .state) .state)) (placed b (exits n (record { 0 = k }) (clientPlace b .state) .state))
+  pub exits-block : every zeroWord (flags b) ≡ true → ClientIs n m clients k
+      (written n m k b (exits n (record { 0 = k }) (clientPlace b .state) .state))
+      (placed b (exits n (record { 0 = k }) (clientPlace b .state) .state))
   unfolding exits
   exits-block z =
       stored-client n m clients k b ok (exits n me (at .state) .state) (exits-fits n m me (at .state) (fits .ranges)) (named-none clients n) (λ e. z)
 
   pub responds-block : (j : ServerId) (o : Owner) → validOwner o ≡ true → named clients o ≡ true
-      → ClientIs n m clients k (written n m k b (responds (enough m) n (record { 0 = k }) j o (clientPlace b .state) .state)) (placed b (responds (enough m) n (record { 0 = k }) j o (clientPlace b .state) .state))
+      → ClientIs n m clients k (written n m k b (responds (enough m) n (record { 0 = k }) j o (clientPlace b .state) .state))
+          (placed b (responds (enough m) n (record { 0 = k }) j o (clientPlace b .state) .state))
   responds-block j o v w =
       stored-client n m clients k b ok (responds (enough m) n me j o (at .state) .state) (responds-fits n m me j o v (at .state) fits)
       (responds-names (enough m) n clients me j o w (at .state) (B .names))
       (λ e. remainder-clear n m clients k b ok (sym (responds-section (enough m) n clients me j o w (at .state)) ∙ e))
 
   pub checked-block : (j : ServerId) (t : Timestamp)
-      → ClientIs n m clients k (written n m k b (checked (record { 0 = k }) j t (clientPlace b .state) .state)) (placed b (checked (record { 0 = k }) j t (clientPlace b .state) .state))
+      → ClientIs n m clients k (written n m k b (checked (record { 0 = k }) j t (clientPlace b .state) .state))
+          (placed b (checked (record { 0 = k }) j t (clientPlace b .state) .state))
   checked-block j t =
       rw (checked-state me j t (at .state)) (stored-client n m clients k b ok (at .state) fits (B .names) (λ e. remainder-clear n m clients k b ok e))
 

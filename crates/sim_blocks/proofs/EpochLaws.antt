@@ -69,7 +69,8 @@ or-true false = refl
 module _ (b : List ℕ) (l : length b ≡ clientBlock) where
   cleared-flags : flags (cleared b) ≡ replicate systemServers 0
   unfolding cleared
-  cleared-flags = region-inside flagsFrom systemServers b 0 (replicate systemServers 0) (omega arith) ∙ covered (flags b) (replicate systemServers 0) (simp (length-take, length-drop) (omega arith))
+  cleared-flags = region-inside flagsFrom systemServers b 0 (replicate systemServers 0) (omega arith) ∙
+      covered (flags b) (replicate systemServers 0) (simp (length-take, length-drop) (omega arith))
 
   cleared-zero : every zeroWord (flags (cleared b)) ≡ true
   cleared-zero = ap (every zeroWord) cleared-flags
@@ -89,11 +90,16 @@ zero-bits (x ∷ l) h =
     let z : x ≡ 0 = eqb-true x 0 a in
     rw (le-leb x 1 (omega arith)) (zero-bits l g)
 
-module _ (n m clients k : ℕ) (b b′ : List ℕ) (ok : validClientBlock n m clients (clientNo k) b ≡ true) (e : clientRecord b′ ≡ clientRecord b) (z : every zeroWord (flags b′) ≡ true) where
-  no-flags : length b′ ≡ clientBlock → getD b′ 0 0 ≤ 1 → ClientIs n m clients k b′ (record { living = eqb (getD b′ 0 0) 1; state = clientPlace b .state; downs = [] })
+module _ (n m clients k : ℕ) (b b′ : List ℕ) (ok : validClientBlock n m clients (clientNo k) b ≡ true)
+    (e : clientRecord b′ ≡ clientRecord b) (z : every zeroWord (flags b′) ≡ true) where
+  no-flags : length b′ ≡ clientBlock → getD b′ 0 0 ≤ 1
+      → ClientIs n m clients k b′ (record { living = eqb (getD b′ 0 0) 1; state = clientPlace b .state; downs = [] })
   no-flags l f =
-      let M = moved n m clients k b b′ ok e l f (zero-bits (flags b′) z) (every-drop zeroWord n (flags b′) z) (rw z (or-true (eqb (getD b′ 0 0) 1 && not (isRemainder (clientPlace b .state .section))))) in
-      record { place = M .place ∙ ap (λ (d : List ℕ). record { living = eqb (getD b′ 0 0) 1; state = clientPlace b .state; downs = d }) (none-flagged 1 (flags b′) z); valid = M .valid }
+      let M = moved n m clients k b b′ ok e l f (zero-bits (flags b′) z) (every-drop zeroWord n (flags b′) z)
+          (rw z (or-true (eqb (getD b′ 0 0) 1 && not (isRemainder (clientPlace b .state .section))))) in
+      record { place = M .place ∙
+          ap (λ (d : List ℕ). record { living = eqb (getD b′ 0 0) 1; state = clientPlace b .state; downs = d }) (none-flagged 1 (flags b′) z);
+          valid = M .valid }
 
 module _ (n m clients k : ℕ) (b : List ℕ) (ok : validClientBlock n m clients (clientNo k) b ≡ true) where
   abbrev C : ClientBlock n m clients k b
@@ -120,7 +126,8 @@ module _ (n m clients k : ℕ) (b : List ℕ) (ok : validClientBlock n m clients
       let l : length (set b 0 0) ≡ clientBlock = length-set b 0 0 ∙ C .size in
       let r : clientRecord (set b 0 0) ≡ clientRecord b = ap (take clientSize) (drop-set-lt 1 b 0 0 (omega arith)) in
       let f : getD (cleared (set b 0 0)) 0 0 ≡ 0 = cleared-first (set b 0 0) l ∙ getD-set-same b 0 0 0 (omega (arith, C .size)) in
-      let M = no-flags n m clients k b (cleared (set b 0 0)) ok (cleared-record (set b 0 0) l ∙ r) (cleared-zero (set b 0 0) l) (length-cleared (set b 0 0) ∙ l) (rw f (omega arith)) in
+      let M = no-flags n m clients k b (cleared (set b 0 0)) ok (cleared-record (set b 0 0) l ∙
+          r) (cleared-zero (set b 0 0) l) (length-cleared (set b 0 0) ∙ l) (rw f (omega arith)) in
       record { place = M .place ∙ rw f; valid = M .valid }
 
   -- what `put_flag` with 1 leaves, in an epoch
@@ -149,10 +156,12 @@ module _ (n m clients k : ℕ) (b : List ℕ) (ok : validClientBlock n m clients
         let z : 1 + (j - 1) ≡ j = omega arith in
         ap (flagged 1) set-flags ∙ flag-adds 1 (j - 1) (flags b) (omega (arith, long, few)) ∙ ap (λ (x : ℕ). added x (flagged 1 (flags b))) z
 
-    pub flag-block : ClientIs n m clients k (set b (clientSize + j) 1) (record { living = clientPlace b .living; state = clientPlace b .state; downs = added j (clientPlace b .downs) })
+    pub flag-block : ClientIs n m clients k (set b (clientSize + j) 1)
+        (record { living = clientPlace b .living; state = clientPlace b .state; downs = added j (clientPlace b .downs) })
     flag-block =
         let M =
-        moved n m clients k b (set b (clientSize + j) 1) ok set-record (length-set b (clientSize + j) 1 ∙ C .size) (rw set-first (C .bit)) (rw set-flags (every-set bitWord (flags b) (j - 1) 1 (C .bits) refl))
+        moved n m clients k b (set b (clientSize + j) 1) ok set-record (length-set b (clientSize + j) 1 ∙
+            C .size) (rw set-first (C .bit)) (rw set-flags (every-set bitWord (flags b) (j - 1) 1 (C .bits) refl))
         (rw (set-flags, drop-set-lt n (flags b) (j - 1) 1 (omega arith)) (C .behind))
         (rw (set-first, living-is, epoch)) in
         record { place = M .place ∙ rw (set-first, living-is, flag-downs, downs-are); valid = M .valid }
@@ -167,18 +176,21 @@ module _ (n m clients k : ℕ) (b : List ℕ) (ok : validClientBlock n m clients
       (decided (inEpoch (clientPlace b)))
 
   -- the epoch ends, and the exit's record is written
-  pub exited-block : ClientIs n m clients k (written n m k (cleared b) (exits n (record { 0 = k }) (clientPlace b .state) .state)) (record { living = clientPlace b .living; state = exits n (record { 0 = k }) (clientPlace b .state) .state; downs = [] })
+  pub exited-block : ClientIs n m clients k (written n m k (cleared b) (exits n (record { 0 = k }) (clientPlace b .state) .state))
+      (record { living = clientPlace b .living; state = exits n (record { 0 = k }) (clientPlace b .state) .state; downs = [] })
   exited-block =
       let D = cleared-block in
       let E = exits-block n m clients k (cleared b) (D .valid) (cleared-zero b (C .size)) in
       rw (D .place) at E
 
 -- an epoch begins: the flags of the servers, put one after another
-pub flag-next : (b vs : List ℕ) (i : ℕ) → i < length vs → set (sets b flagsFrom (take i vs)) (clientSize + (i + 1)) (getD vs i 0) ≡ sets b flagsFrom (take (i + 1) vs)
+pub flag-next : (b vs : List ℕ) (i : ℕ) → i < length vs
+    → set (sets b flagsFrom (take i vs)) (clientSize + (i + 1)) (getD vs i 0) ≡ sets b flagsFrom (take (i + 1) vs)
 flag-next b vs i h =
     let z : clientSize + (i + 1) ≡ flagsFrom + i = omega arith in
     let t : take (i + 1) vs ≡ take i vs ++ (getD vs i 0 ∷ []) = rw add-one (take-suc vs i 0 h) in
-    rw (z, t) (stored-on b (sets b flagsFrom (take i vs)) (set (sets b flagsFrom (take i vs)) (flagsFrom + i) (getD vs i 0)) (take i vs) (getD vs i 0 ∷ []) flagsFrom (flagsFrom + i) refl refl (omega (arith, length-take-le i vs (omega arith))))
+    rw (z, t) (stored-on b (sets b flagsFrom (take i vs)) (set (sets b flagsFrom (take i vs)) (flagsFrom + i) (getD vs i 0)) (take i vs)
+        (getD vs i 0 ∷ []) flagsFrom (flagsFrom + i) refl refl (omega (arith, length-take-le i vs (omega arith))))
 
 down-bits : (qs : List ServerPlace) → every bitWord (map downBit qs) ≡ true
 down-bits [] = refl
@@ -202,7 +214,8 @@ module _ (n m clients k : ℕ) (b : List ℕ) (ok : validClientBlock n m clients
   put-flags =
       let l : length (flags b) ≡ systemServers = simp (length-take, length-drop) (omega (arith, D .size)) in
       let z : 0 + length bits ≡ n = omega (arith, count, few-servers) in
-      region-inside flagsFrom systemServers b 0 bits (omega (arith, count, few-servers)) ∙ sets-eq bits (flags b) 0 (omega (arith, count, few-servers)) ∙ ap (λ (x : ℕ). bits ++ drop x (flags b)) z
+      region-inside flagsFrom systemServers b 0 bits (omega (arith, count, few-servers)) ∙
+          sets-eq bits (flags b) 0 (omega (arith, count, few-servers)) ∙ ap (λ (x : ℕ). bits ++ drop x (flags b)) z
 
   put-record : clientRecord (sets b flagsFrom bits) ≡ clientRecord b
   put-record = region-behind 1 clientSize b 0 bits
@@ -210,17 +223,22 @@ module _ (n m clients k : ℕ) (b : List ℕ) (ok : validClientBlock n m clients
   put-first : getD (sets b flagsFrom bits) 0 0 ≡ getD b 0 0
   put-first = first-kept b clientSize bits
 
-  pub put-block : inEpoch (clientPlace b) ≡ true → ClientIs n m clients k (sets b flagsFrom (map downBit qs)) (record { living = clientPlace b .living; state = clientPlace b .state; downs = downFrom 1 qs })
+  pub put-block : inEpoch (clientPlace b) ≡ true → ClientIs n m clients k (sets b flagsFrom (map downBit qs))
+      (record { living = clientPlace b .living; state = clientPlace b .state; downs = downFrom 1 qs })
   put-block epoch =
-      let p : every bitWord (flags (sets b flagsFrom bits)) ≡ true = rw put-flags (every-append bitWord bits (drop n (flags b)) (down-bits qs) (every-drop bitWord n (flags b) (D .bits))) in
+      let p : every bitWord (flags (sets b flagsFrom bits)) ≡ true = rw put-flags
+          (every-append bitWord bits (drop n (flags b)) (down-bits qs) (every-drop bitWord n (flags b) (D .bits))) in
       let r : every zeroWord (drop n (flags (sets b flagsFrom bits))) ≡ true = rw (put-flags, drop-at bits (drop n (flags b)) n count) (D .behind) in
-      let M = moved n m clients k b (sets b flagsFrom bits) ok put-record (length-sets b flagsFrom bits ∙ D .size) (rw put-first (D .bit)) p r (rw (put-first, living-is n m clients k b ok, epoch)) in
+      let M = moved n m clients k b (sets b flagsFrom bits) ok put-record (length-sets b flagsFrom bits ∙
+          D .size) (rw put-first (D .bit)) p r (rw (put-first, living-is n m clients k b ok, epoch)) in
       record { place = M .place ∙ rw (put-first, living-is n m clients k b ok, put-flags, down-flagged 1 qs (drop n (flags b)) (D .behind)); valid = M .valid }
 
 -- the record of a try is written, and the flags of the servers are put
-pub tried-block : (n m clients k : ℕ) (b : List ℕ) → validClientBlock n m clients (clientNo k) b ≡ true → clientPlace b .living ≡ true → isRemainder (clientPlace b .state .section) ≡ true
+pub tried-block : (n m clients k : ℕ) (b : List ℕ) → validClientBlock n m clients (clientNo k) b ≡ true → clientPlace b .living ≡ true
+    → isRemainder (clientPlace b .state .section) ≡ true
     → mayTry (clientPlace b .state) ≡ true → (qs : List ServerPlace) → length qs ≡ n
-    → ClientIs n m clients k (sets (written n m k b (tries n (record { 0 = k }) (clientPlace b .state) .state)) flagsFrom (map downBit qs)) (record { living = true; state = tries n (record { 0 = k }) (clientPlace b .state) .state; downs = downFrom 1 qs })
+    → ClientIs n m clients k (sets (written n m k b (tries n (record { 0 = k }) (clientPlace b .state) .state)) flagsFrom (map downBit qs))
+        (record { living = true; state = tries n (record { 0 = k }) (clientPlace b .state) .state; downs = downFrom 1 qs })
 unfolding tries
 tried-block n m clients k b ok alive h g qs all =
     let T = tries-block n m clients k b ok h g in

@@ -87,11 +87,13 @@ within-others c [] s w = tt
 within-others c (x ∷ l) s w =
     ⊎-elim
     (λ (t : eqb (x .client .0) (suc c) ≡ true). rw t (lower c (x .client) l (eqb-true (x .client .0) (suc c) t) (s .0) (w .2)))
-    (λ (t : eqb (x .client .0) (suc c) ≡ false). let n = eqb-false (x .client .0) (suc c) t in rw t (w .0, less (x .client .0) n (w .1), within-others c l (s .1) (w .2)))
+    (λ (t : eqb (x .client .0) (suc c) ≡ false). let n = eqb-false (x .client .0) (suc c) t in rw t
+    (w .0, less (x .client .0) n (w .1), within-others c l (s .1) (w .2)))
     (decided (eqb (x .client .0) (suc c)))
   where
     less : (a : ℕ) → (a ≡ suc c → ⊥) → a ≤ suc c → a ≤ c
-    less a n h = ⊎-elim (λ (t : leb a c ≡ true). leb-true a c t) (λ (t : leb a c ≡ false). absurd (n (let z : a ≡ suc c = omega (arith, leb-false a c t) in z))) (decided (leb a c))
+    less a n h = ⊎-elim (λ (t : leb a c ≡ true). leb-true a c t)
+        (λ (t : leb a c ≡ false). absurd (n (let z : a ≡ suc c = omega (arith, leb-false a c t) in z))) (decided (leb a c))
 
 pub few-clients : (c : ℕ) (l : List Request) → Single l → Within c l → length l ≤ c
 few-clients zero [] s w = omega arith
@@ -106,7 +108,8 @@ within-all c (x ∷ l) v h =
     let (b, h′) = both (namedPair c x) (every (namedPair c) l) h in
     (client-range (x .client) (request-range x a .0) .0, leb-true (x .client .0) c b, within-all c l v′ h′)
 
-candidates-valid : (o : Owner) (l : List Request) → validOwner o ≡ true → every validRequest l ≡ true → every validRequest (candidates (record { owner = o; queue = l })) ≡ true
+candidates-valid : (o : Owner) (l : List Request) → validOwner o ≡ true → every validRequest l ≡ true
+    → every validRequest (candidates (record { owner = o; queue = l })) ≡ true
 unfolding validOwner
 candidates-valid Nobody l v h = h
 candidates-valid (Of r) l v h = rw v h
@@ -117,4 +120,5 @@ longer (Of r) l = omega arith
 
 pub queue-fits : (c : ℕ) (q : State) → Good q → every (namedPair c) (candidates q) ≡ true → length (q .queue) ≤ c
 queue-fits c q g h =
-    omega (arith, longer (q .owner) (q .queue), few-clients c (candidates q) (g .single) (within-all c (candidates q) (candidates-valid (q .owner) (q .queue) (g .owner) (g .all)) h))
+    omega (arith, longer (q .owner) (q .queue),
+        few-clients c (candidates q) (g .single) (within-all c (candidates q) (candidates-valid (q .owner) (q .queue) (g .owner) (g .all)) h))

@@ -22,11 +22,13 @@ module _ {A : Type 0} (size : ℕ) (f : List ℕ → A) where
       let z : suc i * size + a ≡ size + (i * size + a) = omega arith in
       let y : suc i * size ≡ size + i * size = omega arith in
       ap (λ (x : ℕ). blocks size f (suc count) (sets l x vs)) z ∙
-      (ap (λ (x : List ℕ). f x ∷ blocks size f count (drop size (sets l (size + (i * size + a)) vs))) (take-sets-after size l (size + (i * size + a)) vs (omega arith)) ∙
+      (ap (λ (x : List ℕ). f x ∷ blocks size f count (drop size (sets l (size + (i * size + a)) vs)))
+      (take-sets-after size l (size + (i * size + a)) vs (omega arith)) ∙
       (ap (λ (x : List ℕ). f (take size l) ∷ blocks size f count x) (drop-sets-at size l (i * size + a) vs) ∙
       (ap (λ (x : List A). f (take size l) ∷ x) (block-stored count i (drop size l) a vs (omega arith) h) ∙
       (ap (λ (x : List ℕ). f (take size l) ∷ set (blocks size f count (drop size l)) i (f (sets (take size x) a vs))) (drop-drop (i * size) size l) ∙
-      ap (λ (x : ℕ). f (take size l) ∷ set (blocks size f count (drop size l)) i (f (sets (take size (drop x l)) a vs))) (let w : size + i * size ≡ suc i * size = omega arith in w)))))
+      ap (λ (x : ℕ). f (take size l) ∷ set (blocks size f count (drop size l)) i (f (sets (take size (drop x l)) a vs)))
+          (let w : size + i * size ≡ suc i * size = omega arith in w)))))
 
   pub block-at : (count i : ℕ) (l : List ℕ) (d : A) → i < count → getD (blocks size f count l) i d ≡ f (take size (drop (i * size) l))
   unfolding blocks

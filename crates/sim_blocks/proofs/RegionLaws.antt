@@ -24,7 +24,8 @@ pub drop-sets-at : (s : ℕ) (l : List ℕ) (a : ℕ) (vs : List ℕ) → drop s
 drop-sets-at s l a [] = refl
 drop-sets-at s l a (v ∷ vs) =
     let z : suc (s + a) ≡ s + suc a = omega arith in
-    ap (λ (i : ℕ). drop s (sets (set l (s + a) v) i vs)) z ∙ (drop-sets-at s (set l (s + a) v) (suc a) vs ∙ ap (λ (x : List ℕ). sets x (suc a) vs) (drop-set-add s l a v))
+    ap (λ (i : ℕ). drop s (sets (set l (s + a) v) i vs)) z ∙
+        (drop-sets-at s (set l (s + a) v) (suc a) vs ∙ ap (λ (x : List ℕ). sets x (suc a) vs) (drop-set-add s l a v))
 
 -- a region, after stores inside it, before it and behind it
 module _ (from size : ℕ) (l : List ℕ) (a : ℕ) (vs : List ℕ) where
@@ -37,4 +38,5 @@ module _ (from size : ℕ) (l : List ℕ) (a : ℕ) (vs : List ℕ) where
   pub region-behind : region from size (sets l (from + size + a) vs) ≡ region from size l
   region-behind =
       let z : from + size + a ≡ from + (size + a) = omega arith in
-      ap (λ (i : ℕ). region from size (sets l i vs)) z ∙ (ap (take size) (drop-sets-at from l (size + a) vs) ∙ take-sets-after size (drop from l) (size + a) vs (omega arith))
+      ap (λ (i : ℕ). region from size (sets l i vs)) z ∙
+          (ap (take size) (drop-sets-at from l (size + a) vs) ∙ take-sets-after size (drop from l) (size + a) vs (omega arith))

@@ -34,14 +34,16 @@ pub record ServerIs (n clients j : ℕ) (b : List ℕ) (p : ServerPlace) : Type 
 
 -- the record of server j of n in state q, and the block with it
 abbrev pub server-of : ℕ → ℕ → State → Server
-server-of n j q = server.serverOf (record { n = n; id = serverNo j; votes = record { owner = q .owner; len = length (q .queue) } }) (rowOf server.rowWords (q .queue))
+server-of n j q = server.serverOf (record { n = n; id = serverNo j; votes = record { owner = q .owner; len = length (q .queue) } })
+    (rowOf server.rowWords (q .queue))
 
 abbrev pub server-written : ℕ → ℕ → List ℕ → State → List ℕ
 server-written n j b q = sets b 1 (serverWords (server-of n j q))
 
 -- the record of a new server, and of one that forgot
 pub empty-row : (n j : ℕ) → emptyServer n (serverNo j) ≡ server-of n j idle
-empty-row n j = let e = row-of-none server.rowWords 0 (omega arith) in λ i. server.serverOf (record { n = n; id = serverNo j; votes = record { owner = Nobody; len = 0 } }) (sym e i)
+empty-row n j = let e = row-of-none server.rowWords 0 (omega arith) in λ i. server.serverOf
+    (record { n = n; id = serverNo j; votes = record { owner = Nobody; len = 0 } }) (sym e i)
 
 view-again : (n j : ℕ) (q : State) → length (q .queue) ≤ server.queuePlaces → server.view (server-of n j q) ≡ q
 view-again n j q h = let e = row-of-queue server.queuePlaces (q .queue) h in λ i. record { owner = q .owner; queue = e i }
@@ -63,7 +65,8 @@ module _ (n clients j : ℕ) (b : List ℕ) (size : length b ≡ serverBlock) (b
     its-record : serverRecord (server-written n j b q) ≡ serverWords kept
     its-record =
         let w = server-long kept kept-row in
-        region-inside 1 serverSize b 0 (serverWords kept) (omega arith) ∙ covered (serverRecord b) (serverWords kept) (simp (length-take, length-drop) (omega arith))
+        region-inside 1 serverSize b 0 (serverWords kept) (omega arith) ∙
+            covered (serverRecord b) (serverWords kept) (simp (length-take, length-drop) (omega arith))
 
     its-server : serverFrom (serverRecord (server-written n j b q)) ≡ kept
     its-server = ap serverFrom its-record ∙ words-held .1
@@ -90,7 +93,8 @@ module _ (n clients j : ℕ) (b : List ℕ) (size : length b ≡ serverBlock) (b
           });
         }
 
-pub stored-server : (n clients j : ℕ) (b : List ℕ) → validServerBlock n clients (serverNo j) b ≡ true → (q : State) → Good q → every (namedPair clients) (candidates q) ≡ true → length (q .queue) ≤ server.queuePlaces
+pub stored-server : (n clients j : ℕ) (b : List ℕ) → validServerBlock n clients (serverNo j) b ≡ true → (q : State) → Good q
+    → every (namedPair clients) (candidates q) ≡ true → length (q .queue) ≤ server.queuePlaces
     → ServerIs n clients j (server-written n j b q) (record { up = serverPlace b .up; state = q })
 stored-server n clients j b ok q g names short =
     let B = server-facts n clients j b ok in
@@ -110,7 +114,8 @@ module _ (n clients j : ℕ) (b : List ℕ) (ok : validServerBlock n clients (se
   set-place : serverPlace (set b 0 x) ≡ record { up = eqb x 1; state = serverPlace b .state }
   unfolding serverPlace
   set-place =
-      let v : server.view (serverFrom (serverRecord (set b 0 x))) ≡ server.view (serverFrom (serverRecord b)) = ap (λ (l : List ℕ). server.view (serverFrom l)) same-record in
+      let v : server.view (serverFrom (serverRecord (set b 0 x))) ≡ server.view (serverFrom (serverRecord b)) = ap
+          (λ (l : List ℕ). server.view (serverFrom l)) same-record in
       λ i. record { up = eqb (first-set i) 1; state = v i }
 
   set-up : ServerIs n clients j (set b 0 x) (record { up = eqb x 1; state = serverPlace b .state })
@@ -147,4 +152,5 @@ module _ (n clients j : ℕ) (b : List ℕ) (ok : validServerBlock n clients (se
       let F = server-facts n clients j b ok in
       let S = stored-server n clients j b ok idle idle-good refl (omega arith) in
       let D = set-up n clients j (server-written n j b idle) (S .valid) 0 (omega arith) in
-      rw (F .servers, F .number, empty-row n j) (record { place = D .place ∙ ap (λ (p : ServerPlace). record { up = false; state = p .state }) (S .place); valid = D .valid })
+      rw (F .servers, F .number,
+          empty-row n j) (record { place = D .place ∙ ap (λ (p : ServerPlace). record { up = false; state = p .state }) (S .place); valid = D .valid })

@@ -50,13 +50,15 @@ module _ (clients : ℕ) where
   every-of empty = refl
   every-of (more a g) = rw a (every-of g)
 
-  holds-by : (o : Owner) (l : List Request) → every (namedPair clients) (candidates (record { owner = o; queue = l })) ≡ true → Holds (OfClients clients) (record { owner = o; queue = l })
+  holds-by : (o : Owner) (l : List Request) → every (namedPair clients) (candidates (record { owner = o; queue = l })) ≡ true
+      → Holds (OfClients clients) (record { owner = o; queue = l })
   holds-by Nobody l h = record { owner = tt; queue = all-of l h }
   holds-by (Of r) l h =
       let (a, g) = both (namedPair clients r) (every (namedPair clients) l) h in
       record { owner = a; queue = all-of l g }
 
-  names-by : (o : Owner) (l : List Request) → Holds (OfClients clients) (record { owner = o; queue = l }) → every (namedPair clients) (candidates (record { owner = o; queue = l })) ≡ true
+  names-by : (o : Owner) (l : List Request) → Holds (OfClients clients) (record { owner = o; queue = l })
+      → every (namedPair clients) (candidates (record { owner = o; queue = l })) ≡ true
   names-by Nobody l h = every-of (h .queue)
   names-by (Of r) l h = rw (h .owner) (every-of (h .queue))
 
@@ -67,7 +69,8 @@ module _ (clients : ℕ) where
   holds-named q h = names-by (q .owner) (q .queue) h
 
 -- the request of a valid message
-pub message-request : (tag : Tag) (k : ClientId) (j : ServerId) (t : Timestamp) → format.valid (message tag k j t) ≡ true → validRequest (record { client = k; timestamp = t }) ≡ true
+pub message-request : (tag : Tag) (k : ClientId) (j : ServerId) (t : Timestamp) → format.valid (message tag k j t) ≡ true
+    → validRequest (record { client = k; timestamp = t }) ≡ true
 unfolding format.validUpTo
 message-request Asks k j t w = stamped-request maxServers k j t w
 message-request Yields k j t w = stamped-request maxServers k j t w
@@ -124,8 +127,10 @@ module _ (n clients j : ℕ) (b : List ℕ) (ok : validServerBlock n clients (se
       receive-short = queue-fits clients (receive me tag r at .state) (receive-good me tag r at v good) receive-names
 
       pub receive-block : clients ≤ systemClients
-          → ServerIs n clients j (server-written n j b (receive (record { 0 = j }) tag r (serverPlace b .state) .state)) (record { up = serverPlace b .up; state = receive (record { 0 = j }) tag r (serverPlace b .state) .state })
-      receive-block few = stored-server n clients j b ok (receive me tag r at .state) (receive-good me tag r at v good) receive-names (omega (arith, receive-short))
+          → ServerIs n clients j (server-written n j b (receive (record { 0 = j }) tag r (serverPlace b .state) .state))
+              (record { up = serverPlace b .up; state = receive (record { 0 = j }) tag r (serverPlace b .state) .state })
+      receive-block few = stored-server n clients j b ok (receive me tag r at .state) (receive-good me tag r at v good) receive-names
+          (omega (arith, receive-short))
 
   suspect-fair : Fair (OfClients clients) no-one me (at .owner) none-gained (suspect me at)
   suspect-fair = fair-suspect (λ p x. absurd x) holds
@@ -137,7 +142,8 @@ module _ (n clients j : ℕ) (b : List ℕ) (ok : validServerBlock n clients (se
   suspect-short = queue-fits clients (suspect me at .state) (suspect-good me at good) suspect-names
 
   pub suspect-block : clients ≤ systemClients
-      → ServerIs n clients j (server-written n j b (suspect (record { 0 = j }) (serverPlace b .state) .state)) (record { up = serverPlace b .up; state = suspect (record { 0 = j }) (serverPlace b .state) .state })
+      → ServerIs n clients j (server-written n j b (suspect (record { 0 = j }) (serverPlace b .state) .state))
+          (record { up = serverPlace b .up; state = suspect (record { 0 = j }) (serverPlace b .state) .state })
   suspect-block few =
       stored-server n clients j b ok (suspect me at .state) (suspect-good me at good) suspect-names (omega (arith, suspect-short))
 
@@ -151,7 +157,8 @@ module _ (n clients j : ℕ) (b : List ℕ) (ok : validServerBlock n clients (se
   check-short = queue-fits clients (check me at .state) (check-good me at good) check-names
 
   pub check-block : clients ≤ systemClients
-      → ServerIs n clients j (server-written n j b (check (record { 0 = j }) (serverPlace b .state) .state)) (record { up = serverPlace b .up; state = check (record { 0 = j }) (serverPlace b .state) .state })
+      → ServerIs n clients j (server-written n j b (check (record { 0 = j }) (serverPlace b .state) .state))
+          (record { up = serverPlace b .up; state = check (record { 0 = j }) (serverPlace b .state) .state })
   check-block few =
       stored-server n clients j b ok (check me at .state) (check-good me at good) check-names (omega (arith, check-short))
 
@@ -160,16 +167,20 @@ module _ (n clients j : ℕ) (b : List ℕ) (ok : validServerBlock n clients (se
   server-after p = rw (B .servers, B .number, row-long)
 
   -- what the calls do
-  pub receive-outcome : (tag : Tag) (k : ClientId) (t : Timestamp) → format.valid (message tag k (record { 0 = j }) t) ≡ true → leb (k .0) clients ≡ true → clients ≤ systemClients
-      → messageOutcome (serverFrom (serverRecord b)) (message tag k (record { 0 = j }) t) ≡ stepped (receive (record { 0 = j }) tag (record { client = k; timestamp = t }) (serverPlace b .state))
+  pub receive-outcome : (tag : Tag) (k : ClientId) (t : Timestamp) → format.valid (message tag k (record { 0 = j }) t) ≡ true
+      → leb (k .0) clients ≡ true → clients ≤ systemClients
+      → messageOutcome (serverFrom (serverRecord b)) (message tag k (record { 0 = j }) t) ≡ stepped
+          (receive (record { 0 = j }) tag (record { client = k; timestamp = t }) (serverPlace b .state))
   unfolding messageOutcomeUpTo
   receive-outcome tag k t w c few =
       let r : Request = record { client = k; timestamp = t } in
       let s = receive-short tag r c (message-request tag k me t w) in
-      let f : ltb (length (its .row)) (2 * length (receive me tag r at .state .queue)) ≡ false = le-ltb (length (its .row)) (2 * length (receive me tag r at .state .queue)) (omega (arith, row-long)) in
+      let f : ltb (length (its .row)) (2 * length (receive me tag r at .state .queue)) ≡ false = le-ltb (length (its .row))
+          (2 * length (receive me tag r at .state .queue)) (omega (arith, row-long)) in
       rw (B .valid, w, received-as its tag k me t, shows, B .number, eq-eqb j j refl, f)
 
-  pub suspect-outcome : (o : Request) → serverPlace b .state .owner ≡ Of o → suspectOutcome (serverFrom (serverRecord b)) ≡ stepped (suspect (record { 0 = j }) (serverPlace b .state))
+  pub suspect-outcome : (o : Request) → serverPlace b .state .owner ≡ Of o
+      → suspectOutcome (serverFrom (serverRecord b)) ≡ stepped (suspect (record { 0 = j }) (serverPlace b .state))
   unfolding suspectOutcome
   suspect-outcome o e =
       let f : its .head .votes .owner ≡ Of o = ap (λ (q : State). q .owner) shows ∙ e in

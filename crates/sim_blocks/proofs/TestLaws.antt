@@ -143,13 +143,17 @@ module _ (n m clients : ℕ) (k : ClientId) (ws : List ℕ) (c : Client) (e : c 
         unfolding fitsClient clientHeadFrom
         number-differs h = rw (good, eq-eqb (getD ws 0 0) n f, eq-eqb (getD ws 1 0) m g, ne-eqb (getD ws 2 0) (k .0) h)
 
-        pub named-decides : getD ws 2 0 ≡ k .0 → (y : Bool) → y ≡ every (namedPair clients) (take n (requestsIn (drop recordHead ws))) → y ≡ fitsClient n m clients k (clientFrom ws)
+        pub named-decides : getD ws 2 0 ≡ k .0 → (y : Bool) → y ≡ every (namedPair clients) (take n (requestsIn (drop recordHead ws)))
+            → y ≡ fitsClient n m clients k (clientFrom ws)
         unfolding fitsClient clientHeadFrom client.view
         named-decides h y q =
-            rw (good, eq-eqb (getD ws 0 0) n f, eq-eqb (getD ws 1 0) m g, eq-eqb (getD ws 2 0) (k .0) h, f, named-places clients (take n (requestsIn (drop recordHead ws)))) q
+            rw (good, eq-eqb (getD ws 0 0) n f, eq-eqb (getD ws 1 0) m g, eq-eqb (getD ws 2 0) (k .0) h, f,
+                named-places clients (take n (requestsIn (drop recordHead ws)))) q
 
 -- a server's record
-named-owner : (clients k t : ℕ) (l : List Request) → every (namedPair clients) (candidates (record { owner = ownerOf (record { 0 = k }) (record { 0 = t }); queue = l })) ≡ leb k clients && every (namedPair clients) l
+named-owner : (clients k t : ℕ) (l : List Request) → every (namedPair clients)
+    (candidates (record { owner = ownerOf (record { 0 = k }) (record { 0 = t }); queue = l })) ≡ leb k clients && every (namedPair clients)
+    l
 named-owner clients k t l =
     ⊎-elim
     (λ (e : eqb k 0 && eqb t 0 ≡ true).
@@ -169,7 +173,8 @@ module _ (n clients : ℕ) (j : ServerId) (ws : List ℕ) (s : Server) (e : s �
 
     pub length-fits : holdsServer ws ≡ true → recordHead + 2 * getD ws 4 0 ≤ length ws
     unfolding serverHeadFrom
-    length-fits h = let P = valid-padded maxServers (serverFrom ws) sound in omega (arith, P .within, P .places .even, length-drop recordHead ws, server-held ws h .size)
+    length-fits h = let P = valid-padded maxServers (serverFrom ws) sound in omega (arith, P .within, P .places .even,
+        length-drop recordHead ws, server-held ws h .size)
 
     pub server-count-differs : (getD ws 0 0 ≡ n → ⊥) → false ≡ fitsServer n clients j (serverFrom ws)
     unfolding fitsServer serverHeadFrom
@@ -187,19 +192,26 @@ module _ (n clients : ℕ) (j : ServerId) (ws : List ℕ) (s : Server) (e : s �
         pub owner-unknown : clients < getD ws 2 0 → false ≡ fitsServer n clients j (serverFrom ws)
         unfolding fitsServer serverHeadFrom
         owner-unknown h =
-            rw (sound, eq-eqb (getD ws 0 0) n f, eq-eqb (getD ws 1 0) (j .0) g, named-owner clients (getD ws 2 0) (getD ws 3 0) queue, lt-leb (getD ws 2 0) clients h)
+            rw (sound, eq-eqb (getD ws 0 0) n f, eq-eqb (getD ws 1 0) (j .0) g, named-owner clients (getD ws 2 0) (getD ws 3 0) queue,
+                lt-leb (getD ws 2 0) clients h)
 
-        pub queue-decides : getD ws 2 0 ≤ clients → (y : Bool) → y ≡ every (namedPair clients) (take (getD ws 4 0) (requestsIn (drop recordHead ws))) → y ≡ fitsServer n clients j (serverFrom ws)
+        pub queue-decides : getD ws 2 0 ≤ clients → (y : Bool)
+            → y ≡ every (namedPair clients) (take (getD ws 4 0) (requestsIn (drop recordHead ws)))
+            → y ≡ fitsServer n clients j (serverFrom ws)
         unfolding fitsServer serverHeadFrom
         queue-decides h y q =
-            rw (sound, eq-eqb (getD ws 0 0) n f, eq-eqb (getD ws 1 0) (j .0) g, named-owner clients (getD ws 2 0) (getD ws 3 0) queue, le-leb (getD ws 2 0) clients h) q
+            rw (sound, eq-eqb (getD ws 0 0) n f, eq-eqb (getD ws 1 0) (j .0) g, named-owner clients (getD ws 2 0) (getD ws 3 0) queue,
+                le-leb (getD ws 2 0) clients h) q
 
 -- a whole block
 pub few-servers : (n m clients : ℕ) (k : ClientId) (c : Client) → fitsClient n m clients k c ≡ true → n ≤ systemServers
 unfolding fitsClient
 few-servers n m clients k c h =
-    let (v, r) = both (client.valid c) (eqb (c .head .n) n && (eqb (c .head .m) m && (eqb (c .head .id .0) (k .0) && every (named clients) (client.view c .responses)))) h in
-    let e : c .head .n ≡ n = eqb-true (c .head .n) n (both (eqb (c .head .n) n) (eqb (c .head .m) m && (eqb (c .head .id .0) (k .0) && every (named clients) (client.view c .responses))) r .0) in
+    let (v, r) = both (client.valid c)
+        (eqb (c .head .n) n && (eqb (c .head .m) m && (eqb (c .head .id .0) (k .0) && every (named clients) (client.view c .responses))))
+        h in
+    let e : c .head .n ≡ n = eqb-true (c .head .n) n
+        (both (eqb (c .head .n) n) (eqb (c .head .m) m && (eqb (c .head .id .0) (k .0) && every (named clients) (client.view c .responses))) r .0) in
     let K = valid-known c v in
     omega (arith, K .few)
 
@@ -231,7 +243,9 @@ module _ (n m clients : ℕ) (k : ClientId) (b : List ℕ) where
       unfolding validClientBlock
       client-wide t = rw (l, le-leb (getD b 0 0) 1 h, fails x (holdsClient (clientRecord b)) p t)
 
-      pub client-decided : not x ≡ false → (y : Bool) → y ≡ fitsClient n m clients k (clientFrom (clientRecord b)) && fitsFlags n (inEpoch (clientPlace b)) (flags b) → y ≡ validClientBlock n m clients k b
+      pub client-decided : not x ≡ false → (y : Bool)
+          → y ≡ fitsClient n m clients k (clientFrom (clientRecord b)) && fitsFlags n (inEpoch (clientPlace b)) (flags b)
+          → y ≡ validClientBlock n m clients k b
       unfolding validClientBlock
       client-decided t y q = rw (l, le-leb (getD b 0 0) 1 h, holds x (holdsClient (clientRecord b)) p t) q
 
@@ -255,8 +269,10 @@ module _ (n clients : ℕ) (j : ServerId) (b : List ℕ) where
       server-decided t y q = rw (l, le-leb (getD b 0 0) 1 h, holds x (holdsServer (serverRecord b)) p t) q
 
 -- the record that was read and lent is the record in the words
-pub client-lent : (ws : List ℕ) (h : ClientHead) → holdsClient ws ≡ true → h ≡ clientHeadFrom ws → client.clientOf h (take (clientSize - recordHead) (drop recordHead ws)) ≡ clientFrom ws
+pub client-lent : (ws : List ℕ) (h : ClientHead) → holdsClient ws ≡ true → h ≡ clientHeadFrom ws
+    → client.clientOf h (take (clientSize - recordHead) (drop recordHead ws)) ≡ clientFrom ws
 client-lent ws h held e = rw (e, take-all (clientSize - recordHead) (drop recordHead ws) (omega (arith, length-drop recordHead ws, client-held ws held .size)))
 
-pub server-lent : (ws : List ℕ) (h : ServerHead) → holdsServer ws ≡ true → h ≡ serverHeadFrom ws → server.serverOf h (take (serverSize - recordHead) (drop recordHead ws)) ≡ serverFrom ws
+pub server-lent : (ws : List ℕ) (h : ServerHead) → holdsServer ws ≡ true → h ≡ serverHeadFrom ws
+    → server.serverOf h (take (serverSize - recordHead) (drop recordHead ws)) ≡ serverFrom ws
 server-lent ws h held e = rw (e, take-all (serverSize - recordHead) (drop recordHead ws) (omega (arith, length-drop recordHead ws, server-held ws held .size)))

@@ -47,7 +47,8 @@ module _ (f : ℕ → List ℕ → Bool) (s c : ℕ) (l : List ℕ) where
       pub passed-fails : not y ≡ true → false ≡ validFrom f 1 (blocks s itself c l)
       passed-fails t =
           ⊎-elim
-          (λ (u : validFrom f 1 (blocks s itself c l) ≡ true). clash (f (1 + i) (take s (drop (i * s) l))) (each-valid f s c 1 l u i lt) (fails y (f (1 + i) (take s (drop (i * s) l))) here t))
+          (λ (u : validFrom f 1 (blocks s itself c l) ≡ true). clash (f (1 + i) (take s (drop (i * s) l))) (each-valid f s c 1 l u i lt)
+          (fails y (f (1 + i) (take s (drop (i * s) l))) here t))
           (λ (u : validFrom f 1 (blocks s itself c l) ≡ false). sym u)
           (decided (validFrom f 1 (blocks s itself c l)))
 

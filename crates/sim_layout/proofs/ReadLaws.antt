@@ -33,7 +33,8 @@ unfolding view
 most-word w = refl
 
 -- those counted inside among the clients are the system's holders
-pub holders-counted : (w : List ℕ) (r clients : ℕ) → clients ≡ settingOf w .clients → r ≡ count (map isInside (blocks clientBlock clientPlace clients (clientWords w))) → r ≡ holders (view w)
+pub holders-counted : (w : List ℕ) (r clients : ℕ) → clients ≡ settingOf w .clients
+    → r ≡ count (map isInside (blocks clientBlock clientPlace clients (clientWords w))) → r ≡ holders (view w)
 unfolding view
 holders-counted w r clients e p = rw e at p
 

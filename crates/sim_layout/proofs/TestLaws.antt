@@ -38,11 +38,14 @@ module _ (f : List ℕ → ClientPlace) (l : List ℕ) where
   unfolding worst blocks
   worst-start = refl
 
-  pub worst-step : (i most x r : ℕ) → most ≡ worst (blocks clientBlock f i l) → x ≡ length (f (take clientBlock (drop ((i + 1 - 1) * clientBlock) l)) .downs) → r ≡ max most x → r ≡ worst (blocks clientBlock f (i + 1) l)
+  pub worst-step : (i most x r : ℕ) → most ≡ worst (blocks clientBlock f i l)
+      → x ≡ length (f (take clientBlock (drop ((i + 1 - 1) * clientBlock) l)) .downs) → r ≡ max most x
+      → r ≡ worst (blocks clientBlock f (i + 1) l)
   worst-step i most x r e g h =
       let z : i + 1 - 1 ≡ i = omega arith in
       let y : i + 1 ≡ suc i = omega arith in
-      let x′ : x ≡ length (f (take clientBlock (drop (i * clientBlock) l)) .downs) = g ∙ ap (λ (k : ℕ). length (f (take clientBlock (drop (k * clientBlock) l)) .downs)) z in
+      let x′ : x ≡ length (f (take clientBlock (drop (i * clientBlock) l)) .downs) = g ∙
+          ap (λ (k : ℕ). length (f (take clientBlock (drop (k * clientBlock) l)) .downs)) z in
       h ∙ (omega (arith, e, x′, worst-more clientBlock f i l) ∙ ap (λ (k : ℕ). worst (blocks clientBlock f k l)) (sym y))
 
   pub worst-end : (i c r : ℕ) → i ≤ c → c ≤ i → r ≡ worst (blocks clientBlock f i l) → r ≡ worst (blocks clientBlock f c l)
@@ -67,7 +70,8 @@ module _ (n m clients : ℕ) (w : List ℕ) (r : (length w ≡ simulationSize) �
   unfolding blocksValid
   clients-bad t = rw (fails a C p t)
 
-  module _ (t : not a ≡ false) (b : Bool) (q : b ≡ blank (take (serversFrom - (clientsFrom + clientBlock * clients)) (drop (clientsFrom + clientBlock * clients) w))) where
+  module _ (t : not a ≡ false) (b : Bool)
+      (q : b ≡ blank (take (serversFrom - (clientsFrom + clientBlock * clients)) (drop (clientsFrom + clientBlock * clients) w))) where
     behind : b ≡ D
     behind = q ∙ ap blank (clients-rest w clients (r .2))
 
@@ -80,7 +84,9 @@ module _ (n m clients : ℕ) (w : List ℕ) (r : (length w ≡ simulationSize) �
       unfolding blocksValid
       servers-bad v = rw (holds a C p t, holds b D behind u, fails d E s v)
 
-      pub behind-servers : (e : Bool) → not d ≡ false → e ≡ blank (take (transitFrom - (serversFrom + serverBlock * n)) (drop (serversFrom + serverBlock * n) w)) → e ≡ blocksValid n m clients w
+      pub behind-servers : (e : Bool) → not d ≡ false
+          → e ≡ blank (take (transitFrom - (serversFrom + serverBlock * n)) (drop (serversFrom + serverBlock * n) w))
+          → e ≡ blocksValid n m clients w
       unfolding blocksValid
       behind-servers e v g = rw (holds a C p t, holds b D behind u, holds d E s v) (g ∙ ap blank (servers-rest w n (r .1)))
 
@@ -120,17 +126,22 @@ module _ (w : List ℕ) where
   parts-of : Facts w → inParts ≡ true
   unfolding partsValid blocksValid view
   parts-of f =
-      rw (f .clients, f .noClients, f .servers, f .noServers, f .transit, le-leb (mostOf w) (settingOf w .n) (f .few), le-leb (worst (blocks clientBlock clientPlace (settingOf w .clients) (clientWords w))) (mostOf w) (f .noted))
+      rw (f .clients, f .noClients, f .servers, f .noServers, f .transit, le-leb (mostOf w) (settingOf w .n) (f .few),
+          le-leb (worst (blocks clientBlock clientPlace (settingOf w .clients) (clientWords w))) (mostOf w) (f .noted))
 
-  facts-of : length w ≡ simulationSize → inRangeUpTo systemServers (settingOf w .n) (settingOf w .m) (settingOf w .f) ≡ true → within (settingOf w .clients) systemClients ≡ true → inParts ≡ true → Facts w
+  facts-of : length w ≡ simulationSize → inRangeUpTo systemServers (settingOf w .n) (settingOf w .m) (settingOf w .f) ≡ true
+      → within (settingOf w .clients) systemClients ≡ true → inParts ≡ true → Facts w
   unfolding partsValid blocksValid view
   facts-of l r k h =
       let d = both _ (leb (worst (blocks clientBlock clientPlace (settingOf w .clients) (clientWords w))) (mostOf w)) h in
       let c = both _ (leb (mostOf w) (settingOf w .n)) (d .0) in
       let b = both _ (validSlots (settingOf w .n) (settingOf w .clients) (sentOf w) (lengthOf w) (transitWords w)) (c .0) in
       let e = both _ (blank (drop (settingOf w .n * serverBlock) (serverWords w))) (b .0) in
-      let f = both _ (validFrom (λ (i : ℕ). validServerBlock (settingOf w .n) (settingOf w .clients) (serverNo i)) 1 (blocks serverBlock itself (settingOf w .n) (serverWords w))) (e .0) in
-      let g = both (validFrom (λ (i : ℕ). validClientBlock (settingOf w .n) (settingOf w .m) (settingOf w .clients) (clientNo i)) 1 (blocks clientBlock itself (settingOf w .clients) (clientWords w))) (blank (drop (settingOf w .clients * clientBlock) (clientWords w))) (f .0) in
+      let f = both _ (validFrom (λ (i : ℕ). validServerBlock (settingOf w .n) (settingOf w .clients) (serverNo i)) 1
+          (blocks serverBlock itself (settingOf w .n) (serverWords w))) (e .0) in
+      let g = both (validFrom (λ (i : ℕ). validClientBlock (settingOf w .n) (settingOf w .m) (settingOf w .clients) (clientNo i)) 1
+          (blocks clientBlock itself (settingOf w .clients) (clientWords w))) (blank
+          (drop (settingOf w .clients * clientBlock) (clientWords w))) (f .0) in
       record {
         long = l;
         range = r;
@@ -157,7 +168,8 @@ module _ (w : List ℕ) where
     its-range = refl
 
     pub range-wrong : not a ≡ true → false ≡ valid w
-    range-wrong t = by-fact (inRangeUpTo systemServers (settingOf w .n) (settingOf w .m) (settingOf w .f)) (λ f. f .range) (its-range ∙ fails a (inRangeUpTo systemServers (getD w 0 0) (getD w 1 0) (getD w 2 0)) p t)
+    range-wrong t = by-fact (inRangeUpTo systemServers (settingOf w .n) (settingOf w .m) (settingOf w .f)) (λ f. f .range) (its-range ∙
+        fails a (inRangeUpTo systemServers (getD w 0 0) (getD w 1 0) (getD w 2 0)) p t)
 
     module _ (t : not a ≡ false) (b : Bool) (q : b ≡ within (getD w 3 0) systemClients) where
       its-clients : within (settingOf w .clients) systemClients ≡ within (getD w 3 0) systemClients
@@ -180,10 +192,12 @@ module _ (w : List ℕ) where
       pub parts-decide : (r : Bool) → not b ≡ false → r ≡ partsValid (getD w 0 0) (getD w 1 0) (getD w 3 0) w → r ≡ valid w
       parts-decide r u e =
           e ∙ (sym its-parts ∙ same-truth inParts (valid w)
-          (λ h. from-facts w (facts-of l (its-range ∙ holds a (inRangeUpTo systemServers (getD w 0 0) (getD w 1 0) (getD w 2 0)) p t) (its-clients ∙ holds b (within (getD w 3 0) systemClients) q u) h))
+          (λ h. from-facts w (facts-of l (its-range ∙ holds a (inRangeUpTo systemServers (getD w 0 0) (getD w 1 0) (getD w 2 0)) p t)
+          (its-clients ∙ holds b (within (getD w 3 0) systemClients) q u) h))
           (λ h. parts-of (facts w h)))
 
 -- transit_valid
-pub transit-part : (n clients : ℕ) (w : List ℕ) → validSlots n clients (sentOf w) (lengthOf w) (transitWords w) ≡ validSlots n clients (getD w 5 0) (getD w 4 0) (take transitSize (drop transitFrom w))
+pub transit-part : (n clients : ℕ) (w : List ℕ)
+    → validSlots n clients (sentOf w) (lengthOf w) (transitWords w) ≡ validSlots n clients (getD w 5 0) (getD w 4 0) (take transitSize (drop transitFrom w))
 unfolding transitWords
 transit-part n clients w = refl

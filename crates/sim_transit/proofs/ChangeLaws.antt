@@ -19,7 +19,9 @@ use Rattle.ids.proofs.ListLaws.{every-append, every-parts}
 use Rattle.sim_transit.proofs.ValidLaws.{Known, known, known-valid, slots-around, slot-valid-at}
 use Rattle.system.specs.Limits.{systemMessages}
 
-pub stored-seven : (t : List ℕ) (at a b c d e f g : ℕ) → set (set (set (set (set (set (set t at a) (at + 1) b) (at + 2) c) (at + 3) d) (at + 4) e) (at + 5) f) (at + 6) g ≡ sets t at (a ∷ (b ∷ (c ∷ (d ∷ (e ∷ (f ∷ (g ∷ [])))))))
+pub stored-seven : (t : List ℕ) (at a b c d e f g : ℕ) → set
+    (set (set (set (set (set (set t at a) (at + 1) b) (at + 2) c) (at + 3) d) (at + 4) e) (at + 5) f) (at + 6) g ≡ sets t at
+    (a ∷ (b ∷ (c ∷ (d ∷ (e ∷ (f ∷ (g ∷ [])))))))
 stored-seven t at a b c d e f g = rw (add-one, add-two, add-three, add-four, add-five, add-six)
 
 -- one slot changed: the words before it and behind it are as they were
@@ -40,7 +42,8 @@ module _ (t t′ : List ℕ) (i k : ℕ) (size : length t ≡ transitSize) (size
   pub changed-known : (n clients sent : ℕ) → Known n clients sent (i + suc k) t → validSlot n clients (take slotSize (drop (slotSize * i) t′)) ≡ true
       → slotAt t′ i .number ≡ slotAt t i .number → Known n clients sent (i + suc k) t′
   changed-known n clients sent K v e =
-      let f : every (validSlot n clients) (rows i t ++ (take slotSize (drop (slotSize * i) t) ∷ rows k (drop (slotSize * suc i) t))) ≡ true = rw (rows-around i k t) at (K .fit) in
+      let f : every (validSlot n clients) (rows i t ++ (take slotSize (drop (slotSize * i) t) ∷ rows k (drop (slotSize * suc i) t))) ≡ true =
+          rw (rows-around i k t) at (K .fit) in
       let (p, q) = every-parts (validSlot n clients) (rows i t) (take slotSize (drop (slotSize * i) t) ∷ rows k (drop (slotSize * suc i) t)) f in
       let r = both (validSlot n clients (take slotSize (drop (slotSize * i) t))) (every (validSlot n clients) (rows k (drop (slotSize * suc i) t))) q .1 in
       let q′ : every (validSlot n clients) (take slotSize (drop (slotSize * i) t′) ∷ rows k (drop (slotSize * suc i) t)) ≡ true = rw v r in
@@ -48,7 +51,8 @@ module _ (t t′ : List ℕ) (i k : ℕ) (size : length t ≡ transitSize) (size
       record {
         size = size′;
         few = used;
-        fit = rw rows-changed (every-append (validSlot n clients) (rows i t) (take slotSize (drop (slotSize * i) t′) ∷ rows k (drop (slotSize * suc i) t)) p q′);
+        fit = rw rows-changed
+            (every-append (validSlot n clients) (rows i t) (take slotSize (drop (slotSize * i) t′) ∷ rows k (drop (slotSize * suc i) t)) p q′);
         ordered = rw slots-changed (ascends-changed sent 0 (slots i t) (slotAt t i) (slotAt t′ i) (slots k (drop (slotSize * suc i) t)) e o);
         rest = rw rest-changed (K .rest);
       }
@@ -78,11 +82,13 @@ module _ (t : List ℕ) (i : ℕ) (size : length t ≡ transitSize) (used : i < 
 
     marked-known : Valid n clients sent len (set t (slotSize * i + 1) 1)
     marked-known =
-        let v : validSlot n clients (take slotSize (drop (slotSize * i) (set t (slotSize * i + 1) 1))) ≡ true = rw (store-here t i 1) (marked-valid n clients (row-seven t i size used) its-slot) in
+        let v : validSlot n clients (take slotSize (drop (slotSize * i) (set t (slotSize * i + 1) 1))) ≡ true = rw (store-here t i 1)
+            (marked-valid n clients (row-seven t i size used) its-slot) in
         let l : length (set t (slotSize * i + 1) 1) ≡ transitSize = length-set t (slotSize * i + 1) 1 ∙ size in
         let K = its-known in
         rw e (known-valid n clients sent (i + suc k) (set t (slotSize * i + 1) 1)
-        (changed-known t (set t (slotSize * i + 1) 1) i k size l (K .few) (store-before t i 1) (store-behind t i 1) n clients sent K v (ap (λ (x : InTransit). x .number) now-slot)))
+        (changed-known t (set t (slotSize * i + 1) 1) i k size l (K .few) (store-before t i 1) (store-behind t i 1) n clients sent K v
+        (ap (λ (x : InTransit). x .number) now-slot)))
 
     marked-after : slots len (set t (slotSize * i + 1) 1) ≡ replaced (slotAt t i .number) keeping (slots len t)
     marked-after =

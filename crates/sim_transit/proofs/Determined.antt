@@ -50,7 +50,8 @@ unfolding rows joined
 rows-joined zero t = refl
 rows-joined (suc k) t =
     let z : slotSize * suc k ≡ slotSize + slotSize * k = omega arith in
-    let e : joined (rows k (drop slotSize t)) ++ drop (slotSize + slotSize * k) t ≡ drop slotSize t = rw (← drop-drop (slotSize * k) slotSize t) (rows-joined k (drop slotSize t)) in
+    let e : joined (rows k (drop slotSize t)) ++ drop (slotSize + slotSize * k) t ≡ drop slotSize t = rw
+        (← drop-drop (slotSize * k) slotSize t) (rows-joined k (drop slotSize t)) in
     rw (z, append-assoc (take slotSize t) (joined (rows k (drop slotSize t))) (drop (slotSize + slotSize * k) t), e) (take-append-drop slotSize t)
 
 zeros-same : (a b : List ℕ) → length a ≡ length b → every (eqb 0) a ≡ true → every (eqb 0) b ≡ true → a ≡ b
@@ -62,12 +63,14 @@ zeros-same (x ∷ a) (y ∷ b) l p q =
     let (w, z) = both (eqb 0 y) (every (eqb 0) b) q in
     rw (← eqb-true 0 x u, ← eqb-true 0 y w, zeros-same a b (omega arith) v z)
 
-pub same-words : (n clients sent n′ clients′ sent′ len : ℕ) (s t : List ℕ) → Valid n clients sent len s → Valid n′ clients′ sent′ len t → slots len s ≡ slots len t → s ≡ t
+pub same-words : (n clients sent n′ clients′ sent′ len : ℕ) (s t : List ℕ) → Valid n clients sent len s → Valid n′ clients′ sent′ len t
+    → slots len s ≡ slots len t → s ≡ t
 same-words n clients sent n′ clients′ sent′ len s t ok ok′ e =
     let K = known n clients sent len s ok in
     let L = known n′ clients′ sent′ len t ok′ in
     let a = rows-again n clients len s (omega (arith, K .size, K .few)) (K .fit) in
     let b = rows-again n′ clients′ len t (omega (arith, L .size, L .few)) (L .fit) in
     let r : rows len s ≡ rows len t = sym a ∙ (ap (map slotWords) e ∙ b) in
-    let d : drop (slotSize * len) s ≡ drop (slotSize * len) t = zeros-same (drop (slotSize * len) s) (drop (slotSize * len) t) (omega (arith, length-drop (slotSize * len) s, length-drop (slotSize * len) t, K .size, L .size)) (K .rest) (L .rest) in
+    let d : drop (slotSize * len) s ≡ drop (slotSize * len) t = zeros-same (drop (slotSize * len) s) (drop (slotSize * len) t)
+        (omega (arith, length-drop (slotSize * len) s, length-drop (slotSize * len) t, K .size, L .size)) (K .rest) (L .rest) in
     sym (rows-joined len s) ∙ (rw (r, d) (rows-joined len t))

@@ -42,7 +42,8 @@ module _ (sent : ℕ) where
       omega (arith, number-at t 0, climbs (slotOf (take slotSize t) .number) k (drop slotSize t) (r .others) m (omega arith), number-behind t m)
   in-order last (suc k) t e (suc i) (suc m) h g =
       let r = rising sent last (slotOf (take slotSize t)) (slots k (drop slotSize t)) (rw (slots-cons k t) at e) in
-      omega (arith, in-order (slotOf (take slotSize t) .number) k (drop slotSize t) (r .others) i m (omega arith) (omega arith), number-behind t i, number-behind t m)
+      omega (arith, in-order (slotOf (take slotSize t) .number) k (drop slotSize t) (r .others) i m (omega arith) (omega arith),
+          number-behind t i, number-behind t m)
 
 -- the numbers of a valid list of slots ascend
 pub valid-ordered : (n clients sent len : ℕ) (t : List ℕ) → validSlots n clients sent len t ≡ true → Ordered len t
@@ -60,7 +61,8 @@ pub record Searching (number len : ℕ) (t : List ℕ) (low high : ℕ) : Type 0
 module _ (number len : ℕ) (t : List ℕ) where
   pub searching-none : Sized len t → Searching number len t 0 len
   searching-none s =
-      record { middle = omega arith; within = omega arith; size = s .size; few = s .few; below = λ o i h. absurd (omega arith); above = λ o i h g. absurd (omega arith) }
+      record { middle = omega arith; within = omega arith; size = s .size; few = s .few; below = λ o i h. absurd (omega arith);
+          above = λ o i h g. absurd (omega arith) }
 
   module _ (low high : ℕ) (S : Searching number len t low high) where
     pub searching-up : (m : ℕ) → low ≤ m → m < high → getD t (slotSize * m) 0 < number → Searching number len t (m + 1) high
@@ -110,12 +112,14 @@ module _ (number : ℕ) where
   pending-past : (k : ℕ) (t : List ℕ) (b : List InTransit) → Absent number k t → pending number (slots k t ++ b) ≡ pending number b
   unfolding slots rows pending
   pending-past zero t b h = refl
-  pending-past (suc k) t b h = rw (ne-eqb (slotOf (take slotSize t) .number) number (absent-first k t h)) (pending-past k (drop slotSize t) b (absent-others k t h))
+  pending-past (suc k) t b h = rw (ne-eqb (slotOf (take slotSize t) .number) number (absent-first k t h))
+      (pending-past k (drop slotSize t) b (absent-others k t h))
 
   present-past : (k : ℕ) (t : List ℕ) (b : List InTransit) → Absent number k t → present number (slots k t ++ b) ≡ present number b
   unfolding slots rows
   present-past zero t b h = refl
-  present-past (suc k) t b h = rw (ne-eqb (slotOf (take slotSize t) .number) number (absent-first k t h)) (present-past k (drop slotSize t) b (absent-others k t h))
+  present-past (suc k) t b h = rw (ne-eqb (slotOf (take slotSize t) .number) number (absent-first k t h))
+      (present-past k (drop slotSize t) b (absent-others k t h))
 
   pending-absent : (k : ℕ) (t : List ℕ) → Absent number k t → pending number (slots k t) ≡ none
   unfolding pending
@@ -208,7 +212,8 @@ module _ (number len : ℕ) (t : List ℕ) (r : ℕ) (B : Bound number len t r) 
       from-here = rw (z, slots-around r k t) (pending-past number r t (slotAt t r ∷ slots k (drop (slotSize * suc r) t)) (none-before o))
 
       present-here : present number (slots len t) ≡ true
-      present-here = rw (z, slots-around r k t, present-past number r t (slotAt t r ∷ slots k (drop (slotSize * suc r) t)) (none-before o), eq-eqb (slotAt t r .number) number its-number)
+      present-here = rw (z, slots-around r k t, present-past number r t (slotAt t r ∷ slots k (drop (slotSize * suc r) t)) (none-before o),
+          eq-eqb (slotAt t r .number) number its-number)
 
     flag : slotAt t r .delivered ≡ eqb (getD t (slotSize * r + 1) 0) 1
     unfolding slotOf
@@ -246,6 +251,7 @@ module _ (number len : ℕ) (t : List ℕ) (r : ℕ) (B : Bound number len t r) 
           numbered = λ h. its-number;
           isPending = λ h. d;
           found = λ n clients sent ok h.
-              from-here (valid-ordered n clients sent len t ok) (len - suc r) (omega arith) ∙ pending-here number (slotAt t r) (slots (len - suc r) (drop (slotSize * suc r) t)) its-number d;
+              from-here (valid-ordered n clients sent len t ok) (len - suc r) (omega arith) ∙
+                  pending-here number (slotAt t r) (slots (len - suc r) (drop (slotSize * suc r) t)) its-number d;
           missing = λ n clients sent ok h. absurd (omega arith);
         }

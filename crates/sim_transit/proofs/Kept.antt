@@ -56,21 +56,25 @@ module _ (n clients : ℕ) (m : Message) where
   unfolding names
   named-names d =
       let f : Fields = fieldsOf m in
-      rw (le-leb 1 (f .client) (d .some-client), le-leb (f .client) clients (d .client), le-leb 1 (f .server) (d .some-server), le-leb (f .server) n (d .server), le-leb (f .owner) clients (d .owner))
+      rw (le-leb 1 (f .client) (d .some-client), le-leb (f .client) clients (d .client), le-leb 1 (f .server) (d .some-server),
+          le-leb (f .server) n (d .server), le-leb (f .owner) clients (d .owner))
 
-row-kept : (n clients sent : ℕ) (ws : List ℕ) → validSlot n clients ws ≡ true → 1 ≤ slotOf ws .number → slotOf ws .number ≤ sent → Kept n clients sent (slotOf ws)
+row-kept : (n clients sent : ℕ) (ws : List ℕ) → validSlot n clients ws ≡ true → 1 ≤ slotOf ws .number → slotOf ws .number ≤ sent
+    → Kept n clients sent (slotOf ws)
 unfolding slotOf
 row-kept n clients sent ws v a b =
     let F = slot-fitting n clients ws v in
     record { range = fields-valid maxServers (fieldsFrom (drop 2 ws)) (F .range); named = F .named; first = a; last = b }
 
-kept-from : (n clients sent last k : ℕ) (t : List ℕ) → every (validSlot n clients) (rows k t) ≡ true → ascending last sent (slots k t) ≡ true → All (Kept n clients sent) (slots k t)
+kept-from : (n clients sent last k : ℕ) (t : List ℕ) → every (validSlot n clients) (rows k t) ≡ true
+    → ascending last sent (slots k t) ≡ true → All (Kept n clients sent) (slots k t)
 unfolding rows slots
 kept-from n clients sent last zero t v e = empty
 kept-from n clients sent last (suc k) t v e =
     let (a, b) = both (validSlot n clients (take slotSize t)) (every (validSlot n clients) (rows k (drop slotSize t))) v in
     let r = rising sent last (slotOf (take slotSize t)) (slots k (drop slotSize t)) e in
-    more {x = slotOf (take slotSize t)} (row-kept n clients sent (take slotSize t) a (omega (arith, r .above)) (r .sent-by)) (kept-from n clients sent (slotOf (take slotSize t) .number) k (drop slotSize t) b (r .others))
+    more {x = slotOf (take slotSize t)} (row-kept n clients sent (take slotSize t) a (omega (arith, r .above)) (r .sent-by))
+        (kept-from n clients sent (slotOf (take slotSize t) .number) k (drop slotSize t) b (r .others))
 
 all-middle : {P : InTransit → Type 0} (a : List InTransit) (x : InTransit) (b : List InTransit) → All P (a ++ x ∷ b) → P x
 all-middle [] x b (more h g) = h
@@ -108,7 +112,8 @@ module _ (n clients sent len : ℕ) (t : List ℕ) (ok : Valid n clients sent le
   pub valid-later : (sent′ : ℕ) → sent ≤ sent′ → Valid n clients sent′ len t
   valid-later sent′ h =
       let K = known n clients sent len t ok in
-      known-valid n clients sent′ len t (record { size = K .size; few = K .few; fit = K .fit; ordered = ascends-later sent sent′ 0 (slots len t) h (K .ordered); rest = K .rest })
+      known-valid n clients sent′ len t
+          (record { size = K .size; few = K .few; fit = K .fit; ordered = ascends-later sent sent′ 0 (slots len t) h (K .ordered); rest = K .rest })
 
   -- no number stands twice
   pub valid-unique : (i k : ℕ) → i < k → k < len → slotAt t i .number < slotAt t k .number

@@ -26,7 +26,8 @@ module _ (sent : ℕ) where
       let (b, c) = both (leb (x .number) sent) (ascending (x .number) sent l) r in
       record { above = ltb-true _ _ a; sent-by = leb-true _ _ b; others = c }
 
-  pub ascends : (last : ℕ) (x : InTransit) (l : List InTransit) → last < x .number → x .number ≤ sent → ascending (x .number) sent l ≡ true → ascending last sent (x ∷ l) ≡ true
+  pub ascends : (last : ℕ) (x : InTransit) (l : List InTransit) → last < x .number → x .number ≤ sent → ascending (x .number) sent l ≡ true
+      → ascending last sent (x ∷ l) ≡ true
   unfolding ascending
   ascends last x l a b c = rw (lt-ltb last (x .number) a, le-leb (x .number) sent b) c
 
@@ -41,13 +42,15 @@ module _ (sent : ℕ) where
   ascends-past last (y ∷ a) x b e = let r = rising last y (a ++ x ∷ b) e in omega (arith, r .above, ascends-past (y .number) a x b (r .others))
 
   -- one of them is left out, or another with the same number stands for it
-  pub ascends-without : (last : ℕ) (a : List InTransit) (x : InTransit) (b : List InTransit) → ascending last sent (a ++ x ∷ b) ≡ true → ascending last sent (a ++ b) ≡ true
+  pub ascends-without : (last : ℕ) (a : List InTransit) (x : InTransit) (b : List InTransit) → ascending last sent (a ++ x ∷ b) ≡ true
+      → ascending last sent (a ++ b) ≡ true
   ascends-without last [] x b e = let r = rising last x b e in ascends-lower last (x .number) b (omega (arith, r .above)) (r .others)
   ascends-without last (y ∷ a) x b e =
       let r = rising last y (a ++ x ∷ b) e in
       ascends last y (a ++ b) (r .above) (r .sent-by) (ascends-without (y .number) a x b (r .others))
 
-  pub ascends-changed : (last : ℕ) (a : List InTransit) (x y : InTransit) (b : List InTransit) → y .number ≡ x .number → ascending last sent (a ++ x ∷ b) ≡ true → ascending last sent (a ++ y ∷ b) ≡ true
+  pub ascends-changed : (last : ℕ) (a : List InTransit) (x y : InTransit) (b : List InTransit) → y .number ≡ x .number
+      → ascending last sent (a ++ x ∷ b) ≡ true → ascending last sent (a ++ y ∷ b) ≡ true
   ascends-changed last [] x y b n e =
       let r = rising last x b e in
       ascends last y b (omega (arith, r .above)) (omega (arith, r .sent-by)) (rw (← n) at (r .others))
@@ -55,7 +58,8 @@ module _ (sent : ℕ) where
       let r = rising last z (a ++ x ∷ b) e in
       ascends last z (a ++ y ∷ b) (r .above) (r .sent-by) (ascends-changed (z .number) a x y b n (r .others))
 
-  pub ascends-map : (f : InTransit → InTransit) → ((x : InTransit) → f x .number ≡ x .number) → (last : ℕ) (l : List InTransit) → ascending last sent l ≡ true → ascending last sent (map f l) ≡ true
+  pub ascends-map : (f : InTransit → InTransit) → ((x : InTransit) → f x .number ≡ x .number) → (last : ℕ) (l : List InTransit)
+      → ascending last sent l ≡ true → ascending last sent (map f l) ≡ true
   unfolding ascending
   ascends-map f n last [] e = refl
   ascends-map f n last (x ∷ l) e =
@@ -73,7 +77,8 @@ module _ (sent : ℕ) where
         let n : x .number ≡ i → ⊥ = omega (arith, r .above) in
         rw (ne-eqb (x .number) i n, replaced-none i (x .number) l (omega (arith, r .above)) (r .others))
 
-    pub replaced-there : (last : ℕ) (a : List InTransit) (x : InTransit) (b : List InTransit) → ascending last sent (a ++ x ∷ b) ≡ true → replaced (x .number) f (a ++ x ∷ b) ≡ a ++ (f x ++ b)
+    pub replaced-there : (last : ℕ) (a : List InTransit) (x : InTransit) (b : List InTransit) → ascending last sent (a ++ x ∷ b) ≡ true
+        → replaced (x .number) f (a ++ x ∷ b) ≡ a ++ (f x ++ b)
     unfolding replaced
     replaced-there last [] x b e =
         let r = rising last x b e in
@@ -92,7 +97,8 @@ ascends-later sent sent′ last (x ∷ l) h e =
     let r = rising sent last x l e in
     ascends sent′ last x l (r .above) (omega (arith, r .sent-by)) (ascends-later sent sent′ (x .number) l h (r .others))
 
-pub ascends-append : (sent sent′ last : ℕ) (a b : List InTransit) → last ≤ sent → sent ≤ sent′ → ascending last sent a ≡ true → ascending sent sent′ b ≡ true → ascending last sent′ (a ++ b) ≡ true
+pub ascends-append : (sent sent′ last : ℕ) (a b : List InTransit) → last ≤ sent → sent ≤ sent′ → ascending last sent a ≡ true
+    → ascending sent sent′ b ≡ true → ascending last sent′ (a ++ b) ≡ true
 ascends-append sent sent′ last [] b h g e f = ascends-lower sent′ last sent b h f
 ascends-append sent sent′ last (x ∷ a) b h g e f =
     let r = rising sent last x a e in

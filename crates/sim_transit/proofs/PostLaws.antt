@@ -41,10 +41,12 @@ unfolding messagesIn bytesOfAll
 messages-read [] rest v = refl
 messages-read (m ∷ l) rest v =
     let (a, b) = both (valid m) (every valid l) v in
-    rw (append-assoc (bytesOf m) (bytesOfAll l) rest, written-is-read m (bytesOfAll l ++ rest) a, drop-at (bytesOf m) (bytesOfAll l ++ rest) (sizeOf m) (length-bytesOf m), messages-read l rest b)
+    rw (append-assoc (bytesOf m) (bytesOfAll l) rest, written-is-read m (bytesOfAll l ++ rest) a,
+        drop-at (bytesOf m) (bytesOfAll l ++ rest) (sizeOf m) (length-bytesOf m), messages-read l rest b)
 
 -- the same in a buffer that had room for them
-pub messages-read-buffer : (l : List Message) (buffer : List ℕ) → every valid l ≡ true → sizeOfAll l ≤ length buffer → messagesIn (length l) (sets buffer 0 (bytesOfAll l)) ≡ l
+pub messages-read-buffer : (l : List Message) (buffer : List ℕ) → every valid l ≡ true → sizeOfAll l ≤ length buffer
+    → messagesIn (length l) (sets buffer 0 (bytesOfAll l)) ≡ l
 messages-read-buffer l buffer v h =
     let e = sets-eq (bytesOfAll l) buffer 0 (omega (arith, length-bytesOfAll l)) in
     rw e (messages-read l (drop (0 + length (bytesOfAll l)) buffer) v)
@@ -65,7 +67,8 @@ next count s h = go (readOf s) refl h
     go (Accepted m used) q l = record { message = m; used = used; read = q; others = rw q }
 
 -- the bytes from a place on, as the code lends them
-pub read-rest : (bytes : List ℕ) (from : ℕ) (p : Numbers) → p ≡ numbersOf (readOf (take (length bytes - from) (drop from bytes))) → p ≡ numbersOf (readOf (drop from bytes))
+pub read-rest : (bytes : List ℕ) (from : ℕ) (p : Numbers) → p ≡ numbersOf (readOf (take (length bytes - from) (drop from bytes)))
+    → p ≡ numbersOf (readOf (drop from bytes))
 read-rest bytes from p e = rw (take-all (length bytes - from) (drop from bytes) (omega (arith, length-drop from bytes))) at e
 
 -- one message stored, from the numbers that were read
@@ -88,7 +91,8 @@ module _ (at number from : ℕ) (bytes t : List ℕ) (p : Numbers) (e : p ≡ nu
       let k = took maxServers (drop from bytes) (T .message) used (T .read) in
       omega (arith, k .whole, k .used, length-drop from bytes)
 
-  pub one-posted : (f : Fields) (used : ℕ) (t′ : List ℕ) → p ≡ Fitting f used → t′ ≡ sets t at (number ∷ (0 ∷ words f)) → PostsOne at number from bytes t t′ (from + used)
+  pub one-posted : (f : Fields) (used : ℕ) (t′ : List ℕ) → p ≡ Fitting f used → t′ ≡ sets t at (number ∷ (0 ∷ words f))
+      → PostsOne at number from bytes t t′ (from + used)
   unfolding slotWords
   one-posted f used t′ q s =
       let T = fitting-took f used q in
@@ -109,7 +113,8 @@ module _ (at number from : ℕ) (bytes t : List ℕ) (p : Numbers) (e : p ≡ nu
       }
 
 -- the slot behind the last one written
-module _ (t t′ : List ℕ) (i : ℕ) (x : InTransit) (size : length t ≡ transitSize) (room : i < systemMessages) (e : t′ ≡ sets t (slotSize * i) (slotWords x)) where
+module _ (t t′ : List ℕ) (i : ℕ) (x : InTransit) (size : length t ≡ transitSize) (room : i < systemMessages)
+    (e : t′ ≡ sets t (slotSize * i) (slotWords x)) where
   seven-long : length (slotWords x) ≡ slotSize
   unfolding slotWords
   seven-long = refl
@@ -127,16 +132,20 @@ module _ (t t′ : List ℕ) (i : ℕ) (x : InTransit) (size : length t ≡ tran
   before-length = length-take-le (slotSize * i) t (omega arith)
 
   new-before : take (slotSize * i) t′ ≡ take (slotSize * i) t
-  new-before = rw (parts, append-assoc (take (slotSize * i) t) (slotWords x) (drop (slotSize * suc i) t)) (take-at (take (slotSize * i) t) (slotWords x ++ drop (slotSize * suc i) t) (slotSize * i) before-length)
+  new-before = rw (parts, append-assoc (take (slotSize * i) t) (slotWords x) (drop (slotSize * suc i) t))
+      (take-at (take (slotSize * i) t) (slotWords x ++ drop (slotSize * suc i) t) (slotSize * i) before-length)
 
   new-here : take slotSize (drop (slotSize * i) t′) ≡ slotWords x
   new-here =
-      let d : drop (slotSize * i) t′ ≡ slotWords x ++ drop (slotSize * suc i) t = rw (parts, append-assoc (take (slotSize * i) t) (slotWords x) (drop (slotSize * suc i) t)) (drop-at (take (slotSize * i) t) (slotWords x ++ drop (slotSize * suc i) t) (slotSize * i) before-length) in
+      let d : drop (slotSize * i) t′ ≡ slotWords x ++ drop (slotSize * suc i) t = rw
+          (parts, append-assoc (take (slotSize * i) t) (slotWords x) (drop (slotSize * suc i) t))
+          (drop-at (take (slotSize * i) t) (slotWords x ++ drop (slotSize * suc i) t) (slotSize * i) before-length) in
       rw d (take-at (slotWords x) (drop (slotSize * suc i) t) slotSize seven-long)
 
   new-behind : drop (slotSize * suc i) t′ ≡ drop (slotSize * suc i) t
   new-behind =
-      let l : length (take (slotSize * i) t ++ slotWords x) ≡ slotSize * suc i = omega (arith, length-append (take (slotSize * i) t) (slotWords x), before-length, seven-long) in
+      let l : length (take (slotSize * i) t ++ slotWords x) ≡ slotSize * suc i = omega (arith,
+          length-append (take (slotSize * i) t) (slotWords x), before-length, seven-long) in
       rw parts (drop-at (take (slotSize * i) t ++ slotWords x) (drop (slotSize * suc i) t) (slotSize * suc i) l)
 
   new-rows : rows (suc i) t′ ≡ rows i t ++ (slotWords x ∷ [])
@@ -148,7 +157,8 @@ module _ (t t′ : List ℕ) (i : ℕ) (x : InTransit) (size : length t ≡ tran
         let y : slotAt t′ i ≡ x = ap slotOf new-here ∙ slot-again 0 0 x v in
         rw (slots-next i t′, y, slots-same i t′ t (omega (arith, new-size)) (omega arith) new-before)
 
-    pub new-known : (n clients sent : ℕ) → Known n clients sent i t → names n clients (x .message) ≡ true → x .number ≡ suc sent → Known n clients (suc sent) (suc i) t′
+    pub new-known : (n clients sent : ℕ) → Known n clients sent i t → names n clients (x .message) ≡ true → x .number ≡ suc sent
+        → Known n clients (suc sent) (suc i) t′
     unfolding ascending
     new-known n clients sent K m q =
         let w : every (validSlot n clients) (slotWords x ∷ []) ≡ true = rw (words-valid n clients x v m) in
@@ -162,7 +172,8 @@ module _ (t t′ : List ℕ) (i : ℕ) (x : InTransit) (size : length t ≡ tran
           rest = rw (new-behind, z, ← drop-drop slotSize (slotSize * i) t) (every-drop (eqb 0) slotSize (drop (slotSize * i) t) (K .rest));
         }
 
-numbered-more : (i : ℕ) (l : List Message) (m : Message) → numbered i (l ++ m ∷ []) ≡ numbered i l ++ (record { number = suc (i + length l); delivered = false; message = m } ∷ [])
+numbered-more : (i : ℕ) (l : List Message) (m : Message)
+    → numbered i (l ++ m ∷ []) ≡ numbered i l ++ (record { number = suc (i + length l); delivered = false; message = m } ∷ [])
 unfolding numbered
 numbered-more i [] m = let z : i + 0 ≡ i = omega arith in rw z
 numbered-more i (x ∷ l) m =
@@ -170,7 +181,8 @@ numbered-more i (x ∷ l) m =
     rw (z, numbered-more (suc i) l m)
 
 -- one message stored behind the others
-pub one-post : (len sent : ℕ) (m : Message) (t t′ : List ℕ) → Sized (len + 1) t → valid m ≡ true → t′ ≡ sets t (slotSize * len) ((sent + 1) ∷ (0 ∷ words (fieldsOf m))) → Posts len sent (m ∷ []) t t′
+pub one-post : (len sent : ℕ) (m : Message) (t t′ : List ℕ) → Sized (len + 1) t → valid m ≡ true
+    → t′ ≡ sets t (slotSize * len) ((sent + 1) ∷ (0 ∷ words (fieldsOf m))) → Posts len sent (m ∷ []) t t′
 unfolding slotWords numbered
 one-post len sent m t t′ S v e =
     let z : sent + 1 ≡ suc sent = omega arith in
@@ -179,7 +191,8 @@ one-post len sent m t t′ S v e =
     let s : t′ ≡ sets t (slotSize * len) (suc sent ∷ (0 ∷ words (fieldsOf m))) = rw z at e in
     record {
       valid = λ n clients ok nm. rw (y, z)
-          (known-valid n clients (suc sent) (suc len) t′ (new-known t t′ len x (S .size) (omega (arith, S .few)) s v n clients sent (known n clients sent len t ok) (both (names n clients m) true nm .0) refl));
+          (known-valid n clients (suc sent) (suc len) t′ (new-known t t′ len x (S .size) (omega (arith, S .few)) s v n clients sent
+          (known n clients sent len t ok) (both (names n clients m) true nm .0) refl));
       after = rw y (new-slots t t′ len x (S .size) (omega (arith, S .few)) s v);
     }
 
@@ -245,13 +258,15 @@ module _ (len sent count : ℕ) (bytes o : List ℕ) where
         others : drop (i + 1) (messagesIn count bytes) ≡ messagesIn (count - (i + 1)) (drop from′ bytes)
         others =
             let z : count - (i + 1) ≡ count - suc i = omega arith in
-            let a : drop (i + 1) (messagesIn count bytes) ≡ drop 1 (m ∷ messagesIn (count - suc i) (drop used (drop from bytes))) = sym (drop-drop 1 i (messagesIn count bytes)) ∙ ap (drop 1) split in
+            let a : drop (i + 1) (messagesIn count bytes) ≡ drop 1 (m ∷ messagesIn (count - suc i) (drop used (drop from bytes))) = sym
+                (drop-drop 1 i (messagesIn count bytes)) ∙ ap (drop 1) split in
             rw (z, Q .behind m used read, ← drop-drop used from bytes) a
 
         one-more : take (i + 1) (messagesIn count bytes) ≡ take i (messagesIn count bytes) ++ (m ∷ [])
         one-more =
             let z : i + 0 ≡ i = omega arith in
-            let g : getD (messagesIn count bytes) (i + 0) noMessage ≡ m = sym (getD-drop i (messagesIn count bytes) 0 noMessage) ∙ ap (λ (l : List Message). getD l 0 noMessage) split in
+            let g : getD (messagesIn count bytes) (i + 0) noMessage ≡ m = sym (getD-drop i (messagesIn count bytes) 0 noMessage) ∙
+                ap (λ (l : List Message). getD l 0 noMessage) split in
             let g′ : getD (messagesIn count bytes) i noMessage ≡ m = rw z at g in
             rw (add-one, take-suc (messagesIn count bytes) i noMessage (omega (arith, P .whole)), g′)
 
@@ -261,9 +276,11 @@ module _ (len sent count : ℕ) (bytes o : List ℕ) where
             let l : length (take i (messagesIn count bytes)) ≡ i = length-take-le i (messagesIn count bytes) (omega (arith, P .whole)) in
             let a = new-slots t t′ (len + i) posted long free stored in-range in
             rw (z, a, P .done, one-more, numbered-more sent (take i (messagesIn count bytes)) m, l, its-number)
-            (append-assoc (slots len o) (numbered sent (take i (messagesIn count bytes))) (record { number = suc (sent + i); delivered = false; message = m } ∷ []))
+            (append-assoc (slots len o) (numbered sent (take i (messagesIn count bytes)))
+            (record { number = suc (sent + i); delivered = false; message = m } ∷ []))
 
-        still-valid : (n clients : ℕ) → Valid n clients sent len o → every (names n clients) (messagesIn count bytes) ≡ true → Valid n clients (sent + (i + 1)) (len + (i + 1)) t′
+        still-valid : (n clients : ℕ) → Valid n clients sent len o → every (names n clients) (messagesIn count bytes) ≡ true
+            → Valid n clients (sent + (i + 1)) (len + (i + 1)) t′
         still-valid n clients ok nm =
             let z : len + (i + 1) ≡ suc (len + i) = omega arith in
             let y : sent + (i + 1) ≡ suc (sent + i) = omega arith in
@@ -272,7 +289,8 @@ module _ (len sent count : ℕ) (bytes o : List ℕ) where
             let g′ : every (names n clients) (m ∷ messagesIn (count - suc i) (drop used (drop from bytes))) ≡ true = rw split at g in
             let q = both (names n clients m) (every (names n clients) (messagesIn (count - suc i) (drop used (drop from bytes)))) g′ .0 in
             let K = known n clients (sent + i) (len + i) t (P .valid n clients ok nm) in
-            rw (y, z) (known-valid n clients (suc (sent + i)) (suc (len + i)) t′ (new-known t t′ (len + i) posted long free stored in-range n clients (sent + i) K q its-number))
+            rw (y, z) (known-valid n clients (suc (sent + i)) (suc (len + i)) t′
+                (new-known t t′ (len + i) posted long free stored in-range n clients (sent + i) K q its-number))
 
         pub posting-next : Posting len sent count bytes o t′ (number + 1) from′ (i + 1)
         posting-next =

@@ -48,7 +48,8 @@ module _ (o : List ℕ) (from count : ℕ) where
           within = omega arith;
           room = M .room;
           size = length-set t (from + i) (getD t (from + i + slotSize) 0) ∙ M .size;
-          done = rw (moved-word h, add-one) (ap (λ (l : List ℕ). set l (from + i) (getD (drop (from + slotSize) o) i 0)) (M .done) ∙ paste-suc o from (drop (from + slotSize) o) i 0 hd hs);
+          done = rw (moved-word h, add-one) (ap (λ (l : List ℕ). set l (from + i) (getD (drop (from + slotSize) o) i 0)) (M .done) ∙
+              paste-suc o from (drop (from + slotSize) o) i 0 hd hs);
         }
 
     pub moving-all : count ≤ i → t ≡ paste o from (drop (from + slotSize) o) count
@@ -56,7 +57,8 @@ module _ (o : List ℕ) (from count : ℕ) where
 
 -- removal: the k slots behind slot i have moved up, and the last used one is empty
 module _ (t t₁ t₂ : List ℕ) (i k : ℕ) (size : length t ≡ transitSize) (used : i + suc k ≤ systemMessages)
-    (e₁ : t₁ ≡ paste t (slotSize * i) (drop (slotSize * i + slotSize) t) (slotSize * k)) (e₂ : t₂ ≡ sets t₁ (slotSize * i + slotSize * k) (replicate slotSize 0)) where
+    (e₁ : t₁ ≡ paste t (slotSize * i) (drop (slotSize * i + slotSize) t) (slotSize * k))
+    (e₂ : t₂ ≡ sets t₁ (slotSize * i + slotSize * k) (replicate slotSize 0)) where
   room : slotSize * k ≤ length (drop (slotSize * i + slotSize) t)
   room = simp length-drop (omega arith)
 
@@ -76,20 +78,35 @@ module _ (t t₁ t₂ : List ℕ) (i k : ℕ) (size : length t ≡ transitSize) 
   parts =
       let h : slotSize * i ≤ length t = omega arith in
       let fits : slotSize * i + slotSize * k + slotSize ≤ length t₁ = omega (arith, size₁) in
-      let p : take (slotSize * i + slotSize * k) t₁ ≡ take (slotSize * i) t ++ take (slotSize * k) (drop (slotSize * i + slotSize) t) = rw e₁ (take-paste t (slotSize * i) (drop (slotSize * i + slotSize) t) (slotSize * k) h room) in
-      let d : drop (slotSize * i + slotSize * k) t₁ ≡ drop (slotSize * i + slotSize * k) t = rw e₁ (drop-paste t (slotSize * i) (drop (slotSize * i + slotSize) t) (slotSize * k) h room) in
+      let p : take (slotSize * i + slotSize * k) t₁ ≡ take (slotSize * i) t ++ take (slotSize * k) (drop (slotSize * i + slotSize) t) = rw
+          e₁ (take-paste t (slotSize * i) (drop (slotSize * i + slotSize) t) (slotSize * k) h room) in
+      let d : drop (slotSize * i + slotSize * k) t₁ ≡ drop (slotSize * i + slotSize * k) t = rw e₁
+          (drop-paste t (slotSize * i) (drop (slotSize * i + slotSize) t) (slotSize * k) h room) in
       let z : slotSize * (i + suc k) ≡ slotSize * i + slotSize * k + slotSize = omega arith in
-      let q : drop (slotSize * i + slotSize * k + slotSize) t₁ ≡ drop (slotSize * i + slotSize * k + slotSize) t = sym (drop-drop slotSize (slotSize * i + slotSize * k) t₁) ∙ (ap (drop slotSize) d ∙ drop-drop slotSize (slotSize * i + slotSize * k) t) in
+      let q : drop (slotSize * i + slotSize * k + slotSize) t₁ ≡ drop (slotSize * i + slotSize * k + slotSize) t = sym
+          (drop-drop slotSize (slotSize * i + slotSize * k) t₁) ∙
+          (ap (drop slotSize) d ∙ drop-drop slotSize (slotSize * i + slotSize * k) t) in
       let s = sets-eq (replicate slotSize 0) t₁ (slotSize * i + slotSize * k) fits in
-      e₂ ∙ (s ∙ rw (p, q, z) (append-assoc (take (slotSize * i) t ++ take (slotSize * k) (drop (slotSize * i + slotSize) t)) (replicate slotSize 0) (drop (slotSize * i + slotSize * k + slotSize) t)))
+      e₂ ∙ (s ∙ rw (p, q, z) (append-assoc (take (slotSize * i) t ++ take (slotSize * k) (drop (slotSize * i + slotSize) t))
+          (replicate slotSize 0) (drop (slotSize * i + slotSize * k + slotSize) t)))
 
   rows-removed : rows (i + k) t₂ ≡ rows i t ++ rows k (drop (slotSize * suc i) t)
   rows-removed =
       let z : slotSize * suc i ≡ slotSize * i + slotSize = omega arith in
-      let c : t₂ ≡ take (slotSize * i) t ++ (take (slotSize * k) (drop (slotSize * i + slotSize) t) ++ (replicate slotSize 0 ++ drop (slotSize * (i + suc k)) t)) = parts ∙ append-assoc (take (slotSize * i) t) (take (slotSize * k) (drop (slotSize * i + slotSize) t)) (replicate slotSize 0 ++ drop (slotSize * (i + suc k)) t) in
-      let f : rows i t₂ ≡ rows i t = rw c (rows-front i (take (slotSize * i) t) (take (slotSize * k) (drop (slotSize * i + slotSize) t) ++ (replicate slotSize 0 ++ drop (slotSize * (i + suc k)) t)) (omega (arith, length-kept)) ∙ rows-take i t (omega arith)) in
-      let d : drop (slotSize * i) t₂ ≡ take (slotSize * k) (drop (slotSize * i + slotSize) t) ++ (replicate slotSize 0 ++ drop (slotSize * (i + suc k)) t) = rw c (drop-at (take (slotSize * i) t) (take (slotSize * k) (drop (slotSize * i + slotSize) t) ++ (replicate slotSize 0 ++ drop (slotSize * (i + suc k)) t)) (slotSize * i) length-kept) in
-      let g : rows k (take (slotSize * k) (drop (slotSize * i + slotSize) t) ++ (replicate slotSize 0 ++ drop (slotSize * (i + suc k)) t)) ≡ rows k (drop (slotSize * i + slotSize) t) = rows-front k (take (slotSize * k) (drop (slotSize * i + slotSize) t)) (replicate slotSize 0 ++ drop (slotSize * (i + suc k)) t) (omega (arith, length-moved)) ∙ rows-take k (drop (slotSize * i + slotSize) t) room in
+      let c : t₂ ≡ take (slotSize * i) t ++ (take (slotSize * k) (drop (slotSize * i + slotSize) t) ++ (replicate slotSize 0 ++ drop
+          (slotSize * (i + suc k)) t)) = parts ∙ append-assoc (take (slotSize * i) t) (take (slotSize * k) (drop (slotSize * i + slotSize)
+          t)) (replicate slotSize 0 ++ drop (slotSize * (i + suc k)) t) in
+      let f : rows i t₂ ≡ rows i t = rw c (rows-front i (take (slotSize * i) t)
+          (take (slotSize * k) (drop (slotSize * i + slotSize) t) ++ (replicate slotSize 0 ++ drop (slotSize * (i + suc k)) t))
+          (omega (arith, length-kept)) ∙ rows-take i t (omega arith)) in
+      let d : drop (slotSize * i) t₂ ≡ take (slotSize * k) (drop (slotSize * i + slotSize) t) ++ (replicate slotSize 0 ++ drop
+          (slotSize * (i + suc k)) t) = rw c (drop-at (take (slotSize * i) t)
+          (take (slotSize * k) (drop (slotSize * i + slotSize) t) ++ (replicate slotSize 0 ++ drop (slotSize * (i + suc k)) t))
+          (slotSize * i) length-kept) in
+      let g : rows k (take (slotSize * k) (drop (slotSize * i + slotSize) t) ++ (replicate slotSize 0 ++ drop (slotSize * (i + suc k)) t)) ≡ rows
+          k (drop (slotSize * i + slotSize) t) = rows-front k (take (slotSize * k) (drop (slotSize * i + slotSize) t))
+          (replicate slotSize 0 ++ drop (slotSize * (i + suc k)) t) (omega (arith, length-moved)) ∙ rows-take k
+          (drop (slotSize * i + slotSize) t) room in
       rw (z, rows-split i k t₂, f, d, g)
 
   slots-removed : slots (i + k) t₂ ≡ slots i t ++ slots k (drop (slotSize * suc i) t)
@@ -98,8 +115,10 @@ module _ (t t₁ t₂ : List ℕ) (i k : ℕ) (size : length t ≡ transitSize) 
 
   rest-removed : drop (slotSize * (i + k)) t₂ ≡ replicate slotSize 0 ++ drop (slotSize * (i + suc k)) t
   rest-removed =
-      let l : length (take (slotSize * i) t ++ take (slotSize * k) (drop (slotSize * i + slotSize) t)) ≡ slotSize * (i + k) = omega (arith, length-append (take (slotSize * i) t) (take (slotSize * k) (drop (slotSize * i + slotSize) t)), length-kept, length-moved) in
-      rw parts (drop-at (take (slotSize * i) t ++ take (slotSize * k) (drop (slotSize * i + slotSize) t)) (replicate slotSize 0 ++ drop (slotSize * (i + suc k)) t) (slotSize * (i + k)) l)
+      let l : length (take (slotSize * i) t ++ take (slotSize * k) (drop (slotSize * i + slotSize) t)) ≡ slotSize * (i + k) = omega (arith,
+          length-append (take (slotSize * i) t) (take (slotSize * k) (drop (slotSize * i + slotSize) t)), length-kept, length-moved) in
+      rw parts (drop-at (take (slotSize * i) t ++ take (slotSize * k) (drop (slotSize * i + slotSize) t))
+          (replicate slotSize 0 ++ drop (slotSize * (i + suc k)) t) (slotSize * (i + k)) l)
 
   module _ (n clients sent : ℕ) (K : Known n clients sent (i + suc k) t) where
     removed-ordered : ascending 0 sent (slots i t ++ (slotAt t i ∷ slots k (drop (slotSize * suc i) t))) ≡ true
@@ -107,7 +126,8 @@ module _ (t t₁ t₂ : List ℕ) (i k : ℕ) (size : length t ≡ transitSize) 
 
     pub removed-known : Known n clients sent (i + k) t₂
     removed-known =
-        let f : every (validSlot n clients) (rows i t ++ (take slotSize (drop (slotSize * i) t) ∷ rows k (drop (slotSize * suc i) t))) ≡ true = rw (rows-around i k t) at (K .fit) in
+        let f : every (validSlot n clients) (rows i t ++ (take slotSize (drop (slotSize * i) t) ∷ rows k (drop (slotSize * suc i) t))) ≡ true =
+            rw (rows-around i k t) at (K .fit) in
         let (p, q) = every-parts (validSlot n clients) (rows i t) (take slotSize (drop (slotSize * i) t) ∷ rows k (drop (slotSize * suc i) t)) f in
         let r = both (validSlot n clients (take slotSize (drop (slotSize * i) t))) (every (validSlot n clients) (rows k (drop (slotSize * suc i) t))) q .1 in
         record {
@@ -123,7 +143,8 @@ module _ (t t₁ t₂ : List ℕ) (i k : ℕ) (size : length t ≡ transitSize) 
         let q = replaced-there sent gone 0 (slots i t) (slotAt t i) (slots k (drop (slotSize * suc i) t)) removed-ordered in
         rw (slots-removed, slots-around i k t, q)
 
-pub removes : (t t₁ t₂ : List ℕ) (len i : ℕ) → length t ≡ transitSize → len ≤ systemMessages → i < len → t₁ ≡ paste t (slotSize * i) (drop (slotSize * i + slotSize) t) (slotSize * (len - 1 - i))
+pub removes : (t t₁ t₂ : List ℕ) (len i : ℕ) → length t ≡ transitSize → len ≤ systemMessages → i < len
+    → t₁ ≡ paste t (slotSize * i) (drop (slotSize * i + slotSize) t) (slotSize * (len - 1 - i))
     → t₂ ≡ sets t₁ (slotSize * i + slotSize * (len - 1 - i)) (replicate slotSize 0) → Removes len i t t₂
 removes t t₁ t₂ len i size few h e₁ e₂ =
     let z : len ≡ i + suc (len - 1 - i) = omega arith in
@@ -131,10 +152,12 @@ removes t t₁ t₂ len i size few h e₁ e₂ =
     let used : i + suc (len - 1 - i) ≤ systemMessages = omega arith in
     go t t₁ t₂ len i (len - 1 - i) size z y used e₁ e₂
   where
-    go : (t t₁ t₂ : List ℕ) (len i k : ℕ) → length t ≡ transitSize → len ≡ i + suc k → len - 1 ≡ i + k → i + suc k ≤ systemMessages → t₁ ≡ paste t (slotSize * i) (drop (slotSize * i + slotSize) t) (slotSize * k)
+    go : (t t₁ t₂ : List ℕ) (len i k : ℕ) → length t ≡ transitSize → len ≡ i + suc k → len - 1 ≡ i + k → i + suc k ≤ systemMessages
+        → t₁ ≡ paste t (slotSize * i) (drop (slotSize * i + slotSize) t) (slotSize * k)
         → t₂ ≡ sets t₁ (slotSize * i + slotSize * k) (replicate slotSize 0) → Removes len i t t₂
     go t t₁ t₂ len i k size z y used e₁ e₂ =
         record {
-          valid = λ n clients sent ok. rw y (known-valid n clients sent (i + k) t₂ (removed-known t t₁ t₂ i k size used e₁ e₂ n clients sent (rw z at (known n clients sent len t ok))));
+          valid = λ n clients sent ok. rw y
+              (known-valid n clients sent (i + k) t₂ (removed-known t t₁ t₂ i k size used e₁ e₂ n clients sent (rw z at (known n clients sent len t ok))));
           after = λ n clients sent ok. rw (y, z) (removed-after t t₁ t₂ i k size used e₁ e₂ n clients sent (rw z at (known n clients sent len t ok)));
         }

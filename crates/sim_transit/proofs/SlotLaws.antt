@@ -55,7 +55,8 @@ module _ (g : Message → Bool) where
   chosen true m e = (refl, e)
   chosen false m e = absurd (false≢true e)
 
-  crossed : (b : Bool) (f : Fields) → maybe (asMessage (if b then Numbers f else TooLarge)) false g ≡ true → (b ≡ true) × ((validFields f ≡ true) × (g (messageOf f) ≡ true))
+  crossed : (b : Bool) (f : Fields) → maybe (asMessage (if b then Numbers f else TooLarge)) false g ≡ true
+      → (b ≡ true) × ((validFields f ≡ true) × (g (messageOf f) ≡ true))
   crossed true f e = (refl, chosen (validFields f) (messageOf f) e)
   crossed false f e = absurd (false≢true e)
 
@@ -124,7 +125,8 @@ module _ (n clients : ℕ) where
   pub marked-valid : {ws : List ℕ} → Seven ws → validSlot n clients ws ≡ true → validSlot n clients (set ws 1 1) ≡ true
   marked-valid (seven a b c d e f g) h =
       let F = slot-fitting n clients (a ∷ (b ∷ (c ∷ (d ∷ (e ∷ (f ∷ (g ∷ []))))))) h in
-      fitting-slot n clients (a ∷ (1 ∷ (c ∷ (d ∷ (e ∷ (f ∷ (g ∷ []))))))) (record { flag = omega arith; crosses = F .crosses; range = F .range; named = F .named })
+      fitting-slot n clients (a ∷ (1 ∷ (c ∷ (d ∷ (e ∷ (f ∷ (g ∷ [])))))))
+          (record { flag = omega arith; crosses = F .crosses; range = F .range; named = F .named })
 
 -- where a slot's words stand
 pub number-at : (t : List ℕ) (i : ℕ) → slotAt t i .number ≡ getD t (slotSize * i) 0
@@ -199,7 +201,8 @@ module _ (n clients : ℕ) (ws : List ℕ) where
         let q : crossing (drop 2 ws) ≡ Numbers f = cc in
         rw (le-leb (getD ws 1 0) 1 h, q, x) (go (decided (validFields f)))
       where
-        go : ((validFields f ≡ true) ⊎ (validFields f ≡ false)) → namedFields n clients f ≡ maybe (if validFields f then some (messageOf f) else none) false (names n clients)
+        go : ((validFields f ≡ true) ⊎ (validFields f ≡ false))
+            → namedFields n clients f ≡ maybe (if validFields f then some (messageOf f) else none) false (names n clients)
         go (inl v) = named-names n clients f v ∙ rw v
         go (inr v) = rw v
 
@@ -211,7 +214,8 @@ module _ (n clients : ℕ) (t : List ℕ) (i : ℕ) (size : length t ≡ transit
   pub flag-found : 1 < getD t (slotSize * i + 1) 0 → false ≡ validSlot n clients (take slotSize (drop (slotSize * i) t))
   flag-found h = slot-flag n clients (take slotSize (drop (slotSize * i) t)) (rw flag-at h)
 
-  module _ (h : getD t (slotSize * i + 1) 0 ≤ 1) (g : Crossed) (e : g ≡ crossing (take (slotSize * i + slotSize - (slotSize * i + 2)) (drop (slotSize * i + 2) t))) where
+  module _ (h : getD t (slotSize * i + 1) 0 ≤ 1) (g : Crossed)
+      (e : g ≡ crossing (take (slotSize * i + slotSize - (slotSize * i + 2)) (drop (slotSize * i + 2) t))) where
     from-row : g ≡ crossing (drop 2 (take slotSize (drop (slotSize * i) t)))
     from-row = e ∙ ap crossing (sym (message-words t i size used))
 
@@ -249,7 +253,9 @@ module _ (n clients : ℕ) (j : ServerId) where
       let F = slot-fitting n clients (a ∷ (b ∷ (c ∷ (d ∷ (e ∷ (f ∷ (g ∷ []))))))) h in
       let v : validFields (record { kind = c; client = d; server = e; timestamp = f; owner = g }) ≡ true = F .range in
       let r = for-server j c d e f g (known-kind (record { kind = c; client = d; server = e; timestamp = f; owner = g }) v) in
-      let w : eqb (if leb c 4 && eqb e (j .0) then 0 else b) 1 ≡ (if isFor j (messageOf (record { kind = c; client = d; server = e; timestamp = f; owner = g })) then false else eqb b 1) = rw r (go (leb c 4 && eqb e (j .0))) in
+      let w : eqb (if leb c 4 && eqb e (j .0) then 0 else b) 1 ≡ (if isFor j
+          (messageOf (record { kind = c; client = d; server = e; timestamp = f; owner = g })) then false else eqb b 1) = rw r (go
+          (leb c 4 && eqb e (j .0))) in
       λ i. record { number = a; delivered = w i; message = messageOf (record { kind = c; client = d; server = e; timestamp = f; owner = g }) }
     where
       go : (x : Bool) → eqb (if x then 0 else b) 1 ≡ (if x then false else eqb b 1)
@@ -261,7 +267,8 @@ module _ (n clients : ℕ) (j : ServerId) where
   restarted-valid (seven a b c d e f g) h =
       let F = slot-fitting n clients (a ∷ (b ∷ (c ∷ (d ∷ (e ∷ (f ∷ (g ∷ []))))))) h in
       let w : ℕ = if leb c 4 && eqb e (j .0) then 0 else b in
-      fitting-slot n clients (a ∷ (w ∷ (c ∷ (d ∷ (e ∷ (f ∷ (g ∷ []))))))) (record { flag = go (leb c 4 && eqb e (j .0)) (F .flag); crosses = F .crosses; range = F .range; named = F .named })
+      fitting-slot n clients (a ∷ (w ∷ (c ∷ (d ∷ (e ∷ (f ∷ (g ∷ [])))))))
+          (record { flag = go (leb c 4 && eqb e (j .0)) (F .flag); crosses = F .crosses; range = F .range; named = F .named })
     where
       go : (x : Bool) → b ≤ 1 → (if x then 0 else b) ≤ 1
       go true h = omega arith

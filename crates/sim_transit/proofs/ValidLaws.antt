@@ -48,13 +48,15 @@ module _ (n clients sent len : ℕ) (t : List ℕ) where
 -- slots around one of them
 pub slots-around : (i k : ℕ) (t : List ℕ) → slots (i + suc k) t ≡ slots i t ++ (slotAt t i ∷ slots k (drop (slotSize * suc i) t))
 unfolding slots
-slots-around i k t = ap (map slotOf) (rows-around i k t) ∙ map-append slotOf (rows i t) (take slotSize (drop (slotSize * i) t) ∷ rows k (drop (slotSize * suc i) t))
+slots-around i k t = ap (map slotOf) (rows-around i k t) ∙
+    map-append slotOf (rows i t) (take slotSize (drop (slotSize * i) t) ∷ rows k (drop (slotSize * suc i) t))
 
 pub slots-next : (i : ℕ) (t : List ℕ) → slots (suc i) t ≡ slots i t ++ (slotAt t i ∷ [])
 unfolding slots
 slots-next i t = ap (map slotOf) (rows-next i t) ∙ map-append slotOf (rows i t) (take slotSize (drop (slotSize * i) t) ∷ [])
 
-pub slots-same : (k : ℕ) (s t : List ℕ) → slotSize * k ≤ length s → slotSize * k ≤ length t → take (slotSize * k) s ≡ take (slotSize * k) t → slots k s ≡ slots k t
+pub slots-same : (k : ℕ) (s t : List ℕ) → slotSize * k ≤ length s → slotSize * k ≤ length t → take (slotSize * k) s ≡ take (slotSize * k) t
+    → slots k s ≡ slots k t
 unfolding slots
 slots-same k s t h g e = ap (map slotOf) (rows-same k s t h g e)
 
@@ -117,7 +119,8 @@ module _ (sent : ℕ) (t : List ℕ) (len : ℕ) where
 
       pub climbing-more : last < getD t (slotSize * i) 0 → getD t (slotSize * i) 0 ≤ sent → Climbing sent t len (getD t (slotSize * i) 0) (i + 1)
       unfolding ascending
-      climbing-more p q = record { within = omega arith; same = rw (C .same, slots-here t len i h, number-at t i, lt-ltb last (getD t (slotSize * i) 0) p, le-leb (getD t (slotSize * i) 0) sent q) }
+      climbing-more p q = record { within = omega arith;
+          same = rw (C .same, slots-here t len i h, number-at t i, lt-ltb last (getD t (slotSize * i) 0) p, le-leb (getD t (slotSize * i) 0) sent q) }
 
     pub climbing-all : len ≤ i → true ≡ ascending 0 sent (slots len t)
     unfolding ascending slots rows
@@ -181,7 +184,9 @@ module _ (n clients sent len : ℕ) (t : List ℕ) (ok : validSlots n clients se
       let (p, q) = every-parts (validSlot n clients) (rows i t) (take slotSize (drop (slotSize * i) t) ∷ rows k (drop (slotSize * suc i) t)) e′ in
       both (validSlot n clients (take slotSize (drop (slotSize * i) t))) (every (validSlot n clients) (rows k (drop (slotSize * suc i) t))) q .0
 
-pub message-found : (t : List ℕ) (i : ℕ) → length t ≡ transitSize → i < systemMessages → (m : Message) → m ≡ messageOr (messageIn (take (slotSize * i + slotSize - (slotSize * i + 2)) (drop (slotSize * i + 2) t))) → IsAt i t m
+pub message-found : (t : List ℕ) (i : ℕ) → length t ≡ transitSize → i < systemMessages → (m : Message)
+    → m ≡ messageOr (messageIn (take (slotSize * i + slotSize - (slotSize * i + 2)) (drop (slotSize * i + 2) t))) → IsAt i t m
 message-found t i size used m e n clients sent len ok h =
     let F = slot-fitting n clients (take slotSize (drop (slotSize * i) t)) (slot-valid-at n clients sent len t ok i h) in
-    e ∙ (ap (λ (ws : List ℕ). messageOr (messageIn ws)) (sym (message-words t i size used)) ∙ fitting-message n clients (take slotSize (drop (slotSize * i) t)) F)
+    e ∙ (ap (λ (ws : List ℕ). messageOr (messageIn ws)) (sym (message-words t i size used)) ∙
+        fitting-message n clients (take slotSize (drop (slotSize * i) t)) F)

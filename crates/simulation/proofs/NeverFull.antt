@@ -83,7 +83,8 @@ module _ (n : ℕ) (wins : Quorum) (u : System) where
   taken-never i none = party-never
   taken-never i (some m) = deliver-never i m
 
-  missed-never : (j : ServerId) (o : Owner) → Never (byOwner o (refused NoOwner) (λ r. need (not (clientAt u (r .client) .living)) OwnerLives (stepped (suspected u j))))
+  missed-never : (j : ServerId) (o : Owner)
+      → Never (byOwner o (refused NoOwner) (λ r. need (not (clientAt u (r .client) .living)) OwnerLives (stepped (suspected u j))))
   missed-never j Nobody = nobody-never
   missed-never j (Of r) = need-never (not (clientAt u (r .client) .living)) OwnerLives (stepped (suspected u j)) lives-never (step-never (suspected u j))
 

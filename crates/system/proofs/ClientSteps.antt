@@ -105,7 +105,8 @@ pub requests-none : (p : Request) (j : ℕ) (k : ClientId) (s : Timestamp) (n : 
 unfolding toAll
 requests-none p j k s zero = refl
 requests-none p j k s (suc n) =
-    omega (arith, sum-append (token p j) (toAll (λ i. REQUEST k i s) n) (REQUEST k (record { 0 = suc n }) s ∷ []), requests-none p j k s n, if-zero (eqb (suc n) j))
+    omega (arith, sum-append (token p j) (toAll (λ i. REQUEST k i s) n) (REQUEST k (record { 0 = suc n }) s ∷ []), requests-none p j k s n,
+        if-zero (eqb (suc n) j))
 
 -- a round of yields
 module _ (r : Request) where
@@ -182,14 +183,17 @@ module _ (r : Request) where
       go (inr e) = rw (e, getD-set-other l x y o Nobody (λ q. eqb-false (suc x) (suc y) e (ap suc (sym q)))) (omega arith)
 
   -- the response of a server with a number from 1
-  respond-shows : (l : List Owner) (j i : ℕ) (o : Owner) → 0 < j → shows r (withResponse l (record { 0 = j }) o) i ≤ (if eqb j i then bit (isRequest r o) else 0) + shows r l i
+  respond-shows : (l : List Owner) (j i : ℕ) (o : Owner) → 0 < j
+      → shows r (withResponse l (record { 0 = j }) o) i ≤ (if eqb j i then bit (isRequest r o) else 0) + shows r l i
   respond-shows l zero i o pos = absurd (omega arith)
   respond-shows l (suc x) i o pos = let z : suc x - 1 ≡ x = omega arith in rw z (put-shows l x i o)
 
-  heard-shows : (l : List Owner) (j : ServerId) (i : ℕ) (o : Owner) → 0 < j .0 → shows r (heard r l j o) i ≤ (if eqb (j .0) i then bit (isRequest r o) else 0) + shows r l i
+  heard-shows : (l : List Owner) (j : ServerId) (i : ℕ) (o : Owner) → 0 < j .0
+      → shows r (heard r l j o) i ≤ (if eqb (j .0) i then bit (isRequest r o) else 0) + shows r l i
   unfolding heard
   heard-shows l j i o pos =
-      branch (λ (m : List Owner). shows r m i ≤ (if eqb (j .0) i then bit (isRequest r o) else 0) + shows r l i) (not (isRequest r (responseOf l j)) && current r o)
+      branch (λ (m : List Owner). shows r m i ≤ (if eqb (j .0) i then bit (isRequest r o) else 0) + shows r l i)
+          (not (isRequest r (responseOf l j)) && current r o)
       (λ e. respond-shows l (j .0) i o pos) (λ e. omega arith)
 
   current-mine : (o : Owner) → current r o ≡ true → Mine r o
@@ -261,7 +265,8 @@ module _ (n : ℕ) (wins : Quorum) (k : ClientId) where
   trying-epoch Trying e = refl
   trying-epoch Critical e = refl
 
-  pub calm-respond : {c : ClientState} (j : ServerId) (o : Owner) → 0 < j .0 → Fine n wins k c → Calm n wins k c (λ i. token (request k c) i (RESPONSE k j o)) (responds wins n k j o c)
+  pub calm-respond : {c : ClientState} (j : ServerId) (o : Owner) → 0 < j .0 → Fine n wins k c
+      → Calm n wins k c (λ i. token (request k c) i (RESPONSE k j o)) (responds wins n k j o c)
   unfolding responds
   calm-respond {c} j o pos f =
       let r : Request = request k c in
@@ -273,7 +278,8 @@ module _ (n : ℕ) (wins : Quorum) (k : ClientId) where
       (heard-length r (c .responses) j o ∙ f .sized s))
       (λ e. calm-stay f)
 
-  pub calm-checked : {c : ClientState} {gain : ℕ → ℕ} (j : ServerId) (t : Timestamp) → t .0 ≤ c .timestamp .0 → Fine n wins k c → Calm n wins k c gain (checked k j t c)
+  pub calm-checked : {c : ClientState} {gain : ℕ → ℕ} (j : ServerId) (t : Timestamp) → t .0 ≤ c .timestamp .0 → Fine n wins k c
+      → Calm n wins k c gain (checked k j t c)
   unfolding checked
   calm-checked {c} {gain} j t le f =
       branch (Calm n wins k c gain) (eqb (t .0) (c .timestamp .0)) (λ e. calm-stay f)

@@ -73,7 +73,8 @@ module _ (n : ℕ) (wins : Quorum) (w : System) where
       (λ _. refuses)) (λ _. refuses)) (λ _. refuses)
   effect (Fall k) = let E = Effect (Fall k) in branch E (has (w .clients) (k .0)) (λ _. branch E (clientAt w k .living) dies (λ _. refuses)) (λ _. refuses)
   effect (Down j) = let E = Effect (Down j) in branch E (has (w .servers) (j .0)) (λ _. branch E (serverAt w j .up) sinks (λ _. refuses)) (λ _. refuses)
-  effect (Up j) = let E = Effect (Up j) in branch E (has (w .servers) (j .0)) (λ a. branch E (not (serverAt w j .up)) (λ _. rises a) (λ _. refuses)) (λ _. refuses)
+  effect (Up j) = let E = Effect (Up j) in branch E (has (w .servers) (j .0))
+      (λ a. branch E (not (serverAt w j .up)) (λ _. rises a) (λ _. refuses)) (λ _. refuses)
   effect (Take i) = perhaps (Effect (Take i)) (pending (i .0) (w .transit)) (λ _. refuses) (delivers i)
   effect (Drop i) = branch (Effect (Drop i)) (present (i .0) (w .transit)) (λ _. loses) (λ _. refuses)
   effect (Miss j) =

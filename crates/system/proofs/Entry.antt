@@ -52,7 +52,8 @@ abbrev Answers : ℕ → Timestamp → System → ℕ → List ℕ → Type 0
 Answers k t w i [] = Unit
 Answers k t w i (j ∷ js) = Pends w (suc i) (RESPONSE (clientNo k) (serverNo j) (Of (pair k t))) × Answers k t w (suc i) js
 
-answers-later : (k : ℕ) (t : Timestamp) (w u : System) (i : ℕ) (js : List ℕ) → ((a : ℕ) (m : Message) → i < a → Pends w a m → Pends u a m) → Answers k t w i js → Answers k t u i js
+answers-later : (k : ℕ) (t : Timestamp) (w u : System) (i : ℕ) (js : List ℕ) → ((a : ℕ) (m : Message) → i < a → Pends w a m → Pends u a m)
+    → Answers k t w i js → Answers k t u i js
 answers-later k t w u i [] f h = tt
 answers-later k t w u i (j ∷ js) f h = (f (suc i) _ (le-refl (suc i)) (h .0), answers-later k t w u (suc i) js (λ a m lt. f a m (omega arith)) (h .1))
 
@@ -70,7 +71,8 @@ module _ (n : ℕ) (wins : Quorum) (s k : ℕ) (t : Timestamp) where
     waits : (i : ℕ) (m : Message) → (i ≡ s + j → ⊥) → Pends w i m → Pends u i m
     answer : Pends u (suc (w .sent)) (RESPONSE (clientNo k) (serverNo j) (Of (pair k t)))
 
-  ask-event : {w : System} {j : ℕ} → Asked w j → event n wins w (takes (s + j)) ≡ stepped (serverMoves w (serverNo j) (replaced (s + j) keeping (w .transit)) (yes-to k t j))
+  ask-event : {w : System} {j : ℕ} → Asked w j
+      → event n wins w (takes (s + j)) ≡ stepped (serverMoves w (serverNo j) (replaced (s + j) keeping (w .transit)) (yes-to k t j))
   unfolding event deliver receive timestampIn act
   ask-event a = rw (a .waits, a .place)
 
@@ -109,7 +111,8 @@ module _ (n : ℕ) (wins : Quorum) (s k : ℕ) (t : Timestamp) where
         clients = z .clients ∙ td .clients;
         sent = omega (arith, z .sent, td .sent);
         others = λ i m. let o = outside i j js m in z .others i (o .1) ∙ td .servers .there i (o .0);
-        up = λ i. z .up i ∙ each (td .servers) (λ q. q .up ≡ serverAt w (serverNo i) .up) i (λ e. rw e (sym (ap (λ (q : ServerPlace). q .up) (a .place)))) (λ _. refl);
+        up = λ i. z .up i ∙
+            each (td .servers) (λ q. q .up ≡ serverAt w (serverNo i) .up) i (λ e. rw e (sym (ap (λ (q : ServerPlace). q .up) (a .place)))) (λ _. refl);
         waits = λ i m lt b. z .waits i m lt (td .waits i m (λ e. omega arith) b);
         responses = (z .waits (suc (w .sent)) _ (omega arith) (td .answer), rw (td .sent) at (z .responses));
       }))
@@ -173,12 +176,14 @@ module _ (n : ℕ) (wins : Quorum) (k : ℕ) (t : Timestamp) (d : List ℕ) wher
   hear l j pos e = rw (respond-at l j pos, e, eq-eqb k k refl, eq-eqb (t .0) (t .0) refl) (respond-put l j (Of (pair k t)) pos)
 
   hear-client : (l : List Owner) {b : List Bool} (j : ℕ) (js : List ℕ) → 0 < j → at Nobody l j ≡ Nobody → Own (put l j (Of (pair k t))) b js → Tips wins b js →
-      responds wins n (clientNo k) (serverNo j) (Of (pair k t)) (record { section = Trying; timestamp = t; responses = l }) ≡ stay (Place t js (put l j (Of (pair k t))) d .state)
+      responds wins n (clientNo k) (serverNo j) (Of (pair k t)) (record { section = Trying; timestamp = t; responses = l }) ≡ stay
+          (Place t js (put l j (Of (pair k t))) d .state)
   unfolding responds judge
   hear-client l j [] pos e o tips = rw (hear l j pos e, o .fills, o .own, tips)
   hear-client l j (i ∷ js) pos e o tips = rw (hear l j pos e, o .fills, o .own, tips .0)
 
-  hear-event : (w : System) (i : ℕ) {l l′ : List Owner} (j : ℕ) (js : List ℕ) → clientAt w (clientNo k) ≡ Place t (j ∷ js) l d → Pends w i (RESPONSE (clientNo k) (serverNo j) (Of (pair k t))) →
+  hear-event : (w : System) (i : ℕ) {l l′ : List Owner} (j : ℕ) (js : List ℕ) → clientAt w (clientNo k) ≡ Place t (j ∷ js) l d
+      → Pends w i (RESPONSE (clientNo k) (serverNo j) (Of (pair k t))) →
       responds wins n (clientNo k) (serverNo j) (Of (pair k t)) (record { section = Trying; timestamp = t; responses = l }) ≡ stay (Place t js l′ d .state) →
       event n wins w (takes i) ≡ stepped (clientMoves w (clientNo k) (replaced i gone (w .transit)) d (stay (Place t js l′ d .state)))
   unfolding event deliver
@@ -191,7 +196,8 @@ module _ (n : ℕ) (wins : Quorum) (k : ℕ) (t : Timestamp) (d : List ℕ) wher
     clients : Changes (at noClient (w .clients)) (at noClient (u .clients)) k c
     waits : (a : ℕ) (m : Message) → (a ≡ i → ⊥) → Pends w a m → Pends u a m
 
-  heard-by : (w : System) (i : ℕ) (c : ClientState) → clientAt w (clientNo k) .living ≡ true → event n wins w (takes i) ≡ stepped (clientMoves w (clientNo k) (replaced i gone (w .transit)) d (stay c)) →
+  heard-by : (w : System) (i : ℕ) (c : ClientState) → clientAt w (clientNo k) .living ≡ true
+      → event n wins w (takes i) ≡ stepped (clientMoves w (clientNo k) (replaced i gone (w .transit)) d (stay c)) →
       Heard w i (record { living = true; state = c; downs = d }) (next n wins w (takes i))
   unfolding after
   heard-by w i c lives e =
@@ -215,7 +221,8 @@ module _ (n : ℕ) (wins : Quorum) (k : ℕ) (t : Timestamp) (d : List ℕ) wher
   hears {w = w} i {l = l} {b = b} (another {j = j} {js = js} pos jn out df) o tips here a =
       let o′ = own-put out o in
       let e = hear-event w (suc i) j js here (a .0) (hear-client l j js pos (o .blank j (mem-head j j js refl)) o′ (tips .1)) in
-      let hd : Heard w (suc i) (Place t js (put l j (Of (pair k t))) d) (next n wins w (takes (suc i))) = heard-by w (suc i) _ (ap (λ (c : ClientPlace). c .living) here) e in
+      let hd : Heard w (suc i) (Place t js (put l j (Of (pair k t))) d) (next n wins w (takes (suc i))) = heard-by w (suc i) _
+          (ap (λ (c : ClientPlace). c .living) here) e in
       lead-cons (rw e)
       (lead-map (hears (suc i) df o′ (tips .1) (hd .clients .here) (answers-later k t w _ (suc i) js (λ x m lt. hd .waits x m (λ q. omega arith)) (a .1)))
       (λ u z. record {
@@ -254,7 +261,8 @@ module _ (n : ℕ) (wins : Quorum) where
   record Tried (w : System) (k : ℕ) (u : System) : Type 0 where
     servers : u .servers ≡ w .servers
     sent : u .sent ≡ w .sent + n
-    clients : Changes (at noClient (w .clients)) (at noClient (u .clients)) k (record { living = true; state = record { section = Trying; timestamp = coming w k; responses = replicate n Nobody }; downs = downFrom 1 (w .servers) })
+    clients : Changes (at noClient (w .clients)) (at noClient (u .clients)) k
+        (record { living = true; state = record { section = Trying; timestamp = coming w k; responses = replicate n Nobody }; downs = downFrom 1 (w .servers) })
     asked : (j : ℕ) → 0 < j → j ≤ n → Pends u (w .sent + j) (REQUEST (clientNo k) (serverNo j) (coming w k))
 
   try-event : (w : System) (k : ℕ) → Free (clientAt w (clientNo k)) → event n wins w (Try (clientNo k)) ≡ stepped (tried n w (clientNo k))
@@ -279,7 +287,8 @@ module _ (n : ℕ) (wins : Quorum) where
     answered z no-more pos tips = absurd (omega arith)
     answered z (another {j = j} {js = js} p q out df) pos tips =
         lead-map (hears n wins k (coming w k) (downFrom 1 (w .servers)) (w .sent + n) (another p q out df)
-        (record { fills = map-replicate filled n Nobody; own = map-replicate (isRequest (pair k (coming w k))) n Nobody; blank = λ i m. at-replicate Nobody (λ o. o ≡ Nobody) n i Nobody refl refl })
+        (record { fills = map-replicate filled n Nobody; own = map-replicate (isRequest (pair k (coming w k))) n Nobody; blank = λ i m.
+        at-replicate Nobody (λ o. o ≡ Nobody) n i Nobody refl refl })
         tips (rw (z .clients) (tr .clients .here)) (rw (tr .sent) at (z .responses)))
         (λ u y. record {
           holds = rw (y .here);
@@ -292,7 +301,8 @@ module _ (n : ℕ) (wins : Quorum) where
         })
 
   -- The entry: a free client and vacant servers js of which only all together win.
-  pub enter : {clients x : ℕ} {w : System} (k : ℕ) {js : List ℕ} → Tally n clients x w → Free (clientAt w (clientNo k)) → Different n js → ((j : ℕ) → member j js ≡ true → serverAt w (serverNo j) ≡ vacant) →
+  pub enter : {clients x : ℕ} {w : System} (k : ℕ) {js : List ℕ} → Tally n clients x w → Free (clientAt w (clientNo k)) → Different n js
+      → ((j : ℕ) → member j js ≡ true → serverAt w (serverNo j) ≡ vacant) →
       0 < length js → Tips wins (replicate n false) js → Leads n wins w (enters n (w .sent) (clientNo k) js) (Entered n k js w)
   enter {clients} {w = w} k {js = js} tl f df h pos tips =
       let tr : Tried w k (next n wins w (Try (clientNo k))) = after-try w k (tl .counts .numbers) f in
@@ -302,7 +312,8 @@ module _ (n : ℕ) (wins : Quorum) where
       (λ z. answered tr z df pos tips))
 
 -- m servers are just enough
-tips-enough : {n m : ℕ} {js : List ℕ} (b : List Bool) → length b ≡ n → Different n js → ((j : ℕ) → member j js ≡ true → at false b j ≡ false) → count b + length js ≡ m → Tips (enough m) b js
+tips-enough : {n m : ℕ} {js : List ℕ} (b : List Bool) → length b ≡ n → Different n js
+    → ((j : ℕ) → member j js ≡ true → at false b j ≡ false) → count b + length js ≡ m → Tips (enough m) b js
 unfolding enough
 tips-enough {m = m} b len no-more h e = le-leb m (count b) (omega arith)
 tips-enough {m = m} b len (another {j = j} {js = js} p q out df) h e = (
@@ -316,8 +327,10 @@ count-none zero = refl
 count-none (suc n) = omega (arith, count-none n)
 
 -- The entry with the threshold m, by m vacant servers.
-pub enter-enough : {n m clients x : ℕ} {w : System} (k : ℕ) {js : List ℕ} → Tally n clients x w → Free (clientAt w (clientNo k)) → Different n js → ((j : ℕ) → member j js ≡ true → serverAt w (serverNo j) ≡ vacant) →
+pub enter-enough : {n m clients x : ℕ} {w : System} (k : ℕ) {js : List ℕ} → Tally n clients x w → Free (clientAt w (clientNo k))
+    → Different n js → ((j : ℕ) → member j js ≡ true → serverAt w (serverNo j) ≡ vacant) →
     0 < m → length js ≡ m → Leads n (enough m) w (enters n (w .sent) (clientNo k) js) (Entered n k js w)
 enter-enough {n} {m} k tl f df h pos len =
     enter n (enough m) k tl f df h (omega arith)
-    (tips-enough (replicate n false) (length-replicate n false) df (λ j _. at-replicate false (λ b. b ≡ false) n j false refl refl) (omega (arith, count-none n)))
+    (tips-enough (replicate n false) (length-replicate n false) df (λ j _. at-replicate false (λ b. b ≡ false) n j false refl refl)
+    (omega (arith, count-none n)))

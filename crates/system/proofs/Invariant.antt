@@ -78,7 +78,8 @@ module _ (n : ℕ) (wins : Quorum) where
       }
 
   module _ (w : System) (s : Safe w) where
-    new-client : (k : ℕ) (c : ClientPlace) → clientAt w (clientNo k) .living ≡ true → Changes (at noClient (w .clients)) (at noClient (put (w .clients) k c)) k c
+    new-client : (k : ℕ) (c : ClientPlace) → clientAt w (clientNo k) .living ≡ true
+        → Changes (at noClient (w .clients)) (at noClient (put (w .clients) k c)) k c
     new-client = put-flagged noClient (λ c. c .living) refl (w .clients)
 
     new-server : (j : ℕ) (q : ServerPlace) → serverAt w (serverNo j) .up ≡ true → Changes (at noServer (w .servers)) (at noServer (put (w .servers) j q)) j q
@@ -88,7 +89,8 @@ module _ (n : ℕ) (wins : Quorum) where
     positive j up = flagged-in noServer (λ q. q .up) refl (w .servers) j up .0
 
     -- the timestamp of a message to a server
-    spared : (tag : Tag) (t : Timestamp) (k : ClientId) → InTime tag t (last (at noClient (w .clients)) (k .0)) → (p : Request) → Runs (at noClient (w .clients)) p →
+    spared : (tag : Tag) (t : Timestamp) (k : ClientId) → InTime tag t (last (at noClient (w .clients)) (k .0)) → (p : Request)
+        → Runs (at noClient (w .clients)) p →
         Spares tag (record { client = k; timestamp = t }) p
     spared tag t k h p run e = omega (arith, ap (λ (x : ClientId). last (at noClient (w .clients)) (x .0)) e, run .1)
 
@@ -126,11 +128,13 @@ module _ (n : ℕ) (wins : Quorum) where
         }
     good (dies {k = k} lives) =
         record {
-          sound = sound-client n wins (new-client (k .0) _ lives) (s .sound) unchanged (le-refl _) empty (s .sound .fine (k .0)) (λ j ep no. absurd (false≢true ep));
+          sound = sound-client n wins (new-client (k .0) _ lives) (s .sound) unchanged (le-refl _) empty (s .sound .fine (k .0))
+              (λ j ep no. absurd (false≢true ep));
           nest = nest-client (new-client (k .0) _ lives) (s .nest) (λ ep. absurd (false≢true ep));
         }
     good (sinks {j = j} up) =
-        record { sound = sound-down n wins j (counts-down j (w .clients)) (new-server (j .0) _ up) (s .sound); nest = nest-down j (counts-down j (w .clients)) (newly-down (w .servers) (j .0) _) (s .nest) }
+        record { sound = sound-down n wins j (counts-down j (w .clients)) (new-server (j .0) _ up) (s .sound);
+            nest = nest-down j (counts-down j (w .clients)) (newly-down (w .servers) (j .0) _) (s .nest) }
     good (rises {j = j} there) =
         record {
           sound = sound-server n wins j (stay (serverAt w j .state)) (numbered-from (w .servers) (j .0) there)
@@ -159,28 +163,33 @@ module _ (n : ℕ) (wins : Quorum) where
         (and-eq-true-iff (clientAt w (p .client) .living) (not (isRemainder (clientAt w (p .client) .state .section))) .0 (run .0) .0)
         (rw (ap (λ (x : Request). x .client .0) q) at dead))) in
         record {
-          sound = sound-server n wins j (suspect j (serverAt w j .state)) (positive (j .0) up) (new-server (j .0) _ up) (s .sound) (posted (w .sent) unchanged) (λ p. le-refl 0) (fair-suspect other (s .sound .holds (j .0)));
+          sound = sound-server n wins j (suspect j (serverAt w j .state)) (positive (j .0) up) (new-server (j .0) _ up) (s .sound)
+              (posted (w .sent) unchanged) (λ p. le-refl 0) (fair-suspect other (s .sound .holds (j .0)));
           nest = nest-servers (s .nest) (still-up (w .servers) (j .0) _ refl);
         }
     good (asks {j = j} up) =
         record {
-          sound = sound-server n wins j (check j (serverAt w j .state)) (positive (j .0) up) (new-server (j .0) _ up) (s .sound) (posted (w .sent) unchanged) (λ p. le-refl 0) (fair-check (s .sound .holds (j .0)));
+          sound = sound-server n wins j (check j (serverAt w j .state)) (positive (j .0) up) (new-server (j .0) _ up) (s .sound)
+              (posted (w .sent) unchanged) (λ p. le-refl 0) (fair-check (s .sound .holds (j .0)));
           nest = nest-servers (s .nest) (still-up (w .servers) (j .0) _ refl);
         }
 
   inv-start : (clients : ℕ) → Inv (start n wins clients)
   unfolding start
   inv-start clients =
-      let quiet : (k : ℕ) → inEpoch (clientAt (start n wins clients) (clientNo k)) ≡ false = λ k. at-replicate noClient (λ c. inEpoch c ≡ false) clients k _ refl refl in
+      let quiet : (k : ℕ)
+          → inEpoch (clientAt (start n wins clients) (clientNo k)) ≡ false = λ k. at-replicate noClient (λ c. inEpoch c ≡ false) clients k _ refl refl in
       let rest : (k : ℕ) (c : ClientState) → isRemainder (c .section) ≡ true → isCritical (c .section) ≡ false → Fine n wins (id k) c = λ k c e h.
-      record { mine = λ b. clash (isRemainder (c .section)) e b; sized = λ b. clash (isRemainder (c .section)) e b; won = λ b. clash (isCritical (c .section)) b h } in
+      record { mine = λ b. clash (isRemainder (c .section)) e b; sized = λ b. clash (isRemainder (c .section)) e b;
+          won = λ b. clash (isCritical (c .section)) b h } in
       record {
         safe = record {
           sound = record {
             fine = λ k. at-replicate noClient (λ c. Fine n wins (id k) (c .state)) clients k _ (rest k _ refl refl) (rest k _ refl refl);
             tokens = λ k j ep no. clash _ ep (quiet k);
             mail = empty;
-            holds = λ j. at-replicate noServer (λ q. Holds (Old (last (at noClient ((start n wins clients) .clients)))) (q .state)) n j _ (record { owner = tt; queue = empty }) (record { owner = tt; queue = empty });
+            holds = λ j. at-replicate noServer (λ q. Holds (Old (last (at noClient ((start n wins clients) .clients)))) (q .state)) n j _
+                (record { owner = tt; queue = empty }) (record { owner = tt; queue = empty });
           };
           nest = record { chain = λ k i ep ei. clash _ ep (quiet k); now = λ k ep. clash _ ep (quiet k) };
         };

@@ -115,25 +115,30 @@ module _ (n : ℕ) (wins : Quorum) (d : List ℕ) where
     awake : (j : ℕ) → serverAt w (serverNo j) .up ≡ true → member j d ≡ false
     awake j up = absent j d (λ e. clash (serverAt w (serverNo j) .up) up (s .down j e))
 
-    silent-client : (k : ClientId) {l : List InTransit} {gain : Request → ℕ → ℕ} (ds : List ℕ) (step : Step ClientState) → clientAt w k .living ≡ true → Delivery gain (w .transit) [] l →
+    silent-client : (k : ClientId) {l : List InTransit} {gain : Request → ℕ → ℕ} (ds : List ℕ) (step : Step ClientState)
+        → clientAt w k .living ≡ true → Delivery gain (w .transit) [] l →
         All (Unsaid d) (step .sent) → Blank d k (step .state) → Silent d (clientMoves w k l ds step .state)
     silent-client k ds step lives del sent new =
         record {
           down = s .down;
           mail = posted (w .sent) del .arrive (Unsaid d) (s .mail) sent;
-          blank = λ i. each (put-flagged noClient (λ c. c .living) refl (w .clients) (k .0) _ lives) (λ c. Blank d (id i) (c .state)) i (λ e. rw e new) (λ _. s .blank i);
+          blank = λ i. each (put-flagged noClient (λ c. c .living) refl (w .clients) (k .0) _ lives) (λ c. Blank d (id i) (c .state)) i
+              (λ e. rw e new) (λ _. s .blank i);
         }
 
-    silent-server : (j : ServerId) {l : List InTransit} {gain : Request → ℕ → ℕ} (step : Step ServerState) → serverAt w j .up ≡ true → Delivery gain (w .transit) [] l →
+    silent-server : (j : ServerId) {l : List InTransit} {gain : Request → ℕ → ℕ} (step : Step ServerState) → serverAt w j .up ≡ true
+        → Delivery gain (w .transit) [] l →
         All (From Any j) (step .sent) → Silent d (serverMoves w j l step .state)
     silent-server j step up del sent =
         record {
-          down = λ i m. each (put-flagged noServer (λ q. q .up) refl (w .servers) (j .0) _ up) (λ q. q .up ≡ false) i (λ e. clash (member i d) m (rw e (awake (j .0) up))) (λ _. s .down i m);
+          down = λ i m. each (put-flagged noServer (λ q. q .up) refl (w .servers) (j .0) _ up) (λ q. q .up ≡ false) i
+              (λ e. clash (member i d) m (rw e (awake (j .0) up))) (λ _. s .down i m);
           mail = posted (w .sent) del .arrive (Unsaid d) (s .mail) (all-map (from-unsaid d Any j (awake (j .0) up)) sent);
           blank = s .blank;
         }
 
-    silent-calm : (k : ClientId) (i : ℕ) (m : Message) {gain : ℕ → ℕ} (step : Step ClientState) → pending i (w .transit) ≡ some m → clientAt w k .living ≡ true → Calm n wins k (clientAt w k .state) gain step →
+    silent-calm : (k : ClientId) (i : ℕ) (m : Message) {gain : ℕ → ℕ} (step : Step ClientState) → pending i (w .transit) ≡ some m
+        → clientAt w k .living ≡ true → Calm n wins k (clientAt w k .state) gain step →
         ((j : ℕ) → member j d ≡ true → gain j ≡ 0) → Silent d (clientMoves w k (replaced i gone (w .transit)) (clientAt w k .downs) step .state)
     silent-calm k i m step e lives c no-gain =
         silent-client k _ step lives (delivery-delivered stills-gone i e) (all-map (by-unsaid d k _) (c .by))
@@ -154,7 +159,8 @@ module _ (n : ℕ) (wins : Quorum) (d : List ℕ) where
         record {
           down = s .down;
           mail = s .mail;
-          blank = λ i. each (put-flagged noClient (λ c. c .living) refl (w .clients) (k .0) _ lives) (λ c. Blank d (id i) (c .state)) i (λ e. rw e (s .blank (k .0))) (λ _. s .blank i);
+          blank = λ i. each (put-flagged noClient (λ c. c .living) refl (w .clients) (k .0) _ lives) (λ c. Blank d (id i) (c .state)) i
+              (λ e. rw e (s .blank (k .0))) (λ _. s .blank i);
         }
     silent inv a (sinks {j = j} up) =
         record {
@@ -169,16 +175,19 @@ module _ (n : ℕ) (wins : Quorum) (d : List ℕ) where
           blank = s .blank;
         }
     silent inv a (serverTakes {i = i} tag k j t e up) =
-        silent-server j _ up (delivery-delivered stills-keeping (i .0) e) (fair-receive {P = Any} {R = None} tag _ (λ p b. absurd b) tt (any-server (serverAt w j .state)) .from)
+        silent-server j _ up (delivery-delivered stills-keeping (i .0) e)
+            (fair-receive {P = Any} {R = None} tag _ (λ p b. absurd b) tt (any-server (serverAt w j .state)) .from)
     silent inv a (clientTakes {i = i} {k = k} {j = j} {o = o} e lives) =
         silent-calm k (i .0) (RESPONSE k j o) _ e lives
         (calm-respond n wins k j o (pending-all (Past (last (at noClient (w .clients)))) (i .0) e (inv .safe .sound .mail) .0) (inv .safe .sound .fine (k .0)))
         (λ x y. rw (ne-eqb (j .0) x (λ q. clash (member x d) y (rw q at (pending-all (Unsaid d) (i .0) e (s .mail))))) refl)
     silent inv a (clientChecked {i = i} {k = k} {j = j} {t = t} e lives) =
         silent-calm k (i .0) (CHECK k j t) {gain = λ x. 0} _ e lives
-        (calm-checked n wins k j t (pending-all (Past (last (at noClient (w .clients)))) (i .0) e (inv .safe .sound .mail)) (inv .safe .sound .fine (k .0))) (λ x y. refl)
+        (calm-checked n wins k j t (pending-all (Past (last (at noClient (w .clients)))) (i .0) e (inv .safe .sound .mail)) (inv .safe .sound .fine (k .0)))
+        (λ x y. refl)
     silent inv a (loses {i = i}) = record { down = s .down; mail = delivery-dropped stills-gone (i .0) .arrive (Unsaid d) (s .mail) empty; blank = s .blank }
-    silent inv a (suspects {j = j} up _ _) = silent-server j _ up unchanged (fair-suspect {P = Any} {R = None} (λ p b. absurd b) (any-server (serverAt w j .state)) .from)
+    silent inv a (suspects {j = j} up _ _) = silent-server j _ up unchanged
+        (fair-suspect {P = Any} {R = None} (λ p b. absurd b) (any-server (serverAt w j .state)) .from)
     silent inv a (asks {j = j} up) = silent-server j _ up unchanged (fair-check {P = Any} {R = None} (any-server (serverAt w j .state)) .from)
 
   -- whatever follows, but for an `up` of theirs

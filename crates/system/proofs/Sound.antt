@@ -127,7 +127,8 @@ token-worth p j (m ∷ l) = omega (arith, go (eqb (serverOf m .0) j), token-wort
 -- no message has a token of a request that is still to come
 pub fresh : (t : ℕ → ℕ) (p : Request) (j : ℕ) {l : List InTransit} → t (p .client .0) < p .timestamp .0 → All (Posted (Past t)) l → weight p j l ≡ 0
 fresh t p j lt empty = refl
-fresh t p j lt (more {x = x} {l = l} h g) = rw (none-worth (x .message) h, if-zero (eqb (serverOf (x .message) .0) j), if-zero (x .delivered)) (omega (arith, fresh t p j lt g))
+fresh t p j lt (more {x = x} {l = l} h g) = rw (none-worth (x .message) h, if-zero (eqb (serverOf (x .message) .0) j),
+    if-zero (x .delivered)) (omega (arith, fresh t p j lt g))
   where
     none-same : (r : Request) → Old t r → same r p ≡ false
     none-same r o = differ r p (λ e. omega (arith, ap (λ (y : Request). t (y .client .0)) e, ap (λ (y : Request). y .timestamp .0) e))
@@ -143,7 +144,8 @@ fresh t p j lt (more {x = x} {l = l} h g) = rw (none-worth (x .message) h, if-ze
 
 module _ (n : ℕ) (wins : Quorum) where
   -- client k goes to c and sends
-  pub sound-client : {K K′ : ℕ → ClientPlace} {Q : ℕ → ServerPlace} {l l″ : List InTransit} {sent : List Message} {gain : Request → ℕ → ℕ} {k : ℕ} {c : ClientPlace} →
+  pub sound-client : {K K′ : ℕ → ClientPlace} {Q : ℕ → ServerPlace} {l l″ : List InTransit} {sent : List Message} {gain : Request → ℕ
+      → ℕ} {k : ℕ} {c : ClientPlace} →
       Changes K K′ k c → Sound n wins K Q l → Delivery gain l sent l″ →
       last K k ≤ c .state .timestamp .0 → All (By (id k) (c .state .timestamp .0)) sent → Fine n wins (id k) (c .state) →
       ((j : ℕ) → inEpoch c ≡ true → member j (c .downs) ≡ false →
@@ -173,7 +175,8 @@ module _ (n : ℕ) (wins : Quorum) where
       rw (c .timestamp) (omega (arith, s .tokens k j ep′ up, c .kept j)))
 
   -- server j makes a step
-  pub sound-server : {K : ℕ → ClientPlace} {Q Q′ : ℕ → ServerPlace} {l l″ : List InTransit} {gain : Request → ℕ → ℕ} {g : Request → ℕ} (j : ServerId) (step : Step ServerState) → 0 < j .0 →
+  pub sound-server : {K : ℕ → ClientPlace} {Q Q′ : ℕ → ServerPlace} {l l″ : List InTransit} {gain : Request → ℕ → ℕ} {g : Request
+      → ℕ} (j : ServerId) (step : Step ServerState) → 0 < j .0 →
       Changes Q Q′ (j .0) (record { up = true; state = step .state }) → Sound n wins K Q l → Delivery gain l (step .sent) l″ →
       ((p : Request) → g p ≤ gain p (j .0)) → Fair (Old (last K)) (Runs K) j (Q (j .0) .state .owner) g step → Sound n wins K Q′ l″
   sound-server {K} {Q} {Q′} {l} {l″} j step pos ch s d le f =
@@ -188,7 +191,8 @@ module _ (n : ℕ) (wins : Quorum) where
       }
 
   -- messages are lost
-  pub sound-mail : {K : ℕ → ClientPlace} {Q : ℕ → ServerPlace} {l l″ : List InTransit} {gain : Request → ℕ → ℕ} → Sound n wins K Q l → Delivery gain l [] l″ → Sound n wins K Q l″
+  pub sound-mail : {K : ℕ → ClientPlace} {Q : ℕ → ServerPlace} {l l″ : List InTransit} {gain : Request → ℕ → ℕ} → Sound n wins K Q l
+      → Delivery gain l [] l″ → Sound n wins K Q l″
   sound-mail {K} s d =
       record {
         fine = s .fine;

@@ -9,5 +9,6 @@ use Rattle.quorum.specs.Check.{inRangeUpTo, margin, isUnsafe, judged, verdict}
 use Rattle.system_cases.specs.Starred.{starred, All}
 
 pub starred-hold : All starred
-unfolding starred before same timestampIn insert enqueue without promote delete inform act receive enough heard reply round judge responds inRangeUpTo margin isUnsafe judged verdict
+unfolding starred before same timestampIn insert enqueue without promote delete inform act receive enough heard reply round judge responds
+    inRangeUpTo margin isUnsafe judged verdict
 starred-hold = (refl, (refl, (refl, (refl, (refl, (refl, (refl, (refl, (refl, (refl, (refl, (refl, (refl, tt)))))))))))))

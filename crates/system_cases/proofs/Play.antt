@@ -13,6 +13,12 @@ use Rattle.system.specs.Runs.{after, start, runBy, acceptedEvents, mostHolders}
 use Rattle.system_cases.specs.Scripts.{AllPlay, played, scripts, example, twoHolders, yieldRound, redelivery, ownerlessAnswer, lostRelease, oldTimestampAnswer, lateRequest, inquiryOrRequest, earlierTimestampFirst, fallenOwner, requestOfTheFallen, epochs, downAtTheStart, stallingSetting, refusals}
 
 pub scripts-play : AllPlay scripts
-unfolding before same timestampIn insert enqueue without promote delete inform act receive suspect check enough toAll tries exits next heard reply round judge responds checked added numbered pending replaced downFrom worst deliver event after start runBy acceptedEvents mostHolders played scripts example twoHolders yieldRound redelivery ownerlessAnswer lostRelease oldTimestampAnswer lateRequest inquiryOrRequest earlierTimestampFirst fallenOwner requestOfTheFallen epochs downAtTheStart stallingSetting refusals
+unfolding before same timestampIn insert enqueue without promote delete inform act receive suspect check enough toAll tries exits next heard
+    reply round judge responds checked added numbered pending replaced downFrom worst deliver event after start runBy acceptedEvents
+    mostHolders played scripts example twoHolders yieldRound redelivery ownerlessAnswer lostRelease oldTimestampAnswer lateRequest
+    inquiryOrRequest earlierTimestampFirst fallenOwner requestOfTheFallen epochs downAtTheStart stallingSetting refusals
 scripts-play =
-    (record { answers = refl; events = refl; most = refl; down = refl }, (record { answers = refl; events = refl; most = refl; down = refl }, (record { answers = refl; events = refl; most = refl; down = refl }, (record { answers = refl; events = refl; most = refl; down = refl }, (record { answers = refl; events = refl; most = refl; down = refl }, (record { answers = refl; events = refl; most = refl; down = refl }, (record { answers = refl; events = refl; most = refl; down = refl }, (record { answers = refl; events = refl; most = refl; down = refl }, (record { answers = refl; events = refl; most = refl; down = refl }, (record { answers = refl; events = refl; most = refl; down = refl }, (record { answers = refl; events = refl; most = refl; down = refl }, (record { answers = refl; events = refl; most = refl; down = refl }, (record { answers = refl; events = refl; most = refl; down = refl }, (record { answers = refl; events = refl; most = refl; down = refl }, (record { answers = refl; events = refl; most = refl; down = refl }, (record { answers = refl; events = refl; most = refl; down = refl }, tt))))))))))))))))
+    (record { answers = refl; events = refl; most = refl; down = refl }, (record { answers = refl; events = refl; most = refl; down = refl
+    }, (record { answers = refl; events = refl; most = refl; down = refl }, (record { answers = refl; events = refl; most = refl; down =
+    refl }, (record { answers = refl; events = refl; most = refl; down = refl },
+    (record { answers = refl; events = refl; most = refl; down = refl }, (record { answers = refl; events = refl; most = refl; down = refl }, (record { answers = refl; events = refl; most = refl; down = refl }, (record { answers = refl; events = refl; most = refl; down = refl }, (record { answers = refl; events = refl; most = refl; down = refl }, (record { answers = refl; events = refl; most = refl; down = refl }, (record { answers = refl; events = refl; most = refl; down = refl }, (record { answers = refl; events = refl; most = refl; down = refl }, (record { answers = refl; events = refl; most = refl; down = refl }, (record { answers = refl; events = refl; most = refl; down = refl }, (record { answers = refl; events = refl; most = refl; down = refl }, tt))))))))))))))))

@@ -50,7 +50,8 @@ unfolding encode decode
 decode-encode rest done = refl
 decode-encode rest (next {w} {x} {ws} {xs} h r) =
     let t : List ℕ = encode ws xs ++ rest in
-    rw (append-assoc, take-at (littleEndian w x) t w (length-littleEndian w x), drop-at (littleEndian w x) t w (length-littleEndian w x), number-littleEndian w x h, decode-encode rest r)
+    rw (append-assoc, take-at (littleEndian w x) t w (length-littleEndian w x), drop-at (littleEndian w x) t w (length-littleEndian w x),
+        number-littleEndian w x h, decode-encode rest r)
 
 pub encode-decode : (ws : List ℕ) {s : List ℕ} → AllBytes s → total ws ≤ length s → encode ws (decode ws s) ≡ take (total ws) s
 unfolding encode decode
@@ -79,7 +80,8 @@ number-two s at r h e =
     let n : at + 1 ≡ suc at = add-one at in
     rw n at e ∙ omega arith
 
-pub number-four : (s : List ℕ) (at r lo hi : ℕ) → at + 4 ≤ length s → lo ≡ number (take 2 (drop at s)) → hi ≡ number (take 2 (drop (at + 2) s)) → r ≡ lo + 65536 * hi → r ≡ number (take 4 (drop at s))
+pub number-four : (s : List ℕ) (at r lo hi : ℕ) → at + 4 ≤ length s → lo ≡ number (take 2 (drop at s))
+    → hi ≡ number (take 2 (drop (at + 2) s)) → r ≡ lo + 65536 * hi → r ≡ number (take 4 (drop at s))
 number-four s at r lo hi h p q e =
     let n : at + 2 ≡ suc (suc at) = add-two at in
     let hi′ : hi ≡ number (take 2 (drop (suc (suc at)) s)) = rw n at q in

@@ -105,7 +105,8 @@ module _ (f : Fields) (o : List ℕ) (size : ℕ) (z : size ≡ lengthOf (f .kin
   unfolding layOf laidIn
   lay-short h = (simp (← z, lt-ltb _ _ h), simp (← z, lt-leb _ _ h))
 
-  pub lay-done : (n : ℕ) (l : List ℕ) → size ≤ length o → n ≡ 0 + lengthOf (f .kind) → l ≡ sets o 0 (bytesOfFields f) → (Bytes n ≡ layOf f (length o)) × (l ≡ laidIn f o)
+  pub lay-done : (n : ℕ) (l : List ℕ) → size ≤ length o → n ≡ 0 + lengthOf (f .kind) → l ≡ sets o 0 (bytesOfFields f)
+      → (Bytes n ≡ layOf f (length o)) × (l ≡ laidIn f o)
   unfolding layOf laidIn
   lay-done n l h e p = let s : n ≡ size = omega arith in (simp (← z, le-ltb _ _ h, s), simp (← z, le-leb _ _ h, p))
 
@@ -114,7 +115,8 @@ module _ (m : Message) (o : List ℕ) (v : Bool) (w : v ≡ valid m) where
   unfolding writeUpTo bufferAfterUpTo
   write-invalid b = let i : valid m ≡ false = cc in (simp i, simp i)
 
-  pub write-laid : v ≡ true → (f : Fields) (r : Written) (l : List ℕ) → f ≡ fieldsOf m → r ≡ layOf f (length o) → l ≡ laidIn f o → (r ≡ writeOf m (length o)) × (l ≡ bufferAfter m o)
+  pub write-laid : v ≡ true → (f : Fields) (r : Written) (l : List ℕ) → f ≡ fieldsOf m → r ≡ layOf f (length o) → l ≡ laidIn f o
+      → (r ≡ writeOf m (length o)) × (l ≡ bufferAfter m o)
   unfolding writeUpTo bufferAfterUpTo layOf laidIn sizeOf bytesOf
   write-laid t f r l e p q = let i : valid m ≡ true = cc in (simp i (rw e at p), simp i (rw e at q))
 

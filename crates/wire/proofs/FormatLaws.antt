@@ -47,11 +47,13 @@ module _ (f : Fields) where
   unfolding messageOf
   message-inquiry e = rw e
 
-  pub message-response : (o : Owner) → f .kind ≡ 5 → o ≡ ownerOf (record { 0 = f .owner }) (record { 0 = f .timestamp }) → Response (client f) (server f) o ≡ messageOf f
+  pub message-response : (o : Owner) → f .kind ≡ 5 → o ≡ ownerOf (record { 0 = f .owner }) (record { 0 = f .timestamp })
+      → Response (client f) (server f) o ≡ messageOf f
   unfolding messageOf
   message-response o e p = rw (e, p)
 
-  pub message-check : (f .kind ≡ 1 → ⊥) → (f .kind ≡ 2 → ⊥) → (f .kind ≡ 3 → ⊥) → (f .kind ≡ 4 → ⊥) → (f .kind ≡ 5 → ⊥) → Check (client f) (server f) (timestamp f) ≡ messageOf f
+  pub message-check : (f .kind ≡ 1 → ⊥) → (f .kind ≡ 2 → ⊥) → (f .kind ≡ 3 → ⊥) → (f .kind ≡ 4 → ⊥) → (f .kind ≡ 5 → ⊥)
+      → Check (client f) (server f) (timestamp f) ≡ messageOf f
   unfolding messageOf
   message-check a b c d e = simp (ne-eqb _ _ a, ne-eqb _ _ b, ne-eqb _ _ c, ne-eqb _ _ d, ne-eqb _ _ e)
 
@@ -99,7 +101,8 @@ module _ (s : List ℕ) where
   unfolding fieldIn decode
   no-owner-in kind k e = rw (← k) (simp (ne-eqb kind 5 e))
 
-  pub fields-in : (kind k j t o : ℕ) → kind ≡ kindIn s → k ≡ number (take 2 (drop 4 s)) → j ≡ number (take 2 (drop 6 s)) → t ≡ number (take 4 (drop 8 s)) → o ≡ fieldIn s 5
+  pub fields-in : (kind k j t o : ℕ) → kind ≡ kindIn s → k ≡ number (take 2 (drop 4 s)) → j ≡ number (take 2 (drop 6 s))
+      → t ≡ number (take 4 (drop 8 s)) → o ≡ fieldIn s 5
       → _≡_ {A = Fields} (record { kind = kind; client = k; server = j; timestamp = t; owner = o }) (fieldsIn s)
   unfolding fieldsIn
   fields-in kind k j t o a b c d e = rw (a, b, c, d, e, client-in, server-in, timestamp-in)
@@ -114,8 +117,10 @@ unfolding front bytesOfFields encode
 front-response f e = simp (eq-eqb (f .kind) 5 e)
 
 -- its five numbers stored one after another from place `at` on
-pub front-stored : (f : Fields) (at n : ℕ) (l₀ l₁ l₂ l₃ l₄ l₅ : List ℕ) → n ≡ lengthOf (f .kind) → l₁ ≡ sets l₀ at (littleEndian 2 n) → l₂ ≡ sets l₁ (at + 2) (littleEndian 2 (f .kind))
-    → l₃ ≡ sets l₂ (at + 4) (littleEndian 2 (f .client)) → l₄ ≡ sets l₃ (at + 6) (littleEndian 2 (f .server)) → l₅ ≡ sets l₄ (at + 8) (littleEndian 4 (f .timestamp)) → l₅ ≡ sets l₀ at (front f)
+pub front-stored : (f : Fields) (at n : ℕ) (l₀ l₁ l₂ l₃ l₄ l₅ : List ℕ) → n ≡ lengthOf (f .kind) → l₁ ≡ sets l₀ at (littleEndian 2 n)
+    → l₂ ≡ sets l₁ (at + 2) (littleEndian 2 (f .kind))
+    → l₃ ≡ sets l₂ (at + 4) (littleEndian 2 (f .client)) → l₄ ≡ sets l₃ (at + 6) (littleEndian 2 (f .server))
+        → l₅ ≡ sets l₄ (at + 8) (littleEndian 4 (f .timestamp)) → l₅ ≡ sets l₀ at (front f)
 unfolding front encode
 front-stored f at n l₀ l₁ l₂ l₃ l₄ l₅ h p₁ p₂ p₃ p₄ p₅ =
     let n₁ : List ℕ = littleEndian 2 (lengthOf (f .kind)) in
@@ -135,7 +140,8 @@ length-front : (f : Fields) → length (front f) ≡ messageBytes
 unfolding front encode
 length-front f = refl
 
-pub stored-response : (f : Fields) (at : ℕ) (o l l′ : List ℕ) → f .kind ≡ 5 → l ≡ sets o at (front f) → l′ ≡ sets l (at + messageBytes) (littleEndian 2 (f .owner)) → l′ ≡ sets o at (bytesOfFields f)
+pub stored-response : (f : Fields) (at : ℕ) (o l l′ : List ℕ) → f .kind ≡ 5 → l ≡ sets o at (front f)
+    → l′ ≡ sets l (at + messageBytes) (littleEndian 2 (f .owner)) → l′ ≡ sets o at (bytesOfFields f)
 stored-response f at o l l′ e p q =
     rw (front-response f e) at (stored-on o l l′ (front f) (littleEndian 2 (f .owner)) at (at + messageBytes) p q (omega (arith, length-front f)))
 

@@ -95,7 +95,8 @@ message-fields limit (Response k j o) v = ap (Response k j) (owner-again o (both
 message-fields limit (Check k j t) v = refl
 
 -- a message with known numbers has these numbers
-owner-numbers : (o t : ℕ) (b : Bool) → eqb o 0 && eqb t 0 ≡ b → (ownerClient (ownerOf (record { 0 = o }) (record { 0 = t })) ≡ o) × (ownerTimestamp (ownerOf (record { 0 = o }) (record { 0 = t })) ≡ t)
+owner-numbers : (o t : ℕ) (b : Bool) → eqb o 0 && eqb t 0 ≡ b
+    → (ownerClient (ownerOf (record { 0 = o }) (record { 0 = t })) ≡ o) × (ownerTimestamp (ownerOf (record { 0 = o }) (record { 0 = t })) ≡ t)
 owner-numbers o t true e =
     let (a, b) = both (eqb o 0) (eqb t 0) e in
     let o0 : o ≡ 0 = eqb-true _ _ a in
@@ -134,7 +135,8 @@ module _ (f : Fields) where
   unfolding validNumbersUpTo validRest validUpTo validStampedUpTo validResponseUpTo messageOf
   valid-message limit =
       kinds (λ kind. Alone (of-kind kind) → validNumbersUpTo limit (of-kind kind) ≡ validUpTo limit (messageOf (of-kind kind)))
-      (λ a. rw (a (λ n. omega arith), and-true)) (λ a. rw (a (λ n. omega arith), and-true)) (λ a. rw (a (λ n. omega arith), and-true)) (λ a. rw (a (λ n. omega arith), and-true))
+      (λ a. rw (a (λ n. omega arith), and-true)) (λ a. rw (a (λ n. omega arith), and-true)) (λ a. rw (a (λ n. omega arith), and-true))
+      (λ a. rw (a (λ n. omega arith), and-true))
       (λ a. refl) (λ a. rw (a (λ n. omega arith), and-true)) (f .kind)
 
 pub kind-of : (s : List ℕ) → fieldsIn s .kind ≡ kindIn s
@@ -159,7 +161,8 @@ owner-zero owner timestamp e = rw e (go (eqb timestamp 0) refl)
     go true p = rw p
     go false p = rw p
 
-pub owner-some : (owner timestamp : ℕ) → owner ≤ maxClient → timestamp ≤ maxTimestamp → (owner ≡ 0 → ⊥) → not (eqb timestamp 0) ≡ validOwner (ownerOf (record { 0 = owner }) (record { 0 = timestamp }))
+pub owner-some : (owner timestamp : ℕ) → owner ≤ maxClient → timestamp ≤ maxTimestamp → (owner ≡ 0 → ⊥)
+    → not (eqb timestamp 0) ≡ validOwner (ownerOf (record { 0 = owner }) (record { 0 = timestamp }))
 unfolding validOwner validRequest
 owner-some owner timestamp a b n =
     let one : 1 ≤ owner = omega arith in
@@ -187,7 +190,8 @@ module _ (limit : ℕ) (f : Fields) (v : validFieldsUpTo limit f ≡ true) where
 
   its-rest : validRest (f .kind) (f .timestamp) (f .owner) ≡ true
   unfolding validNumbersUpTo
-  its-rest = both (validPartiesUpTo limit (record { 0 = f .client }) (record { 0 = f .server })) (validRest (f .kind) (f .timestamp) (f .owner)) (its-tests .1) .1
+  its-rest = both (validPartiesUpTo limit (record { 0 = f .client }) (record { 0 = f .server }))
+      (validRest (f .kind) (f .timestamp) (f .owner)) (its-tests .1) .1
 
   its-owner : Alone f
   unfolding validRest

@@ -40,7 +40,8 @@ module _ (s t : List ℕ) (four : 4 ≤ length s) where
   longer : (n : ℕ) → n ≤ length s → n ≤ length (s ++ t)
   longer n h = omega (arith, length-append s t)
 
-pub read-prefix : (limit : ℕ) (s t : List ℕ) → (readUpTo limit s ≡ NotRead HeaderShort → ⊥) → (readUpTo limit s ≡ NotRead MessageCut → ⊥) → readUpTo limit (s ++ t) ≡ readUpTo limit s
+pub read-prefix : (limit : ℕ) (s t : List ℕ) → (readUpTo limit s ≡ NotRead HeaderShort → ⊥) → (readUpTo limit s ≡ NotRead MessageCut → ⊥)
+    → readUpTo limit (s ++ t) ≡ readUpTo limit s
 unfolding readUpTo
 read-prefix limit s t short cut =
     let too-few : Bool = ltb (length s) 4 in

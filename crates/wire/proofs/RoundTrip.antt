@@ -76,7 +76,8 @@ written-is-read m rest v =
     let s = valid-sound m v in
     let enough : lengthOf (f .kind) ≤ length (bytesOfFields f ++ rest) = omega (arith, length-append (bytesOfFields f) rest, length-fields f) in
     let four : 4 ≤ length (bytesOfFields f ++ rest) = omega (arith, at-least (f .kind)) in
-    simp (le-ltb _ _ four, kind-read f s rest, s .kind, length-read f s rest, eq-eqb (lengthOf (f .kind)) (lengthOf (f .kind)) refl, le-ltb _ _ enough, fields-read f s rest, message-fields maxServers m v, v)
+    simp (le-ltb _ _ four, kind-read f s rest, s .kind, length-read f s rest, eq-eqb (lengthOf (f .kind)) (lengthOf (f .kind)) refl,
+        le-ltb _ _ enough, fields-read f s rest, message-fields maxServers m v, v)
 
 -- no two different messages have the same bytes, nor does one begin with another's
 pub bytes-differ : (m m′ : Message) (s s′ : List ℕ) → valid m ≡ true → valid m′ ≡ true → bytesOf m ++ s ≡ bytesOf m′ ++ s′ → m ≡ m′
@@ -127,12 +128,14 @@ numbers-again : (s : List ℕ) → lengthIn s ≡ lengthOf (kindIn s)
 unfolding encode decode lengthIn fieldIn fieldsIn
 numbers-again s l = rw (← l, tail-again (eqb (kindIn s) 5) (drop 4 (drop 2 (drop 2 (drop 2 (drop 2 s))))), kind-in s)
 
-bytes-of-fields : (s : List ℕ) → AllBytes s → lengthIn s ≡ lengthOf (kindIn s) → lengthOf (kindIn s) ≤ length s → bytesOfFields (fieldsIn s) ≡ take (lengthOf (kindIn s)) s
+bytes-of-fields : (s : List ℕ) → AllBytes s → lengthIn s ≡ lengthOf (kindIn s) → lengthOf (kindIn s) ≤ length s
+    → bytesOfFields (fieldsIn s) ≡ take (lengthOf (kindIn s)) s
 unfolding bytesOfFields fieldsIn lengthOf
 bytes-of-fields s a l w = numbers-again s l ∙ encode-decode (widths (kindIn s)) a w
 
 -- an accepted message is in range, and is written again as the bytes it was read from
-pub read-is-written : (limit : ℕ) (s : List ℕ) (m : Message) (n : ℕ) → AllBytes s → readUpTo limit s ≡ Accepted m n → (validUpTo limit m ≡ true) × (sizeOf m ≡ n) × (bytesOf m ≡ take n s)
+pub read-is-written : (limit : ℕ) (s : List ℕ) (m : Message) (n : ℕ) → AllBytes s → readUpTo limit s ≡ Accepted m n
+    → (validUpTo limit m ≡ true) × (sizeOf m ≡ n) × (bytesOf m ≡ take n s)
 unfolding bytesOf sizeOf
 read-is-written limit s m n a e =
     let r = took limit s m n e in

@@ -33,10 +33,12 @@ module _ (c : tie.After-server-step) where
   entry = c .before .before .before .before .before .before .before .before .before .before .before .before .before .before .before
 
   kept : length (c .server-step .last .1 .0) ≡ server.rowWords
-  kept = server-kept _ _ (tested .before .holds-server .ensures) (tested .if1 .left) _ _ (loaded .server-head .ensures) (copied .copy .ensures) (entry .args .call) _ _ (c .server-step .ensures)
+  kept = server-kept _ _ (tested .before .holds-server .ensures) (tested .if1 .left) _ _ (loaded .server-head .ensures)
+      (copied .copy .ensures) (entry .args .call) _ _ (c .server-step .ensures)
 
   short : c .server-step .result .ruling ≡ Done → c .server-step .result .head .votes .len ≤ maxWord
-  short = server-short _ _ (tested .before .holds-server .ensures) (tested .if1 .left) _ _ (loaded .server-head .ensures) (copied .copy .ensures) (entry .args .call) _ _ (c .server-step .ensures)
+  short = server-short _ _ (tested .before .holds-server .ensures) (tested .if1 .left) _ _ (loaded .server-head .ensures)
+      (copied .copy .ensures) (entry .args .call) _ _ (c .server-step .ensures)
 
 server-head-requires : tie.Need-server-head-requires
 server-head-requires c κs = server-held _ (is-server _ _ (c .before .before .holds-server .ensures) (c .before .if1 .left)) .head

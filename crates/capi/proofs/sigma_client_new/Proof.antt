@@ -16,7 +16,8 @@ returns-2 : tie.Need-returns-2
 returns-2 c =
     let asked = c .before .before in
     let tested = asked .before in
-    client-new-wide _ _ _ (now (tested .before .before .args .state)) (tested .if1 .left) _ _ (asked .fits-head .ensures) (c .before .if2 .taken) (c .code-of2 .ensures)
+    client-new-wide _ _ _ (now (tested .before .before .args .state)) (tested .if1 .left) _ _ (asked .fits-head .ensures)
+        (c .before .if2 .taken) (c .code-of2 .ensures)
 
 cast-new : tie.Need-cast-new
 cast-new c = let (a, b, d) = head-small _ _ _ (sym (c .before .fits-head .ensures) ∙ not-false _ (c .if2 .left)) in omega arith
@@ -32,7 +33,8 @@ returns-3 c =
     let made = c .before .before in
     let new = made .before .before in
     let tested = new .before .before .before in
-    client-new-done _ _ _ (now (tested .before .before .args .state)) (tested .if1 .left) _ _ _ (new .new .ensures) (made .client-made .ensures .0) (made .client-made .ensures .1)
+    client-new-done _ _ _ (now (tested .before .before .args .state)) (tested .if1 .left) _ _ _ (new .new .ensures)
+        (made .client-made .ensures .0) (made .client-made .ensures .1)
 
 pub sigma-client-new-spec : {M : Type 1} → statement M
 sigma-client-new-spec =

@@ -15,7 +15,8 @@ returns-4 c =
     let t = a .before .before .before in
     let s = t .before .before in
     let v = tested s in
-    rw (begin-tries _ _ _ (v .before .valid-row .ensures) _ (v .if1 .left) (s .before .is-remainder .ensures) (s .if2 .left) (t .if3 .left)) (a .attempt .ensures)
+    rw (begin-tries _ _ _ (v .before .valid-row .ensures) _ (v .if1 .left) (s .before .is-remainder .ensures) (s .if2 .left) (t .if3 .left))
+        (a .attempt .ensures)
 
 pub begin-row-spec : {M : Type 1} → statement M
 begin-row-spec =

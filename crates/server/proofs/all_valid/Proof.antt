@@ -42,10 +42,12 @@ module _ (c : tie.After-valid-request Inv-loop μ-loop) where
   tested = c .valid-request .ensures ∙ ap validRequest (c .before .request-at .ensures)
 
 returns : tie.Need-returns Inv-loop μ-loop
-returns c = let t = turn (c .before) in valid-stops _ _ (within (entry t)) _ (t .loop-test .taken) _ _ (tested (c .before)) (t .before .loop .inv) (c .if1 .taken)
+returns c = let t = turn (c .before) in valid-stops _ _ (within (entry t)) _ (t .loop-test .taken) _ _ (tested (c .before))
+    (t .before .loop .inv) (c .if1 .taken)
 
 loop-again : tie.Need-loop-again Inv-loop μ-loop
-loop-again c = let t = turn (c .before) in valid-on _ _ (within (entry t)) _ (t .loop-test .taken) _ _ (tested (c .before)) (t .before .loop .inv) (c .if1 .left)
+loop-again c = let t = turn (c .before) in valid-on _ _ (within (entry t)) _ (t .loop-test .taken) _ _ (tested (c .before))
+    (t .before .loop .inv) (c .if1 .left)
 
 pub all-valid-spec : {M : Type 1} → statement M
 all-valid-spec =

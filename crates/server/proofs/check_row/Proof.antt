@@ -24,14 +24,16 @@ returns-2 : tie.Need-returns-2
 returns-2 c =
     let none = c .before .before in
     let v = none .before .before .before .before in
-    check-idle (from v .args .h) _ _ _ (v .before .valid-row .ensures) (v .if1 .left) (padded v) _ (none .enum-told .given .1) (c .before .still .ensures) (c .done .ensures)
+    check-idle (from v .args .h) _ _ _ (v .before .valid-row .ensures) (v .if1 .left) (padded v) _ (none .enum-told .given .1)
+        (c .before .still .ensures) (c .done .ensures)
 
 returns-3 : tie.Need-returns-3
 returns-3 c =
     let told = c .before in
     let owned = told .before .before .before .before in
     let v = owned .before .before .before .before in
-    check-asked (from v .args .h) _ _ _ (v .before .valid-row .ensures) (v .if1 .left) (padded v) _ (owned .owner .given .1) _ (told .telling .ensures) (c .done2 .ensures)
+    check-asked (from v .args .h) _ _ _ (v .before .valid-row .ensures) (v .if1 .left) (padded v) _ (owned .owner .given .1) _
+        (told .telling .ensures) (c .done2 .ensures)
 
 pub check-row-spec : {M : Type 1} → statement M
 check-row-spec =

@@ -39,7 +39,8 @@ module _ (c : tie.After-precedes Inv-loop μ-loop) where
   abbrev turn : tie.In-loop Inv-loop μ-loop
   turn = c .before .before .before
 
-  tested : c .precedes .result ≡ before (getD (places (entry turn)) (turn .before .loop .i) noRequest) (getD (places (entry turn)) (turn .before .loop .i + 1) noRequest)
+  tested : c .precedes .result ≡ before (getD (places (entry turn)) (turn .before .loop .i) noRequest)
+      (getD (places (entry turn)) (turn .before .loop .i + 1) noRequest)
   tested =
       let a = c .before .before .request-at .ensures in
       let b = c .before .request-at2 .ensures in

@@ -5,7 +5,8 @@ use Rattle.server.proofs.send.Statement.{statement}
 use Rattle.server.proofs.send.Tie as tie
 
 returns-2 : tie.Need-returns-2
-returns-2 c = send-done _ _ _ (c .before .before .before .before .before .before .sizes .ensures) _ _ (c .before .before .before .before .before .if1 .left) (c .counts .ensures) (c .before .before .before .put-three .ensures)
+returns-2 c = send-done _ _ _ (c .before .before .before .before .before .before .sizes .ensures) _ _
+    (c .before .before .before .before .before .if1 .left) (c .counts .ensures) (c .before .before .before .put-three .ensures)
 
 pub send-spec : {M : Type 1} → statement M
 send-spec =

@@ -10,7 +10,9 @@ use Rattle.sim_blocks.proofs.fall.Statement.{statement}
 use Rattle.sim_blocks.proofs.fall.Tie as tie
 
 same-length : tie.Need-same-length
-same-length c = ap length (c .before .before .clear-flags .ensures) ∙ length-cleared (set (now (c .before .before .before .before .before .args .b)) 0 0) ∙ length-set (now (c .before .before .before .before .before .args .b)) 0 0
+same-length c = ap length (c .before .before .clear-flags .ensures) ∙
+    length-cleared (set (now (c .before .before .before .before .before .args .b)) 0 0) ∙
+    length-set (now (c .before .before .before .before .before .args .b)) 0 0
 
 pub fall-spec : {M : Type 1} → statement M
 fall-spec =

@@ -9,7 +9,8 @@ use Rattle.sim_layout.proofs.find_pending.Statement.{statement}
 use Rattle.sim_layout.proofs.find_pending.Tie as tie
 
 returns : tie.Need-returns
-returns c = let d = c .before .before .before .before in lent-said (now (d .args .w)) (λ t. FindsPending (d .args .number .0) (lengthOf (now (d .args .w))) t (c .find-pending .result)) (c .find-pending .ensures)
+returns c = let d = c .before .before .before .before in lent-said (now (d .args .w))
+    (λ t. FindsPending (d .args .number .0) (lengthOf (now (d .args .w))) t (c .find-pending .result)) (c .find-pending .ensures)
 
 pub find-pending-spec : {M : Type 1} → statement M
 find-pending-spec =

@@ -9,7 +9,8 @@ use Rattle.sim_layout.proofs.find_present.Statement.{statement}
 use Rattle.sim_layout.proofs.find_present.Tie as tie
 
 returns : tie.Need-returns
-returns c = let d = c .before .before .before .before in lent-said (now (d .args .w)) (λ t. FindsPresent (d .args .number .0) (lengthOf (now (d .args .w))) t (c .find-present .result)) (c .find-present .ensures)
+returns c = let d = c .before .before .before .before in lent-said (now (d .args .w))
+    (λ t. FindsPresent (d .args .number .0) (lengthOf (now (d .args .w))) t (c .find-present .result)) (c .find-present .ensures)
 
 pub find-present-spec : {M : Type 1} → statement M
 find-present-spec =

@@ -9,7 +9,8 @@ use Rattle.sim_layout.proofs.server_valid.Tie as tie
 returns : tie.Need-returns
 returns c =
     let a = c .before .before .before .before .args in
-    server-read (now (a .w)) (a .j) (c .before .before .before .before .pre) (λ b. validServerBlock (a .n) (a .clients) (a .j) b) _ (c .valid-server-block .ensures)
+    server-read (now (a .w)) (a .j) (c .before .before .before .before .pre) (λ b. validServerBlock (a .n) (a .clients) (a .j) b) _
+        (c .valid-server-block .ensures)
 
 pub server-valid-spec : {M : Type 1} → statement M
 server-valid-spec =

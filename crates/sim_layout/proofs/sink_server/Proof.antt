@@ -25,7 +25,8 @@ abbrev sunk : List ℕ → List ℕ
 sunk b = set (sets b 1 (serverWords (emptied (serverFrom (serverRecord b))))) 0 0
 
 length-sunk : (b : List ℕ) → length (sunk b) ≡ length b
-length-sunk b = length-set (sets b 1 (serverWords (emptied (serverFrom (serverRecord b))))) 0 0 ∙ length-sets b 1 (serverWords (emptied (serverFrom (serverRecord b))))
+length-sunk b = length-set (sets b 1 (serverWords (emptied (serverFrom (serverRecord b))))) 0 0 ∙
+    length-sets b 1 (serverWords (emptied (serverFrom (serverRecord b))))
 
 returns : tie.Need-returns
 returns c =

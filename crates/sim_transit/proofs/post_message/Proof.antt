@@ -17,7 +17,8 @@ returns c =
     let d = c .before .before .before .before .before .before in
     let t = now (d .args .t) in
     one-post (d .args .len) (d .args .sent) (d .args .m) t _ (d .pre .0) (d .pre .2)
-    (c .before .before .put-slot .ensures ∙ ap (λ (f : Fields). sets t (slotSize * d .args .len) ((d .args .sent + 1) ∷ (0 ∷ words f))) (c .before .before .before .before .fields-of .ensures))
+    (c .before .before .put-slot .ensures ∙
+    ap (λ (f : Fields). sets t (slotSize * d .args .len) ((d .args .sent + 1) ∷ (0 ∷ words f))) (c .before .before .before .before .fields-of .ensures))
 
 pub post-message-spec : {M : Type 1} → statement M
 post-message-spec =

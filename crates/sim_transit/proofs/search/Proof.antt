@@ -1,4 +1,5 @@
--- `sim_transit::search` meets its contract. The invariant: below slot `low` the numbers are lower, from slot `high` on they are not. The measure is what is left between them.
+-- `sim_transit::search` meets its contract. The invariant: below slot `low` the numbers are lower, from slot `high` on they are not. The
+-- measure is what is left between them.
 use Prim.Native.Nat.{_-_}
 use native.Mathlib.Omega.{arith}
 use Rattle.sim_transit.proofs.FindLaws.{Searching, searching-none, searching-up, searching-down, searching-all}

@@ -8,7 +8,8 @@ returns : tie.Need-returns
 returns c = happened-refused _ _ _ _ (c .before .before .before .before .before .work .ensures) _ (c .before .moved .given .1)
 
 returns-2 : tie.Need-returns-2
-returns-2 c = happened _ _ _ _ (c .before .before .before .before .before .before .before .work .ensures) _ _ (c .before .before .before .moved2 .given .1) (c .holders .ensures)
+returns-2 c = happened _ _ _ _ (c .before .before .before .before .before .before .before .work .ensures) _ _
+    (c .before .before .before .moved2 .given .1) (c .holders .ensures)
 
 pub happen-spec : {M : Type 1} → statement M
 happen-spec =

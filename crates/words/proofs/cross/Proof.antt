@@ -6,7 +6,8 @@ use Rattle.words.proofs.cross.Statement.{statement}
 use Rattle.words.proofs.cross.Tie as tie
 
 fields-of-words-requires : tie.Need-fields-of-words-requires
-fields-of-words-requires c κs = cross-small (now (c .before .before .before .before .before .before .before .before .before .args .words)) (c .before .before .before .before .before .before .before .if1 .left) _ (c .before .before .fit .ensures) (c .before .if2 .left)
+fields-of-words-requires c κs = cross-small (now (c .before .before .before .before .before .before .before .before .before .args .words))
+    (c .before .before .before .before .before .before .before .if1 .left) _ (c .before .before .fit .ensures) (c .before .if2 .left)
 
 pub cross-spec : {M : Type 1} → statement M
 cross-spec =
