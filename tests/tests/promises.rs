@@ -1,5 +1,5 @@
 //! docs/PROMISES.md, the edits and the sources: the table of wrong answers names the edits that are there, each of them and no other;
-//! and each call that a host in C reaches goes through what some edit of its own crate changes.
+//! each call that a host in C reaches goes through what some edit of its own crate changes; and no promise rests on `specs/Inner`.
 
 use std::collections::{BTreeMap, BTreeSet};
 use std::fs;
@@ -43,7 +43,10 @@ fn begun(line: &str) -> Option<&str> {
 
 fn functions(krate: &str) -> Functions {
     let (mut functions, mut within) = (Functions::new(), None);
-    for line in paths(&root().join("crates").join(krate).join("src")).iter().flat_map(|path| text(path).lines().map(String::from).collect::<Vec<_>>()) {
+    for line in paths(&root().join("crates").join(krate).join("src"))
+        .iter()
+        .flat_map(|path| text(path).lines().map(String::from).collect::<Vec<_>>())
+    {
         within = begun(&line).map(String::from).or(within);
         if let Some(function) = &within {
             *functions.entry(function.clone()).or_default() += &format!("{line}\n");
@@ -77,7 +80,8 @@ fn changed(functions: &Functions, edit: &Path) -> BTreeSet<String> {
         } else if let Some(function) = line.strip_prefix("in: ") {
             within = Some(function.to_string());
         } else if let (true, Some(old)) = (in_source, line.strip_prefix("old: ")) {
-            let found = functions.iter().filter(|(function, text)| within.as_ref().map_or(text.contains(old), |f| f == *function));
+            let found =
+                functions.iter().filter(|(function, text)| within.as_ref().map_or(text.contains(old), |f| f == *function));
             changed.extend(found.map(|(function, _)| function.clone()));
         }
     }
@@ -107,13 +111,46 @@ fn each_call_for_c_goes_through_a_wrong_answer() {
     let edits = edits();
     for krate in ["capi", "capi_host", "capi_quorum", "capi_script"] {
         let functions = functions(krate);
-        let changes: Vec<BTreeSet<String>> =
-            edits.iter().filter(|(edit, _)| edit.starts_with(&format!("{krate}/"))).map(|(_, path)| changed(&functions, path)).collect();
-        let exported: Vec<&String> = functions.iter().filter(|(_, text)| text.starts_with("pub extern")).map(|(call, _)| call).collect();
+        let changes: Vec<BTreeSet<String>> = edits
+            .iter()
+            .filter(|(edit, _)| edit.starts_with(&format!("{krate}/")))
+            .map(|(_, path)| changed(&functions, path))
+            .collect();
+        let exported: Vec<&String> =
+            functions.iter().filter(|(_, text)| text.starts_with("pub extern")).map(|(call, _)| call).collect();
         assert!(exported.len() >= 3, "{krate}: {exported:?}");
         for call in exported {
             let reached = reached(&functions, call);
-            assert!(changes.iter().any(|changed| !changed.is_disjoint(&reached)), "{krate}::{call} goes through no edit of its crate");
+            assert!(
+                changes.iter().any(|changed| !changed.is_disjoint(&reached)),
+                "{krate}::{call} goes through no edit of its crate"
+            );
         }
     }
+}
+
+/// The names that a source or a file of definitions takes from some crate's `Inner`.
+fn from_inner(text: &str) -> Vec<String> {
+    let lines = text.lines().filter(|line| line.trim_start_matches("ghost ").starts_with("use ") && line.contains(".Inner.{"));
+    let names = |line: &str| line.split_once(".Inner.{").map_or("", |(_, rest)| rest.trim_end_matches([';', '}'])).to_string();
+    lines.flat_map(|line| names(line).split(", ").map(String::from).collect::<Vec<_>>()).collect()
+}
+
+#[test]
+fn no_promise_rests_on_inner_definitions() {
+    let mut inner = 0;
+    for krate in paths(&root().join("crates")) {
+        for path in paths(&krate.join("specs")) {
+            inner += u32::from(name(&path) == "Inner");
+            assert!(name(&path) == "Inner" || from_inner(&text(&path)).is_empty(), "{} cites Inner", path.display());
+        }
+        let names: Vec<String> = paths(&krate.join("src")).iter().flat_map(|path| from_inner(&text(path))).collect();
+        for (function, text) in functions(&name(&krate)).iter().filter(|(_, text)| text.starts_with("pub ")) {
+            let contract = text.split("\n{").next().unwrap_or_default();
+            let words: BTreeSet<&str> = contract.split(|c: char| c.is_whitespace() || "(){},.".contains(c)).collect();
+            let cited: Vec<&String> = names.iter().filter(|name| words.contains(name.as_str())).collect();
+            assert!(cited.is_empty(), "{}::{function} cites {cited:?} of Inner", name(&krate));
+        }
+    }
+    assert!(inner > 10, "{inner}");
 }

@@ -3,14 +3,15 @@
 //! `cargo run --release --bin wrong [--apart] [NAME..]`, behind `rt check`; with `--apart` each edit has a run of its own.
 //!
 //! The kit proves the whole crate again for each of its edits. Here only what an edit touches is proved again, over the modules that
-//! `rt check` has just proved. A function's body is refused in that function's own proof, whatever else is wrong in the crate, for its
-//! callers know only its contract: so bodies of different functions are edited in one run, and each must be refused at its own function.
+//! `rt check` has just proved. A function's body is refused in that function's own proof, whatever is wrong in its callers, and these know
+//! only its contract: so bodies of functions of which none calls another are edited in one run, and each must be refused at its own
+//! function.
 //! An edit of a definition or of a constant is tried alone. The refusal must be the edit's doing: of a body, in its own function, and in
 //! a run nowhere but in functions that are edited; of a definition, in a proof and not in the definition itself. Modules must have been
 //! taken over as they were proved. And the refusal must not be that a proof only no longer fits the code's shape. Where the prover runs
 //! out of steps it gives no verdict, which is no refusal either.
 
-use std::collections::VecDeque;
+use std::collections::{BTreeMap, BTreeSet, VecDeque};
 use std::fs;
 use std::path::{Path, PathBuf};
 use std::process::{exit, Command};
@@ -165,14 +166,45 @@ fn refusals<'a>(log: &'a str, folder: &Path) -> Vec<&'a str> {
     log.lines().filter(refused).map(|line| line.strip_prefix(prefix.as_str()).unwrap_or(line)).collect()
 }
 
-/// The edits of a crate, each in its own run or in as few as keep apart what changes the same function.
+/// The functions of a source file, each with those that its text names before a parenthesis.
+fn calls(text: &str) -> BTreeMap<String, BTreeSet<String>> {
+    let name = |part: &str| part.split('(').next().unwrap_or_default().to_string();
+    let bodies: Vec<(String, &str)> =
+        text.split("\nfn ").flat_map(|part| part.split(" fn ")).map(|part| (name(part), part)).collect();
+    let all: BTreeSet<&String> = bodies.iter().map(|(name, _)| name).collect();
+    let called = |body: &str| {
+        let words = body.split(|c: char| !(c.is_alphanumeric() || c == '_' || c == '('));
+        words
+            .filter_map(|word| word.split_once('('))
+            .map(|(name, _)| name.to_string())
+            .filter(|name| all.contains(name))
+            .collect()
+    };
+    bodies.iter().map(|(name, body)| (name.clone(), called(body))).collect()
+}
+
+/// Whether one function goes through the other, itself or by those that it calls.
+fn reaches(calls: &BTreeMap<String, BTreeSet<String>>, from: &str, to: &str) -> bool {
+    let (mut seen, mut next) = (BTreeSet::new(), vec![from]);
+    while let Some(function) = next.pop() {
+        if seen.insert(function) {
+            next.extend(calls.get(function).into_iter().flatten().map(String::as_str));
+        }
+    }
+    seen.contains(to)
+}
+
+/// The edits of a crate, each in its own run or in as few as keep apart functions that go through one another: a function whose callee is
+/// refused is not looked at.
 fn runs(root: &Path, krate: &str, apart: bool) -> Vec<Run> {
     let folder = root.join("crates").join(krate);
+    let calls = calls(&fs::read_to_string(folder.join("src/lib.rt")).unwrap_or_default());
     let mut runs: Vec<Run> = vec![];
     for path in entries(&folder.join("must-fail/quick")) {
         let edit = Edit::new(&folder, &path);
+        let strangers = |f: &String, g: &String| !reaches(&calls, f, g) && !reaches(&calls, g, f);
         let joins = |other: &Edit| match (&edit.functions, &other.functions) {
-            (Some(ours), Some(theirs)) => !apart && ours.iter().all(|f| !theirs.contains(f)),
+            (Some(ours), Some(theirs)) => !apart && ours.iter().all(|f| theirs.iter().all(|g| strangers(f, g))),
             _ => false,
         };
         match runs.iter_mut().find(|run| run.edits.iter().all(joins)) {
@@ -262,8 +294,8 @@ fn place() -> Place {
     fs::remove_dir_all(root.join("target/wrong")).ok();
     let mut place = Place { kit, root, folder: "none".to_string() };
     // The folder's name is the kit's own: a small crate shows it.
-    let small = place.copy_of("regions", "none");
-    assert_eq!(place.prove("regions", &small).0, Some(0), "a crate without an edit is proved");
+    let small = place.copy_of("ids", "none");
+    assert_eq!(place.prove("ids", &small).0, Some(0), "a crate without an edit is proved");
     let made = entries(&small.join("inc")).into_iter().find(|path| !path.ends_with("none")).expect("a folder of modules");
     place.folder = made.file_name().expect("a name").to_string_lossy().into_owned();
     place
