@@ -108,7 +108,8 @@ module _ (w : List ℕ) (j : ServerId) (H : HasServer w j) where
       (server-in w (j .0) H, server-facts (settingOf w .n) (settingOf w .clients) (j .0) (serverBlockOf w j) (ok-block w (j .0) H) .held)
 
   module _ {w₁ : List ℕ}
-      (s : w₁ ≡ sets w (serversFrom + serverBlock * (j .0 - 1)) (set (sets (serverBlockOf w j) 1 (serverWords (emptied (serverFrom (serverRecord (serverBlockOf w j)))))) 0 0)) where
+      (s : w₁ ≡ sets w (serversFrom + serverBlock * (j .0 - 1))
+      (set (sets (serverBlockOf w j) 1 (serverWords (emptied (serverFrom (serverRecord (serverBlockOf w j)))))) 0 0)) where
     sunk : Becomes w w₁ (withServer (view w) j (record { up = false; state = idle }))
     sunk = rw s (sinking w (j .0) H)
 
@@ -152,7 +153,8 @@ module _ (w : List ℕ) (i : MessageNumber) {r s : ℕ} (ok : valid w ≡ true) 
   pub drop-missing : r ≡ s → Leaves w (Drop i) w × (Refused NoSuchParty ≡ movedOf (happens w (Drop i)))
   drop-missing e =
       leaves-refused w (Drop i) NoSuchParty ok
-      (drops-nothing (settingOf w .n) (enough (settingOf w .m)) (view w) i (there-is false (F .missing (settingOf w .n) (settingOf w .clients) (sentOf w) in-words (e ∙ g))))
+      (drops-nothing (settingOf w .n) (enough (settingOf w .m)) (view w) i
+      (there-is false (F .missing (settingOf w .n) (settingOf w .clients) (sentOf w) in-words (e ∙ g))))
 
   module _ (ne : r ≡ s → ⊥) where
     pub used : r < lengthOf w
@@ -166,5 +168,6 @@ module _ (w : List ℕ) (i : MessageNumber) {r s : ℕ} (ok : valid w ≡ true) 
         → Leaves w (Drop i) w′ × (Sent 0 ≡ movedOf (happens w (Drop i)))
     drop-leaves {w′} B =
         leaves-quiet w (Drop i) (dropped (view w) (i .0)) refl
-        (drops (settingOf w .n) (enough (settingOf w .m)) (view w) i (there-is true (F .found (settingOf w .n) (settingOf w .clients) (sentOf w) in-words used)))
+        (drops (settingOf w .n) (enough (settingOf w .m)) (view w) i
+        (there-is true (F .found (settingOf w .n) (settingOf w .clients) (sentOf w) in-words used)))
         refl w′ (rw numbered-is at B)

@@ -51,8 +51,10 @@ use Rattle.sim_changes.specs.declared.ClientAct.{ClientAct}
 use Rattle.sim_changes.specs.declared.ClientAct.the-variants as act
 use Rattle.sim_changes.specs.declared.Moved.the-variants.{Sent, Refused}
 use Rattle.sim_changes.specs.Happens.{happens, Leaves, movedOf}
-use Rattle.sim_changes.specs.Changes.{Becomes, HasClient, HasSlot, Pends, Sendable, hasRoom, withClient, withClients, withTransit, sending, numberAt, outBytes}
-use Rattle.sim_changes.specs.Inner.{ClientMay, clientEvent, ClientAsks, clientOutcome, clientStep, clientRest, clientGone, clientDowns, ClientStores, clientStored}
+use Rattle.sim_changes.specs.Changes.{Becomes, HasClient, HasSlot, Pends, Sendable, hasRoom, withClient, withClients, withTransit, sending, numberAt}
+use Rattle.sim_changes.specs.Changes.{outBytes}
+use Rattle.sim_changes.specs.Inner.{ClientMay, clientEvent, ClientAsks, clientOutcome, clientStep, clientRest, clientGone, clientDowns, ClientStores}
+use Rattle.sim_changes.specs.Inner.{clientStored}
 use Rattle.sim_changes.proofs.Answers.{fallen-tries, fallen-exits, tries-twice, tries-spent, tries, exits-outside, exits}
 use Rattle.sim_changes.proofs.Leaving.{leaves-refused, view-noted}
 use Rattle.sim_changes.proofs.Parties.{client-in, living-is}
@@ -191,7 +193,8 @@ module _ (w : List ℕ) (k : ClientId) where
 
   -- the verdict on each act of a client that lives
   module _ (lives : clientAt (view w) k .living ≡ true) where
-    try-allowed : (H : HasClient w k) → isRemainder (clientAt (view w) k .state .section) ≡ true → mayTry (clientAt (view w) k .state) ≡ true → Verdict w k act.Try
+    try-allowed : (H : HasClient w k) → isRemainder (clientAt (view w) k .state .section) ≡ true → mayTry (clientAt (view w) k .state) ≡ true
+        → Verdict w k act.Try
     try-allowed H h t =
         let ok = client-block w (k .0) H in
         let e = place-state w k H in
@@ -329,7 +332,8 @@ module _ (w : List ℕ) (k : ClientId) (a : ClientAct) (M : ClientMay w k a) (li
           lives = lives;
           accepted = out;
           left = ap (λ (x : Stepped). x .client) hands
-              ∙ ap (clientAfter mine) (roomy (settingOf w .n) (settingOf w .clients) (clientOutcome a mine) (clientStep w k a) out S (replicate outBytes 0) refl);
+              ∙ ap (clientAfter mine)
+              (roomy (settingOf w .n) (settingOf w .clients) (clientOutcome a mine) (clientStep w k a) out S (replicate outBytes 0) refl);
         };
         all = rest-long w k a M;
       }
@@ -483,7 +487,8 @@ module _ {w : List ℕ} {k : ClientId} {c : Client} {a : ClientAct} (S : ClientS
         → Becomes w w₂ (clientStored w k a)
     try-stored {w₂} D =
         let T = rw e at S in
-        let f : System → System = λ u. withClients u (put (u .clients) (k .0) (record { living = clientAt u k .living; state = clientAt u k .state; downs = downFrom 1 (u .servers) })) in
+        let f : System → System = λ u. withClients u
+        (put (u .clients) (k .0) (record { living = clientAt u k .living; state = clientAt u k .state; downs = downFrom 1 (u .servers) })) in
         let E = and-then f (try-stores w k c T w₁ z) D in
         rw e (rw (at-put w k (T .may) (view w) (trying w k c T) (client-there-in w k (T .may)), put-put, T .lives) at E)
 

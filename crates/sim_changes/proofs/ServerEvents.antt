@@ -46,7 +46,8 @@ use Rattle.system.proofs.Tokens.{message}
 use Rattle.sim_blocks.specs.Blocks.{serverRecord, clientPlace, serverPlace, namedPair, serverBlock}
 use Rattle.sim_blocks.proofs.Facts.{ServerBlock, server-facts, server-good}
 use Rattle.sim_blocks.proofs.ServerLaws.{server-of}
-use Rattle.sim_blocks.proofs.ServerSteps.{message-request, check-outcome, check-short, suspect-outcome, suspect-short, receive-outcome, receive-short, server-after}
+use Rattle.sim_blocks.proofs.ServerSteps.{message-request, check-outcome, check-short, suspect-outcome, suspect-short, receive-outcome, receive-short}
+use Rattle.sim_blocks.proofs.ServerSteps.{server-after}
 use Rattle.sim_layout.specs.Layout.{settingOf, lengthOf, transitWords, view, serversFrom}
 use Rattle.sim_layout.specs.Parts.{clientBlockOf, serverBlockOf, ServerIn}
 use Rattle.sim_layout.proofs.PlaceLaws.{server-there}
@@ -54,7 +55,8 @@ use Rattle.sim_changes.specs.declared.ServerAct.{ServerAct}
 use Rattle.sim_changes.specs.declared.ServerAct.the-variants as act
 use Rattle.sim_changes.specs.declared.Moved.the-variants.{Sent, Refused}
 use Rattle.sim_changes.specs.Happens.{happens, Leaves, movedOf}
-use Rattle.sim_changes.specs.Changes.{Becomes, HasClient, HasServer, HasSlot, Missing, Pends, CanSend, hasRoom, withServer, withTransit, sending, numberAt, tagged}
+use Rattle.sim_changes.specs.Changes.{Becomes, HasClient, HasServer, HasSlot, Missing, Pends, CanSend, hasRoom, withServer, withTransit, sending}
+use Rattle.sim_changes.specs.Changes.{numberAt, tagged}
 use Rattle.sim_changes.specs.Inner.{ServerMay, serverEvent, serverOutcome, serverStep, serverRest, ServerStores, serverStored}
 use Rattle.sim_changes.proofs.Answers.{checks, checks-down, misses, misses-nobody, misses-living, misses-down}
 use Rattle.sim_changes.proofs.Becoming.{sound, few-clients}
@@ -92,7 +94,8 @@ module _ (w : List ℕ) (j : ServerId) (H : HasServer w j) where
   -- the owner of a server that is up
   module _ (up : serverAt (view w) j .up ≡ true) (x : Owner) (e : x ≡ serverAt (view w) j .state .owner) where
     pub miss-nobody : x ≡ Nobody → Leaves w (Miss j) w × (Refused NoOwner ≡ movedOf (happens w (Miss j)))
-    miss-nobody f = leaves-refused w (Miss j) NoOwner (H .valid) (misses-nobody (settingOf w .n) (enough (settingOf w .m)) (view w) j server-there-in up (sym e ∙ f))
+    miss-nobody f = leaves-refused w (Miss j) NoOwner (H .valid)
+        (misses-nobody (settingOf w .n) (enough (settingOf w .m)) (view w) j server-there-in up (sym e ∙ f))
 
     module _ (o : Request) (f : x ≡ Of o) where
       its-owner : serverPlace (serverBlockOf w j) .state .owner ≡ Of o
@@ -104,8 +107,12 @@ module _ (w : List ℕ) (j : ServerId) (H : HasServer w j) where
           let b = serverBlockOf w j in
           let B = server-facts (settingOf w .n) (settingOf w .clients) (j .0) b (server-block w (j .0) H) in
           let v : validRequest o ≡ true = rw its-owner at (server-good (settingOf w .n) (settingOf w .clients) (j .0) b B .owner) in
-          let d : leb (o .client .0) (settingOf w .clients) && every (namedPair (settingOf w .clients)) (serverPlace b .state .queue) ≡ true = rw its-owner at (B .names) in
-          (client-range (o .client) (request-range o v .0) .0, leb-true _ _ (both (leb (o .client .0) (settingOf w .clients)) (every (namedPair (settingOf w .clients)) (serverPlace b .state .queue)) d .0))
+          let d : leb (o .client .0) (settingOf w .clients) && every (namedPair (settingOf w .clients)) (serverPlace b .state .queue) ≡ true =
+          rw its-owner at (B .names) in (
+            client-range (o .client) (request-range o v .0) .0,
+            leb-true _ _
+                (both (leb (o .client .0) (settingOf w .clients)) (every (namedPair (settingOf w .clients)) (serverPlace b .state .queue)) d .0),
+          )
 
       pub owner-client : HasClient w (o .client)
       owner-client = record { valid = H .valid; first = owner-in-range .0; last = owner-in-range .1 }
@@ -114,7 +121,8 @@ module _ (w : List ℕ) (j : ServerId) (H : HasServer w j) where
         pub miss-living : r ≡ true → Leaves w (Miss j) w × (Refused OwnerLives ≡ movedOf (happens w (Miss j)))
         miss-living t =
             leaves-refused w (Miss j) OwnerLives (H .valid)
-            (misses-living (settingOf w .n) (enough (settingOf w .m)) (view w) j server-there-in up o (sym e ∙ f) (living-is w (o .client .0) owner-client r g ∙ t))
+            (misses-living (settingOf w .n) (enough (settingOf w .m)) (view w) j server-there-in up o (sym e ∙ f)
+            (living-is w (o .client .0) owner-client r g ∙ t))
 
         pub owner-missing : r ≡ false → Missing w j
         owner-missing t = record { there = H; up = up; owner = o; owns = sym e ∙ f; fallen = living-is w (o .client .0) owner-client r g ∙ t }

@@ -54,5 +54,6 @@ module _ (w : List ℕ) (number : MessageNumber) (ok : valid w ≡ true) (i : �
         let q = F .numbered take-used in
         record { slot = record { valid = ok; used = take-used }; holds = sym h ∙ e; waits = rw (q, ← e, h) p }
 
-    pub take-leaves : (w′ : List ℕ) (r : Moved) → Leaves w (Take (numberAt w i)) w′ × (r ≡ movedOf (happens w (Take (numberAt w i)))) → Leaves w (Take number) w′ × (r ≡ movedOf (happens w (Take number)))
+    pub take-leaves : (w′ : List ℕ) (r : Moved) → Leaves w (Take (numberAt w i)) w′ × (r ≡ movedOf (happens w (Take (numberAt w i))))
+        → Leaves w (Take number) w′ × (r ≡ movedOf (happens w (Take number)))
     take-leaves w′ r L = subst (λ (x : MessageNumber). Leaves w (Take x) w′ × (r ≡ movedOf (happens w (Take x)))) its-number L

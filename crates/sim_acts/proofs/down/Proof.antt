@@ -50,7 +50,8 @@ returns-3 c =
     let r = n .before .before .before .before in
     let s = r .before .before .before .before in
     let u = running s in
-    down-leaves _ _ (here (present u)) (s .sink-server .ensures) (r .restart-messages .ensures) (n .note-down .ensures) (u .before .is-up .ensures) (u .if2 .left)
+    down-leaves _ _ (here (present u)) (s .sink-server .ensures) (r .restart-messages .ensures) (n .note-down .ensures) (u .before .is-up .ensures)
+    (u .if2 .left)
 
 pub down-spec : {M : Type 1} → statement M
 down-spec =

@@ -61,8 +61,11 @@ server-steps-requires : tie.Need-server-steps-requires
 server-steps-requires c κs =
     let l = c .before .before in
     let o = l .before .before .before .before in
-    let r = running o in
-    (owner-missing _ _ (here (present r)) (up r) _ (o .before .before .owner-of .ensures) _ (o .owner .given .1) _ (l .is-living .ensures) (c .before .if3 .left), up r)
+    let r = running o in (
+      owner-missing _ _ (here (present r)) (up r) _ (o .before .before .owner-of .ensures) _ (o .owner .given .1) _ (l .is-living .ensures)
+          (c .before .if3 .left),
+      up r,
+    )
 
 returns-4 : tie.Need-returns-4
 returns-4 c =

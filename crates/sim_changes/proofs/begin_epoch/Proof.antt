@@ -4,7 +4,8 @@ use native.Mathlib.Omega.{arith}
 use Prim.Native.Nat.{_-_, _+_, _≤_}
 use Rattle.system.specs.Limits.{systemServers}
 use Rattle.sim_changes.proofs.Parties.{words-long, servers-fit}
-use Rattle.sim_changes.proofs.Epochs.{Flagging, flagging-none, flagging-fits, flagging-server, flagging-client, flagging-more, flagging-sized, flagging-same, flagging-all}
+use Rattle.sim_changes.proofs.Epochs.{Flagging, flagging-none, flagging-fits, flagging-server, flagging-client, flagging-more, flagging-sized}
+use Rattle.sim_changes.proofs.Epochs.{flagging-same, flagging-all}
 use Rattle.sim_changes.proofs.begin_epoch.Statement.{statement}
 use Rattle.sim_changes.proofs.begin_epoch.Tie as tie
 

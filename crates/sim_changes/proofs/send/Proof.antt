@@ -78,8 +78,11 @@ slice-write-w-2 : tie.Need-slice-write-w-2
 slice-write-w-2 c =
     let d = entry (read c) in
     let p = d .pre in
-    omega (arith, counted-long (words d) (d .args .count) (new d) (p .valid) (p .whole) (p .room) (p .named) _ (c .before .before .post .ensures)
-    (lengthOf (words d) + d .args .count))
+    omega (
+      arith,
+      counted-long (words d) (d .args .count) (new d) (p .valid) (p .whole) (p .room) (p .named) _ (c .before .before .post .ensures)
+          (lengthOf (words d) + d .args .count),
+    )
 
 returns : tie.Need-returns
 returns c =

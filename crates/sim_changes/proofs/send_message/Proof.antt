@@ -77,8 +77,11 @@ slice-write-w-2 : tie.Need-slice-write-w-2
 slice-write-w-2 c =
     let d = entry (read c) in
     let p = d .pre in
-    omega (arith, counted-long (words d) 1 (new d) (p .valid) refl (p .room) (p .named) _ (c .before .before .post-message .ensures)
-    (lengthOf (words d) + 1))
+    omega (
+      arith,
+      counted-long (words d) 1 (new d) (p .valid) refl (p .room) (p .named) _ (c .before .before .post-message .ensures)
+          (lengthOf (words d) + 1),
+    )
 
 returns : tie.Need-returns
 returns c =

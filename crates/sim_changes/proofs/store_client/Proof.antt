@@ -1,5 +1,6 @@
 -- `sim_changes::store_client` meets its contract: each arm is given which act it is, and its two stores are the act's.
-use Rattle.sim_changes.proofs.ClientEvents.{storing-client, storing-in, storing-still, epoch-begins, try-stored, exit-stored, response-slot, response-stored, check-slot, check-stored}
+use Rattle.sim_changes.proofs.ClientEvents.{storing-client, storing-in, storing-still, epoch-begins, try-stored, exit-stored, response-slot}
+use Rattle.sim_changes.proofs.ClientEvents.{response-stored, check-slot, check-stored}
 use borrow.Author.Needs.{needs}
 use Rattle.sim_changes.proofs.store_client.Statement.{statement}
 use Rattle.sim_changes.proofs.store_client.Tie as tie
