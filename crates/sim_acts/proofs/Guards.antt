@@ -6,13 +6,12 @@ use mathlib.Core.List.{List}
 use Rattle.ids.specs.Limits.{within}
 use Rattle.ids.specs.declared.ClientId.{ClientId}
 use Rattle.ids.specs.declared.ServerId.{ServerId}
-use Rattle.ids.specs.declared.Refusal.{Refusal}
 use Rattle.ids.specs.declared.Refusal.the-variants.{NoSuchParty, PartyDown}
 use Rattle.ids.proofs.Choice.{holds, fails}
 use Rattle.wire.specs.Step.{refused}
 use Rattle.client_responses.specs.Figure1.{enough}
 use Rattle.system.specs.declared.Event.{Event}
-use Rattle.system.specs.declared.Event.the-variants.{Try, Exit, Fall, Down, Up, Miss, Check}
+use Rattle.system.specs.declared.Event.the-variants.{Fall, Up}
 use Rattle.system.specs.Numbered.{has}
 use Rattle.system.specs.Places.{clientAt, serverAt}
 use Rattle.system.specs.Events.{event}
@@ -22,29 +21,18 @@ use Rattle.sim_layout.specs.Parts.{clientBlockOf, serverBlockOf}
 use Rattle.sim_changes.specs.declared.Moved.the-variants.{Refused}
 use Rattle.sim_changes.specs.Happens.{happens, Leaves, movedOf}
 use Rattle.sim_changes.specs.Changes.{HasClient, HasServer}
-use Rattle.sim_changes.proofs.Answers as answers
+use Rattle.sim_changes.proofs.Answers.{fallen-falls, ups-twice}
 use Rattle.sim_changes.proofs.Leaving.{leaves-refused}
 use Rattle.sim_changes.proofs.Parties as parties
 use Rattle.sim_changes.proofs.ClientEvents.{client-there-in}
 use Rattle.sim_changes.proofs.ServerEvents.{server-there-in}
 
--- what a refused event comes to
-abbrev Refuses : List ℕ → Event → Refusal → Type 0
-Refuses w v x = Leaves w v w × (Refused x ≡ movedOf (happens w v))
-
+-- client k's test, and an event v that is refused if it fails
 module _ (w : List ℕ) (k : ClientId) {a : Bool} (ok : valid w ≡ true) (e : a ≡ within (k .0) (settingOf w .clients)) where
-  missing-client : (v : Event) → (has (view w .clients) (k .0) ≡ false → event (settingOf w .n) (enough (settingOf w .m)) (view w) v ≡ refused NoSuchParty)
-      → not a ≡ true → Refuses w v NoSuchParty
-  missing-client v f t = leaves-refused w v NoSuchParty ok (f (parties.client-missing w ok (k .0) a e t))
-
-  pub try-missing : not a ≡ true → Leaves w (Try k) w × (Refused NoSuchParty ≡ movedOf (happens w (Try k)))
-  try-missing = missing-client (Try k) (answers.no-client-tries (settingOf w .n) (enough (settingOf w .m)) (view w) k)
-
-  pub exit-missing : not a ≡ true → Leaves w (Exit k) w × (Refused NoSuchParty ≡ movedOf (happens w (Exit k)))
-  exit-missing = missing-client (Exit k) (answers.no-client-exits (settingOf w .n) (enough (settingOf w .m)) (view w) k)
-
-  pub fall-missing : not a ≡ true → Leaves w (Fall k) w × (Refused NoSuchParty ≡ movedOf (happens w (Fall k)))
-  fall-missing = missing-client (Fall k) (answers.no-client-falls (settingOf w .n) (enough (settingOf w .m)) (view w) k)
+  pub client-missing : (v : Event)
+      → (has (view w .clients) (k .0) ≡ false → event (settingOf w .n) (enough (settingOf w .m)) (view w) v ≡ refused NoSuchParty)
+      → not a ≡ true → Leaves w v w × (Refused NoSuchParty ≡ movedOf (happens w v))
+  client-missing v f t = leaves-refused w v NoSuchParty ok (f (parties.client-missing w ok (k .0) a e t))
 
   pub client-here : not a ≡ false → HasClient w k
   client-here t = parties.client-found w ok (k .0) a e t
@@ -60,24 +48,14 @@ module _ (w : List ℕ) (k : ClientId) (H : HasClient w k) {b : Bool} (f : b ≡
   pub fall-twice : not b ≡ true → Leaves w (Fall k) w × (Refused PartyDown ≡ movedOf (happens w (Fall k)))
   fall-twice u =
       leaves-refused w (Fall k) PartyDown (H .valid)
-      (answers.fallen-falls (settingOf w .n) (enough (settingOf w .m)) (view w) k (client-there-in w k H) (fails b _ living-here u))
+      (fallen-falls (settingOf w .n) (enough (settingOf w .m)) (view w) k (client-there-in w k H) (fails b _ living-here u))
 
+-- server j's test, and an event v that is refused if it fails
 module _ (w : List ℕ) (j : ServerId) {a : Bool} (ok : valid w ≡ true) (e : a ≡ within (j .0) (settingOf w .n)) where
-  missing-server : (v : Event) → (has (view w .servers) (j .0) ≡ false → event (settingOf w .n) (enough (settingOf w .m)) (view w) v ≡ refused NoSuchParty)
-      → not a ≡ true → Refuses w v NoSuchParty
-  missing-server v f t = leaves-refused w v NoSuchParty ok (f (parties.server-missing w ok (j .0) a e t))
-
-  pub down-missing : not a ≡ true → Leaves w (Down j) w × (Refused NoSuchParty ≡ movedOf (happens w (Down j)))
-  down-missing = missing-server (Down j) (answers.no-server-downs (settingOf w .n) (enough (settingOf w .m)) (view w) j)
-
-  pub up-missing : not a ≡ true → Leaves w (Up j) w × (Refused NoSuchParty ≡ movedOf (happens w (Up j)))
-  up-missing = missing-server (Up j) (answers.no-server-ups (settingOf w .n) (enough (settingOf w .m)) (view w) j)
-
-  pub miss-missing : not a ≡ true → Leaves w (Miss j) w × (Refused NoSuchParty ≡ movedOf (happens w (Miss j)))
-  miss-missing = missing-server (Miss j) (answers.no-server-misses (settingOf w .n) (enough (settingOf w .m)) (view w) j)
-
-  pub check-missing : not a ≡ true → Leaves w (Check j) w × (Refused NoSuchParty ≡ movedOf (happens w (Check j)))
-  check-missing = missing-server (Check j) (answers.no-server-checks (settingOf w .n) (enough (settingOf w .m)) (view w) j)
+  pub server-missing : (v : Event)
+      → (has (view w .servers) (j .0) ≡ false → event (settingOf w .n) (enough (settingOf w .m)) (view w) v ≡ refused NoSuchParty)
+      → not a ≡ true → Leaves w v w × (Refused NoSuchParty ≡ movedOf (happens w v))
+  server-missing v f t = leaves-refused w v NoSuchParty ok (f (parties.server-missing w ok (j .0) a e t))
 
   pub server-here : not a ≡ false → HasServer w j
   server-here t = parties.server-found w ok (j .0) a e t
@@ -90,17 +68,13 @@ module _ (w : List ℕ) (j : ServerId) (H : HasServer w j) {b : Bool} (f : b ≡
   pub server-runs : not b ≡ false → serverAt (view w) j .up ≡ true
   server-runs u = holds b _ up-here u
 
-  pub down-twice : not b ≡ true → Leaves w (Down j) w × (Refused PartyDown ≡ movedOf (happens w (Down j)))
-  down-twice u =
-      leaves-refused w (Down j) PartyDown (H .valid)
-      (answers.downs-twice (settingOf w .n) (enough (settingOf w .m)) (view w) j (server-there-in w j H) (fails b _ up-here u))
-
-  pub miss-down : not b ≡ true → Leaves w (Miss j) w × (Refused PartyDown ≡ movedOf (happens w (Miss j)))
-  miss-down u =
-      leaves-refused w (Miss j) PartyDown (H .valid)
-      (answers.misses-down (settingOf w .n) (enough (settingOf w .m)) (view w) j (server-there-in w j H) (fails b _ up-here u))
+  pub server-down : (v : Event)
+      → (has (view w .servers) (j .0) ≡ true → serverAt (view w) j .up ≡ false
+        → event (settingOf w .n) (enough (settingOf w .m)) (view w) v ≡ refused PartyDown)
+      → not b ≡ true → Leaves w v w × (Refused PartyDown ≡ movedOf (happens w v))
+  server-down v g u = leaves-refused w v PartyDown (H .valid) (g (server-there-in w j H) (fails b _ up-here u))
 
   pub up-twice : b ≡ true → Leaves w (Up j) w × (Refused PartyDown ≡ movedOf (happens w (Up j)))
   up-twice u =
       leaves-refused w (Up j) PartyDown (H .valid)
-      (answers.ups-twice (settingOf w .n) (enough (settingOf w .m)) (view w) j (server-there-in w j H) (sym up-here ∙ u))
+      (ups-twice (settingOf w .n) (enough (settingOf w .m)) (view w) j (server-there-in w j H) (sym up-here ∙ u))

@@ -1,11 +1,14 @@
 -- `sim_acts::check` meets its contract: each return is one case of the event.
-use Rattle.sim_acts.proofs.Guards.{check-missing, server-here}
+use Rattle.sim_changes.proofs.Answers.{no-server-checks}
+use Rattle.sim_acts.proofs.Guards.{server-missing, server-here}
 use borrow.Author.Needs.{needs}
 use Rattle.sim_acts.proofs.check.Statement.{statement}
 use Rattle.sim_acts.proofs.check.Tie as tie
 
 returns : tie.Need-returns
-returns c = check-missing _ _ (c .before .before .before .before .pre) (c .before .has-server .ensures) (c .if1 .taken)
+returns c =
+    let d = c .before .before .before .before in
+    server-missing _ (d .args .j) (d .pre) (c .before .has-server .ensures) _ (no-server-checks _ _ _ _) (c .if1 .taken)
 
 server-acts-requires : tie.Need-server-acts-requires
 server-acts-requires c κs =

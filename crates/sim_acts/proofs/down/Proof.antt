@@ -3,7 +3,8 @@
 use denote.Ref.{now}
 use Rattle.sim_changes.specs.Changes.{HasServer}
 use Rattle.sim_changes.proofs.Parties.{server-in}
-use Rattle.sim_acts.proofs.Guards.{down-missing, down-twice, server-here}
+use Rattle.sim_changes.proofs.Answers.{no-server-downs, downs-twice}
+use Rattle.sim_acts.proofs.Guards.{server-missing, server-down, server-here}
 use Rattle.sim_acts.proofs.Silent.{sinkable, sunk-valid, still-server, down-leaves}
 use borrow.Author.Needs.{needs}
 use Rattle.sim_acts.proofs.down.Statement.{statement}
@@ -28,10 +29,12 @@ module _ (c : tie.After-sink-server) where
   running = c .before .before
 
 returns : tie.Need-returns
-returns c = down-missing _ _ (c .before .before .before .before .pre) (c .before .has-server .ensures) (c .if1 .taken)
+returns c =
+    let d = c .before .before .before .before in
+    server-missing _ (d .args .j) (d .pre) (c .before .has-server .ensures) _ (no-server-downs _ _ _ _) (c .if1 .taken)
 
 returns-2 : tie.Need-returns-2
-returns-2 c = down-twice _ _ (here (c .before .before .before)) (c .before .is-up .ensures) (c .if2 .taken)
+returns-2 c = server-down _ _ (here (c .before .before .before)) (c .before .is-up .ensures) _ (downs-twice _ _ _ _) (c .if2 .taken)
 
 restart-messages-requires : tie.Need-restart-messages-requires
 restart-messages-requires c κs =

@@ -2,14 +2,17 @@
 use denote.Ref.{now}
 use Rattle.sim_changes.specs.Changes.{HasClient}
 use Rattle.sim_changes.proofs.Parties.{client-in}
-use Rattle.sim_acts.proofs.Guards.{fall-missing, client-here, fall-twice}
+use Rattle.sim_changes.proofs.Answers.{no-client-falls}
+use Rattle.sim_acts.proofs.Guards.{client-missing, client-here, fall-twice}
 use Rattle.sim_acts.proofs.Silent.{fall-leaves}
 use borrow.Author.Needs.{needs}
 use Rattle.sim_acts.proofs.fall.Statement.{statement}
 use Rattle.sim_acts.proofs.fall.Tie as tie
 
 returns : tie.Need-returns
-returns c = fall-missing _ _ (c .before .before .before .before .pre) (c .before .has-client .ensures) (c .if1 .taken)
+returns c =
+    let d = c .before .before .before .before in
+    client-missing _ (d .args .k) (d .pre) (c .before .has-client .ensures) _ (no-client-falls _ _ _ _) (c .if1 .taken)
 
 -- the client is there
 module _ (c : tie.Else1) where

@@ -10,7 +10,8 @@ use Rattle.sim_layout.specs.Layout.{view}
 use Rattle.sim_changes.specs.Changes.{HasServer}
 use Rattle.sim_changes.proofs.Parties.{client-in, server-in}
 use Rattle.sim_changes.proofs.ServerEvents.{miss-nobody, owner-client, miss-living, owner-missing}
-use Rattle.sim_acts.proofs.Guards.{miss-missing, miss-down, server-here, server-runs}
+use Rattle.sim_changes.proofs.Answers.{no-server-misses, misses-down}
+use Rattle.sim_acts.proofs.Guards.{server-missing, server-down, server-here, server-runs}
 use borrow.Author.Needs.{needs}
 use Rattle.sim_acts.proofs.miss.Statement.{statement}
 use Rattle.sim_acts.proofs.miss.Tie as tie
@@ -40,10 +41,12 @@ module _ (c : tie.After-owner) where
   running = c .before .before .before .before
 
 returns : tie.Need-returns
-returns c = miss-missing _ _ (c .before .before .before .before .pre) (c .before .has-server .ensures) (c .if1 .taken)
+returns c =
+    let d = c .before .before .before .before in
+    server-missing _ (d .args .j) (d .pre) (c .before .has-server .ensures) _ (no-server-misses _ _ _ _) (c .if1 .taken)
 
 returns-2 : tie.Need-returns-2
-returns-2 c = miss-down _ _ (here (c .before .before .before)) (c .before .is-up .ensures) (c .if2 .taken)
+returns-2 c = server-down _ _ (here (c .before .before .before)) (c .before .is-up .ensures) _ (misses-down _ _ _ _) (c .if2 .taken)
 
 is-living-requires : tie.Need-is-living-requires
 is-living-requires c κs =

@@ -1,11 +1,14 @@
 -- `sim_acts::try_enter` meets its contract: each return is one case of the event.
-use Rattle.sim_acts.proofs.Guards.{try-missing, client-here}
+use Rattle.sim_changes.proofs.Answers.{no-client-tries}
+use Rattle.sim_acts.proofs.Guards.{client-missing, client-here}
 use borrow.Author.Needs.{needs}
 use Rattle.sim_acts.proofs.try_enter.Statement.{statement}
 use Rattle.sim_acts.proofs.try_enter.Tie as tie
 
 returns : tie.Need-returns
-returns c = try-missing _ _ (c .before .before .before .before .pre) (c .before .has-client .ensures) (c .if1 .taken)
+returns c =
+    let d = c .before .before .before .before in
+    client-missing _ (d .args .k) (d .pre) (c .before .has-client .ensures) _ (no-client-tries _ _ _ _) (c .if1 .taken)
 
 client-acts-requires : tie.Need-client-acts-requires
 client-acts-requires c κs =

@@ -2,14 +2,17 @@
 use denote.Ref.{now}
 use Rattle.sim_changes.specs.Changes.{HasServer}
 use Rattle.sim_changes.proofs.Parties.{server-in}
-use Rattle.sim_acts.proofs.Guards.{up-missing, server-here, up-twice}
+use Rattle.sim_changes.proofs.Answers.{no-server-ups}
+use Rattle.sim_acts.proofs.Guards.{server-missing, server-here, up-twice}
 use Rattle.sim_acts.proofs.Silent.{up-leaves}
 use borrow.Author.Needs.{needs}
 use Rattle.sim_acts.proofs.up.Statement.{statement}
 use Rattle.sim_acts.proofs.up.Tie as tie
 
 returns : tie.Need-returns
-returns c = up-missing _ _ (c .before .before .before .before .pre) (c .before .has-server .ensures) (c .if1 .taken)
+returns c =
+    let d = c .before .before .before .before in
+    server-missing _ (d .args .j) (d .pre) (c .before .has-server .ensures) _ (no-server-ups _ _ _ _) (c .if1 .taken)
 
 -- the server is there
 module _ (c : tie.Else1) where
