@@ -52,9 +52,6 @@ put-flag-requires c κs = let t = c .before .before .before in flagging-client _
 add-i : tie.Need-add-i Inv-loop μ-loop
 add-i c = let t = turn (c .before .before) in omega (arith, flagging-fits _ _ _ _ _ (t .before .loop .inv), t .loop-test .taken)
 
-loop-less : tie.Need-loop-less Inv-loop μ-loop
-loop-less c = omega (arith, turn (c .before .before) .loop-test .taken)
-
 loop-again : tie.Need-loop-again Inv-loop μ-loop
 loop-again c =
     let p = c .before .before in
@@ -84,7 +81,7 @@ begin-epoch-spec =
     add-t11-2
     put-flag-requires
     add-i
-    loop-less
+    (λ c. omega (arith, turn (c .before .before) .loop-test .taken))
     loop-again
     (λ c κs. flagging-sized _ _ _ _ _ (c .before .before .loop .inv))
     same-length

@@ -41,9 +41,6 @@ mark-client-requires c κs = let t = c .before in marking-in _ _ _ _ _ (t .befor
 add-i : tie.Need-add-i Inv-loop μ-loop
 add-i c = let t = turn (c .before .before) in omega (arith, marking-fits _ _ _ _ _ (t .before .loop .inv), t .loop-test .taken)
 
-loop-less : tie.Need-loop-less Inv-loop μ-loop
-loop-less c = omega (arith, turn (c .before .before) .loop-test .taken)
-
 loop-again : tie.Need-loop-again Inv-loop μ-loop
 loop-again c =
     let m = c .before .before in
@@ -71,7 +68,7 @@ note-down-spec =
     add-t11
     mark-client-requires
     add-i
-    loop-less
+    (λ c. omega (arith, turn (c .before .before) .loop-test .taken))
     loop-again
     (λ c κs. marking-sized _ _ _ _ _ (c .before .before .loop .inv))
     same-length
