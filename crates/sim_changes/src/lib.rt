@@ -63,7 +63,7 @@ pub enum Reply {
 }
 
 // The bytes into which an event's step writes what it sends.
-pub const OUT_BYTES: usize = 512;
+const OUT_BYTES: usize = 512;
 
 // What a client does in an event: it begins its step (document 01's try), leaves the critical section, or takes the RESPONSE or the CHECK in a slot.
 pub enum ClientAct {
@@ -91,7 +91,7 @@ pub fn remove_message(w: &mut [u32], i: usize)
 }
 
 // The message in slot `i` is delivered, and stays.
-pub fn mark_message(w: &mut [u32], i: usize)
+fn mark_message(w: &mut [u32], i: usize)
     requires { ⌜ HasSlot (now w) i ⌝ }
     ensures { λ _. ⌜ Becomes (now (w .entry)) (now (w .exit)) (withTransit (view (now (w .entry))) (replaced (slotAt (transitWords (now (w .entry))) i .number) keeping (view (now (w .entry)) .transit))) ⌝ }
 {
@@ -108,7 +108,7 @@ pub fn restart_messages(w: &mut [u32], j: ServerId)
 }
 
 // Whether so many messages may be sent once `gone` messages are gone.
-pub fn has_room(w: &[u32], gone: u32, count: usize) -> bool
+fn has_room(w: &[u32], gone: u32, count: usize) -> bool
     requires { ⌜ (valid (now w) ≡ true) × (gone ≤ lengthOf (now w)) × (count ≤ systemMessages) ⌝ }
     ensures { λ r. ⌜ r ≡ hasRoom (now (w .entry)) gone count ⌝ }
 {
@@ -123,7 +123,7 @@ pub fn has_room(w: &[u32], gone: u32, count: usize) -> bool
 }
 
 // The first `count` messages of the bytes are sent.
-pub fn send(w: &mut [u32], bytes: &[u8], count: usize)
+fn send(w: &mut [u32], bytes: &[u8], count: usize)
     requires { ⌜ Sendable (now w) count (now bytes) ⌝ }
     ensures { λ _. ⌜ Becomes (now (w .entry)) (now (w .exit)) (sending (view (now (w .entry))) (messagesIn count (now (bytes .entry)))) ⌝ }
 {
@@ -163,7 +163,7 @@ fn send_message(w: &mut [u32], m: Message)
 }
 
 // The messages of a server's step are sent, in order: each goes to its slot as it is.
-pub fn send_mails(w: &mut [u32], first: Mail, second: Mail, third: Mail)
+fn send_mails(w: &mut [u32], first: Mail, second: Mail, third: Mail)
     requires { ⌜ CanSend (now w) (threeMails first second third) ⌝ }
     ensures { λ _. ⌜ Becomes (now (w .entry)) (now (w .exit)) (sending (view (now (w .entry))) (threeMails first second third)) ⌝ }
 {
@@ -209,7 +209,7 @@ fn down_flag(w: &[u32], j: ServerId) -> u32
 }
 
 // An epoch of client `k` begins: the servers that are down count.
-pub fn begin_epoch(w: &mut [u32], k: ClientId)
+fn begin_epoch(w: &mut [u32], k: ClientId)
     requires { ⌜ HasClient (now w) k × (inEpoch (clientAt (view (now w)) k) ≡ true) ⌝ }
     ensures { λ _. ⌜ Becomes (now (w .entry)) (now (w .exit)) (withClients (view (now (w .entry))) (put (view (now (w .entry)) .clients) (k .0) (record { living = clientAt (view (now (w .entry))) k .living; state = clientAt (view (now (w .entry))) k .state; downs = downFrom 1 (view (now (w .entry)) .servers) }))) ⌝ }
 {
@@ -224,7 +224,7 @@ pub fn begin_epoch(w: &mut [u32], k: ClientId)
 }
 
 // The epoch of client `k` ends: no server counts any more.
-pub fn end_epoch(w: &mut [u32], k: ClientId)
+fn end_epoch(w: &mut [u32], k: ClientId)
     requires { ⌜ HasClient (now w) k ⌝ }
     ensures { λ _. ⌜ Becomes (now (w .entry)) (now (w .exit)) (withClient (view (now (w .entry))) k (record { living = clientAt (view (now (w .entry))) k .living; state = clientAt (view (now (w .entry))) k .state; downs = [] })) ⌝ }
 {
