@@ -70,7 +70,7 @@ module _ (w : List ℕ) (j : ServerId) (H : HasServer w j) {b : Bool} (f : b ≡
 
   pub server-down : (v : Event)
       → (has (view w .servers) (j .0) ≡ true → serverAt (view w) j .up ≡ false
-        → event (settingOf w .n) (enough (settingOf w .m)) (view w) v ≡ refused PartyDown)
+      → event (settingOf w .n) (enough (settingOf w .m)) (view w) v ≡ refused PartyDown)
       → not b ≡ true → Leaves w v w × (Refused PartyDown ≡ movedOf (happens w v))
   server-down v g u = leaves-refused w v PartyDown (H .valid) (g (server-there-in w j H) (fails b _ up-here u))
 

@@ -1,8 +1,7 @@
 -- `sim_changes::begin_epoch` meets its contract. The invariant: the flags of the first i servers are put.
 use denote.Ref.{now}
 use native.Mathlib.Omega.{arith}
-use Prim.Native.Nat.{_-_, _+_, _≤_}
-use Rattle.system.specs.Limits.{systemServers}
+use Prim.Native.Nat.{_-_}
 use Rattle.sim_changes.proofs.Parties.{words-long, servers-fit}
 use Rattle.sim_changes.proofs.Epochs.{Flagging, flagging-none, flagging-fits, flagging-server, flagging-client, flagging-more, flagging-sized}
 use Rattle.sim_changes.proofs.Epochs.{flagging-same, flagging-all}

@@ -26,14 +26,19 @@ module _ (c : tie.Start) where
   there : HasServer words (c .args .j)
   there = act-server words (c .args .j) (c .args .act) (c .pre .0)
 
--- the record is read
-module _ (c : tie.After-server-head) where
+-- the row is read
+module _ (c : tie.After-server-row) where
   abbrev entry : tie.Start
-  entry = c .before .before .before .before .before .before .before
+  entry = c .before .before .before .before
 
-  read : serverOf (c .server-head .result) (c .before .before .before .server-row .last .1 .1 .0)
-      ≡ serverFrom (serverRecord (serverBlockOf (words entry) (entry .args .j)))
-  read = server-read _ _ _ (c .server-head .ensures) (c .before .before .before .server-row .ensures)
+-- and the head
+module _ (c : tie.After-server-head) where
+  abbrev row-read : tie.After-server-row
+  row-read = c .before .before .before
+
+  read : serverOf (c .server-head .result) (row-read .server-row .last .1 .1 .0)
+      ≡ serverFrom (serverRecord (serverBlockOf (words (entry row-read)) (entry row-read .args .j)))
+  read = server-read _ _ _ (c .server-head .ensures) (row-read .server-row .ensures)
 
 -- the call is made
 module _ (c : tie.After-call-server) where
@@ -41,7 +46,7 @@ module _ (c : tie.After-call-server) where
   loaded = c .before .before
 
   abbrev start : tie.Start
-  start = entry loaded
+  start = entry (row-read loaded)
 
   called : ServerCalled (words start) (start .args .j) (start .args .act) (c .call-server .result) (c .call-server .last .1 .0)
   called = server-called (words start) (start .args .j) (start .args .act) (start .pre .0) (start .pre .1) _ _ (read loaded) _ _ (c .call-server .ensures)
@@ -61,18 +66,23 @@ module _ (c : tie.After-store-server) where
   abbrev roomy : tie.Else1
   roomy = c .before .before .before
 
+-- the messages are sent
+module _ (c : tie.After-send-mails) where
+  abbrev stored : tie.After-store-server
+  stored = c .before .before .before .before
+
 server-row-requires : tie.Need-server-row-requires
 server-row-requires c κs = (server-in _ _ (there (c .before .before .before)), search needs)
 
 server-head-requires : tie.Need-server-head-requires
 server-head-requires c κs =
-    let d = c .before .before .before .before .before .before in
+    let d = entry (c .before .before) in
     (server-in _ _ (there d), record-held _ (d .args .j) (there d))
 
 call-server-requires : tie.Need-call-server-requires
 call-server-requires c κs =
     let l = c .before in
-    let d = entry l in
+    let d = entry (row-read l) in
     server-padded (words d) (d .args .j) (there d) _ _ (read l)
 
 has-room-requires : tie.Need-has-room-requires
@@ -97,7 +107,7 @@ send-mails-requires c κs =
 
 cast-t35 : tie.Need-cast-t35
 cast-t35 c =
-    let n = counted (roomy (c .before .before .before .before .before .before)) in
+    let n = counted (roomy (stored (c .before .before))) in
     record { fits = omega (arith, ruled-few (called (made n) .ruled) _ (n .counts .ensures)) }
 
 returns-2 : tie.Need-returns-2
@@ -105,11 +115,12 @@ returns-2 c = ruled-refused (called (c .before .before .before .before) .ruled) 
 
 returns-3 : tie.Need-returns-3
 returns-3 c =
-    let p = c .before .before .before .before .before .before in
+    let s = c .before .before in
+    let p = stored s in
     let r = roomy p in
     let n = counted r in
     server-sent (called (made n)) _ (n .counts .ensures) _ (r .before .has-room .ensures) (r .if1 .left) _ (p .store-server .ensures)
-    _ (c .before .before .send-mails .ensures)
+    _ (s .send-mails .ensures)
 
 pub server-steps-spec : {M : Type 1} → statement M
 server-steps-spec =
