@@ -62,7 +62,8 @@ module _ (n : ℕ) (wins : Quorum) (u : System) where
         unfolding event
         tries-twice h = rw (there, lives, h)
 
-        pub tries-spent : isRemainder (clientAt u k .state .section) ≡ true → mayTry (clientAt u k .state) ≡ false → event n wins u (Try k) ≡ refused TimestampsSpent
+        pub tries-spent : isRemainder (clientAt u k .state .section) ≡ true → mayTry (clientAt u k .state) ≡ false
+            → event n wins u (Try k) ≡ refused TimestampsSpent
         unfolding event
         tries-spent h t = rw (there, lives, h, t)
 
@@ -121,11 +122,13 @@ module _ (n : ℕ) (wins : Quorum) (u : System) where
         unfolding event
         misses-nobody h = rw (there, up, h)
 
-        pub misses-living : (o : Request) → serverAt u j .state .owner ≡ Of o → clientAt u (o .client) .living ≡ true → event n wins u (Miss j) ≡ refused OwnerLives
+        pub misses-living : (o : Request) → serverAt u j .state .owner ≡ Of o → clientAt u (o .client) .living ≡ true
+            → event n wins u (Miss j) ≡ refused OwnerLives
         unfolding event
         misses-living o h l = rw (there, up, h, l)
 
-        pub misses : (o : Request) → serverAt u j .state .owner ≡ Of o → clientAt u (o .client) .living ≡ false → event n wins u (Miss j) ≡ stepped (suspected u j)
+        pub misses : (o : Request) → serverAt u j .state .owner ≡ Of o → clientAt u (o .client) .living ≡ false
+            → event n wins u (Miss j) ≡ stepped (suspected u j)
         unfolding event
         misses o h l = rw (there, up, h, l)
 

@@ -28,9 +28,11 @@ use Rattle.sim_blocks.proofs.ClientLaws.{ClientIs}
 use Rattle.sim_blocks.proofs.ServerLaws.{ServerIs}
 use Rattle.sim_transit.specs.Slots.{slots, validSlots, transitSize}
 use Rattle.sim_transit.proofs.Kept.{valid-sized}
-use Rattle.sim_layout.specs.Layout.{simulationSize, settingOf, clientWords, serverWords, transitWords, lengthOf, sentOf, mostOf, view, validFrom, itself, blank, valid, clientsSize, serversFrom, serversSize, transitFrom, clientsFrom}
+use Rattle.sim_layout.specs.Layout.{simulationSize, settingOf, clientWords, serverWords, transitWords, lengthOf, sentOf, mostOf, view, validFrom, itself, blank}
+use Rattle.sim_layout.specs.Layout.{valid, clientsSize, serversFrom, serversSize, transitFrom, clientsFrom}
 use Rattle.sim_layout.specs.Parts.{clientBlockOf, serverBlockOf}
-use Rattle.sim_layout.proofs.ViewLaws.{head-kept, setting-kept, in-clients, clients-servers, clients-transit, servers-clients, in-servers, servers-transit, client-stored, server-stored}
+use Rattle.sim_layout.proofs.ViewLaws.{head-kept, setting-kept, in-clients, clients-servers, clients-transit, servers-clients, in-servers, servers-transit}
+use Rattle.sim_layout.proofs.ViewLaws.{client-stored, server-stored}
 use Rattle.sim_layout.proofs.ValidLaws.{facts, from-facts, each-valid, still-valid}
 use Rattle.sim_layout.proofs.LendLaws.{client-block-long, server-block-long}
 use Rattle.sim_layout.proofs.PlaceLaws.{put-set}
@@ -43,9 +45,11 @@ pub record Sound (w : List ℕ) : Type 0 where
   pub long : length w ≡ simulationSize
   pub range : inRangeUpTo systemServers (settingOf w .n) (settingOf w .m) (settingOf w .f) ≡ true
   pub some : within (settingOf w .clients) systemClients ≡ true
-  pub clients : validFrom (λ (i : ℕ). validClientBlock (settingOf w .n) (settingOf w .m) (settingOf w .clients) (clientNo i)) 1 (blocks clientBlock itself (settingOf w .clients) (clientWords w)) ≡ true
+  pub clients : validFrom (λ (i : ℕ). validClientBlock (settingOf w .n) (settingOf w .m) (settingOf w .clients) (clientNo i)) 1
+      (blocks clientBlock itself (settingOf w .clients) (clientWords w)) ≡ true
   pub noClients : blank (drop (settingOf w .clients * clientBlock) (clientWords w)) ≡ true
-  pub servers : validFrom (λ (i : ℕ). validServerBlock (settingOf w .n) (settingOf w .clients) (serverNo i)) 1 (blocks serverBlock itself (settingOf w .n) (serverWords w)) ≡ true
+  pub servers : validFrom (λ (i : ℕ). validServerBlock (settingOf w .n) (settingOf w .clients) (serverNo i)) 1
+      (blocks serverBlock itself (settingOf w .n) (serverWords w)) ≡ true
   pub noServers : blank (drop (settingOf w .n * serverBlock) (serverWords w)) ≡ true
   pub transit : validSlots (settingOf w .n) (settingOf w .clients) (sentOf w) (lengthOf w) (transitWords w) ≡ true
   pub few : mostOf w ≤ settingOf w .n
@@ -53,11 +57,32 @@ pub record Sound (w : List ℕ) : Type 0 where
 pub sound : (w : List ℕ) → valid w ≡ true → Sound w
 sound w h =
     let F = facts w h in
-    record { long = F .long; range = F .range; some = F .some; clients = F .clients; noClients = F .noClients; servers = F .servers; noServers = F .noServers; transit = F .transit; few = F .few }
+    record {
+      long = F .long;
+      range = F .range;
+      some = F .some;
+      clients = F .clients;
+      noClients = F .noClients;
+      servers = F .servers;
+      noServers = F .noServers;
+      transit = F .transit;
+      few = F .few;
+    }
 
 pub noted-valid : (w : List ℕ) → Sound w → worst (view w .clients) ≤ mostOf w → valid w ≡ true
 noted-valid w F h =
-    from-facts w (record { long = F .long; range = F .range; some = F .some; clients = F .clients; noClients = F .noClients; servers = F .servers; noServers = F .noServers; transit = F .transit; few = F .few; noted = h })
+    from-facts w (record {
+      long = F .long;
+      range = F .range;
+      some = F .some;
+      clients = F .clients;
+      noClients = F .noClients;
+      servers = F .servers;
+      noServers = F .noServers;
+      transit = F .transit;
+      few = F .few;
+      noted = h;
+    })
 
 -- w′ is sound, of w's setting, and its system is u
 pub record Near (w w′ : List ℕ) (u : System) : Type 0 where
@@ -73,17 +98,21 @@ module _ (w : List ℕ) (F : Sound w) where
   pub few-clients : settingOf w .clients ≤ systemClients
   few-clients = within-range (settingOf w .clients) systemClients (F .some) .1
 
-  pub client-valid : (k : ℕ) → 1 ≤ k → k ≤ settingOf w .clients → validClientBlock (settingOf w .n) (settingOf w .m) (settingOf w .clients) (clientNo k) (clientBlockOf w (clientNo k)) ≡ true
+  pub client-valid : (k : ℕ) → 1 ≤ k → k ≤ settingOf w .clients
+      → validClientBlock (settingOf w .n) (settingOf w .m) (settingOf w .clients) (clientNo k) (clientBlockOf w (clientNo k)) ≡ true
   client-valid k p q =
       let z : 1 + (k - 1) ≡ k = omega arith in
       subst (λ (x : ℕ). validClientBlock (settingOf w .n) (settingOf w .m) (settingOf w .clients) (clientNo x) (clientBlockOf w (clientNo k)) ≡ true) z
-      (each-valid (λ (i : ℕ). validClientBlock (settingOf w .n) (settingOf w .m) (settingOf w .clients) (clientNo i)) clientBlock (settingOf w .clients) 1 (clientWords w) (F .clients) (k - 1) (omega arith))
+      (each-valid (λ (i : ℕ). validClientBlock (settingOf w .n) (settingOf w .m) (settingOf w .clients) (clientNo i)) clientBlock (settingOf w .clients) 1
+      (clientWords w) (F .clients) (k - 1) (omega arith))
 
-  pub server-valid : (j : ℕ) → 1 ≤ j → j ≤ settingOf w .n → validServerBlock (settingOf w .n) (settingOf w .clients) (serverNo j) (serverBlockOf w (serverNo j)) ≡ true
+  pub server-valid : (j : ℕ) → 1 ≤ j → j ≤ settingOf w .n
+      → validServerBlock (settingOf w .n) (settingOf w .clients) (serverNo j) (serverBlockOf w (serverNo j)) ≡ true
   server-valid j p q =
       let z : 1 + (j - 1) ≡ j = omega arith in
       subst (λ (x : ℕ). validServerBlock (settingOf w .n) (settingOf w .clients) (serverNo x) (serverBlockOf w (serverNo j)) ≡ true) z
-      (each-valid (λ (i : ℕ). validServerBlock (settingOf w .n) (settingOf w .clients) (serverNo i)) serverBlock (settingOf w .n) 1 (serverWords w) (F .servers) (j - 1) (omega arith))
+      (each-valid (λ (i : ℕ). validServerBlock (settingOf w .n) (settingOf w .clients) (serverNo i)) serverBlock (settingOf w .n) 1 (serverWords w) (F .servers)
+      (j - 1) (omega arith))
 
 -- the most servers down, where one client changes
 pub worst-set : (l : List ClientPlace) (i : ℕ) (p : ClientPlace) (most : ℕ) → worst l ≤ most → length (p .downs) ≤ most → worst (set l i p) ≤ most
@@ -119,7 +148,8 @@ module _ (w : List ℕ) (F : Sound w) (k : ℕ) (b : List ℕ) (p : ClientPlace)
   client-sound =
       let s = setting-kept w (clientsFrom + client-at) b (omega arith) in
       let fits : client-at + length b ≤ clientsSize = omega (arith, client-long, few-clients w F) in
-      let head : (i : ℕ) → i < clientsFrom → getD (sets w (clientsFrom + client-at) b) i 0 ≡ getD w i 0 = λ i q. head-kept w (clientsFrom + client-at) b i (omega arith) in
+      let head : (i : ℕ) → i < clientsFrom → getD (sets w (clientsFrom + client-at) b) i 0 ≡ getD w i 0 =
+      λ i q. head-kept w (clientsFrom + client-at) b i (omega arith) in
       let z : k ≡ 1 + (k - 1) = omega arith in
       let f : ℕ → List ℕ → Bool = λ i. validClientBlock (settingOf w .n) (settingOf w .m) (settingOf w .clients) (clientNo i) in
       let new : f (1 + (k - 1)) (sets (take clientBlock (drop ((k - 1) * clientBlock) (clientWords w))) 0 b) ≡ true =
@@ -128,8 +158,14 @@ module _ (w : List ℕ) (F : Sound w) (k : ℕ) (b : List ℕ) (p : ClientPlace)
         long = length-sets w (clientsFrom + client-at) b ∙ F .long;
         range = rw s (F .range);
         some = rw s (F .some);
-        clients = rw (s, in-clients w client-at b fits) (still-valid f clientBlock (settingOf w .clients) 1 (k - 1) (clientWords w) 0 b (omega arith) (omega (arith, client-long)) (F .clients) new);
-        noClients = rw (s, in-clients w client-at b fits, drop-sets-before (settingOf w .clients * clientBlock) (clientWords w) client-at b (omega (arith, client-long))) (F .noClients);
+        clients = rw (s, in-clients w client-at b fits)
+            (still-valid f clientBlock (settingOf w .clients) 1 (k - 1) (clientWords w) 0 b (omega arith) (omega (arith, client-long)) (F .clients) new);
+        noClients = rw (
+          s,
+          in-clients w client-at b fits,
+          drop-sets-before (settingOf w .clients * clientBlock) (clientWords w) client-at b
+              (omega (arith, client-long)),
+        ) (F .noClients);
         servers = rw (s, clients-servers w client-at b fits) (F .servers);
         noServers = rw (s, clients-servers w client-at b fits) (F .noServers);
         transit = rw (s, clients-transit w client-at b fits, head 4 (omega arith), head 5 (omega arith)) (F .transit);
@@ -168,7 +204,8 @@ module _ (w : List ℕ) (F : Sound w) (j : ℕ) (b : List ℕ) (q : ServerPlace)
   server-sound =
       let s = setting-kept w (serversFrom + server-at) b (omega arith) in
       let fits : server-at + length b ≤ serversSize = omega (arith, server-long, few-servers w F) in
-      let head : (i : ℕ) → i < clientsFrom → getD (sets w (serversFrom + server-at) b) i 0 ≡ getD w i 0 = λ i q. head-kept w (serversFrom + server-at) b i (omega arith) in
+      let head : (i : ℕ) → i < clientsFrom → getD (sets w (serversFrom + server-at) b) i 0 ≡ getD w i 0 =
+      λ i q. head-kept w (serversFrom + server-at) b i (omega arith) in
       let z : j ≡ 1 + (j - 1) = omega arith in
       let f : ℕ → List ℕ → Bool = λ i. validServerBlock (settingOf w .n) (settingOf w .clients) (serverNo i) in
       let new : f (1 + (j - 1)) (sets (take serverBlock (drop ((j - 1) * serverBlock) (serverWords w))) 0 b) ≡ true =
@@ -179,8 +216,14 @@ module _ (w : List ℕ) (F : Sound w) (j : ℕ) (b : List ℕ) (q : ServerPlace)
         some = rw s (F .some);
         clients = rw (s, servers-clients w server-at b fits) (F .clients);
         noClients = rw (s, servers-clients w server-at b fits) (F .noClients);
-        servers = rw (s, in-servers w server-at b fits) (still-valid f serverBlock (settingOf w .n) 1 (j - 1) (serverWords w) 0 b (omega arith) (omega (arith, server-long)) (F .servers) new);
-        noServers = rw (s, in-servers w server-at b fits, drop-sets-before (settingOf w .n * serverBlock) (serverWords w) server-at b (omega (arith, server-long))) (F .noServers);
+        servers = rw (s, in-servers w server-at b fits)
+            (still-valid f serverBlock (settingOf w .n) 1 (j - 1) (serverWords w) 0 b (omega arith) (omega (arith, server-long)) (F .servers) new);
+        noServers = rw (
+          s,
+          in-servers w server-at b fits,
+          drop-sets-before (settingOf w .n * serverBlock) (serverWords w) server-at b
+              (omega (arith, server-long)),
+        ) (F .noServers);
         transit = rw (s, servers-transit w server-at b fits, head 4 (omega arith), head 5 (omega arith)) (F .transit);
         few = rw (s, head 6 (omega arith)) (F .few);
       }
@@ -206,10 +249,18 @@ module _ (w : List ℕ) (F : Sound w) (t : List ℕ) (len sent : ℕ) (ok′ : v
   posted-parts =
       let a = is-transit-store (itself-is w (F .long)) 0 t (omega (arith, slots-long)) in
       let b = is-head-store (is-head-store a 4 len (omega arith)) 5 sent (omega arith) in
-      record { long = b .long; head = b .head; clients = b .clients; servers = b .servers; transit = b .transit ∙ covered (transitWords w) t (slots-long ∙ sym old-long) }
+      record {
+        long = b .long;
+        head = b .head;
+        clients = b .clients;
+        servers = b .servers;
+        transit = b .transit
+            ∙ covered (transitWords w) t (slots-long ∙ sym old-long);
+      }
 
   posted-word : (i : ℕ) → i < clientsFrom → (i ≡ 4 → ⊥) → (i ≡ 5 → ⊥) → getD posted i 0 ≡ getD w i 0
-  posted-word i h a b = getD-set-other (set (sets w transitFrom t) 4 len) 5 i sent 0 b ∙ (getD-set-other (sets w transitFrom t) 4 i len 0 a ∙ head-kept w transitFrom t i (omega arith))
+  posted-word i h a b = getD-set-other (set (sets w transitFrom t) 4 len) 5 i sent 0 b
+      ∙ (getD-set-other (sets w transitFrom t) 4 i len 0 a ∙ head-kept w transitFrom t i (omega arith))
 
   posted-length : getD posted 4 0 ≡ len
   posted-length =
@@ -217,7 +268,8 @@ module _ (w : List ℕ) (F : Sound w) (t : List ℕ) (len sent : ℕ) (ok′ : v
       getD-set-same (sets w transitFrom t) 4 len 0 (omega (arith, length-sets w transitFrom t, F .long))
 
   posted-sent : getD posted 5 0 ≡ sent
-  posted-sent = getD-set-same (set (sets w transitFrom t) 4 len) 5 sent 0 (omega (arith, length-set (sets w transitFrom t) 4 len, length-sets w transitFrom t, F .long))
+  posted-sent = getD-set-same (set (sets w transitFrom t) 4 len) 5 sent 0
+      (omega (arith, length-set (sets w transitFrom t) 4 len, length-sets w transitFrom t, F .long))
 
   posted-setting : settingOf posted ≡ settingOf w
   unfolding settingOf
@@ -349,7 +401,8 @@ module _ (w : List ℕ) (ok : valid w ≡ true) where
       record {
         system = N .system;
         setting = N .setting;
-        again = noted-valid (sets w (clientsFrom + clientBlock * (k - 1)) b) (N .again) (rw (N .system, most) (worst-put (view w .clients) k p (mostOf w) (facts w ok .noted) few));
+        again = noted-valid (sets w (clientsFrom + clientBlock * (k - 1)) b) (N .again)
+            (rw (N .system, most) (worst-put (view w .clients) k p (mostOf w) (facts w ok .noted) few));
       }
 
   pub server-becomes : (j : ℕ) (b : List ℕ) (q : ServerPlace) → 1 ≤ j → j ≤ settingOf w .n
@@ -366,14 +419,16 @@ module _ (w : List ℕ) (ok : valid w ≡ true) where
 
   -- with the number of messages and the number of messages sent
   pub sent-becomes : (t : List ℕ) (len sent : ℕ) → validSlots (settingOf w .n) (settingOf w .clients) sent len t ≡ true
-      → Becomes w (set (set (sets w transitFrom t) 4 len) 5 sent) (record { clients = view w .clients; servers = view w .servers; transit = slots len t; sent = sent; most = view w .most })
+      → Becomes w (set (set (sets w transitFrom t) 4 len) 5 sent)
+      (record { clients = view w .clients; servers = view w .servers; transit = slots len t; sent = sent; most = view w .most })
   sent-becomes t len sent ok′ =
       let F = sound w ok in
       let e = posted-system w F t len sent ok′ in
       record {
         system = e;
         setting = posted-setting w F t len sent ok′;
-        again = noted-valid (set (set (sets w transitFrom t) 4 len) 5 sent) (posted-sound w F t len sent ok′) (rw (e, posted-most w F t len sent ok′) (facts w ok .noted));
+        again = noted-valid (set (set (sets w transitFrom t) 4 len) 5 sent) (posted-sound w F t len sent ok′)
+            (rw (e, posted-most w F t len sent ok′) (facts w ok .noted));
       }
 
   -- with the number of messages
@@ -381,7 +436,8 @@ module _ (w : List ℕ) (ok : valid w ≡ true) where
       → Becomes w (set (sets w transitFrom t) 4 len) (withTransit (view w) (slots len t))
   unfolding view
   length-becomes t len ok′ =
-      let five : getD (set (sets w transitFrom t) 4 len) 5 0 ≡ sentOf w = getD-set-other (sets w transitFrom t) 4 5 len 0 (λ e. omega arith) ∙ head-kept w transitFrom t 5 (omega arith) in
+      let five : getD (set (sets w transitFrom t) 4 len) 5 0 ≡ sentOf w =
+      getD-set-other (sets w transitFrom t) 4 5 len 0 (λ e. omega arith) ∙ head-kept w transitFrom t 5 (omega arith) in
       let same : set (set (sets w transitFrom t) 4 len) 5 (sentOf w) ≡ set (sets w transitFrom t) 4 len =
       ap (λ (x : ℕ). set (set (sets w transitFrom t) 4 len) 5 x) (sym five) ∙ set-getD (set (sets w transitFrom t) 4 len) 5 0 in
       subst (λ (x : List ℕ). Becomes w x (withTransit (view w) (slots len t))) same (sent-becomes t len (sentOf w) ok′)

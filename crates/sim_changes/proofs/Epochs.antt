@@ -56,7 +56,8 @@ marked j zero l = l
 marked j (suc i) [] = []
 marked j (suc i) (c ∷ l) = downed j c ∷ marked j i l
 
-marked-next : (j : ServerId) (i : ℕ) (l : List ClientPlace) → i < length l → set (marked j i l) i (downed j (getD (marked j i l) i noClient)) ≡ marked j (suc i) l
+marked-next : (j : ServerId) (i : ℕ) (l : List ClientPlace) → i < length l
+    → set (marked j i l) i (downed j (getD (marked j i l) i noClient)) ≡ marked j (suc i) l
 unfolding marked
 marked-next j zero [] h = absurd (omega arith)
 marked-next j zero (c ∷ l) h = refl
@@ -101,7 +102,8 @@ module _ (w : List ℕ) (j : ServerId) where
       block = clientBlockOf w′ (clientNo (suc i))
 
       abbrev stored : List ℕ
-      stored = if inEpoch (clientPlace (clientBlockOf w′ (clientNo (suc i)))) then set (clientBlockOf w′ (clientNo (suc i))) (clientSize + j .0) 1 else clientBlockOf w′ (clientNo (suc i))
+      stored = if inEpoch (clientPlace (clientBlockOf w′ (clientNo (suc i)))) then set (clientBlockOf w′ (clientNo (suc i)))
+          (clientSize + j .0) 1 else clientBlockOf w′ (clientNo (suc i))
 
       inside : suc i ≤ settingOf w′ .clients
       inside = rw (M .near .setting) (omega (arith, M .count, lt))
@@ -110,7 +112,8 @@ module _ (w : List ℕ) (j : ServerId) where
       is-marked =
           let v = client-valid w′ (M .near .again) (suc i) (omega arith) inside in
           let n : j .0 ≤ settingOf w′ .n = rw (M .near .setting) (M .has .last) in
-          rw (client-place w′ (suc i) (omega arith) inside) (mark-block (settingOf w′ .n) (settingOf w′ .m) (settingOf w′ .clients) (suc i) block v j (M .has .first) n)
+          rw (client-place w′ (suc i) (omega arith) inside)
+          (mark-block (settingOf w′ .n) (settingOf w′ .m) (settingOf w′ .clients) (suc i) block v j (M .has .first) n)
 
       marked-near : Near w (sets w′ (clientsFrom + clientBlock * (suc i - 1)) stored) (markedSystem w j (suc i))
       marked-near =
@@ -122,7 +125,9 @@ module _ (w : List ℕ) (j : ServerId) where
           subst (λ (u : System). Near w (sets w′ (clientsFrom + clientBlock * (suc i - 1)) stored) u) (sym e) (near-trans (M .near) N)
 
     pub marking-more : i < clients → (w″ : List ℕ)
-        → w″ ≡ sets w′ (clientsFrom + clientBlock * (i + 1 - 1)) (if inEpoch (clientPlace (clientBlockOf w′ (clientNo (i + 1)))) then set (clientBlockOf w′ (clientNo (i + 1))) (clientSize + j .0) 1 else clientBlockOf w′ (clientNo (i + 1)))
+        → w″ ≡ sets w′ (clientsFrom + clientBlock * (i + 1 - 1))
+        (if inEpoch (clientPlace (clientBlockOf w′ (clientNo (i + 1)))) then set (clientBlockOf w′ (clientNo (i + 1)))
+        (clientSize + j .0) 1 else clientBlockOf w′ (clientNo (i + 1)))
         → Marking w j clients w″ (i + 1)
     marking-more lt w″ e =
         let z : i + 1 ≡ suc i = omega arith in
@@ -135,18 +140,21 @@ module _ (w : List ℕ) (j : ServerId) where
     pub marking-same : (x : ℕ) (w″ : List ℕ) → w″ ≡ set w′ 6 x → length w″ ≡ length w
     marking-same x w″ e = ap length e ∙ (length-set w′ 6 x ∙ (M .near .again .long ∙ sym (sound w (M .has .valid) .long)))
 
-    pub marking-all : clients ≤ i → (w″ : List ℕ) → w″ ≡ set w′ 6 (max (mostOf w′) (worst (view w′ .clients))) → Becomes w w″ (withClients (view w) (map (downed j) (view w .clients)))
+    pub marking-all : clients ≤ i → (w″ : List ℕ) → w″ ≡ set w′ 6 (max (mostOf w′) (worst (view w′ .clients)))
+        → Becomes w w″ (withClients (view w) (map (downed j) (view w .clients)))
     marking-all h w″ e =
         let a = marked-all j i (view w .clients) (omega (arith, clients-long w, M .count, h)) in
         subst (λ (l : List ClientPlace). Becomes w w″ (withClients (view w) l)) a (noted (marked j i (view w .clients)) (M .near) w″ e)
 
 -- the block stored as it is
-same-stored : (w : List ℕ) (k : ℕ) → length w ≡ simulationSize → 1 ≤ k → k ≤ systemClients → sets w (clientsFrom + clientBlock * (k - 1)) (clientBlockOf w (clientNo k)) ≡ w
+same-stored : (w : List ℕ) (k : ℕ) → length w ≡ simulationSize → 1 ≤ k → k ≤ systemClients
+    → sets w (clientsFrom + clientBlock * (k - 1)) (clientBlockOf w (clientNo k)) ≡ w
 same-stored w k l p q =
     let z : clientsFrom + clientBlock * (k - 1) + clientBlock - (clientsFrom + clientBlock * (k - 1)) ≡ clientBlock = omega arith in
     sym (came-back w (clientsFrom + clientBlock * (k - 1)) clientBlock (clientBlockOf w (clientNo k)) (client-block-long w k l p q) (omega arith)) ∙
     (ap (λ (x : ℕ). putMid (clientsFrom + clientBlock * (k - 1)) x w (clientBlockOf w (clientNo k))) z ∙
-    (ap (λ (b : List ℕ). putMid (clientsFrom + clientBlock * (k - 1)) clientBlock w b) (sym (client-part w k p q)) ∙ put-same (clientsFrom + clientBlock * (k - 1)) clientBlock w))
+    (ap (λ (b : List ℕ). putMid (clientsFrom + clientBlock * (k - 1)) clientBlock w b) (sym (client-part w k p q))
+    ∙ put-same (clientsFrom + clientBlock * (k - 1)) clientBlock w))
 
 bit-at : (l : List ServerPlace) (i : ℕ) → i < length l → getD (map downBit l) i 0 ≡ downBit (getD l i noServer)
 bit-at [] i h = absurd (omega arith)
@@ -193,29 +201,37 @@ module _ (w : List ℕ) (k : ℕ) (H : HasClient w (clientNo k)) where
       client-block-stored w k (record { long = long; first = H .first; last = last-client }) (flaggedTo w k i) (omega (arith, flagged-long i)) (flagged-long i)
 
   -- the flag of server i + 1
-  flag-is : (i x : ℕ) → i < settingOf w .n → x ≡ (if serverPlace (serverBlockOf (flagged-words i) (serverNo (suc i))) .up then 0 else 1) → x ≡ getD (bitsOf w) i 0
+  flag-is : (i x : ℕ) → i < settingOf w .n → x ≡ (if serverPlace (serverBlockOf (flagged-words i) (serverNo (suc i))) .up then 0 else 1)
+      → x ≡ getD (bitsOf w) i 0
   flag-is i x h e =
-      let a : serverBlockOf (flagged-words i) (serverNo (suc i)) ≡ serverBlockOf w (serverNo (suc i)) = ap (λ (l : List ℕ). take serverBlock (drop ((suc i - 1) * serverBlock) l)) (flagged-servers i) in
+      let a : serverBlockOf (flagged-words i) (serverNo (suc i)) ≡ serverBlockOf w (serverNo (suc i)) =
+      ap (λ (l : List ℕ). take serverBlock (drop ((suc i - 1) * serverBlock) l)) (flagged-servers i) in
       let p : serverAt (view w) (serverNo (suc i)) ≡ serverPlace (serverBlockOf w (serverNo (suc i))) = server-place w (suc i) (omega arith) h in
       e ∙ (ap (λ (b : List ℕ). downBit (serverPlace b)) a ∙ (ap downBit (sym p) ∙ sym (bit-at (view w .servers) i (omega (arith, servers-long w, h)))))
 
   flag-stored : (i x : ℕ) → i < settingOf w .n → x ≡ getD (bitsOf w) i 0
-      → sets (flagged-words i) (clientsFrom + clientBlock * (k - 1)) (set (clientBlockOf (flagged-words i) (clientNo k)) (clientSize + (i + 1)) x) ≡ flagged-words (i + 1)
+      → sets (flagged-words i) (clientsFrom + clientBlock * (k - 1)) (set (clientBlockOf (flagged-words i) (clientNo k)) (clientSize + (i + 1)) x)
+      ≡ flagged-words (i + 1)
   flag-stored i x h e =
       let l : i < length (bitsOf w) = omega (arith, length-map (view w .servers) downBit, servers-long w, h) in
       let b : set (clientBlockOf (flagged-words i) (clientNo k)) (clientSize + (i + 1)) x ≡ flaggedTo w k (i + 1) =
-      ap (λ (b : List ℕ). set b (clientSize + (i + 1)) x) (flagged-block i) ∙ (ap (λ (y : ℕ). set (flaggedTo w k i) (clientSize + (i + 1)) y) e ∙ flag-next (clientBlockOf w (clientNo k)) (bitsOf w) i l) in
+      ap (λ (b : List ℕ). set b (clientSize + (i + 1)) x) (flagged-block i)
+      ∙ (ap (λ (y : ℕ). set (flaggedTo w k i) (clientSize + (i + 1)) y) e ∙ flag-next (clientBlockOf w (clientNo k)) (bitsOf w) i l) in
       ap (λ (b : List ℕ). sets (flagged-words i) (clientsFrom + clientBlock * (k - 1)) b) b ∙
       sets-over w (clientsFrom + clientBlock * (k - 1)) (flaggedTo w k i) (flaggedTo w k (i + 1)) (omega (arith, flagged-long i, flagged-long (i + 1)))
 
   -- all flags are put
   flagged-near : inEpoch (clientAt (view w) (clientNo k)) ≡ true
-      → Near w (sets w (clientsFrom + clientBlock * (k - 1)) (sets (clientBlockOf w (clientNo k)) flagsFrom (bitsOf w))) (withClient (view w) (clientNo k) (record { living = clientAt (view w) (clientNo k) .living; state = clientAt (view w) (clientNo k) .state; downs = downFrom 1 (view w .servers) }))
+      → Near w (sets w (clientsFrom + clientBlock * (k - 1)) (sets (clientBlockOf w (clientNo k)) flagsFrom (bitsOf w)))
+      (withClient (view w) (clientNo k)
+      (record { living = clientAt (view w) (clientNo k) .living; state = clientAt (view w) (clientNo k) .state; downs = downFrom 1 (view w .servers) }))
   flagged-near run =
       let p = client-place w k (H .first) (H .last) in
       let v = client-valid w (sound w (H .valid)) k (H .first) (H .last) in
-      let B : ClientIs (settingOf w .n) (settingOf w .m) (settingOf w .clients) k (sets (clientBlockOf w (clientNo k)) flagsFrom (bitsOf w)) (record { living = clientAt (view w) (clientNo k) .living; state = clientAt (view w) (clientNo k) .state; downs = downFrom 1 (view w .servers) }) =
-      rw p (put-block (settingOf w .n) (settingOf w .m) (settingOf w .clients) k (clientBlockOf w (clientNo k)) v (view w .servers) (servers-long w) (rw p at run)) in
+      let B : ClientIs (settingOf w .n) (settingOf w .m) (settingOf w .clients) k (sets (clientBlockOf w (clientNo k)) flagsFrom (bitsOf w))
+      (record { living = clientAt (view w) (clientNo k) .living; state = clientAt (view w) (clientNo k) .state; downs = downFrom 1 (view w .servers) }) =
+      rw p (put-block (settingOf w .n) (settingOf w .m) (settingOf w .clients) k (clientBlockOf w (clientNo k)) v (view w .servers) (servers-long w)
+      (rw p at run)) in
       client-near w (sound w (H .valid)) k (sets (clientBlockOf w (clientNo k)) flagsFrom (bitsOf w)) _ (H .first) (H .last) B
 
 module _ (w : List ℕ) (k n : ℕ) (w′ : List ℕ) (i : ℕ) (P : Flagging w k n w′ i) where
@@ -224,7 +240,12 @@ module _ (w : List ℕ) (k n : ℕ) (w′ : List ℕ) (i : ℕ) (P : Flagging w 
 
   pub flagging-sized : (length w′ ≡ simulationSize) × (settingOf w′ .clients ≤ systemClients)
   flagging-sized =
-      rw (P .words) (length-sets w (clientsFrom + clientBlock * (k - 1)) (flaggedTo w k i) ∙ long w k (P .has), rw (setting-kept w (clientsFrom + clientBlock * (k - 1)) (flaggedTo w k i) (omega arith)) (few-clients w (sound w (P .has .valid))))
+      rw (P .words) (
+        length-sets w (clientsFrom + clientBlock * (k - 1)) (flaggedTo w k i)
+            ∙ long w k (P .has),
+        rw (setting-kept w (clientsFrom + clientBlock * (k - 1)) (flaggedTo w k i) (omega arith))
+            (few-clients w (sound w (P .has .valid))),
+      )
 
   pub flagging-same : (x : ℕ) (w″ : List ℕ) → w″ ≡ set w′ 6 x → length w″ ≡ length w
   flagging-same x w″ e = ap length e ∙ (length-set w′ 6 x ∙ (flagging-sized .0 ∙ sym (long w k (P .has))))
@@ -233,7 +254,8 @@ module _ (w : List ℕ) (k n : ℕ) (w′ : List ℕ) (i : ℕ) (P : Flagging w 
   flagging-server lt = record { long = flagging-sized .0; first = omega arith; last = omega (arith, flagging-fits, lt) }
 
   pub flagging-client : i < n → ClientIn w′ (clientNo k) × (1 ≤ i + 1) × (i + 1 ≤ systemServers)
-  flagging-client lt = let h : i + 1 ≤ systemServers = omega (arith, flagging-fits, lt) in let g : 1 ≤ i + 1 = omega arith in (record { long = flagging-sized .0; first = P .has .first; last = last-client w k (P .has) }, g, h)
+  flagging-client lt = let h : i + 1 ≤ systemServers = omega (arith, flagging-fits, lt) in let g : 1 ≤ i + 1 =
+      omega arith in (record { long = flagging-sized .0; first = P .has .first; last = last-client w k (P .has) }, g, h)
 
   pub flagging-more : i < n → (x : ℕ) → x ≡ (if serverPlace (serverBlockOf w′ (serverNo (i + 1))) .up then 0 else 1) → (w″ : List ℕ)
       → w″ ≡ sets w′ (clientsFrom + clientBlock * (k - 1)) (set (clientBlockOf w′ (clientNo k)) (clientSize + (i + 1)) x) → Flagging w k n w″ (i + 1)
@@ -241,15 +263,21 @@ module _ (w : List ℕ) (k n : ℕ) (w′ : List ℕ) (i : ℕ) (P : Flagging w 
       let z : i + 1 ≡ suc i = omega arith in
       let s : i < settingOf w .n = omega (arith, P .count, lt) in
       let e′ : x ≡ (if serverPlace (serverBlockOf (flagged-words w k (P .has) i) (serverNo (suc i))) .up then 0 else 1) = rw (P .words, z) at e in
-      let g′ : w″ ≡ sets (flagged-words w k (P .has) i) (clientsFrom + clientBlock * (k - 1)) (set (clientBlockOf (flagged-words w k (P .has) i) (clientNo k)) (clientSize + (i + 1)) x) = rw (P .words) at g in
+      let g′ : w″ ≡ sets (flagged-words w k (P .has) i) (clientsFrom + clientBlock * (k - 1))
+      (set (clientBlockOf (flagged-words w k (P .has) i) (clientNo k)) (clientSize + (i + 1)) x) = rw (P .words) at g in
       record { has = P .has; count = P .count; within = omega (arith, lt); words = g′ ∙ flag-stored w k (P .has) i x s (flag-is w k (P .has) i x s e′) }
 
   pub flagging-all : n ≤ i → inEpoch (clientAt (view w) (clientNo k)) ≡ true → (w″ : List ℕ) → w″ ≡ set w′ 6 (max (mostOf w′) (worst (view w′ .clients)))
-      → Becomes w w″ (withClients (view w) (put (view w .clients) k (record { living = clientAt (view w) (clientNo k) .living; state = clientAt (view w) (clientNo k) .state; downs = downFrom 1 (view w .servers) })))
+      → Becomes w w″ (withClients (view w)
+      (put (view w .clients) k
+      (record { living = clientAt (view w) (clientNo k) .living; state = clientAt (view w) (clientNo k) .state; downs = downFrom 1 (view w .servers) })))
   flagging-all h run w″ e =
       let t : take i (bitsOf w) ≡ bitsOf w = take-all i (bitsOf w) (omega (arith, length-map (view w .servers) downBit, servers-long w, P .count, h)) in
-      let words : w′ ≡ sets w (clientsFrom + clientBlock * (k - 1)) (sets (clientBlockOf w (clientNo k)) flagsFrom (bitsOf w)) = P .words ∙ ap (λ (l : List ℕ). sets w (clientsFrom + clientBlock * (k - 1)) (sets (clientBlockOf w (clientNo k)) flagsFrom l)) t in
-      noted (put (view w .clients) k (record { living = clientAt (view w) (clientNo k) .living; state = clientAt (view w) (clientNo k) .state; downs = downFrom 1 (view w .servers) })) (flagged-near w k (P .has) run) w″ (rw words at e)
+      let words : w′ ≡ sets w (clientsFrom + clientBlock * (k - 1)) (sets (clientBlockOf w (clientNo k)) flagsFrom (bitsOf w)) =
+      P .words ∙ ap (λ (l : List ℕ). sets w (clientsFrom + clientBlock * (k - 1)) (sets (clientBlockOf w (clientNo k)) flagsFrom l)) t in
+      noted (put (view w .clients) k
+      (record { living = clientAt (view w) (clientNo k) .living; state = clientAt (view w) (clientNo k) .state; downs = downFrom 1 (view w .servers) }))
+      (flagged-near w k (P .has) run) w″ (rw words at e)
 
 -- what `note_most` stores
 pub few-word : (w : List ℕ) → settingOf w .clients ≤ systemClients → getD w 3 0 ≤ systemClients
@@ -266,12 +294,17 @@ module _ (w : List ℕ) (k : ℕ) (H : HasClient w (clientNo k)) where
   abbrev flagless : List ℕ
   flagless = clientBlockOf w (clientNo k)
 
-  ending : Becomes w (sets w (clientsFrom + clientBlock * (k - 1)) (cleared flagless)) (withClient (view w) (clientNo k) (record { living = clientAt (view w) (clientNo k) .living; state = clientAt (view w) (clientNo k) .state; downs = [] }))
+  ending : Becomes w (sets w (clientsFrom + clientBlock * (k - 1)) (cleared flagless))
+      (withClient (view w) (clientNo k) (record { living = clientAt (view w) (clientNo k) .living; state = clientAt (view w) (clientNo k) .state; downs = [] }))
   ending =
-      let B : ClientIs (settingOf w .n) (settingOf w .m) (settingOf w .clients) k (cleared flagless) (record { living = clientAt (view w) (clientNo k) .living; state = clientAt (view w) (clientNo k) .state; downs = [] }) =
-      rw (client-place w k (H .first) (H .last)) (cleared-block (settingOf w .n) (settingOf w .m) (settingOf w .clients) k flagless (client-valid w (sound w (H .valid)) k (H .first) (H .last))) in
+      let B : ClientIs (settingOf w .n) (settingOf w .m) (settingOf w .clients) k (cleared flagless)
+      (record { living = clientAt (view w) (clientNo k) .living; state = clientAt (view w) (clientNo k) .state; downs = [] }) =
+      rw (client-place w k (H .first) (H .last))
+      (cleared-block (settingOf w .n) (settingOf w .m) (settingOf w .clients) k flagless (client-valid w (sound w (H .valid)) k (H .first) (H .last))) in
       client-becomes w (H .valid) k (cleared flagless) _ (H .first) (H .last) B zero-le
 
-pub epoch-ends : (w : List ℕ) (k : ℕ) → HasClient w (clientNo k) → (w′ : List ℕ) → w′ ≡ sets w (clientsFrom + clientBlock * (k - 1)) (cleared (clientBlockOf w (clientNo k)))
-    → Becomes w w′ (withClient (view w) (clientNo k) (record { living = clientAt (view w) (clientNo k) .living; state = clientAt (view w) (clientNo k) .state; downs = [] }))
+pub epoch-ends : (w : List ℕ) (k : ℕ) → HasClient w (clientNo k) → (w′ : List ℕ)
+    → w′ ≡ sets w (clientsFrom + clientBlock * (k - 1)) (cleared (clientBlockOf w (clientNo k)))
+    → Becomes w w′ (withClient (view w) (clientNo k)
+    (record { living = clientAt (view w) (clientNo k) .living; state = clientAt (view w) (clientNo k) .state; downs = [] }))
 epoch-ends w k H w′ e = rw e (ending w k H)

@@ -18,7 +18,7 @@ use Rattle.sim_changes.specs.declared.Moved.the-variants.{Sent, Refused}
 use Rattle.sim_changes.specs.Happens.{happens, Leaves, movedOf}
 use Rattle.sim_changes.specs.Changes.{Becomes}
 
-view-noted : (w : List ℕ) → valid w ≡ true → worst (view w .clients) ≤ view w .most
+pub view-noted : (w : List ℕ) → valid w ≡ true → worst (view w .clients) ≤ view w .most
 unfolding view
 view-noted w ok = facts w ok .noted
 

@@ -36,7 +36,8 @@ module _ (w : List ℕ) (ok : valid w ≡ true) where
 
   -- t came back, as so many messages
   stored : (t : List ℕ) (len : ℕ) → Valid (settingOf w .n) (settingOf w .clients) (sentOf w) len t → putMid transitFrom transitSize w t ≡ sets w transitFrom t
-  stored t len ok′ = came-back w transitFrom transitSize t (valid-sized (settingOf w .n) (settingOf w .clients) (sentOf w) len t ok′ .size) (omega (arith, facts w ok .long))
+  stored t len ok′ = came-back w transitFrom transitSize t (valid-sized (settingOf w .n) (settingOf w .clients) (sentOf w) len t ok′ .size)
+      (omega (arith, facts w ok .long))
 
   pub restart-becomes : (j : ServerId) (t : List ℕ) → Restarts (lengthOf w) j (take transitSize (drop transitFrom w)) t
       → Becomes w (putMid transitFrom transitSize w t) (withTransit (view w) (map (again j) (view w .transit)))
@@ -55,13 +56,16 @@ module _ (w : List ℕ) (ok : valid w ≡ true) where
       rw (stored t (lengthOf w) ok′, ← its-transit, ← e) (transit-becomes w ok t ok′)
 
   pub remove-becomes : (i : ℕ) (t : List ℕ) → Removes (lengthOf w) i (take transitSize (drop transitFrom w)) t
-      → Becomes w (set (putMid transitFrom transitSize w t) 4 (lengthOf w - 1)) (withTransit (view w) (replaced (slotAt (transitWords w) i .number) gone (view w .transit)))
+      → Becomes w (set (putMid transitFrom transitSize w t) 4 (lengthOf w - 1))
+      (withTransit (view w) (replaced (slotAt (transitWords w) i .number) gone (view w .transit)))
   unfolding transitWords
   remove-becomes i t R =
       let ok′ = R .valid (settingOf w .n) (settingOf w .clients) (sentOf w) old in
       let e = R .after (settingOf w .n) (settingOf w .clients) (sentOf w) old in
       rw (stored t (lengthOf w - 1) ok′, ← its-transit, ← e) (length-becomes w ok t (lengthOf w - 1) ok′)
 
-  pub removed-long : (i : ℕ) (t : List ℕ) → Removes (lengthOf w) i (take transitSize (drop transitFrom w)) t → length (putMid transitFrom transitSize w t) ≡ simulationSize
+  pub removed-long : (i : ℕ) (t : List ℕ) → Removes (lengthOf w) i (take transitSize (drop transitFrom w)) t
+      → length (putMid transitFrom transitSize w t) ≡ simulationSize
   unfolding transitWords
-  removed-long i t R = ap length (stored t (lengthOf w - 1) (R .valid (settingOf w .n) (settingOf w .clients) (sentOf w) old)) ∙ (length-sets w transitFrom t ∙ facts w ok .long)
+  removed-long i t R = ap length (stored t (lengthOf w - 1) (R .valid (settingOf w .n) (settingOf w .clients) (sentOf w) old))
+      ∙ (length-sets w transitFrom t ∙ facts w ok .long)

@@ -36,7 +36,8 @@ use Rattle.sim_blocks.proofs.ClientLaws.{ClientIs, Frame}
 use Rattle.sim_blocks.proofs.ClientSteps.{fresh-block}
 use Rattle.sim_blocks.proofs.ServerLaws.{ServerIs, idle-block, empty-row}
 use Rattle.sim_transit.proofs.Kept.{valid-none, slots-none}
-use Rattle.sim_layout.specs.Layout.{settingOf, clientWords, serverWords, transitWords, view, valid, validFrom, itself, blank, serversFrom, simulationSize, clientsSize, serversSize, transitFrom, clientsFrom}
+use Rattle.sim_layout.specs.Layout.{settingOf, clientWords, serverWords, transitWords, view, valid, validFrom, itself, blank, serversFrom, simulationSize}
+use Rattle.sim_layout.specs.Layout.{clientsSize, serversSize, transitFrom, clientsFrom}
 use Rattle.sim_layout.specs.Parts.{clientBlockOf, serverBlockOf, ClientIn, ServerIn}
 use Rattle.sim_layout.proofs.ValidLaws.{all-valid, block-here, block-other, from-facts}
 use Rattle.sim_layout.proofs.PartLaws.{Is, itself-is, is-client-store, is-server-store, is-head-store, head-word, setting-is, view-is, settingIn, systemIn}
@@ -95,17 +96,28 @@ module _ (w₀ w : List ℕ) (i : ℕ) (C : Clearing w₀ w i) where
 -- one party's block
 module _ (n m k : ℕ) (w : List ℕ) (h : ClientIn w (clientNo k)) where
   pub client-opened : (s : ClientStepped) → s ≡ client.newResult n m (record { 0 = k }) → (w′ : List ℕ)
-      → w′ ≡ sets (set w (clientsFrom + clientBlock * (k - 1)) 1) (clientsFrom + clientBlock * (k - 1)) (sets (clientBlockOf (set w (clientsFrom + clientBlock * (k - 1)) 1) (clientNo k)) 1 (records.clientWords (s .client)))
+      → w′ ≡ sets (set w (clientsFrom + clientBlock * (k - 1)) 1) (clientsFrom + clientBlock * (k - 1))
+      (sets (clientBlockOf (set w (clientsFrom + clientBlock * (k - 1)) 1) (clientNo k)) 1 (records.clientWords (s .client)))
       → w′ ≡ newClient n m (clientNo k) w
   unfolding newClient
   client-opened s e w′ g =
-      let b : clientBlockOf (set w (clientsFrom + clientBlock * (k - 1)) 1) (clientNo k) ≡ set (clientBlockOf w (clientNo k)) 0 1 = client-block-from w k h (1 ∷ []) (omega arith) in
+      let b : clientBlockOf (set w (clientsFrom + clientBlock * (k - 1)) 1) (clientNo k) ≡ set (clientBlockOf w (clientNo k)) 0 1 =
+      client-block-from w k h (1 ∷ []) (omega arith) in
       let l : 1 ≤ length (sets (set (clientBlockOf w (clientNo k)) 0 1) 1 (records.clientWords (client.newResult n m (record { 0 = k }) .client))) =
-      omega (arith, length-sets (set (clientBlockOf w (clientNo k)) 0 1) 1 (records.clientWords (client.newResult n m (record { 0 = k }) .client)), length-set (clientBlockOf w (clientNo k)) 0 1, client-block-long w k (h .long) (h .first) (h .last)) in
+      omega (
+        arith,
+        length-sets (set (clientBlockOf w (clientNo k)) 0 1) 1 (records.clientWords (client.newResult n m (record { 0 = k }) .client)),
+        length-set
+            (clientBlockOf w (clientNo k)) 0 1,
+        client-block-long w k (h .long) (h .first) (h .last),
+      ) in
       g ∙
-      (ap (λ (x : List ℕ). sets (set w (clientsFrom + clientBlock * (k - 1)) 1) (clientsFrom + clientBlock * (k - 1)) (sets x 1 (records.clientWords (s .client)))) b ∙
-      (ap (λ (x : ClientStepped). sets (set w (clientsFrom + clientBlock * (k - 1)) 1) (clientsFrom + clientBlock * (k - 1)) (sets (set (clientBlockOf w (clientNo k)) 0 1) 1 (records.clientWords (x .client)))) e ∙
-      sets-over w (clientsFrom + clientBlock * (k - 1)) (1 ∷ []) (sets (set (clientBlockOf w (clientNo k)) 0 1) 1 (records.clientWords (client.newResult n m (record { 0 = k }) .client))) l))
+      (ap (λ (x : List ℕ). sets (set w (clientsFrom + clientBlock * (k - 1)) 1) (clientsFrom + clientBlock * (k - 1))
+      (sets x 1 (records.clientWords (s .client)))) b ∙
+      (ap (λ (x : ClientStepped). sets (set w (clientsFrom + clientBlock * (k - 1)) 1) (clientsFrom + clientBlock * (k - 1))
+      (sets (set (clientBlockOf w (clientNo k)) 0 1) 1 (records.clientWords (x .client)))) e ∙
+      sets-over w (clientsFrom + clientBlock * (k - 1)) (1 ∷ [])
+      (sets (set (clientBlockOf w (clientNo k)) 0 1) 1 (records.clientWords (client.newResult n m (record { 0 = k }) .client))) l))
 
 module _ (n j : ℕ) (w : List ℕ) (h : ServerIn w (serverNo j)) where
   abbrev up : List ℕ
@@ -114,13 +126,16 @@ module _ (n j : ℕ) (w : List ℕ) (h : ServerIn w (serverNo j)) where
   up-long : length (set (serverBlockOf w (serverNo j)) 0 1) ≡ serverBlock
   up-long = length-set (serverBlockOf w (serverNo j)) 0 1 ∙ server-block-long w j (h .long) (h .first) (h .last)
 
-  pub server-opened : (w₁ : List ℕ) → w₁ ≡ sets w (serversFrom + serverBlock * (j - 1)) (set (serverBlockOf w (serverNo j)) 0 1) → (s : ServerStepped) → s ≡ server.newResult n (record { 0 = j }) → (w′ : List ℕ)
+  pub server-opened : (w₁ : List ℕ) → w₁ ≡ sets w (serversFrom + serverBlock * (j - 1)) (set (serverBlockOf w (serverNo j)) 0 1) → (s : ServerStepped)
+      → s ≡ server.newResult n (record { 0 = j }) → (w′ : List ℕ)
       → w′ ≡ sets w₁ (serversFrom + serverBlock * (j - 1)) (sets (serverBlockOf w₁ (serverNo j)) 1 (records.serverWords (s .server)))
       → w′ ≡ newServer n (serverNo j) w
   unfolding newServer
   server-opened w₁ f s e w′ g =
-      let b : serverBlockOf w₁ (serverNo j) ≡ up = ap (λ (x : List ℕ). serverBlockOf x (serverNo j)) f ∙ server-block-stored w j h up (omega (arith, up-long)) up-long in
-      let l : length up ≤ length (sets up 1 (records.serverWords (server.newResult n (record { 0 = j }) .server))) = omega (arith, length-sets up 1 (records.serverWords (server.newResult n (record { 0 = j }) .server))) in
+      let b : serverBlockOf w₁ (serverNo j) ≡ up = ap (λ (x : List ℕ). serverBlockOf x (serverNo j)) f
+      ∙ server-block-stored w j h up (omega (arith, up-long)) up-long in
+      let l : length up ≤ length (sets up 1 (records.serverWords (server.newResult n (record { 0 = j }) .server))) =
+      omega (arith, length-sets up 1 (records.serverWords (server.newResult n (record { 0 = j }) .server))) in
       g ∙
       (ap (λ (x : List ℕ). sets w₁ (serversFrom + serverBlock * (j - 1)) (sets x 1 (records.serverWords (s .server)))) b ∙
       (ap (λ (x : ServerStepped). sets w₁ (serversFrom + serverBlock * (j - 1)) (sets up 1 (records.serverWords (x .server)))) e ∙
@@ -128,14 +143,19 @@ module _ (n j : ℕ) (w : List ℕ) (h : ServerIn w (serverNo j)) where
       sets-over w (serversFrom + serverBlock * (j - 1)) up (sets up 1 (records.serverWords (server.newResult n (record { 0 = j }) .server))) l)))
 
   pub risen-in : (w₁ : List ℕ) → w₁ ≡ sets w (serversFrom + serverBlock * (j - 1)) (set (serverBlockOf w (serverNo j)) 0 1) → ServerIn w₁ (serverNo j)
-  risen-in w₁ f = record { long = ap length f ∙ (length-sets w (serversFrom + serverBlock * (j - 1)) (set (serverBlockOf w (serverNo j)) 0 1) ∙ h .long); first = h .first; last = h .last }
+  risen-in w₁ f = record {
+    long = ap length f ∙ (length-sets w (serversFrom + serverBlock * (j - 1)) (set (serverBlockOf w (serverNo j)) 0 1) ∙ h .long);
+    first = h .first;
+    last = h .last;
+  }
 
 -- what `put_server` asks
 pub new-short : (n : ℕ) (j : ℕ) (s : ServerStepped) → s ≡ server.newResult n (record { 0 = j }) → s .server .head .votes .len ≤ maxWord
 unfolding server.newResult
 new-short n j s e = rw e (by-test (server-sizes n (record { 0 = j })) _ _ (omega arith) (omega arith))
   where
-    by-test : (b : Bool) (x y : ServerStepped) → x .server .head .votes .len ≤ maxWord → y .server .head .votes .len ≤ maxWord → (if b then x else y) .server .head .votes .len ≤ maxWord
+    by-test : (b : Bool) (x y : ServerStepped) → x .server .head .votes .len ≤ maxWord → y .server .head .votes .len ≤ maxWord
+        → (if b then x else y) .server .head .votes .len ≤ maxWord
     by-test true x y p q = p
     by-test false x y p q = q
 
@@ -197,14 +217,16 @@ module _ (s : ℕ) (f : ℕ → List ℕ) (l : List ℕ) where
         let z : suc i * s ≡ i * s + s = omega arith in
         record {
           done = λ x q. ⊎-elim
-              (λ (t : ltb x i ≡ true). block-other s c i x l 0 (f i) lt (omega (arith, ltb-true x i t)) (λ v. omega (arith, ltb-true x i t)) (omega (arith, e)) ∙ F .done x (ltb-true x i t))
+              (λ (t : ltb x i ≡ true). block-other s c i x l 0 (f i) lt (omega (arith, ltb-true x i t)) (λ v. omega (arith, ltb-true x i t)) (omega (arith, e))
+              ∙ F .done x (ltb-true x i t))
               (λ (t : ltb x i ≡ false). let v : x ≡ i = omega (arith, ltb-false x i t, q) in rw v here)
               (decided (ltb x i));
           rest = rw (z, drop-sets-before (i * s + s) l (i * s + 0) (f i) (omega (arith, e)), ← drop-drop s (i * s) l) (blank-drop s (drop (i * s) l) (F .rest));
         }
 
 -- so many blocks that are all p
-blocks-same : {A : Type 0} (s : ℕ) (g : List ℕ → A) (p : A) (c : ℕ) (l : List ℕ) → ((x : ℕ) → x < c → g (take s (drop (x * s) l)) ≡ p) → blocks s g c l ≡ replicate c p
+blocks-same : {A : Type 0} (s : ℕ) (g : List ℕ → A) (p : A) (c : ℕ) (l : List ℕ) → ((x : ℕ) → x < c → g (take s (drop (x * s) l)) ≡ p)
+    → blocks s g c l ≡ replicate c p
 unfolding blocks
 blocks-same s g p zero l h = refl
 blocks-same s g p (suc c) l h =
@@ -257,7 +279,9 @@ unfolding newClient
 clients-next n m w₀ w i lt C =
     let room : i * clientBlock + clientBlock ≤ length (clientWords w) = omega (arith, clients-room w (C .long)) in
     let y : suc i - 1 ≡ i = omega arith in
-    let zero-block : clientBlockOf w (clientNo (suc i)) ≡ replicate clientBlock 0 = ap (λ (x : ℕ). take clientBlock (drop (x * clientBlock) (clientWords w))) y ∙ next-zero clientBlock (freshClient n m) (clientWords w) i (C .filled) room in
+    let zero-block : clientBlockOf w (clientNo (suc i)) ≡ replicate clientBlock 0 =
+    ap (λ (x : ℕ). take clientBlock (drop (x * clientBlock) (clientWords w))) y
+    ∙ next-zero clientBlock (freshClient n m) (clientWords w) i (C .filled) room in
     let at : clientsFrom + clientBlock * (suc i - 1) ≡ clientsFrom + (i * clientBlock + 0) = omega arith in
     let l : length (freshClient n m i) ≡ clientBlock = length-sets clientBase 1 (records.clientWords (client.newResult n m (record { 0 = suc i }) .client)) in
     let S = is-client-store (itself-is w (C .long)) (i * clientBlock + 0) (freshClient n m i) (omega (arith, l)) in
@@ -269,17 +293,22 @@ clients-next n m w₀ w i lt C =
       filled = rw (S .clients) (filled-more clientBlock (freshClient n m) (clientWords w) i (C .filled) systemClients lt room l);
     })
 
-clients-put : (n m : ℕ) (w : List ℕ) → length w ≡ simulationSize → blank (clientWords w) ≡ true → (i : ℕ) → i ≤ systemClients → Clients n m w (inTurn (λ (i : ℕ). newClient n m (clientNo i)) i w) i
+clients-put : (n m : ℕ) (w : List ℕ) → length w ≡ simulationSize → blank (clientWords w) ≡ true → (i : ℕ) → i ≤ systemClients
+    → Clients n m w (inTurn (λ (i : ℕ). newClient n m (clientNo i)) i w) i
 unfolding inTurn
-clients-put n m w h z zero q = record { long = h; head = refl; servers = refl; transit = refl; filled = filled-none clientBlock (freshClient n m) (clientWords w) z }
-clients-put n m w h z (suc i) q = clients-next n m w (inTurn (λ (i : ℕ). newClient n m (clientNo i)) i w) i (omega arith) (clients-put n m w h z i (omega arith))
+clients-put n m w h z zero q =
+    record { long = h; head = refl; servers = refl; transit = refl; filled = filled-none clientBlock (freshClient n m) (clientWords w) z }
+clients-put n m w h z (suc i) q = clients-next n m w (inTurn (λ (i : ℕ). newClient n m (clientNo i)) i w) i (omega arith)
+    (clients-put n m w h z i (omega arith))
 
 servers-next : (n : ℕ) (w₀ w : List ℕ) (i : ℕ) → i < systemServers → Servers n w₀ w i → Servers n w₀ (newServer n (serverNo (suc i)) w) (suc i)
 unfolding newServer
 servers-next n w₀ w i lt C =
     let room : i * serverBlock + serverBlock ≤ length (serverWords w) = omega (arith, servers-room w (C .long)) in
     let y : suc i - 1 ≡ i = omega arith in
-    let zero-block : serverBlockOf w (serverNo (suc i)) ≡ replicate serverBlock 0 = ap (λ (x : ℕ). take serverBlock (drop (x * serverBlock) (serverWords w))) y ∙ next-zero serverBlock (freshServer n) (serverWords w) i (C .filled) room in
+    let zero-block : serverBlockOf w (serverNo (suc i)) ≡ replicate serverBlock 0 =
+    ap (λ (x : ℕ). take serverBlock (drop (x * serverBlock) (serverWords w))) y
+    ∙ next-zero serverBlock (freshServer n) (serverWords w) i (C .filled) room in
     let at : serversFrom + serverBlock * (suc i - 1) ≡ serversFrom + (i * serverBlock + 0) = omega arith in
     let l : length (freshServer n i) ≡ serverBlock = length-sets serverBase 1 (records.serverWords (server.newResult n (record { 0 = suc i }) .server)) in
     let S = is-server-store (itself-is w (C .long)) (i * serverBlock + 0) (freshServer n i) (omega (arith, l)) in
@@ -291,9 +320,11 @@ servers-next n w₀ w i lt C =
       filled = rw (S .servers) (filled-more serverBlock (freshServer n) (serverWords w) i (C .filled) systemServers lt room l);
     })
 
-servers-put : (n : ℕ) (w : List ℕ) → length w ≡ simulationSize → blank (serverWords w) ≡ true → (i : ℕ) → i ≤ systemServers → Servers n w (inTurn (λ (i : ℕ). newServer n (serverNo i)) i w) i
+servers-put : (n : ℕ) (w : List ℕ) → length w ≡ simulationSize → blank (serverWords w) ≡ true → (i : ℕ) → i ≤ systemServers
+    → Servers n w (inTurn (λ (i : ℕ). newServer n (serverNo i)) i w) i
 unfolding inTurn
-servers-put n w h z zero q = record { long = h; head = refl; clients = refl; transit = refl; filled = filled-none serverBlock (freshServer n) (serverWords w) z }
+servers-put n w h z zero q =
+    record { long = h; head = refl; clients = refl; transit = refl; filled = filled-none serverBlock (freshServer n) (serverWords w) z }
 servers-put n w h z (suc i) q = servers-next n w (inTurn (λ (i : ℕ). newServer n (serverNo i)) i w) i (omega arith) (servers-put n w h z i (omega arith))
 
 -- the places that these blocks are
@@ -314,13 +345,15 @@ module _ (n m f clients : ℕ) (ok : inRangeUpTo systemServers n m f ≡ true) w
       let r = range n m f ok in
       let v : validClient (record { 0 = suc i }) ≡ true = rw (le-leb 1 (suc i) (omega arith), le-leb (suc i) maxClient (omega arith)) in
       rw (le-leb 1 n (omega (arith, r .some)), le-leb n systemServers (r .servers), le-leb 1 m (omega (arith, r .positive)), le-leb m n (r .threshold), v)
-      (fresh-block n m clients (suc i) clientBase client-frame refl (record { some = omega (arith, r .some); few = r .servers; threshold = omega (arith, r .positive); reached = r .threshold; client = v }))
+      (fresh-block n m clients (suc i) clientBase client-frame refl
+      (record { some = omega (arith, r .some); few = r .servers; threshold = omega (arith, r .positive); reached = r .threshold; client = v }))
 
   fresh-server : (i : ℕ) → i < n → ServerIs n clients (suc i) (freshServer n i) (record { up = true; state = idle })
   unfolding server.newResult serverPlace
   fresh-server i h =
       let r = range n m f ok in
-      let v : server-sizes n (record { 0 = suc i }) ≡ true = rw (le-leb 1 n (omega (arith, r .some)), le-leb n systemServers (r .servers), le-leb 1 (suc i) (omega arith), le-leb (suc i) n h) in
+      let v : server-sizes n (record { 0 = suc i }) ≡ true =
+      rw (le-leb 1 n (omega (arith, r .some)), le-leb n systemServers (r .servers), le-leb 1 (suc i) (omega arith), le-leb (suc i) n h) in
       rw (v, empty-row n (suc i)) (idle-block n clients (suc i) serverBase refl (omega arith) v)
 
 worst-none : (c : ℕ) (p : ClientPlace) → p .downs ≡ [] → worst (replicate c p) ≡ 0
@@ -329,7 +362,8 @@ worst-none zero p e = refl
 worst-none (suc c) p e = omega (arith, ap length e, worst-none c p e)
 
 -- the whole: z is cleared, and the setting is written in it
-module _ (n m f clients : ℕ) (z : List ℕ) (long : length z ≡ simulationSize) (zeros : blank z ≡ true) (ok : inRangeUpTo systemServers n m f ≡ true) (some : within clients systemClients ≡ true) where
+module _ (n m f clients : ℕ) (z : List ℕ) (long : length z ≡ simulationSize) (zeros : blank z ≡ true) (ok : inRangeUpTo systemServers n m f ≡ true)
+    (some : within clients systemClients ≡ true) where
   abbrev headed : List ℕ
   headed = set (set (set (set z 0 n) 1 m) 2 f) 3 clients
 
@@ -338,8 +372,10 @@ module _ (n m f clients : ℕ) (z : List ℕ) (long : length z ≡ simulationSiz
 
   headed-is : Is headed headWords (clientWords z) (serverWords z) (transitWords z)
   headed-is =
-      let S = is-head-store (is-head-store (is-head-store (is-head-store (itself-is z long) 0 n (omega arith)) 1 m (omega arith)) 2 f (omega arith)) 3 clients (omega arith) in
-      let e : take clientsFrom z ≡ replicate clientsFrom 0 = blank-is (take clientsFrom z) (blank-take clientsFrom z zeros) ∙ ap (λ (x : ℕ). replicate x 0) (length-take-le clientsFrom z (omega arith)) in
+      let S = is-head-store (is-head-store (is-head-store (is-head-store (itself-is z long) 0 n (omega arith)) 1 m (omega arith)) 2 f (omega arith)) 3 clients
+      (omega arith) in
+      let e : take clientsFrom z ≡ replicate clientsFrom 0 = blank-is (take clientsFrom z) (blank-take clientsFrom z zeros)
+      ∙ ap (λ (x : ℕ). replicate x 0) (length-take-le clientsFrom z (omega arith)) in
       record {
         long = S .long;
         head = S .head ∙ ap (λ (l : List ℕ). set (set (set (set l 0 n) 1 m) 2 f) 3 clients) e;
@@ -376,19 +412,29 @@ module _ (n m f clients : ℕ) (z : List ℕ) (long : length z ≡ simulationSiz
 
   no-transit : blank (transitWords whole) ≡ true
   unfolding transitWords
-  no-transit = rw (servers-are .transit, clients-are .transit, headed-is .transit) (blank-take transitSize (drop transitFrom z) (blank-drop transitFrom z zeros))
+  no-transit = rw (servers-are .transit, clients-are .transit, headed-is .transit)
+      (blank-take transitSize (drop transitFrom z) (blank-drop transitFrom z zeros))
 
   transit-long : length (transitWords whole) ≡ transitSize
   unfolding transitWords
   transit-long = length-take-le transitSize (drop transitFrom whole) (omega (arith, length-drop transitFrom whole, servers-are .long))
 
   whole-is : Is whole headWords (clientWords whole) (serverWords whole) (transitWords whole)
-  whole-is = record { long = servers-are .long; head = servers-are .head ∙ (clients-are .head ∙ headed-is .head); clients = refl; servers = refl; transit = refl }
+  whole-is = record {
+    long = servers-are .long;
+    head = servers-are .head
+        ∙ (clients-are .head ∙ headed-is .head);
+    clients = refl;
+    servers = refl;
+    transit = refl;
+  }
 
-  client-block : (i : ℕ) → i < clients → ClientIs n m clients (suc i) (take clientBlock (drop (i * clientBlock) (clientWords whole))) (record { living = true; state = fresh n; downs = [] })
+  client-block : (i : ℕ) → i < clients
+      → ClientIs n m clients (suc i) (take clientBlock (drop (i * clientBlock) (clientWords whole))) (record { living = true; state = fresh n; downs = [] })
   client-block i h = rw (servers-are .clients, clients-are .filled .done i h) (fresh-client n m f clients ok i (omega (arith, few-clients)))
 
-  server-block : (i : ℕ) → i < n → ServerIs n clients (suc i) (take serverBlock (drop (i * serverBlock) (serverWords whole))) (record { up = true; state = idle })
+  server-block : (i : ℕ) → i < n
+      → ServerIs n clients (suc i) (take serverBlock (drop (i * serverBlock) (serverWords whole))) (record { up = true; state = idle })
   server-block i h = rw (servers-are .filled .done i h) (fresh-server n m f clients ok i h)
 
   all-clients : blocks clientBlock clientPlace clients (clientWords whole) ≡ replicate clients (record { living = true; state = fresh n; downs = [] })
@@ -406,10 +452,12 @@ module _ (n m f clients : ℕ) (z : List ℕ) (long : length z ≡ simulationSiz
   started-setting = setting-is whole-is
 
   started-clients : validFrom (λ (i : ℕ). validClientBlock n m clients (clientNo i)) 1 (blocks clientBlock itself clients (clientWords whole)) ≡ true
-  started-clients = all-valid (λ (i : ℕ). validClientBlock n m clients (clientNo i)) clientBlock clients 1 (clientWords whole) (λ i q. let y : 1 + i ≡ suc i = omega arith in rw y (client-block i q .valid))
+  started-clients = all-valid (λ (i : ℕ). validClientBlock n m clients (clientNo i)) clientBlock clients 1 (clientWords whole)
+      (λ i q. let y : 1 + i ≡ suc i = omega arith in rw y (client-block i q .valid))
 
   started-servers : validFrom (λ (i : ℕ). validServerBlock n clients (serverNo i)) 1 (blocks serverBlock itself n (serverWords whole)) ≡ true
-  started-servers = all-valid (λ (i : ℕ). validServerBlock n clients (serverNo i)) serverBlock n 1 (serverWords whole) (λ i q. let y : 1 + i ≡ suc i = omega arith in rw y (server-block i q .valid))
+  started-servers = all-valid (λ (i : ℕ). validServerBlock n clients (serverNo i)) serverBlock n 1 (serverWords whole)
+      (λ i q. let y : 1 + i ≡ suc i = omega arith in rw y (server-block i q .valid))
 
   started-valid : valid whole ≡ true
   unfolding start
@@ -431,7 +479,10 @@ module _ (n m f clients : ℕ) (z : List ℕ) (long : length z ≡ simulationSiz
         noted = rw (w6, started-system, worst-none clients (record { living = true; state = fresh n; downs = [] }) refl) (omega arith);
       })
 
-  pub started : (w′ : List ℕ) → w′ ≡ inTurn (λ (i : ℕ). newServer n (serverNo i)) n (inTurn (λ (i : ℕ). newClient n m (clientNo i)) clients (set (set (set (set z 0 n) 1 m) 2 f) 3 clients)) → Starts (record { n = n; m = m; f = f; clients = clients }) w′
+  pub started : (w′ : List ℕ)
+      → w′ ≡ inTurn (λ (i : ℕ). newServer n (serverNo i)) n
+      (inTurn (λ (i : ℕ). newClient n m (clientNo i)) clients (set (set (set (set z 0 n) 1 m) 2 f) 3 clients))
+      → Starts (record { n = n; m = m; f = f; clients = clients }) w′
   started w′ e = rw e (record { system = started-system; setting = started-setting; again = started-valid })
 
 length-turn : (f : ℕ → List ℕ → List ℕ) → ((k : ℕ) (l : List ℕ) → length (f k l) ≡ length l) → (i : ℕ) (w : List ℕ) → length (inTurn f i w) ≡ length w
@@ -440,7 +491,9 @@ length-turn f same zero w = refl
 length-turn f same (suc i) w = same (suc i) (inTurn f i w) ∙ length-turn f same i w
 
 -- `start`, call by call
-module _ (s : Setting) (w z : List ℕ) (pre : (length w ≡ simulationSize) × (inRangeUpTo systemServers (s .n) (s .m) (s .f) ≡ true) × (within (s .clients) systemClients ≡ true)) (E : Cleared w z) where
+module _ (s : Setting) (w z : List ℕ)
+    (pre : (length w ≡ simulationSize) × (inRangeUpTo systemServers (s .n) (s .m) (s .f) ≡ true) × (within (s .clients) systemClients ≡ true))
+    (E : Cleared w z) where
   abbrev n : ℕ
   n = s .n
 
@@ -466,8 +519,19 @@ module _ (s : Setting) (w z : List ℕ) (pre : (length w ≡ simulationSize) × 
   start-three = omega (arith, length-set (set (set z 0 n) 1 m) 2 f, length-set (set z 0 n) 1 m, length-set z 0 n, E .same, pre .0)
 
   pub start-clients : (length written ≡ simulationSize) × (clients ≤ systemClients)
-  start-clients =
-      (omega (arith, length-set (set (set (set z 0 n) 1 m) 2 f) 3 clients, length-set (set (set z 0 n) 1 m) 2 f, length-set (set z 0 n) 1 m, length-set z 0 n, E .same, pre .0), start-fits .2)
+  start-clients = (
+    omega (
+      arith,
+      length-set (set (set (set z 0 n) 1 m) 2 f) 3 clients,
+      length-set (set (set z 0 n) 1 m) 2 f,
+      length-set
+          (set z 0 n) 1 m,
+      length-set z 0 n,
+      E .same,
+      pre .0,
+    ),
+    start-fits .2,
+  )
 
   module _ (w₂ : List ℕ) (e : w₂ ≡ inTurn (λ (i : ℕ). newClient n m (clientNo i)) clients written) where
     pub start-servers : (length w₂ ≡ simulationSize) × (n ≤ systemServers)
@@ -478,4 +542,5 @@ module _ (s : Setting) (w z : List ℕ) (pre : (length w ≡ simulationSize) × 
       start-same = ap length g ∙ (length-turn (λ (i : ℕ). newServer n (serverNo i)) (length-server n) n w₂ ∙ (start-servers .0 ∙ sym (pre .0)))
 
       pub start-done : Starts s w₃
-      start-done = started n m f clients z (E .same ∙ pre .0) (E .zeros) (pre .1) (pre .2) w₃ (g ∙ ap (λ (l : List ℕ). inTurn (λ (i : ℕ). newServer n (serverNo i)) n l) e)
+      start-done = started n m f clients z (E .same ∙ pre .0) (E .zeros) (pre .1) (pre .2) w₃
+          (g ∙ ap (λ (l : List ℕ). inTurn (λ (i : ℕ). newServer n (serverNo i)) n l) e)

@@ -81,7 +81,8 @@ module _ (w : List ℕ) (count : ℕ) (l : List Message) (ok : valid w ≡ true)
 
     back : putMid transitFrom transitSize w t ≡ sets w transitFrom t
     back =
-        came-back w transitFrom transitSize t (valid-sized (settingOf w .n) (settingOf w .clients) (sentOf w + length l) (lengthOf w + length l) t posted .size) (omega (arith, facts w ok .long))
+        came-back w transitFrom transitSize t (valid-sized (settingOf w .n) (settingOf w .clients) (sentOf w + length l) (lengthOf w + length l) t posted .size)
+        (omega (arith, facts w ok .long))
 
     pub posted-long : length (putMid transitFrom transitSize w t) ≡ simulationSize
     posted-long = ap length back ∙ (length-sets w transitFrom t ∙ facts w ok .long)
@@ -120,7 +121,11 @@ unfolding numbered
 sending-none w ok =
     let t : view w .transit ++ [] ≡ view w .transit = append-nil (view w .transit) in
     let s : view w .sent + 0 ≡ view w .sent = omega arith in
-    record { system = λ i. record { clients = view w .clients; servers = view w .servers; transit = sym t i; sent = sym s i; most = view w .most }; setting = refl; again = ok }
+    record {
+      system = λ i. record { clients = view w .clients; servers = view w .servers; transit = sym t i; sent = sym s i; most = view w .most };
+      setting = refl;
+      again = ok;
+    }
 
 room-less : (w : List ℕ) (a b : ℕ) → lengthOf w ≤ systemMessages → hasRoom w 0 (a + b) ≡ true → hasRoom w 0 a ≡ true
 unfolding hasRoom
@@ -130,7 +135,12 @@ room-less w a b h r =
     (λ (t : eqb a 0 ≡ false).
     let n : eqb (a + b) 0 ≡ false = ne-eqb (a + b) 0 (λ e. eqb-false a 0 t (omega arith)) in
     let (x, y) = both (leb (lengthOf w - 0 + (a + b)) systemMessages) (leb (sentOf w + (a + b)) lastNumber) (rw n at r) in
-    rw (t, le-leb (lengthOf w - 0 + a) systemMessages (omega (arith, leb-true (lengthOf w - 0 + (a + b)) systemMessages x)), le-leb (sentOf w + a) lastNumber (omega (arith, leb-true (sentOf w + (a + b)) lastNumber y))))
+    rw (
+      t,
+      le-leb (lengthOf w - 0 + a) systemMessages (omega (arith, leb-true (lengthOf w - 0 + (a + b)) systemMessages x)),
+      le-leb (sentOf w + a) lastNumber
+          (omega (arith, leb-true (sentOf w + (a + b)) lastNumber y)),
+    ))
     (decided (eqb a 0))
 
 room-then : (w w₁ : List ℕ) (a b : ℕ) → lengthOf w₁ ≡ lengthOf w + a → sentOf w₁ ≡ sentOf w + a → hasRoom w 0 (a + b) ≡ true → hasRoom w₁ 0 b ≡ true
@@ -141,7 +151,12 @@ room-then w w₁ a b l s r =
     (λ (t : eqb b 0 ≡ false).
     let n : eqb (a + b) 0 ≡ false = ne-eqb (a + b) 0 (λ e. eqb-false b 0 t (omega arith)) in
     let (x, y) = both (leb (lengthOf w - 0 + (a + b)) systemMessages) (leb (sentOf w + (a + b)) lastNumber) (rw n at r) in
-    rw (t, le-leb (lengthOf w₁ - 0 + b) systemMessages (omega (arith, leb-true (lengthOf w - 0 + (a + b)) systemMessages x)), le-leb (sentOf w₁ + b) lastNumber (omega (arith, leb-true (sentOf w + (a + b)) lastNumber y))))
+    rw (
+      t,
+      le-leb (lengthOf w₁ - 0 + b) systemMessages (omega (arith, leb-true (lengthOf w - 0 + (a + b)) systemMessages x)),
+      le-leb (sentOf w₁ + b) lastNumber
+          (omega (arith, leb-true (sentOf w + (a + b)) lastNumber y)),
+    ))
     (decided (eqb b 0))
 
 -- the counts in the words are the system's
@@ -224,4 +239,5 @@ module _ (w : List ℕ) (a b c : Mail) (C : CanSend w (threeMails a b c)) where
 
       pub three-sent : (w₃ : List ℕ) → Becomes w₂ w₃ (sending (view w₂) (mails c)) → Becomes w w₃ (sending (view w) (threeMails a b c))
       unfolding threeMails
-      three-sent w₃ D = rw (append-assoc (mails a) (mails b) (mails c)) (sent-both w (mails a) (mails b ++ mails c) all-three w₁ A w₃ (sent-both w₁ (mails b) (mails c) rest w₂ B w₃ D))
+      three-sent w₃ D = rw (append-assoc (mails a) (mails b) (mails c))
+          (sent-both w (mails a) (mails b ++ mails c) all-three w₁ A w₃ (sent-both w₁ (mails b) (mails c) rest w₂ B w₃ D))

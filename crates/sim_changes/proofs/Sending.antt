@@ -74,8 +74,10 @@ module _ (w : List ℕ) (e : Event) (gone : ℕ) (l : List Message) (s : Step Sy
     stepped-is = rw h at tested
 
     pub leaves-sent : (w′ : List ℕ) → Becomes w w′ (after (view w) (stepped s)) → Leaves w e w′ × (Sent (length l) ≡ movedOf (happens w e))
-    leaves-sent w′ B =
-        (record { system = rw stepped-is (B .system); setting = B .setting; again = B .again; kept = λ z. clash true refl (rw stepped-is at z) }, rw (stepped-is, S .sent))
+    leaves-sent w′ B = (
+      record { system = rw stepped-is (B .system); setting = B .setting; again = B .again; kept = λ z. clash true refl (rw stepped-is at z) },
+      rw (stepped-is, S .sent),
+    )
 
     pub leaves-stepped : s .state .most ≡ view w .most → (w′ : List ℕ) → Becomes w w′ (s .state) → Leaves w e w′ × (Sent (length l) ≡ movedOf (happens w e))
     leaves-stepped same w′ B = leaves-sent w′ (record { system = B .system ∙ after-is w s same w′ B; setting = B .setting; again = B .again })
@@ -102,7 +104,8 @@ pub and-then : {w w₁ w₂ : List ℕ} {u : System} (f : System → System) →
 and-then f a b = record { system = b .system ∙ ap f (a .system); setting = b .setting ∙ a .setting; again = b .again }
 
 -- a call whose outcome is step p, in a buffer of so many bytes as an event's step has
-module _ {A : Type 0} (n clients : ℕ) (o : Outcome A) (p : Step A) (is : o ≡ stepped p) (S : Sends n clients (p .sent)) (bytes : List ℕ) (long : length bytes ≡ outBytes) where
+module _ {A : Type 0} (n clients : ℕ) (o : Outcome A) (p : Step A) (is : o ≡ stepped p) (S : Sends n clients (p .sent)) (bytes : List ℕ)
+    (long : length bytes ≡ outBytes) where
   pub roomy : withRoom (length bytes) o ≡ stepped p
   unfolding withRoom
   roomy = rw (is, long, le-ltb outBytes (sizeOfAll (p .sent)) (S .small))
@@ -143,26 +146,31 @@ module _ {w : List ℕ} {e : Event} {gone : ℕ} {l : List Message} {s : Step Sy
         has-room : hasRoom w gone (length l) ≡ true
         has-room = rw call-count at (sym h ∙ not-false r t)
 
-        pub call-sendable : (w₁ : List ℕ) (u : System) → Becomes w w₁ u → length (u .transit) ≡ lengthOf w - gone → u .sent ≡ view w .sent → Sendable w₁ count bytes
+        pub call-sendable : (w₁ : List ℕ) (u : System) → Becomes w w₁ u → length (u .transit) ≡ lengthOf w - gone → u .sent ≡ view w .sent
+            → Sendable w₁ count bytes
         call-sendable w₁ u B p q = rw call-count (sendable w e gone l s (C .steps) has-room w₁ u B p q bytes (C .written))
 
         sent-after : (w₁ w₂ : List ℕ) (u : System) → Becomes w w₁ u → Becomes w₁ w₂ (sending (view w₁) (messagesIn count bytes)) → Becomes w w₂ (sending u l)
         sent-after w₁ w₂ u B D = and-then (λ x. sending x l) B (rw (call-count, C .written) at D)
 
         -- the step's system is u with the messages sent
-        pub call-sent : (w₁ w₂ : List ℕ) (u : System) → Becomes w w₁ u → Becomes w₁ w₂ (sending (view w₁) (messagesIn count bytes)) → s .state ≡ sending u l → u .most ≡ view w .most
+        pub call-sent : (w₁ w₂ : List ℕ) (u : System) → Becomes w w₁ u → Becomes w₁ w₂ (sending (view w₁) (messagesIn count bytes)) → s .state ≡ sending u l
+            → u .most ≡ view w .most
             → Leaves w e w₂ × (Sent count ≡ movedOf (happens w e))
         call-sent w₁ w₂ u B D q m =
             rw call-count (leaves-stepped w e gone l s (C .steps) has-room (ap (λ (x : System). x .most) q ∙ m) w₂ (rw (← q) at (sent-after w₁ w₂ u B D)))
 
         -- the same where the most is noted with it
-        pub call-noted : (w₁ w₂ : List ℕ) (u : System) → Becomes w w₁ u → Becomes w₁ w₂ (sending (view w₁) (messagesIn count bytes)) → after (view w) (stepped s) ≡ sending u l
+        pub call-noted : (w₁ w₂ : List ℕ) (u : System) → Becomes w w₁ u → Becomes w₁ w₂ (sending (view w₁) (messagesIn count bytes))
+            → after (view w) (stepped s) ≡ sending u l
             → Leaves w e w₂ × (Sent count ≡ movedOf (happens w e))
         call-noted w₁ w₂ u B D q = rw call-count (leaves-sent w e gone l s (C .steps) has-room w₂ (rw (← q) at (sent-after w₁ w₂ u B D)))
 
 -- a step of a party whose messages join T
-pub steps-by : (w : List ℕ) (e : Event) (gone : ℕ) (T : List InTransit) (l : List Message) (s : Step System) → event (settingOf w .n) (enough (settingOf w .m)) (view w) e ≡ stepped s
-    → length T ≡ lengthOf w - gone → s .sent ≡ l → s .state .transit ≡ T ++ numbered (view w .sent) l → s .state .sent ≡ view w .sent + length l → Sends (settingOf w .n) (settingOf w .clients) l → Steps w e gone l s
+pub steps-by : (w : List ℕ) (e : Event) (gone : ℕ) (T : List InTransit) (l : List Message) (s : Step System)
+    → event (settingOf w .n) (enough (settingOf w .m)) (view w) e ≡ stepped s
+    → length T ≡ lengthOf w - gone → s .sent ≡ l → s .state .transit ≡ T ++ numbered (view w .sent) l → s .state .sent ≡ view w .sent + length l
+    → Sends (settingOf w .n) (settingOf w .clients) l → Steps w e gone l s
 steps-by w e gone T l s h t a b c S =
     record {
       is = h;
@@ -173,8 +181,10 @@ steps-by w e gone T l s h t a b c S =
     }
 
 -- a call's outcome is step p
-pub called : {A : Type 0} (w : List ℕ) (e : Event) (gone : ℕ) (o : Outcome A) (p : Step A) (s : Step System) → valid w ≡ true → Steps w e gone (p .sent) s → o ≡ stepped p
-    → (a : Answer) (bytes bytes′ : List ℕ) → length bytes ≡ outBytes → a ≡ answerOf (withRoom (length bytes) o) → bytes′ ≡ sentInto bytes (withRoom (length bytes) o) → Call w e gone (p .sent) s a bytes′
+pub called : {A : Type 0} (w : List ℕ) (e : Event) (gone : ℕ) (o : Outcome A) (p : Step A) (s : Step System) → valid w ≡ true → Steps w e gone (p .sent) s
+    → o ≡ stepped p
+    → (a : Answer) (bytes bytes′ : List ℕ) → length bytes ≡ outBytes → a ≡ answerOf (withRoom (length bytes) o)
+    → bytes′ ≡ sentInto bytes (withRoom (length bytes) o) → Call w e gone (p .sent) s a bytes′
 called w e gone o p s ok S is a bytes bytes′ long f g =
     record {
       ok = ok;

@@ -45,7 +45,8 @@ pub record Sends (n clients : ℕ) (l : List Message) : Type 0 where
   pub few : length l ≤ systemServers
   pub small : sizeOfAll l ≤ outBytes
 
-few-sends : (n clients : ℕ) (l : List Message) → n ≤ systemServers → every format.valid l ≡ true → every (names n clients) l ≡ true → of-client.AtMost n l → Sends n clients l
+few-sends : (n clients : ℕ) (l : List Message) → n ≤ systemServers → every format.valid l ≡ true → every (names n clients) l ≡ true → of-client.AtMost n l
+    → Sends n clients l
 few-sends n clients l h v d a = record { range = v; named = d; few = omega (arith, a .few); small = omega (arith, a .small) }
 
 -- a message that is no RESPONSE
@@ -87,7 +88,8 @@ module _ (n m clients k : ℕ) (b : List ℕ) (ok : validClientBlock n m clients
       let v = stamped-names n clients k i first last p q in (v, v, v)))
       (record { few = omega (arith, a .few, fits .long); small = omega (arith, a .small, fits .long) })
 
-  pub checked-sends : (j : ServerId) (t : Timestamp) → format.valid (Check (record { 0 = k }) j t) ≡ true → 1 ≤ j .0 → j .0 ≤ n → Sends n clients (client.checked (record { 0 = k }) j t (clientPlace b .state) .sent)
+  pub checked-sends : (j : ServerId) (t : Timestamp) → format.valid (Check (record { 0 = k }) j t) ≡ true → 1 ≤ j .0 → j .0 ≤ n
+      → Sends n clients (client.checked (record { 0 = k }) j t (clientPlace b .state) .sent)
   unfolding names fieldsOf
   checked-sends j t v p q =
       let a = of-client.checked-few me j t at in
@@ -110,7 +112,8 @@ module _ (clients : ℕ) where
       let (b, d) = both (leb (r .client .0) clients) (every (namedPair clients) l) h in
       rw (a, b) (all-known l c d)
 
-  state-known : (o : Owner) (l : List Pair) → Knows validRequest (record { owner = o; queue = l }) → every (namedPair clients) (votes.candidates (record { owner = o; queue = l })) ≡ true
+  state-known : (o : Owner) (l : List Pair) → Knows validRequest (record { owner = o; queue = l })
+      → every (namedPair clients) (votes.candidates (record { owner = o; queue = l })) ≡ true
       → Knows (known-request clients) (record { owner = o; queue = l })
   state-known Nobody l k h = record { owner = k .owner; queue = all-known l (k .queue) h }
   state-known (Of r) l k h =
@@ -122,7 +125,8 @@ module _ (clients : ℕ) where
   owner-there (Of r) h = leb-true (r .client .0) clients (both (validRequest r) (leb (r .client .0) clients) h .1)
 
 module _ (n clients j : ℕ) (first : 1 ≤ j) (last : j ≤ n) where
-  tells-names : (r : Pair) (o : Owner) → known-request clients r ≡ true → byOwner o true (known-request clients) ≡ true → names n clients (Response (r .client) (record { 0 = j }) o) ≡ true
+  tells-names : (r : Pair) (o : Owner) → known-request clients r ≡ true → byOwner o true (known-request clients) ≡ true
+      → names n clients (Response (r .client) (record { 0 = j }) o) ≡ true
   unfolding names fieldsOf
   tells-names r o a h =
       let (v, b) = both (validRequest r) (leb (r .client .0) clients) a in
@@ -160,21 +164,25 @@ module _ (n clients j : ℕ) (b : List ℕ) (ok : validServerBlock n clients (se
   three : (l : List Message) → every format.valid l ≡ true → every (names n clients) l ≡ true → length l ≤ 3 → Sends n clients l
   three l v d h = record { range = v; named = d; few = omega arith; small = omega (arith, of-server.size-few l) }
 
-  pub receive-sends : (tag : Tag) (r : Pair) → validRequest r ≡ true → leb (r .client .0) clients ≡ true → Sends n clients (votes.receive (record { 0 = j }) tag r (serverPlace b .state) .sent)
+  pub receive-sends : (tag : Tag) (r : Pair) → validRequest r ≡ true → leb (r .client .0) clients ≡ true
+      → Sends n clients (votes.receive (record { 0 = j }) tag r (serverPlace b .state) .sent)
   receive-sends tag r v c =
       let a : known-request clients r ≡ true = rw (v, c) in
       three _ (of-server.receive-valid its number tag r held v (server-good n clients j b B))
-      (of-server.receive-passes (known-request clients) (names n clients) its (tells-names n clients j (sizes .0) (sizes .1)) (asks-names n clients j (sizes .0) (sizes .1)) tag r held a knows)
+      (of-server.receive-passes (known-request clients) (names n clients) its (tells-names n clients j (sizes .0) (sizes .1))
+      (asks-names n clients j (sizes .0) (sizes .1)) tag r held a knows)
       (of-server.receive-few its tag r held)
 
   pub suspect-sends : Sends n clients (votes.suspect (record { 0 = j }) (serverPlace b .state) .sent)
   suspect-sends =
       three _ (of-server.suspect-valid its number held (server-good n clients j b B))
-      (of-server.suspect-passes (known-request clients) (names n clients) its (tells-names n clients j (sizes .0) (sizes .1)) (asks-names n clients j (sizes .0) (sizes .1)) held knows)
+      (of-server.suspect-passes (known-request clients) (names n clients) its (tells-names n clients j (sizes .0) (sizes .1))
+      (asks-names n clients j (sizes .0) (sizes .1)) held knows)
       (of-server.suspect-few its held)
 
   pub check-sends : Sends n clients (votes.check (record { 0 = j }) (serverPlace b .state) .sent)
   check-sends =
       three _ (of-server.check-valid its number held (server-good n clients j b B))
-      (of-server.check-passes (known-request clients) (names n clients) its (tells-names n clients j (sizes .0) (sizes .1)) (asks-names n clients j (sizes .0) (sizes .1)) held knows)
+      (of-server.check-passes (known-request clients) (names n clients) its (tells-names n clients j (sizes .0) (sizes .1))
+      (asks-names n clients j (sizes .0) (sizes .1)) held knows)
       (of-server.check-few its held)

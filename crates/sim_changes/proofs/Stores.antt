@@ -34,7 +34,8 @@ module _ (w : List ℕ) (k : ℕ) (h : ClientIn w (clientNo k)) (vs : List ℕ) 
       let z : clientBlock * (k - 1) ≡ (k - 1) * clientBlock + 0 = omega arith in
       let e : clientWords (sets w (clientsFrom + clientBlock * (k - 1)) vs) ≡ sets (clientWords w) ((k - 1) * clientBlock + 0) vs =
       in-clients w (clientBlock * (k - 1)) vs (omega (arith, h .first, h .last)) ∙ ap (λ (x : ℕ). sets (clientWords w) x vs) z in
-      ap (λ (l : List ℕ). take clientBlock (drop ((k - 1) * clientBlock) l)) e ∙ block-here clientBlock systemClients (k - 1) (clientWords w) 0 vs (omega (arith, h .first, h .last)) (omega arith)
+      ap (λ (l : List ℕ). take clientBlock (drop ((k - 1) * clientBlock) l)) e
+      ∙ block-here clientBlock systemClients (k - 1) (clientWords w) 0 vs (omega (arith, h .first, h .last)) (omega arith)
 
   pub client-block-stored : length vs ≡ clientBlock → clientBlockOf (sets w (clientsFrom + clientBlock * (k - 1)) vs) (clientNo k) ≡ vs
   client-block-stored l = client-block-from ∙ covered (clientBlockOf w (clientNo k)) vs (l ∙ sym (client-block-long w k (h .long) (h .first) (h .last)))
@@ -45,7 +46,8 @@ module _ (w : List ℕ) (j : ℕ) (h : ServerIn w (serverNo j)) (vs : List ℕ) 
       let z : serverBlock * (j - 1) ≡ (j - 1) * serverBlock + 0 = omega arith in
       let e : serverWords (sets w (serversFrom + serverBlock * (j - 1)) vs) ≡ sets (serverWords w) ((j - 1) * serverBlock + 0) vs =
       in-servers w (serverBlock * (j - 1)) vs (omega (arith, h .first, h .last)) ∙ ap (λ (x : ℕ). sets (serverWords w) x vs) z in
-      ap (λ (l : List ℕ). take serverBlock (drop ((j - 1) * serverBlock) l)) e ∙ block-here serverBlock systemServers (j - 1) (serverWords w) 0 vs (omega (arith, h .first, h .last)) (omega arith)
+      ap (λ (l : List ℕ). take serverBlock (drop ((j - 1) * serverBlock) l)) e
+      ∙ block-here serverBlock systemServers (j - 1) (serverWords w) 0 vs (omega (arith, h .first, h .last)) (omega arith)
 
   pub server-block-stored : length vs ≡ serverBlock → serverBlockOf (sets w (serversFrom + serverBlock * (j - 1)) vs) (serverNo j) ≡ vs
   server-block-stored l = server-block-from ∙ covered (serverBlockOf w (serverNo j)) vs (l ∙ sym (server-block-long w j (h .long) (h .first) (h .last)))

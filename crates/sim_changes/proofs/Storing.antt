@@ -26,7 +26,8 @@ use Rattle.client.specs.declared.Client.{Client}
 use Rattle.words.specs.Records.{serverWords, clientWords, holdsServer, serverHeadFrom}
 use Rattle.system.specs.Places.{clientAt, serverAt, worst}
 use Rattle.system.proofs.PlaceLaws.{worst-at}
-use Rattle.sim_blocks.specs.Blocks.{clientPlace, serverPlace, flags, flagged, zeroWord, named, validClientBlock, validServerBlock, serverRecord, serverBlock, clientBlock}
+use Rattle.sim_blocks.specs.Blocks.{clientPlace, serverPlace, flags, flagged, zeroWord, named, validClientBlock, validServerBlock, serverRecord, serverBlock}
+use Rattle.sim_blocks.specs.Blocks.{clientBlock}
 use Rattle.sim_blocks.proofs.ClientLaws.{ClientIs}
 use Rattle.sim_blocks.proofs.ServerLaws.{ServerIs, server-of, server-written}
 use Rattle.sim_blocks.proofs.ClientSteps.{written, placed, tries-block, exits-block, responds-block, checked-block}
@@ -60,26 +61,34 @@ module _ (w : List ℕ) (j : ℕ) (H : HasServer w (serverNo j)) where
   few = few-clients w (sound w (H .valid))
 
   module _ (s : Server) (w′ : List ℕ) (f : w′ ≡ sets w (serversFrom + serverBlock * (j - 1)) (sets (serverBlockOf w (serverNo j)) 1 (serverWords s))) where
-    stores : (q : votes.State) → ServerIs (settingOf w .n) (settingOf w .clients) j (server-written (settingOf w .n) j block q) (record { up = serverPlace block .up; state = q })
+    stores : (q : votes.State)
+        → ServerIs (settingOf w .n) (settingOf w .clients) j (server-written (settingOf w .n) j block q) (record { up = serverPlace block .up; state = q })
         → s ≡ server-of (settingOf w .n) j q → Becomes w w′ (withServer (view w) (serverNo j) (record { up = serverAt (view w) (serverNo j) .up; state = q }))
     stores q B e =
-        rw (f, e, server-is) (server-becomes w (H .valid) j (server-written (settingOf w .n) j block q) (record { up = serverPlace block .up; state = q }) (H .first) (H .last) B)
+        rw (f, e, server-is) (server-becomes w (H .valid) j (server-written (settingOf w .n) j block q) (record { up = serverPlace block .up; state = q })
+        (H .first) (H .last) B)
 
     pub check-stored : s ≡ server-of (settingOf w .n) j (votes.check (record { 0 = j }) (serverAt (view w) (serverNo j) .state) .state)
-        → Becomes w w′ (withServer (view w) (serverNo j) (record { up = serverAt (view w) (serverNo j) .up; state = votes.check (record { 0 = j }) (serverAt (view w) (serverNo j) .state) .state }))
+        → Becomes w w′ (withServer (view w) (serverNo j)
+        (record { up = serverAt (view w) (serverNo j) .up; state = votes.check (record { 0 = j }) (serverAt (view w) (serverNo j) .state) .state }))
     check-stored e =
-        stores (votes.check me (serverAt (view w) (serverNo j) .state) .state) (rw server-is (check-block (settingOf w .n) (settingOf w .clients) j block server-block few)) e
+        stores (votes.check me (serverAt (view w) (serverNo j) .state) .state)
+        (rw server-is (check-block (settingOf w .n) (settingOf w .clients) j block server-block few)) e
 
     pub suspect-stored : s ≡ server-of (settingOf w .n) j (votes.suspect (record { 0 = j }) (serverAt (view w) (serverNo j) .state) .state)
-        → Becomes w w′ (withServer (view w) (serverNo j) (record { up = serverAt (view w) (serverNo j) .up; state = votes.suspect (record { 0 = j }) (serverAt (view w) (serverNo j) .state) .state }))
+        → Becomes w w′ (withServer (view w) (serverNo j)
+        (record { up = serverAt (view w) (serverNo j) .up; state = votes.suspect (record { 0 = j }) (serverAt (view w) (serverNo j) .state) .state }))
     suspect-stored e =
-        stores (votes.suspect me (serverAt (view w) (serverNo j) .state) .state) (rw server-is (suspect-block (settingOf w .n) (settingOf w .clients) j block server-block few)) e
+        stores (votes.suspect me (serverAt (view w) (serverNo j) .state) .state)
+        (rw server-is (suspect-block (settingOf w .n) (settingOf w .clients) j block server-block few)) e
 
     pub receive-stored : (tag : Tag) (r : Request) → leb (r .client .0) (settingOf w .clients) ≡ true → validRequest r ≡ true
         → s ≡ server-of (settingOf w .n) j (votes.receive (record { 0 = j }) tag r (serverAt (view w) (serverNo j) .state) .state)
-        → Becomes w w′ (withServer (view w) (serverNo j) (record { up = serverAt (view w) (serverNo j) .up; state = votes.receive (record { 0 = j }) tag r (serverAt (view w) (serverNo j) .state) .state }))
+        → Becomes w w′ (withServer (view w) (serverNo j)
+        (record { up = serverAt (view w) (serverNo j) .up; state = votes.receive (record { 0 = j }) tag r (serverAt (view w) (serverNo j) .state) .state }))
     receive-stored tag r c v e =
-        stores (votes.receive me tag r (serverAt (view w) (serverNo j) .state) .state) (rw server-is (receive-block (settingOf w .n) (settingOf w .clients) j block server-block tag r c v few)) e
+        stores (votes.receive me tag r (serverAt (view w) (serverNo j) .state) .state)
+        (rw server-is (receive-block (settingOf w .n) (settingOf w .clients) j block server-block tag r c v few)) e
 
 -- what stands in it
 module _ (w : List ℕ) (j : ServerId) (H : HasServer w j) where
@@ -124,36 +133,64 @@ module _ (w : List ℕ) (k : ℕ) (H : HasClient w (clientNo k)) where
       omega (arith, d, facts w (H .valid) .noted)
 
   module _ (c : Client) (w′ : List ℕ) (f : w′ ≡ sets w (clientsFrom + clientBlock * (k - 1)) (sets (clientBlockOf w (clientNo k)) 1 (clientWords c))) where
-    client-stores : (s : client.State) → ClientIs (settingOf w .n) (settingOf w .m) (settingOf w .clients) k (written (settingOf w .n) (settingOf w .m) k part s) (placed part s)
+    client-stores : (s : client.State)
+        → ClientIs (settingOf w .n) (settingOf w .m) (settingOf w .clients) k (written (settingOf w .n) (settingOf w .m) k part s) (placed part s)
         → c ≡ store (settingOf w .n) (settingOf w .m) (record { 0 = k }) s
-        → Becomes w w′ (withClient (view w) (clientNo k) (record { living = clientAt (view w) (clientNo k) .living; state = s; downs = clientAt (view w) (clientNo k) .downs }))
+        → Becomes w w′ (withClient (view w) (clientNo k)
+        (record { living = clientAt (view w) (clientNo k) .living; state = s; downs = clientAt (view w) (clientNo k) .downs }))
     client-stores s B e =
-        rw (f, e, client-is) (client-becomes w (H .valid) k (written (settingOf w .n) (settingOf w .m) k part s) (placed part s) (H .first) (H .last) B downs-noted)
+        rw (f, e, client-is) (client-becomes w (H .valid) k (written (settingOf w .n) (settingOf w .m) k part s) (placed part s) (H .first)
+        (H .last) B downs-noted)
 
     pub tries-stored : isRemainder (clientAt (view w) (clientNo k) .state .section) ≡ true → mayTry (clientAt (view w) (clientNo k) .state) ≡ true
-        → c ≡ store (settingOf w .n) (settingOf w .m) (record { 0 = k }) (client.tries (settingOf w .n) (record { 0 = k }) (clientAt (view w) (clientNo k) .state) .state)
-        → Becomes w w′ (withClient (view w) (clientNo k) (record { living = clientAt (view w) (clientNo k) .living; state = client.tries (settingOf w .n) (record { 0 = k }) (clientAt (view w) (clientNo k) .state) .state; downs = clientAt (view w) (clientNo k) .downs }))
+        → c ≡ store (settingOf w .n) (settingOf w .m) (record { 0 = k })
+        (client.tries (settingOf w .n) (record { 0 = k }) (clientAt (view w) (clientNo k) .state) .state)
+        → Becomes w w′ (withClient (view w) (clientNo k)
+        (record {
+          living = clientAt (view w) (clientNo k) .living;
+          state = client.tries (settingOf w .n) (record { 0 = k }) (clientAt (view w) (clientNo k) .state) .state;
+          downs =
+              clientAt (view w) (clientNo k) .downs;
+        }))
     tries-stored h g e =
         client-stores (client.tries (settingOf w .n) self (clientAt (view w) (clientNo k) .state) .state)
         (rw client-is (tries-block (settingOf w .n) (settingOf w .m) (settingOf w .clients) k part client-block (rw client-is at h) (rw client-is at g))) e
 
     pub exits-stored : clientAt (view w) (clientNo k) .downs ≡ []
-        → c ≡ store (settingOf w .n) (settingOf w .m) (record { 0 = k }) (client.exits (settingOf w .n) (record { 0 = k }) (clientAt (view w) (clientNo k) .state) .state)
-        → Becomes w w′ (withClient (view w) (clientNo k) (record { living = clientAt (view w) (clientNo k) .living; state = client.exits (settingOf w .n) (record { 0 = k }) (clientAt (view w) (clientNo k) .state) .state; downs = clientAt (view w) (clientNo k) .downs }))
+        → c ≡ store (settingOf w .n) (settingOf w .m) (record { 0 = k })
+        (client.exits (settingOf w .n) (record { 0 = k }) (clientAt (view w) (clientNo k) .state) .state)
+        → Becomes w w′ (withClient (view w) (clientNo k)
+        (record {
+          living = clientAt (view w) (clientNo k) .living;
+          state = client.exits (settingOf w .n) (record { 0 = k }) (clientAt (view w) (clientNo k) .state) .state;
+          downs =
+              clientAt (view w) (clientNo k) .downs;
+        }))
     exits-stored h e =
         client-stores (client.exits (settingOf w .n) self (clientAt (view w) (clientNo k) .state) .state)
         (rw client-is (exits-block (settingOf w .n) (settingOf w .m) (settingOf w .clients) k part client-block (place-clear part (rw client-is at h)))) e
 
     pub responds-stored : (j : ServerId) (o : Owner) → validOwner o ≡ true → named (settingOf w .clients) o ≡ true
-        → c ≡ store (settingOf w .n) (settingOf w .m) (record { 0 = k }) (client.responds (client.enough (settingOf w .m)) (settingOf w .n) (record { 0 = k }) j o (clientAt (view w) (clientNo k) .state) .state)
-        → Becomes w w′ (withClient (view w) (clientNo k) (record { living = clientAt (view w) (clientNo k) .living; state = client.responds (client.enough (settingOf w .m)) (settingOf w .n) (record { 0 = k }) j o (clientAt (view w) (clientNo k) .state) .state; downs = clientAt (view w) (clientNo k) .downs }))
+        → c ≡ store (settingOf w .n) (settingOf w .m) (record { 0 = k })
+        (client.responds (client.enough (settingOf w .m)) (settingOf w .n) (record { 0 = k }) j o (clientAt (view w) (clientNo k) .state) .state)
+        → Becomes w w′ (withClient (view w) (clientNo k)
+        (record {
+          living = clientAt (view w) (clientNo k) .living;
+          state = client.responds (client.enough (settingOf w .m)) (settingOf w .n) (record { 0 = k }) j o (clientAt (view w) (clientNo k) .state) .state;
+          downs = clientAt (view w) (clientNo k) .downs;
+        }))
     responds-stored j o v d e =
         client-stores (client.responds (client.enough (settingOf w .m)) (settingOf w .n) self j o (clientAt (view w) (clientNo k) .state) .state)
         (rw client-is (responds-block (settingOf w .n) (settingOf w .m) (settingOf w .clients) k part client-block j o v d)) e
 
     pub checked-stored : (j : ServerId) (t : Timestamp)
         → c ≡ store (settingOf w .n) (settingOf w .m) (record { 0 = k }) (client.checked (record { 0 = k }) j t (clientAt (view w) (clientNo k) .state) .state)
-        → Becomes w w′ (withClient (view w) (clientNo k) (record { living = clientAt (view w) (clientNo k) .living; state = client.checked (record { 0 = k }) j t (clientAt (view w) (clientNo k) .state) .state; downs = clientAt (view w) (clientNo k) .downs }))
+        → Becomes w w′ (withClient (view w) (clientNo k)
+        (record {
+          living = clientAt (view w) (clientNo k) .living;
+          state = client.checked (record { 0 = k }) j t (clientAt (view w) (clientNo k) .state) .state;
+          downs = clientAt (view w) (clientNo k) .downs;
+        }))
     checked-stored j t e =
         client-stores (client.checked self j t (clientAt (view w) (clientNo k) .state) .state)
         (rw client-is (checked-block (settingOf w .n) (settingOf w .m) (settingOf w .clients) k part client-block j t)) e

@@ -1,3 +1,4 @@
 pub mod Changes
 pub mod Opening
 pub mod Happens
+pub mod Inner

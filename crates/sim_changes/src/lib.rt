@@ -1,4 +1,5 @@
-// One part of a simulation changed or tested, and the parts of a new one put. What an event answers. These functions are for the events (`sim_acts`, `sim_takes`) and for a new simulation, whose words are valid.
+// One part of a simulation changed or tested, a party's step with all that it changes, and the parts of a new simulation put. What an event answers.
+// These functions are for the events (`sim_acts`, `sim_takes`) and for a new simulation, whose words are valid.
 ghost use mathlib.Core.Path.{_≡_};
 ghost use mathlib.Core.Bool.{true};
 ghost use mathlib.Core.List.{[], _∷_, map};
@@ -16,6 +17,13 @@ ghost use Rattle.sim_transit.specs.Slots.{messagesIn, slotAt};
 ghost use Rattle.sim_blocks.specs.Blocks.{serverPlace};
 ghost use Rattle.sim_layout.specs.Layout.{settingOf, lengthOf, mostOf, transitWords, view, valid, simulationSize};
 ghost use Rattle.sim_layout.specs.Parts.{serverBlockOf, ClientIn, ServerIn};
+ghost use Rattle.rows.specs.Rows.{Padded};
+ghost use Rattle.client.specs.Record as client;
+ghost use Rattle.client.specs.Steps.{Answers};
+ghost use Rattle.server.specs.Record as server;
+ghost use Rattle.server.specs.Rows.{Turns};
+ghost use Rattle.sim_changes.specs.Happens.{happens, Leaves, movedOf};
+ghost use Rattle.sim_changes.specs.Inner.{ClientMay, clientEvent, ClientAsks, clientOutcome, clientGone, ClientStores, clientStored, ServerMay, serverEvent, serverOutcome, ServerStores, serverStored};
 ghost use Rattle.sim_changes.specs.Opening.{Cleared, newClient, newServer, inTurn, Starts};
 ghost use Rattle.sim_changes.specs.Changes.{Becomes, HasClient, HasServer, HasSlot, withClient, withTransit, withClients, sending, hasRoom, Sendable, CanSend};
 ghost use Rattle.system.specs.Limits.{systemMessages, systemClients, systemServers};
@@ -23,7 +31,10 @@ use ids::ClientId;
 use ids::Owner;
 use ids::Refusal;
 use ids::ServerId;
+use ids::Timestamp;
+use server::Ruling;
 use server_votes::Mail;
+use server_votes::Tag;
 use sim_blocks::CLIENT_BLOCK;
 use sim_layout::CLIENTS;
 use sim_layout::CLIENTS_FROM;
@@ -36,6 +47,7 @@ use sim_layout::SIMULATION_WORDS;
 use sim_layout::THRESHOLD;
 use sim_layout::TRANSIT_FROM;
 use system::Setting;
+use wire::Answer;
 use wire::Message;
 
 // What an event did: the messages it sent, or its refusal.
@@ -51,7 +63,22 @@ pub enum Reply {
 }
 
 // The bytes into which an event's step writes what it sends.
-pub const OUT_BYTES: usize = 512;
+const OUT_BYTES: usize = 512;
+
+// What a client does in an event: it begins its step (document 01's try), leaves the critical section, or takes the RESPONSE or the CHECK in a slot.
+pub enum ClientAct {
+    Try,
+    Exit,
+    Response(usize, ServerId, Owner),
+    Check(usize, ServerId, Timestamp),
+}
+
+// What a server does in an event: it asks its owner, suspects it, or takes the client's message in a slot.
+pub enum ServerAct {
+    Check,
+    Suspect,
+    Take(usize, Tag, ClientId, Timestamp),
+}
 
 // The message in slot `i` is gone.
 pub fn remove_message(w: &mut [u32], i: usize)
@@ -64,7 +91,7 @@ pub fn remove_message(w: &mut [u32], i: usize)
 }
 
 // The message in slot `i` is delivered, and stays.
-pub fn mark_message(w: &mut [u32], i: usize)
+fn mark_message(w: &mut [u32], i: usize)
     requires { ⌜ HasSlot (now w) i ⌝ }
     ensures { λ _. ⌜ Becomes (now (w .entry)) (now (w .exit)) (withTransit (view (now (w .entry))) (replaced (slotAt (transitWords (now (w .entry))) i .number) keeping (view (now (w .entry)) .transit))) ⌝ }
 {
@@ -81,7 +108,7 @@ pub fn restart_messages(w: &mut [u32], j: ServerId)
 }
 
 // Whether so many messages may be sent once `gone` messages are gone.
-pub fn has_room(w: &[u32], gone: u32, count: usize) -> bool
+fn has_room(w: &[u32], gone: u32, count: usize) -> bool
     requires { ⌜ (valid (now w) ≡ true) × (gone ≤ lengthOf (now w)) × (count ≤ systemMessages) ⌝ }
     ensures { λ r. ⌜ r ≡ hasRoom (now (w .entry)) gone count ⌝ }
 {
@@ -96,7 +123,7 @@ pub fn has_room(w: &[u32], gone: u32, count: usize) -> bool
 }
 
 // The first `count` messages of the bytes are sent.
-pub fn send(w: &mut [u32], bytes: &[u8], count: usize)
+fn send(w: &mut [u32], bytes: &[u8], count: usize)
     requires { ⌜ Sendable (now w) count (now bytes) ⌝ }
     ensures { λ _. ⌜ Becomes (now (w .entry)) (now (w .exit)) (sending (view (now (w .entry))) (messagesIn count (now (bytes .entry)))) ⌝ }
 {
@@ -136,7 +163,7 @@ fn send_message(w: &mut [u32], m: Message)
 }
 
 // The messages of a server's step are sent, in order: each goes to its slot as it is.
-pub fn send_mails(w: &mut [u32], first: Mail, second: Mail, third: Mail)
+fn send_mails(w: &mut [u32], first: Mail, second: Mail, third: Mail)
     requires { ⌜ CanSend (now w) (threeMails first second third) ⌝ }
     ensures { λ _. ⌜ Becomes (now (w .entry)) (now (w .exit)) (sending (view (now (w .entry))) (threeMails first second third)) ⌝ }
 {
@@ -182,7 +209,7 @@ fn down_flag(w: &[u32], j: ServerId) -> u32
 }
 
 // An epoch of client `k` begins: the servers that are down count.
-pub fn begin_epoch(w: &mut [u32], k: ClientId)
+fn begin_epoch(w: &mut [u32], k: ClientId)
     requires { ⌜ HasClient (now w) k × (inEpoch (clientAt (view (now w)) k) ≡ true) ⌝ }
     ensures { λ _. ⌜ Becomes (now (w .entry)) (now (w .exit)) (withClients (view (now (w .entry))) (put (view (now (w .entry)) .clients) (k .0) (record { living = clientAt (view (now (w .entry))) k .living; state = clientAt (view (now (w .entry))) k .state; downs = downFrom 1 (view (now (w .entry)) .servers) }))) ⌝ }
 {
@@ -197,7 +224,7 @@ pub fn begin_epoch(w: &mut [u32], k: ClientId)
 }
 
 // The epoch of client `k` ends: no server counts any more.
-pub fn end_epoch(w: &mut [u32], k: ClientId)
+fn end_epoch(w: &mut [u32], k: ClientId)
     requires { ⌜ HasClient (now w) k ⌝ }
     ensures { λ _. ⌜ Becomes (now (w .entry)) (now (w .exit)) (withClient (view (now (w .entry))) k (record { living = clientAt (view (now (w .entry))) k .living; state = clientAt (view (now (w .entry))) k .state; downs = [] })) ⌝ }
 {
@@ -212,6 +239,149 @@ pub fn owner_of(w: &[u32], j: ServerId) -> Owner
     let h = sim_layout::server_head(w, j);
     let v = h.votes;
     v.owner
+}
+
+// A party's step.
+
+// The call of the act on the client's record.
+fn call_client(h: client::Head, row: &mut [u32], act: ClientAct, out: &mut [u8]) -> client::Turned
+    requires { ⌜ ClientAsks act (client.clientOf h (now row)) ⌝ }
+    ensures { λ r. ⌜ Answers h (now (row .entry)) (clientOutcome act (client.clientOf h (now (row .entry)))) (now (out .entry)) r (now (row .exit)) (now (out .exit)) ⌝ }
+{
+    match act {
+        ClientAct::Try => client::begin_row(h, row, out),
+        ClientAct::Exit => client::exit_row(h, row, out),
+        ClientAct::Response(_, j, o) => client::respond_row(h, row, j, o, out),
+        ClientAct::Check(_, j, t) => client::check_row(h, row, j, t, out),
+    }
+}
+
+// How many messages the act takes away.
+fn messages_gone(act: ClientAct) -> u32
+    ensures { λ r. ⌜ r ≡ clientGone act ⌝ }
+{
+    match act {
+        ClientAct::Try => 0,
+        ClientAct::Exit => 0,
+        ClientAct::Response(_, _, _) => 1,
+        ClientAct::Check(_, _, _) => 1,
+    }
+}
+
+// The client's record after its step is stored, with what the act changes beside it. Its epoch runs only outside the remainder section: it begins
+// after the record of the try is stored, and ends before that of the exit is.
+fn store_client(w: &mut [u32], k: ClientId, act: ClientAct, h: client::Head, row: &[u32])
+    requires { ⌜ ClientStores (now w) k act (client.clientOf h (now row)) × (length (now row) ≡ client.rowWords) ⌝ }
+    ensures { λ _. ⌜ Becomes (now (w .entry)) (now (w .exit)) (clientStored (now (w .entry)) k act) ⌝ }
+{
+    match act {
+        ClientAct::Try => {
+            sim_layout::put_client(w, k, h, row);
+            begin_epoch(w, k);
+        }
+        ClientAct::Exit => {
+            end_epoch(w, k);
+            sim_layout::put_client(w, k, h, row);
+        }
+        ClientAct::Response(i, _, _) => {
+            remove_message(w, i);
+            sim_layout::put_client(w, k, h, row);
+        }
+        ClientAct::Check(i, _, _) => {
+            remove_message(w, i);
+            sim_layout::put_client(w, k, h, row);
+        }
+    }
+}
+
+// Client `k` does what an event says: its record is loaded, stepped and stored, and what it sends is sent.
+pub fn client_acts(w: &mut [u32], k: ClientId, act: ClientAct) -> Moved
+    requires { ⌜ ClientMay (now w) k act ⌝ }
+    ensures { λ r. ⌜ Leaves (now (w .entry)) (clientEvent (now (w .entry)) k act) (now (w .exit)) × (r ≡ movedOf (happens (now (w .entry)) (clientEvent (now (w .entry)) k act))) ⌝ }
+{
+    if !sim_layout::is_living(w, k) {
+        return Moved::Refused(Refusal::PartyDown);
+    }
+    let mut bytes = [0u8; OUT_BYTES];
+    let mut row = [0u32; client::ROW_WORDS];
+    sim_layout::client_row(w, k, &mut row);
+    let s = call_client(sim_layout::client_head(w, k), &mut row, act, &mut bytes);
+    let answer = s.answer;
+    match answer {
+        Answer::Refused(x) => Moved::Refused(x),
+        Answer::Sent(count, _) => {
+            if !has_room(w, messages_gone(act), count) {
+                return Moved::Refused(Refusal::SystemFull);
+            }
+            store_client(w, k, act, s.head, &row);
+            send(w, &bytes, count);
+            Moved::Sent(count as u32)
+        }
+    }
+}
+
+// The call of the act on the record of server `j`.
+fn call_server(h: server::Head, row: &mut [u32], j: ServerId, act: ServerAct) -> server::Turned
+    requires { ⌜ Padded (now row) (h .votes .len) ⌝ }
+    ensures { λ r. ⌜ Turns h (now (row .entry)) (serverOutcome act j (server.serverOf h (now (row .entry)))) r (now (row .exit)) ⌝ }
+{
+    match act {
+        ServerAct::Check => server::check_row(h, row),
+        ServerAct::Suspect => server::suspect_row(h, row),
+        ServerAct::Take(_, tag, k, t) => server::take_row(h, row, tag, k, j, t),
+    }
+}
+
+// The server's record after its step is stored; the message that it took is delivered, and stays.
+fn store_server(w: &mut [u32], j: ServerId, act: ServerAct, h: server::Head, row: &[u32])
+    requires { ⌜ ServerStores (now w) j act h (now row) × (length (now row) ≡ server.rowWords) ⌝ }
+    ensures { λ _. ⌜ Becomes (now (w .entry)) (now (w .exit)) (serverStored (now (w .entry)) j act) ⌝ }
+{
+    match act {
+        ServerAct::Check => sim_layout::put_server(w, j, h, row),
+        ServerAct::Suspect => sim_layout::put_server(w, j, h, row),
+        ServerAct::Take(i, _, _, _) => {
+            mark_message(w, i);
+            sim_layout::put_server(w, j, h, row);
+        }
+    }
+}
+
+// Server `j`, which is up, does what an event says.
+pub fn server_steps(w: &mut [u32], j: ServerId, act: ServerAct) -> Moved
+    requires { ⌜ ServerMay (now w) j act × (serverAt (view (now w)) j .up ≡ true) ⌝ }
+    ensures { λ r. ⌜ Leaves (now (w .entry)) (serverEvent (now (w .entry)) j act) (now (w .exit)) × (r ≡ movedOf (happens (now (w .entry)) (serverEvent (now (w .entry)) j act))) ⌝ }
+{
+    let mut row = [0u32; server::ROW_WORDS];
+    sim_layout::server_row(w, j, &mut row);
+    let t = call_server(sim_layout::server_head(w, j), &mut row, j, act);
+    let ruling = t.ruling;
+    match ruling {
+        Ruling::Refused(x) => Moved::Refused(x),
+        Ruling::Done => {
+            let first = t.first;
+            let second = t.second;
+            let third = t.third;
+            let count = server::counts(first, second, third);
+            if !has_room(w, 0, count) {
+                return Moved::Refused(Refusal::SystemFull);
+            }
+            store_server(w, j, act, t.head, &row);
+            send_mails(w, first, second, third);
+            Moved::Sent(count as u32)
+        }
+    }
+}
+
+// The same of a server that may be down.
+pub fn server_acts(w: &mut [u32], j: ServerId, act: ServerAct) -> Moved
+    requires { ⌜ ServerMay (now w) j act ⌝ }
+    ensures { λ r. ⌜ Leaves (now (w .entry)) (serverEvent (now (w .entry)) j act) (now (w .exit)) × (r ≡ movedOf (happens (now (w .entry)) (serverEvent (now (w .entry)) j act))) ⌝ }
+{
+    if !sim_layout::is_up(w, j) {
+        return Moved::Refused(Refusal::PartyDown);
+    }
+    server_steps(w, j, act)
 }
 
 // A new simulation.

@@ -1,7 +1,6 @@
 -- `sim_acts::check` meets its contract: each return is one case of the event.
-use denote.Ref.{now}
-use Rattle.sim_changes.proofs.Parties.{server-in, server-found}
-use Rattle.sim_acts.proofs.Guards.{check-missing, check-down, server-runs}
+use Rattle.sim_changes.proofs.Answers.{no-server-checks}
+use Rattle.sim_acts.proofs.Guards.{server-missing, server-here}
 use borrow.Author.Needs.{needs}
 use Rattle.sim_acts.proofs.check.Statement.{statement}
 use Rattle.sim_acts.proofs.check.Tie as tie
@@ -9,22 +8,12 @@ use Rattle.sim_acts.proofs.check.Tie as tie
 returns : tie.Need-returns
 returns c =
     let d = c .before .before .before .before in
-    check-missing (now (d .args .w)) (d .args .j) (d .pre) _ (c .before .has-server .ensures) (c .if1 .taken)
+    server-missing _ (d .args .j) (d .pre) (c .before .has-server .ensures) _ (no-server-checks _ _ _ _) (c .if1 .taken)
 
-is-up-requires : tie.Need-is-up-requires
-is-up-requires c κs =
-    let d = c .before .before .before .before .before in
-    server-in (now (d .args .w)) (d .args .j .0) (server-found (now (d .args .w)) (d .pre) (d .args .j .0) _ (c .before .before .has-server .ensures) (c .before .if1 .left))
-
-returns-2 : tie.Need-returns-2
-returns-2 c =
-    let d = c .before .before .before .before .before .before .before in
-    check-down (now (d .args .w)) (d .args .j) (d .pre) _ (c .before .before .before .before .has-server .ensures) (c .before .before .before .if1 .left) _ (c .before .is-up .ensures) (c .if2 .taken)
-
-ask-requires : tie.Need-ask-requires
-ask-requires c κs =
-    let d = c .before .before .before .before .before .before .before .before in
-    server-runs (now (d .args .w)) (d .args .j) (d .pre) _ (c .before .before .before .before .before .has-server .ensures) (c .before .before .before .before .if1 .left) _ (c .before .before .is-up .ensures) (c .before .if2 .left)
+server-acts-requires : tie.Need-server-acts-requires
+server-acts-requires c κs =
+    let t = c .before .before in
+    server-here _ _ (t .before .before .before .pre) (t .has-server .ensures) (c .before .if1 .left)
 
 pub check-spec : {M : Type 1} → statement M
 check-spec =
@@ -33,9 +22,6 @@ check-spec =
     (λ c κs. search needs)
     (λ c. search needs)
     returns
-    is-up-requires
-    (λ c. search needs)
-    returns-2
-    ask-requires
+    server-acts-requires
     (λ c. search needs)
     (λ c. search needs))

@@ -1,7 +1,10 @@
 -- `sim_acts::up` meets its contract: each return is one case of the event.
 use denote.Ref.{now}
-use Rattle.sim_changes.proofs.Parties.{server-in, server-found}
-use Rattle.sim_acts.proofs.Silent.{up-missing, up-twice, up-leaves}
+use Rattle.sim_changes.specs.Changes.{HasServer}
+use Rattle.sim_changes.proofs.Parties.{server-in}
+use Rattle.sim_changes.proofs.Answers.{no-server-ups}
+use Rattle.sim_acts.proofs.Guards.{server-missing, server-here, up-twice}
+use Rattle.sim_acts.proofs.Silent.{up-leaves}
 use borrow.Author.Needs.{needs}
 use Rattle.sim_acts.proofs.up.Statement.{statement}
 use Rattle.sim_acts.proofs.up.Tie as tie
@@ -9,32 +12,23 @@ use Rattle.sim_acts.proofs.up.Tie as tie
 returns : tie.Need-returns
 returns c =
     let d = c .before .before .before .before in
-    let a = d .args in
-    up-missing (now (a .w)) (a .j) (d .pre) _ (c .before .has-server .ensures) (c .if1 .taken)
+    server-missing _ (d .args .j) (d .pre) (c .before .has-server .ensures) _ (no-server-ups _ _ _ _) (c .if1 .taken)
 
-is-up-requires : tie.Need-is-up-requires
-is-up-requires c κs =
-    let d = c .before .before .before .before .before in
-    let a = d .args in
-    server-in (now (a .w)) (a .j .0) (server-found (now (a .w)) (d .pre) (a .j .0) _ (c .before .before .has-server .ensures) (c .before .if1 .left))
+-- the server is there
+module _ (c : tie.Else1) where
+  abbrev entry : tie.Start
+  entry = c .before .before .before .before
+
+  here : HasServer (now (entry .args .w)) (entry .args .j)
+  here = server-here _ _ (entry .pre) (c .before .has-server .ensures) (c .if1 .left)
 
 returns-2 : tie.Need-returns-2
-returns-2 c =
-    let d = c .before .before .before .before .before .before .before in
-    let a = d .args in
-    up-twice (now (a .w)) (a .j) (d .pre) _ (c .before .before .before .before .has-server .ensures) (c .before .before .before .if1 .left) _ (c .before .is-up .ensures) (c .if2 .taken)
-
-rise-server-requires : tie.Need-rise-server-requires
-rise-server-requires c κs =
-    let d = c .before .before .before .before .before .before .before .before in
-    let a = d .args in
-    server-in (now (a .w)) (a .j .0) (server-found (now (a .w)) (d .pre) (a .j .0) _ (c .before .before .before .before .before .has-server .ensures) (c .before .before .before .before .if1 .left))
+returns-2 c = up-twice _ _ (here (c .before .before .before)) (c .before .is-up .ensures) (c .if2 .taken)
 
 returns-3 : tie.Need-returns-3
 returns-3 c =
-    let d = c .before .before .before .before .before .before .before .before .before .before .before in
-    let a = d .args in
-    up-leaves (now (a .w)) (a .j) (d .pre) _ (c .before .before .before .before .before .before .before .before .has-server .ensures) (c .before .before .before .before .before .before .before .if1 .left) _ (c .before .before .before .before .before .is-up .ensures) (c .before .before .before .before .if2 .left) _ (c .before .before .rise-server .ensures)
+    let t = c .before .before .before .before in
+    up-leaves _ _ (here (t .before .before .before)) (t .before .is-up .ensures) (t .if2 .left) (c .before .before .rise-server .ensures)
 
 pub up-spec : {M : Type 1} → statement M
 up-spec =
@@ -43,9 +37,9 @@ up-spec =
     (λ c κs. search needs)
     (λ c. search needs)
     returns
-    is-up-requires
+    (λ c κs. server-in _ _ (here (c .before)))
     (λ c. search needs)
     returns-2
-    rise-server-requires
+    (λ c κs. server-in _ _ (here (c .before .before .before .before)))
     (λ c. search needs)
     returns-3)

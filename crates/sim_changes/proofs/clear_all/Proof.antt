@@ -14,32 +14,17 @@ Inv-loop w₀ i₀ w i = Clearing w₀ w i
 abbrev μ-loop : tie.MeasureT-loop
 μ-loop w₀ i₀ w i = length w - i
 
-loop-holds : tie.Need-loop-holds Inv-loop μ-loop
-loop-holds c = clearing-none _
-
-loop-less : tie.Need-loop-less Inv-loop μ-loop
-loop-less c = omega (arith, length-set (c .before .loop .w) (c .before .loop .i) 0, c .loop-test .taken)
-
-loop-again : tie.Need-loop-again Inv-loop μ-loop
-loop-again c = clearing-more _ _ _ (c .before .loop .inv) (c .loop-test .taken)
-
-same-length : tie.Need-same-length Inv-loop μ-loop
-same-length c = c .before .loop .inv .same
-
-returns : tie.Need-returns Inv-loop μ-loop
-returns c = clearing-all _ _ _ (c .before .loop .inv) (c .loop-test .left)
-
 pub clear-all-spec : {M : Type 1} → statement M
 clear-all-spec =
     tie.close
     (tie.spec
     Inv-loop
     μ-loop
-    loop-holds
+    (λ c. clearing-none _)
     (λ c. search needs)
     (λ c. search needs)
     (λ c. search needs)
-    loop-less
-    loop-again
-    same-length
-    returns)
+    (λ c. omega (arith, length-set (c .before .loop .w) (c .before .loop .i) 0, c .loop-test .taken))
+    (λ c. clearing-more _ _ _ (c .before .loop .inv) (c .loop-test .taken))
+    (λ c. c .before .loop .inv .same)
+    (λ c. clearing-all _ _ _ (c .before .loop .inv) (c .loop-test .left)))

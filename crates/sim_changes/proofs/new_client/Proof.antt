@@ -1,23 +1,30 @@
 -- `sim_changes::new_client` meets its contract: the first word of the block and its record are stored.
 use denote.Ref.{now}
 use Rattle.sim_changes.proofs.Opening.{client-opened, length-client}
-use mathlib.Core.Path.{ap, _∙_}
+use mathlib.Core.Path.{_≡_, ap, _∙_}
 use lib.ListN.{length}
+use Rattle.sim_changes.specs.Opening.{newClient}
 use borrow.Author.Needs.{needs}
 use Rattle.sim_changes.proofs.new_client.Statement.{statement}
 use Rattle.sim_changes.proofs.new_client.Tie as tie
 
+-- the block's words are stored
+module _ (c : tie.After-put-client) where
+  abbrev made : tie.After-new
+  made = c .before .before .before .before .before
+
+  abbrev entry : tie.Start
+  entry = made .before .before .before
+
+  opened : c .put-client .last .0 ≡ newClient (entry .args .n) (entry .args .m) (entry .args .k) (now (entry .args .w))
+  opened = client-opened (entry .args .n) (entry .args .m) (entry .args .k .0) (now (entry .args .w)) (entry .pre) _ (made .new .ensures) _
+      (c .put-client .ensures)
+
 same-length : tie.Need-same-length
 same-length c =
-    let d = c .before .before .before .before .before .before .before .before .before .before in
-    let a = d .args in
-    ap length (client-opened (a .n) (a .m) (a .k .0) (now (a .w)) (d .pre) _ (c .before .before .before .before .before .before .before .new .ensures) _ (c .before .before .put-client .ensures)) ∙ length-client (a .n) (a .m) (a .k .0) (now (a .w))
-
-returns : tie.Need-returns
-returns c =
-    let d = c .before .before .before .before .before .before .before .before .before .before in
-    let a = d .args in
-    client-opened (a .n) (a .m) (a .k .0) (now (a .w)) (d .pre) _ (c .before .before .before .before .before .before .before .new .ensures) _ (c .before .before .put-client .ensures)
+    let p = c .before .before in
+    let d = entry p in
+    ap length (opened p) ∙ length-client (d .args .n) (d .args .m) (d .args .k .0) (now (d .args .w))
 
 pub new-client-spec : {M : Type 1} → statement M
 new-client-spec =
@@ -33,4 +40,4 @@ new-client-spec =
     (λ c. search needs)
     (λ c κs. search needs)
     same-length
-    returns)
+    (λ c. opened (c .before .before)))

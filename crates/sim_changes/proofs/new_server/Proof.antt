@@ -1,37 +1,44 @@
 -- `sim_changes::new_server` meets its contract: the first word of the block and its record are stored.
 use denote.Ref.{now}
+use Prim.Native.Nat.{_≤_}
+use Rattle.words.specs.Records.{maxWord}
+use Rattle.sim_layout.specs.Parts.{ServerIn}
 use Rattle.sim_changes.proofs.Opening.{risen-in, new-short, server-opened}
 use borrow.Author.Needs.{needs}
 use Rattle.sim_changes.proofs.new_server.Statement.{statement}
 use Rattle.sim_changes.proofs.new_server.Tie as tie
 
-rise-server-requires : tie.Need-rise-server-requires
-rise-server-requires c κs = search needs
+-- the server is up, and its record made
+module _ (c : tie.After-new) where
+  abbrev risen : tie.After-rise-server
+  risen = c .before .before .before
 
-new-requires : tie.Need-new-requires
-new-requires c κs = search needs
+  abbrev entry : tie.Start
+  entry = risen .before .before .before
+
+  there : ServerIn (risen .rise-server .last .0) (entry .args .j)
+  there = risen-in (entry .args .n) (entry .args .j .0) (now (entry .args .w)) (entry .pre) _ (risen .rise-server .ensures)
+
+  short : c .new .result .server .head .votes .len ≤ maxWord
+  short = new-short (entry .args .n) (entry .args .j .0) _ (c .new .ensures)
 
 put-server-requires : tie.Need-put-server-requires
-put-server-requires c κs =
-    let d = c .before .before .before .before .before .before .before .before .before .before in
-    let a = d .args in
-    (risen-in (a .n) (a .j .0) (now (a .w)) (d .pre) _ (c .before .before .before .before .before .before .before .rise-server .ensures), search needs, new-short (a .n) (a .j .0) _ (c .before .before .before .before .new .ensures))
-
-same-length : tie.Need-same-length
-same-length c = search needs
+put-server-requires c κs = (there (c .before .before .before .before), search needs, short (c .before .before .before .before))
 
 returns : tie.Need-returns
 returns c =
-    let d = c .before .before .before .before .before .before .before .before .before .before .before .before .before in
-    let a = d .args in
-    server-opened (a .n) (a .j .0) (now (a .w)) (d .pre) _ (c .before .before .before .before .before .before .before .before .before .before .rise-server .ensures) _ (c .before .before .before .before .before .before .before .new .ensures) _ (c .before .before .put-server .ensures)
+    let p = c .before .before in
+    let r = p .before .before .before .before .before in
+    let d = entry r in
+    server-opened (d .args .n) (d .args .j .0) (now (d .args .w)) (d .pre) _ (risen r .rise-server .ensures) _ (r .new .ensures) _ (p .put-server .ensures)
 
 pub new-server-spec : {M : Type 1} → statement M
 new-server-spec =
-    tie.close (tie.spec
-    rise-server-requires
-    new-requires
+    tie.close
+    (tie.spec
+    (λ c κs. search needs)
+    (λ c κs. search needs)
     (λ c. search needs)
     put-server-requires
-    same-length
+    (λ c. search needs)
     returns)

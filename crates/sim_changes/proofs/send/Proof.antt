@@ -1,79 +1,94 @@
 -- `sim_changes::send` meets its contract: the slots come back with the messages, and the two words that count them are stored.
+-- A section for each place on the way says what holds there; the needs below it cite these.
 use denote.Ref.{now}
 use native.Mathlib.Omega.{arith}
+use Prim.Native.Nat.{ℕ, _+_, _≤_}
+use mathlib.Core.Path.{_≡_}
+use mathlib.Core.List.{List}
+use lib.ListN.{length}
+use Rattle.wire.specs.declared.Message.{Message}
+use Rattle.system.specs.Limits.{systemMessages, lastNumber}
+use Rattle.sim_transit.specs.Slots.{messagesIn}
+use Rattle.sim_layout.specs.Layout.{lengthOf, sentOf, simulationSize}
 use Rattle.sim_changes.proofs.Parties.{words-long}
 use Rattle.sim_changes.proofs.Posting.{transit-few, room-left, posted-long, counted-long, send-becomes, sized-with}
-use Rattle.sim_layout.specs.Layout.{lengthOf}
-use Rattle.sim_transit.specs.Slots.{messagesIn}
-use Prim.Native.Nat.{_+_}
 use borrow.Author.Needs.{needs}
 use Rattle.sim_changes.proofs.send.Statement.{statement}
 use Rattle.sim_changes.proofs.send.Tie as tie
 
+-- at entry
+module _ (d : tie.Start) where
+  abbrev words : List ℕ
+  words = now (d .args .w)
+
+  abbrev new : List Message
+  new = messagesIn (d .args .count) (now (d .args .bytes))
+
+  long : length words ≡ simulationSize
+  long = words-long words (d .pre .valid)
+
+-- the two counts are read
+module _ (c : tie.After-slice-known3) where
+  abbrev entry : tie.Start
+  entry = c .before .before .before .before
+
+  room : (lengthOf (words entry) + entry .args .count ≤ systemMessages) × (sentOf (words entry) + entry .args .count ≤ lastNumber)
+  room =
+      let p = entry .pre in
+      room-left (words entry) (entry .args .count) (new entry) (p .valid) (p .whole) (p .room) (p .named)
+      (omega (arith, c .before .before .before .slice-known .given 5))
+
+-- the messages are posted
+module _ (c : tie.After-slice-known4) where
+  abbrev read : tie.After-slice-known3
+  read = c .before .before .before .before
+
 slice-read-len : tie.Need-slice-read-len
-slice-read-len c =
-    let d = c .before .before .before in
-    omega (arith, words-long (now (d .args .w)) (d .pre .valid))
+slice-read-len c = omega (arith, long (c .before .before .before))
 
 cast-len : tie.Need-cast-len
-cast-len c =
-    let d = c .before .before .before in
-    record { fits = omega (arith, transit-few (now (d .args .w)) (d .pre .valid)) }
-
-slice-read-sent : tie.Need-slice-read-sent
-slice-read-sent c =
-    let d = c .before .before .before .before in
-    omega (arith, words-long (now (d .args .w)) (d .pre .valid))
-
-part-post-end : tie.Need-part-post-end
-part-post-end c =
-    let d = c .before .before .before .before in
-    omega (arith, words-long (now (d .args .w)) (d .pre .valid))
+cast-len c = let d = c .before .before .before in record { fits = omega (arith, transit-few (words d) (d .pre .valid)) }
 
 post-requires : tie.Need-post-requires
 post-requires c κs =
-    let d = c .before .before .before .before .before in
-    let room = room-left (now (d .args .w)) (d .args .count) (messagesIn (d .args .count) (now (d .args .bytes))) (d .pre .valid) (d .pre .whole) (d .pre .room) (d .pre .named) (omega (arith, c .before .before .before .before .slice-known .given 5)) in
-    (sized-with (now (d .args .w)) (d .args .count) (messagesIn (d .args .count) (now (d .args .bytes))) (d .pre .valid) (d .pre .whole) (d .pre .room) (d .pre .named) (room .0), room .1, d .pre .whole)
+    let d = entry (c .before) in
+    let p = d .pre in
+    let r = room (c .before) in
+    (sized-with (words d) (d .args .count) (new d) (p .valid) (p .whole) (p .room) (p .named) (r .0), r .1, p .whole)
 
 add-w : tie.Need-add-w
-add-w c =
-    let d = c .before .before .before .before .before .before .before .before in
-    let room = room-left (now (d .args .w)) (d .args .count) (messagesIn (d .args .count) (now (d .args .bytes))) (d .pre .valid) (d .pre .whole) (d .pre .room) (d .pre .named) (omega (arith, c .before .before .before .before .before .before .before .slice-known .given 5)) in
-    record { fits = omega (arith, room .0, room .1) }
+add-w c = let r = room (read c) in record { fits = omega (arith, r .0, r .1) }
 
 cast-w : tie.Need-cast-w
-cast-w c =
-    let d = c .before .before .before .before .before .before .before .before in
-    let room = room-left (now (d .args .w)) (d .args .count) (messagesIn (d .args .count) (now (d .args .bytes))) (d .pre .valid) (d .pre .whole) (d .pre .room) (d .pre .named) (omega (arith, c .before .before .before .before .before .before .before .slice-known .given 5)) in
-    record { fits = omega (arith, room .0, room .1) }
+cast-w c = let r = room (read c) in record { fits = omega (arith, r .0, r .1) }
 
 slice-write-w : tie.Need-slice-write-w
 slice-write-w c =
-    let d = c .before .before .before .before .before .before .before .before in
-    omega (arith, posted-long (now (d .args .w)) (d .args .count) (messagesIn (d .args .count) (now (d .args .bytes))) (d .pre .valid) (d .pre .whole) (d .pre .room) (d .pre .named) _ (c .before .before .post .ensures))
+    let d = entry (read c) in
+    let p = d .pre in
+    omega (arith, posted-long (words d) (d .args .count) (new d) (p .valid) (p .whole) (p .room) (p .named) _ (c .before .before .post .ensures))
 
 cast-w-2 : tie.Need-cast-w-2
-cast-w-2 c =
-    let d = c .before .before .before .before .before .before .before .before in
-    let room = room-left (now (d .args .w)) (d .args .count) (messagesIn (d .args .count) (now (d .args .bytes))) (d .pre .valid) (d .pre .whole) (d .pre .room) (d .pre .named) (omega (arith, c .before .before .before .before .before .before .before .slice-known .given 5)) in
-    record { fits = omega (arith, room .0, room .1) }
+cast-w-2 c = let r = room (read c) in record { fits = omega (arith, r .0, r .1) }
 
 add-w-2 : tie.Need-add-w-2
-add-w-2 c =
-    let d = c .before .before .before .before .before .before .before .before in
-    let room = room-left (now (d .args .w)) (d .args .count) (messagesIn (d .args .count) (now (d .args .bytes))) (d .pre .valid) (d .pre .whole) (d .pre .room) (d .pre .named) (omega (arith, c .before .before .before .before .before .before .before .slice-known .given 5)) in
-    record { fits = omega (arith, room .0, room .1) }
+add-w-2 c = let r = room (read c) in record { fits = omega (arith, r .0, r .1) }
 
 slice-write-w-2 : tie.Need-slice-write-w-2
 slice-write-w-2 c =
-    let d = c .before .before .before .before .before .before .before .before in
-    omega (arith, counted-long (now (d .args .w)) (d .args .count) (messagesIn (d .args .count) (now (d .args .bytes))) (d .pre .valid) (d .pre .whole) (d .pre .room) (d .pre .named) _ (c .before .before .post .ensures) (lengthOf (now (d .args .w)) + d .args .count))
+    let d = entry (read c) in
+    let p = d .pre in
+    omega (
+      arith,
+      counted-long (words d) (d .args .count) (new d) (p .valid) (p .whole) (p .room) (p .named) _ (c .before .before .post .ensures)
+          (lengthOf (words d) + d .args .count),
+    )
 
 returns : tie.Need-returns
 returns c =
-    let d = c .before .before .before .before .before .before .before .before in
-    send-becomes (now (d .args .w)) (d .args .count) (messagesIn (d .args .count) (now (d .args .bytes))) (d .pre .valid) (d .pre .whole) (d .pre .room) (d .pre .named) _ (c .before .before .post .ensures)
+    let d = entry (read c) in
+    let p = d .pre in
+    send-becomes (words d) (d .args .count) (new d) (p .valid) (p .whole) (p .room) (p .named) _ (c .before .before .post .ensures)
 
 pub send-spec : {M : Type 1} → statement M
 send-spec =
@@ -81,10 +96,10 @@ send-spec =
     (tie.spec
     slice-read-len
     cast-len
-    slice-read-sent
+    (λ c. omega (arith, long (entry c)))
     (λ c. search needs)
     (λ c. search needs)
-    part-post-end
+    (λ c. omega (arith, long (entry c)))
     post-requires
     add-w
     cast-w

@@ -27,7 +27,8 @@ returns c =
     let two = three .before .before .before .before in
     let one = two .before .before .before .before in
     let d = one .before .before .before in
-    three-sent (now (d .args .w)) (d .args .first) (d .args .second) (d .args .third) (d .pre) _ (one .send-mail .ensures) _ (two .send-mail2 .ensures) _ (three .send-mail3 .ensures)
+    three-sent (now (d .args .w)) (d .args .first) (d .args .second) (d .args .third) (d .pre) _ (one .send-mail .ensures) _ (two .send-mail2 .ensures) _
+    (three .send-mail3 .ensures)
 
 pub send-mails-spec : {M : Type 1} → statement M
 send-mails-spec =

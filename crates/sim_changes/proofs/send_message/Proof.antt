@@ -1,77 +1,93 @@
 -- `sim_changes::send_message` meets its contract: the slots come back with the message, and the two words that count them are stored.
+-- A section for each place on the way says what holds there; the needs below it cite these.
 use denote.Ref.{now}
 use native.Mathlib.Omega.{arith}
+use Prim.Native.Nat.{ℕ, _+_, _≤_}
+use mathlib.Core.Path.{_≡_, refl}
+use mathlib.Core.Bool.{true}
+use mathlib.Core.List.{List, [], _∷_}
+use lib.ListN.{length}
+use Rattle.ids.proofs.Choice.{both}
+use Rattle.wire.specs.Format as format
+use Rattle.wire.specs.declared.Message.{Message}
+use Rattle.system.specs.Limits.{systemMessages, lastNumber}
+use Rattle.sim_layout.specs.Layout.{lengthOf, sentOf, simulationSize}
 use Rattle.sim_changes.proofs.Parties.{words-long}
 use Rattle.sim_changes.proofs.Posting.{transit-few, room-left, posted-long, counted-long, send-becomes, sized-with}
-use Rattle.sim_layout.specs.Layout.{lengthOf}
-use mathlib.Core.Path.{refl}
-use mathlib.Core.List.{[], _∷_}
-use Rattle.wire.specs.Format as format
-use Rattle.ids.proofs.Choice.{both}
-use mathlib.Core.Bool.{true}
-use Prim.Native.Nat.{_+_}
 use borrow.Author.Needs.{needs}
 use Rattle.sim_changes.proofs.send_message.Statement.{statement}
 use Rattle.sim_changes.proofs.send_message.Tie as tie
 
+-- at entry
+module _ (d : tie.Start) where
+  abbrev words : List ℕ
+  words = now (d .args .w)
+
+  abbrev new : List Message
+  new = d .args .m ∷ []
+
+  long : length words ≡ simulationSize
+  long = words-long words (d .pre .valid)
+
+-- the two counts are read
+module _ (c : tie.After-slice-known3) where
+  abbrev entry : tie.Start
+  entry = c .before .before .before
+
+  room : (lengthOf (words entry) + 1 ≤ systemMessages) × (sentOf (words entry) + 1 ≤ lastNumber)
+  room =
+      let p = entry .pre in
+      room-left (words entry) 1 (new entry) (p .valid) refl (p .room) (p .named)
+      (omega (arith, c .before .before .slice-known .given 5))
+
+-- the message is posted
+module _ (c : tie.After-slice-known4) where
+  abbrev read : tie.After-slice-known3
+  read = c .before .before .before .before
+
 slice-read-len : tie.Need-slice-read-len
-slice-read-len c =
-    let d = c .before .before in
-    omega (arith, words-long (now (d .args .w)) (d .pre .valid))
+slice-read-len c = omega (arith, long (c .before .before))
 
 cast-len : tie.Need-cast-len
-cast-len c =
-    let d = c .before .before in
-    record { fits = omega (arith, transit-few (now (d .args .w)) (d .pre .valid)) }
-
-slice-read-sent : tie.Need-slice-read-sent
-slice-read-sent c =
-    let d = c .before .before .before in
-    omega (arith, words-long (now (d .args .w)) (d .pre .valid))
-
-part-post-message-end : tie.Need-part-post-message-end
-part-post-message-end c =
-    let d = c .before .before .before in
-    omega (arith, words-long (now (d .args .w)) (d .pre .valid))
+cast-len c = let d = c .before .before in record { fits = omega (arith, transit-few (words d) (d .pre .valid)) }
 
 post-message-requires : tie.Need-post-message-requires
 post-message-requires c κs =
-    let d = c .before .before .before .before in
-    let room = room-left (now (d .args .w)) 1 (d .args .m ∷ []) (d .pre .valid) refl (d .pre .room) (d .pre .named) (omega (arith, c .before .before .before .slice-known .given 5)) in
-    (sized-with (now (d .args .w)) 1 (d .args .m ∷ []) (d .pre .valid) refl (d .pre .room) (d .pre .named) (room .0), room .1, both (format.valid (d .args .m)) true (d .pre .range) .0)
+    let d = entry (c .before) in
+    let p = d .pre in
+    let r = room (c .before) in
+    (sized-with (words d) 1 (new d) (p .valid) refl (p .room) (p .named) (r .0), r .1, both (format.valid (d .args .m)) true (p .range) .0)
 
 add-w : tie.Need-add-w
-add-w c =
-    let d = c .before .before .before .before .before .before .before in
-    let room = room-left (now (d .args .w)) 1 (d .args .m ∷ []) (d .pre .valid) refl (d .pre .room) (d .pre .named) (omega (arith, c .before .before .before .before .before .before .slice-known .given 5)) in
-    record { fits = omega (arith, room .0, room .1) }
+add-w c = let r = room (read c) in record { fits = omega (arith, r .0, r .1) }
 
 cast-w : tie.Need-cast-w
-cast-w c =
-    let d = c .before .before .before .before .before .before .before in
-    let room = room-left (now (d .args .w)) 1 (d .args .m ∷ []) (d .pre .valid) refl (d .pre .room) (d .pre .named) (omega (arith, c .before .before .before .before .before .before .slice-known .given 5)) in
-    record { fits = omega (arith, room .0, room .1) }
+cast-w c = let r = room (read c) in record { fits = omega (arith, r .0, r .1) }
 
 slice-write-w : tie.Need-slice-write-w
 slice-write-w c =
-    let d = c .before .before .before .before .before .before .before in
-    omega (arith, posted-long (now (d .args .w)) 1 (d .args .m ∷ []) (d .pre .valid) refl (d .pre .room) (d .pre .named) _ (c .before .before .post-message .ensures))
+    let d = entry (read c) in
+    let p = d .pre in
+    omega (arith, posted-long (words d) 1 (new d) (p .valid) refl (p .room) (p .named) _ (c .before .before .post-message .ensures))
 
 add-w-2 : tie.Need-add-w-2
-add-w-2 c =
-    let d = c .before .before .before .before .before .before .before in
-    let room = room-left (now (d .args .w)) 1 (d .args .m ∷ []) (d .pre .valid) refl (d .pre .room) (d .pre .named) (omega (arith, c .before .before .before .before .before .before .slice-known .given 5)) in
-    record { fits = omega (arith, room .0, room .1) }
+add-w-2 c = let r = room (read c) in record { fits = omega (arith, r .0, r .1) }
 
 slice-write-w-2 : tie.Need-slice-write-w-2
 slice-write-w-2 c =
-    let d = c .before .before .before .before .before .before .before in
-    omega (arith, counted-long (now (d .args .w)) 1 (d .args .m ∷ []) (d .pre .valid) refl (d .pre .room) (d .pre .named) _ (c .before .before .post-message .ensures) (lengthOf (now (d .args .w)) + 1))
+    let d = entry (read c) in
+    let p = d .pre in
+    omega (
+      arith,
+      counted-long (words d) 1 (new d) (p .valid) refl (p .room) (p .named) _ (c .before .before .post-message .ensures)
+          (lengthOf (words d) + 1),
+    )
 
 returns : tie.Need-returns
 returns c =
-    let d = c .before .before .before .before .before .before .before in
-    send-becomes (now (d .args .w)) 1 (d .args .m ∷ []) (d .pre .valid) refl (d .pre .room) (d .pre .named) _ (c .before .before .post-message .ensures)
+    let d = entry (read c) in
+    let p = d .pre in
+    send-becomes (words d) 1 (new d) (p .valid) refl (p .room) (p .named) _ (c .before .before .post-message .ensures)
 
 pub send-message-spec : {M : Type 1} → statement M
 send-message-spec =
@@ -79,10 +95,10 @@ send-message-spec =
     (tie.spec
     slice-read-len
     cast-len
-    slice-read-sent
+    (λ c. omega (arith, long (entry c)))
     (λ c. search needs)
     (λ c. search needs)
-    part-post-message-end
+    (λ c. omega (arith, long (entry c)))
     post-message-requires
     add-w
     cast-w

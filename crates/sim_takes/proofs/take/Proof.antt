@@ -23,7 +23,8 @@ module _ (c : tie.Else1) where
 returns : tie.Need-returns
 returns c =
     let d = c .before .before .before .before .before .before in
-    take-nothing (now (d .args .w)) (d .args .number) (d .pre) _ (c .before .before .before .find-pending .ensures) (c .if1 .taken ∙ c .before .in-transit .ensures)
+    take-nothing (now (d .args .w)) (d .args .number) (d .pre) _ (c .before .before .before .find-pending .ensures)
+    (c .if1 .taken ∙ c .before .in-transit .ensures)
 
 message-at-requires : tie.Need-message-at-requires
 message-at-requires c κs =
@@ -33,12 +34,14 @@ message-at-requires c κs =
 deliver-requires : tie.Need-deliver-requires
 deliver-requires c κs =
     let f = c .before .before .before in
-    take-pends (words f) (entry f .args .number) (entry f .pre) _ (f .before .before .before .find-pending .ensures) (found f) _ (c .before .message-at .ensures) _ refl
+    take-pends (words f) (entry f .args .number) (entry f .pre) _ (f .before .before .before .find-pending .ensures) (found f) _
+    (c .before .message-at .ensures) _ refl
 
 returns-2 : tie.Need-returns-2
 returns-2 c =
     let f = c .before .before .before .before .before .before in
-    take-leaves (words f) (entry f .args .number) (entry f .pre) _ (f .before .before .before .find-pending .ensures) (found f) _ _ (c .before .before .deliver .ensures)
+    take-leaves (words f) (entry f .args .number) (entry f .pre) _ (f .before .before .before .find-pending .ensures) (found f) _ _
+    (c .before .before .deliver .ensures)
 
 pub take-spec : {M : Type 1} → statement M
 take-spec =
