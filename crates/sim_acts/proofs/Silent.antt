@@ -38,7 +38,8 @@ use Rattle.sim_layout.specs.Parts.{clientBlockOf, serverBlockOf, ServerIn}
 use Rattle.sim_layout.proofs.PlaceLaws.{client-place, server-place}
 use Rattle.sim_changes.specs.declared.Moved.the-variants.{Sent, Refused}
 use Rattle.sim_changes.specs.Happens.{happens, Leaves, movedOf}
-use Rattle.sim_changes.specs.Changes.{Becomes, HasClient, HasServer, withClient, withServer, withTransit, withClients}
+use Rattle.sim_changes.specs.Changes.{Becomes, HasClient, HasServer, withTransit, withClients}
+use Rattle.sim_changes.specs.Inner.{withClient, withServer}
 use Rattle.sim_changes.proofs.Answers.{falls, ups, drops, drops-nothing, downs}
 use Rattle.sim_changes.proofs.Becoming.{sound, client-valid, server-valid, client-becomes, server-becomes}
 use Rattle.sim_changes.proofs.Messages.{its-transit}

@@ -38,7 +38,8 @@ use Rattle.sim_layout.proofs.LendLaws.{client-block-long, server-block-long}
 use Rattle.sim_layout.proofs.PlaceLaws.{put-set}
 use Rattle.sim_layout.proofs.PartLaws.{Is, itself-is, is-transit-store, is-head-store}
 use Rattle.sim_layout.proofs.TestLaws.{worst-more}
-use Rattle.sim_changes.specs.Changes.{Becomes, withClient, withServer, withTransit, withClients}
+use Rattle.sim_changes.specs.Changes.{Becomes, withTransit, withClients}
+use Rattle.sim_changes.specs.Inner.{withClient, withServer}
 
 -- all that `valid` says but that the most is noted
 pub record Sound (w : List ℕ) : Type 0 where

@@ -51,10 +51,9 @@ use Rattle.sim_changes.specs.declared.ClientAct.{ClientAct}
 use Rattle.sim_changes.specs.declared.ClientAct.the-variants as act
 use Rattle.sim_changes.specs.declared.Moved.the-variants.{Sent, Refused}
 use Rattle.sim_changes.specs.Happens.{happens, Leaves, movedOf}
-use Rattle.sim_changes.specs.Changes.{Becomes, HasClient, HasSlot, Pends, Sendable, hasRoom, withClient, withClients, withTransit, sending, numberAt}
-use Rattle.sim_changes.specs.Changes.{outBytes}
-use Rattle.sim_changes.specs.Inner.{ClientMay, clientEvent, ClientAsks, clientOutcome, clientStep, clientRest, clientGone, clientDowns, ClientStores}
-use Rattle.sim_changes.specs.Inner.{clientStored}
+use Rattle.sim_changes.specs.Changes.{Becomes, HasClient, HasSlot, Pends, withClients, withTransit, numberAt}
+use Rattle.sim_changes.specs.Inner.{Sendable, hasRoom, withClient, sending, outBytes, ClientAsks, clientOutcome, clientStep, clientRest, clientGone, clientDowns, ClientStores, clientStored}
+use Rattle.sim_changes.specs.Acts.{ClientMay, clientEvent}
 use Rattle.sim_changes.proofs.Answers.{fallen-tries, fallen-exits, tries-twice, tries-spent, tries, exits-outside, exits}
 use Rattle.sim_changes.proofs.Leaving.{leaves-refused, view-noted}
 use Rattle.sim_changes.proofs.Parties.{client-in, living-is}

@@ -23,7 +23,8 @@ use Rattle.sim_layout.specs.Parts.{clientBlockOf, serverBlockOf, ClientIn, Serv
 use Rattle.sim_layout.proofs.ViewLaws.{setting-kept, clients-servers}
 use Rattle.sim_layout.proofs.PlaceLaws.{client-place, server-place}
 use Rattle.sim_layout.proofs.LendLaws.{came-back, client-part, client-block-long}
-use Rattle.sim_changes.specs.Changes.{Becomes, HasClient, HasServer, withClient, withClients}
+use Rattle.sim_changes.specs.Changes.{Becomes, HasClient, HasServer, withClients}
+use Rattle.sim_changes.specs.Inner.{withClient}
 use Rattle.sim_changes.proofs.Stores.{sets-over, client-block-stored}
 use Rattle.sim_changes.proofs.Becoming.{sound, Near, few-clients, few-servers, client-valid, client-near, most-becomes, client-becomes}
 use Rattle.system.specs.Limits.{systemClients, systemServers}

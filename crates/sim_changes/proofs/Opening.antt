@@ -43,7 +43,8 @@ use Rattle.sim_layout.proofs.ValidLaws.{all-valid, block-here, block-other, fro
 use Rattle.sim_layout.proofs.PartLaws.{Is, itself-is, is-client-store, is-server-store, is-head-store, head-word, setting-is, view-is, settingIn, systemIn}
 use Rattle.sim_layout.proofs.LendLaws.{client-block-long, server-block-long}
 use Rattle.system.specs.declared.Setting.{Setting}
-use Rattle.sim_changes.specs.Opening.{Cleared, newClient, newServer, inTurn, Starts}
+use Rattle.sim_changes.specs.Opening.{Starts}
+use Rattle.sim_changes.specs.Inner.{Cleared, newClient, newServer, inTurn}
 use Rattle.sim_changes.proofs.Stores.{sets-over, client-block-from, server-block-stored}
 use Rattle.system.specs.Limits.{systemClients, systemServers}
 use Rattle.sim_transit.specs.Slots.{transitSize}

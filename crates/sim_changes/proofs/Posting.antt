@@ -27,7 +27,8 @@ use Rattle.sim_transit.proofs.Kept.{valid-sized, length-slots}
 use Rattle.sim_layout.specs.Layout.{settingOf, lengthOf, sentOf, transitWords, view, valid, transitFrom, simulationSize}
 use Rattle.sim_layout.proofs.ValidLaws.{facts}
 use Rattle.sim_layout.proofs.LendLaws.{came-back}
-use Rattle.sim_changes.specs.Changes.{Becomes, CanSend, hasRoom, sending}
+use Rattle.sim_changes.specs.Changes.{Becomes}
+use Rattle.sim_changes.specs.Inner.{CanSend, hasRoom, sending}
 use Rattle.sim_changes.proofs.Becoming.{sent-becomes}
 use Rattle.sim_changes.proofs.Messages.{lent-sized}
 use Rattle.system.specs.Limits.{systemMessages, lastNumber}

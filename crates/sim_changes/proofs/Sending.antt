@@ -29,7 +29,8 @@ use Rattle.sim_transit.proofs.PostLaws.{messages-read-buffer}
 use Rattle.sim_layout.specs.Layout.{settingOf, lengthOf, sentOf, view, valid}
 use Rattle.sim_changes.specs.declared.Moved.the-variants.{Sent, Refused}
 use Rattle.sim_changes.specs.Happens.{happens, Leaves, movedOf}
-use Rattle.sim_changes.specs.Changes.{Becomes, Sendable, hasRoom, sending, outBytes, CanSend}
+use Rattle.sim_changes.specs.Changes.{Becomes}
+use Rattle.sim_changes.specs.Inner.{Sendable, hasRoom, sending, outBytes, CanSend}
 use Rattle.sim_changes.proofs.Leaving.{after-is}
 use Rattle.sim_changes.proofs.SentLaws.{Sends}
 use Rattle.sim_changes.proofs.Posting.{view-long, view-sent, length-numbered}

@@ -36,7 +36,7 @@ use Rattle.sends.proofs.ServerSends as of-server
 use Rattle.sends.proofs.ServerSends.{Knows, good-knows}
 use Rattle.system.specs.Limits.{systemServers}
 use Rattle.system.specs.Numbered.{clientNo, serverNo}
-use Rattle.sim_changes.specs.Changes.{outBytes}
+use Rattle.sim_changes.specs.Inner.{outBytes}
 
 -- messages that a simulation with n servers and so many clients can send
 pub record Sends (n clients : ℕ) (l : List Message) : Type 0 where

@@ -55,9 +55,10 @@ use Rattle.sim_changes.specs.declared.ServerAct.{ServerAct}
 use Rattle.sim_changes.specs.declared.ServerAct.the-variants as act
 use Rattle.sim_changes.specs.declared.Moved.the-variants.{Sent, Refused}
 use Rattle.sim_changes.specs.Happens.{happens, Leaves, movedOf}
-use Rattle.sim_changes.specs.Changes.{Becomes, HasClient, HasServer, HasSlot, Missing, Pends, CanSend, hasRoom, withServer, withTransit, sending}
+use Rattle.sim_changes.specs.Changes.{Becomes, HasClient, HasServer, HasSlot, Missing, Pends, withTransit}
+use Rattle.sim_changes.specs.Inner.{CanSend, hasRoom, withServer, sending, serverOutcome, serverStep, serverRest, ServerStores, serverStored}
 use Rattle.sim_changes.specs.Changes.{numberAt, tagged}
-use Rattle.sim_changes.specs.Inner.{ServerMay, serverEvent, serverOutcome, serverStep, serverRest, ServerStores, serverStored}
+use Rattle.sim_changes.specs.Acts.{ServerMay, serverEvent}
 use Rattle.sim_changes.proofs.Answers.{checks, checks-down, misses, misses-nobody, misses-living, misses-down}
 use Rattle.sim_changes.proofs.Becoming.{sound, few-clients}
 use Rattle.sim_changes.proofs.Leaving.{leaves-refused}

@@ -37,7 +37,8 @@ use Rattle.sim_layout.specs.Layout.{settingOf, mostOf, view, serversFrom, clien
 use Rattle.sim_layout.specs.Parts.{clientBlockOf, serverBlockOf}
 use Rattle.sim_layout.proofs.PlaceLaws.{client-place, server-place}
 use Rattle.sim_layout.proofs.ValidLaws.{facts}
-use Rattle.sim_changes.specs.Changes.{Becomes, HasClient, HasServer, withClient, withServer}
+use Rattle.sim_changes.specs.Changes.{Becomes, HasClient, HasServer}
+use Rattle.sim_changes.specs.Inner.{withClient, withServer}
 use Rattle.sim_changes.proofs.Becoming.{sound, few-clients, client-valid, server-valid, client-becomes, server-becomes}
 use Rattle.system.specs.Limits.{systemClients}
 use Rattle.system.specs.Numbered.{clientNo, serverNo}

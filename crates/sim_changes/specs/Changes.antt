@@ -1,33 +1,23 @@
 -- One part of a simulation changed: the words are a simulation of the same setting again, and its system differs in that part alone.
 use mathlib.Core.Path.{_≡_}
-use Prim.Native.Nat.{ℕ, _+_, _-_, _≤_, _<_, max}
-use mathlib.Core.Bool.{Bool, true, false, _&&_, _||_}
-use mathlib.Core.List.{List, _++_}
+use Prim.Native.Nat.{ℕ, _≤_, _<_, max}
+use mathlib.Core.Bool.{true, false}
+use mathlib.Core.List.{List}
 use mathlib.Core.Option.{some}
-use lib.Dec.{eqb, leb}
-use lib.ListN.{length}
-use Rattle.ids.specs.Lists.{every}
 use Rattle.ids.specs.declared.ClientId.{ClientId}
 use Rattle.ids.specs.declared.ServerId.{ServerId}
 use Rattle.ids.specs.declared.Timestamp.{Timestamp}
 use Rattle.ids.specs.declared.Request.{Request as Pair}
 use Rattle.ids.specs.declared.Owner.the-variants.{Of}
-use Rattle.wire.specs.Format as format
 use Rattle.wire.specs.declared.Message.{Message}
 use Rattle.wire.specs.declared.Message.the-variants.{Request, Yield, Release, Inquiry}
 use Rattle.server_votes.specs.declared.Tag.{Tag}
 use Rattle.server_votes.specs.declared.Tag.the-variants as tag
 use Rattle.system.specs.declared.MessageNumber.{MessageNumber}
-use Rattle.system.specs.Limits.{systemMessages, lastNumber}
-use Rattle.system.specs.Numbered.{put}
-use Rattle.system.specs.Transit.{InTransit, numbered, pending, again}
-use Rattle.system.specs.Places.{System, ClientPlace, ServerPlace, clientAt, serverAt, worst}
-use Rattle.sim_layout.specs.Layout.{settingOf, lengthOf, sentOf, transitWords, view, valid}
-use Rattle.sim_transit.specs.Slots.{slotAt, names, messagesIn}
-
--- the bytes into which an event's step writes what it sends: more than any step needs
-abbrev pub outBytes : ℕ
-outBytes = 512
+use Rattle.system.specs.Transit.{InTransit, pending, again}
+use Rattle.system.specs.Places.{System, ClientPlace, clientAt, serverAt, worst}
+use Rattle.sim_layout.specs.Layout.{settingOf, lengthOf, transitWords, view, valid}
+use Rattle.sim_transit.specs.Slots.{slotAt}
 
 -- w′ is a simulation of w's setting, and its system is u
 pub record Becomes (w w′ : List ℕ) (u : System) : Type 0 where
@@ -75,39 +65,9 @@ tagged tag.Yield k j t = Yield k j t
 tagged tag.Release k j t = Release k j t
 tagged tag.Inquiry k j t = Inquiry k j t
 
--- the system with one part changed
-abbrev pub withClient : System → ClientId → ClientPlace → System
-withClient u k p = record { clients = put (u .clients) (k .0) p; servers = u .servers; transit = u .transit; sent = u .sent; most = u .most }
-
-abbrev pub withServer : System → ServerId → ServerPlace → System
-withServer u j q = record { clients = u .clients; servers = put (u .servers) (j .0) q; transit = u .transit; sent = u .sent; most = u .most }
-
 abbrev pub withTransit : System → List InTransit → System
 withTransit u l = record { clients = u .clients; servers = u .servers; transit = l; sent = u .sent; most = u .most }
-
--- messages are sent
-abbrev pub sending : System → List Message → System
-sending u l =
-    record { clients = u .clients; servers = u .servers; transit = u .transit ++ numbered (u .sent) l; sent = u .sent + length l; most = u .most }
 
 -- the clients are these, and the most servers down within one of their epochs is noted
 abbrev pub withClients : System → List ClientPlace → System
 withClients u l = record { clients = l; servers = u .servers; transit = u .transit; sent = u .sent; most = max (u .most) (worst l) }
-
--- so many messages may be sent once `gone` messages are gone: refusal 19, turned round
-unfoldable pub hasRoom : List ℕ → ℕ → ℕ → Bool
-hasRoom w gone count = eqb count 0 || (leb (lengthOf w - gone + count) systemMessages && leb (sentOf w + count) lastNumber)
-
--- the first messages of the bytes can be sent
-pub record Sendable (w : List ℕ) (count : ℕ) (bytes : List ℕ) : Type 0 where
-  pub valid : valid w ≡ true
-  pub whole : length (messagesIn count bytes) ≡ count
-  pub room : hasRoom w 0 count ≡ true
-  pub named : every (names (settingOf w .n) (settingOf w .clients)) (messagesIn count bytes) ≡ true
-
--- these messages can be sent
-pub record CanSend (w : List ℕ) (l : List Message) : Type 0 where
-  pub valid : valid w ≡ true
-  pub room : hasRoom w 0 (length l) ≡ true
-  pub named : every (names (settingOf w .n) (settingOf w .clients)) l ≡ true
-  pub range : every format.valid l ≡ true

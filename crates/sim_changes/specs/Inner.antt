@@ -1,14 +1,13 @@
--- A party's act: which event it is, what the party's call does, and what the event leaves but for the messages that it sends.
--- Only contracts of functions that our own crates call cite these.
+-- Definitions that only the contracts of private functions cite: no promise rests on them. Of a party's act: what its call does, and what the
+-- event leaves but for the messages that it sends.
 use mathlib.Core.Path.{_≡_}
-use mathlib.Core.Bool.{true}
-use Prim.Native.Nat.{ℕ, _≤_}
-use mathlib.Core.List.{List, []}
+use mathlib.Core.Bool.{true, Bool, _&&_, _||_}
+use Prim.Native.Nat.{ℕ, _≤_, _+_, _-_, zero, suc}
+use mathlib.Core.List.{List, [], _++_}
 use Rattle.ids.specs.Limits.{validOwner}
 use Rattle.ids.specs.declared.ClientId.{ClientId}
 use Rattle.ids.specs.declared.ServerId.{ServerId}
 use Rattle.wire.specs.Step.{Step, Outcome, stepped}
-use Rattle.wire.specs.declared.Message.the-variants.{Response, Check as CHECK}
 use Rattle.server_votes.specs.Figure1 as votes
 use Rattle.server.specs.Record as server
 use Rattle.server.specs.Calls.{checkOutcome, suspectOutcome, taken, serverAfter}
@@ -19,36 +18,83 @@ use Rattle.client_responses.specs.Figure1.{enough}
 use Rattle.client.specs.Record as client-record
 use Rattle.client.specs.Calls.{beginOutcome, exitOutcome, clientAfter}
 use Rattle.client.specs.declared.Client.{Client}
-use Rattle.words.specs.Records.{clientFrom, serverFrom, maxWord}
-use Rattle.system.specs.declared.Event.{Event}
-use Rattle.system.specs.declared.Event.the-variants.{Try, Exit, Take, Miss, Check}
+use Rattle.words.specs.Records.{clientFrom, serverFrom, maxWord, clientWords, serverWords}
 use Rattle.system.specs.Numbered.{put}
-use Rattle.system.specs.Transit.{InTransit, replaced, gone, keeping}
-use Rattle.system.specs.Places.{System, clientAt, serverAt, downFrom}
-use Rattle.sim_transit.specs.Slots.{slotAt}
+use Rattle.system.specs.Transit.{InTransit, replaced, gone, keeping, numbered}
+use Rattle.system.specs.Places.{System, clientAt, serverAt, downFrom, ClientPlace, ServerPlace}
+use Rattle.sim_transit.specs.Slots.{slotAt, names, messagesIn}
 use Rattle.sim_blocks.specs.Blocks.{clientRecord, serverRecord}
-use Rattle.sim_layout.specs.Layout.{settingOf, transitWords, view}
-use Rattle.sim_layout.specs.Parts.{clientBlockOf, serverBlockOf}
-use Rattle.sim_changes.specs.Changes.{HasClient, HasServer, Missing, Pends, numberAt, tagged, withClients, withServer, withTransit}
+use Rattle.sim_layout.specs.Layout.{settingOf, transitWords, view, lengthOf, sentOf, valid, blank}
+use Rattle.sim_layout.specs.Parts.{clientBlockOf, serverBlockOf, withClientBlock, withServerBlock}
+use Rattle.sim_changes.specs.Changes.{withClients, withTransit}
+use Rattle.sim_changes.specs.Acts.{ClientMay, ServerMay}
 use Rattle.sim_changes.specs.declared.ClientAct.{ClientAct}
 use Rattle.sim_changes.specs.declared.ClientAct.the-variants as client-act
 use Rattle.sim_changes.specs.declared.ServerAct.{ServerAct}
 use Rattle.sim_changes.specs.declared.ServerAct.the-variants as server-act
+use lib.Dec.{eqb, leb}
+use lib.ListN.{length, set}
+use Rattle.ids.specs.Lists.{every}
+use Rattle.wire.specs.Format as format
+use Rattle.wire.specs.declared.Message.{Message}
+use Rattle.system.specs.Limits.{systemMessages, lastNumber}
+use lib.Seq.{sets}
+use Rattle.client.specs.Calls as client-calls
+use Rattle.server.specs.Calls as server-calls
+
+-- one part changed, and messages sent ---------------------------------------------------------------------------------------
+
+-- the bytes into which an event's step writes what it sends: more than any step needs
+abbrev pub outBytes : ℕ
+outBytes = 512
+
+-- the system with one part changed
+abbrev pub withClient : System → ClientId → ClientPlace → System
+withClient u k p = record { clients = put (u .clients) (k .0) p; servers = u .servers; transit = u .transit; sent = u .sent; most = u .most }
+
+abbrev pub withServer : System → ServerId → ServerPlace → System
+withServer u j q = record { clients = u .clients; servers = put (u .servers) (j .0) q; transit = u .transit; sent = u .sent; most = u .most }
+
+-- messages are sent
+abbrev pub sending : System → List Message → System
+sending u l =
+    record { clients = u .clients; servers = u .servers; transit = u .transit ++ numbered (u .sent) l; sent = u .sent + length l; most = u .most }
+
+-- so many messages may be sent once `gone` messages are gone: refusal 19, turned round
+unfoldable pub hasRoom : List ℕ → ℕ → ℕ → Bool
+hasRoom w gone count = eqb count 0 || (leb (lengthOf w - gone + count) systemMessages && leb (sentOf w + count) lastNumber)
+
+-- the first messages of the bytes can be sent
+pub record Sendable (w : List ℕ) (count : ℕ) (bytes : List ℕ) : Type 0 where
+  pub valid : valid w ≡ true
+  pub whole : length (messagesIn count bytes) ≡ count
+  pub room : hasRoom w 0 count ≡ true
+  pub named : every (names (settingOf w .n) (settingOf w .clients)) (messagesIn count bytes) ≡ true
+
+-- these messages can be sent
+pub record CanSend (w : List ℕ) (l : List Message) : Type 0 where
+  pub valid : valid w ≡ true
+  pub room : hasRoom w 0 (length l) ≡ true
+  pub named : every (names (settingOf w .n) (settingOf w .clients)) l ≡ true
+  pub range : every format.valid l ≡ true
+
+-- all words are 0, as many as before
+pub record Cleared (w w′ : List ℕ) : Type 0 where
+  pub same : length w′ ≡ length w
+  pub zeros : blank w′ ≡ true
+
+unfoldable pub newClient : ℕ → ℕ → ClientId → List ℕ → List ℕ
+newClient n m k w = withClientBlock w k (sets (set (clientBlockOf w k) 0 1) 1 (clientWords (client-calls.newResult n m k .client)))
+
+unfoldable pub newServer : ℕ → ServerId → List ℕ → List ℕ
+newServer n j w = withServerBlock w j (sets (set (serverBlockOf w j) 0 1) 1 (serverWords (server-calls.newResult n j .server)))
+
+-- each of the first so many parties put, one after another
+unfoldable pub inTurn : (ℕ → List ℕ → List ℕ) → ℕ → List ℕ → List ℕ
+inTurn f zero w = w
+inTurn f (suc i) w = f (suc i) (inTurn f i w)
 
 -- a client's act --------------------------------------------------------------------------------------------------------------
-
--- client k is there, and the message that it takes is pending
-abbrev pub ClientMay : List ℕ → ClientId → ClientAct → Type 0
-ClientMay w k client-act.Try = HasClient w k
-ClientMay w k client-act.Exit = HasClient w k
-ClientMay w k (client-act.Response i j o) = Pends w i (Response k j o)
-ClientMay w k (client-act.Check i j t) = Pends w i (CHECK k j t)
-
-abbrev pub clientEvent : List ℕ → ClientId → ClientAct → Event
-clientEvent w k client-act.Try = Try k
-clientEvent w k client-act.Exit = Exit k
-clientEvent w k (client-act.Response i j o) = Take (numberAt w i)
-clientEvent w k (client-act.Check i j t) = Take (numberAt w i)
 
 -- what the call asks of the record, and its outcome before the room is known
 abbrev pub ClientAsks : ClientAct → Client → Type 0
@@ -105,17 +151,6 @@ clientStored w k a =
     (put (view w .clients) (k .0) (record { living = true; state = clientStep w k a .state; downs = clientDowns w k a }))
 
 -- a server's act --------------------------------------------------------------------------------------------------------------
-
--- server j is there, and its owner has fallen, or the message that it takes is pending
-abbrev pub ServerMay : List ℕ → ServerId → ServerAct → Type 0
-ServerMay w j server-act.Check = HasServer w j
-ServerMay w j server-act.Suspect = Missing w j
-ServerMay w j (server-act.Take i tag k t) = Pends w i (tagged tag k j t)
-
-abbrev pub serverEvent : List ℕ → ServerId → ServerAct → Event
-serverEvent w j server-act.Check = Check j
-serverEvent w j server-act.Suspect = Miss j
-serverEvent w j (server-act.Take i tag k t) = Take (numberAt w i)
 
 abbrev pub serverOutcome : ServerAct → ServerId → Server → Outcome votes.State
 serverOutcome server-act.Check j s = checkOutcome s

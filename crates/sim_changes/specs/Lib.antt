@@ -1,4 +1,5 @@
 pub mod Changes
 pub mod Opening
 pub mod Happens
+pub mod Acts
 pub mod Inner

@@ -3,7 +3,7 @@ use denote.Ref.{now}
 use Rattle.sim_changes.proofs.Opening.{client-opened, length-client}
 use mathlib.Core.Path.{_≡_, ap, _∙_}
 use lib.ListN.{length}
-use Rattle.sim_changes.specs.Opening.{newClient}
+use Rattle.sim_changes.specs.Inner.{newClient}
 use borrow.Author.Needs.{needs}
 use Rattle.sim_changes.proofs.new_client.Statement.{statement}
 use Rattle.sim_changes.proofs.new_client.Tie as tie

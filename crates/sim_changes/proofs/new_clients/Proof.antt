@@ -2,7 +2,7 @@
 use native.Mathlib.Omega.{arith}
 use Prim.Native.Nat.{ℕ, _-_}
 use Rattle.sim_changes.proofs.Opening.{Putting, putting-none, putting-client, putting-more, putting-all, length-client}
-use Rattle.sim_changes.specs.Opening.{newClient}
+use Rattle.sim_changes.specs.Inner.{newClient}
 use borrow.Author.Needs.{needs}
 use Rattle.sim_changes.proofs.new_clients.Statement.{statement}
 use Rattle.sim_changes.proofs.new_clients.Tie as tie

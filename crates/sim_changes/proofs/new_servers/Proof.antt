@@ -2,7 +2,7 @@
 use native.Mathlib.Omega.{arith}
 use Prim.Native.Nat.{ℕ, _-_}
 use Rattle.sim_changes.proofs.Opening.{Putting, putting-none, putting-server, putting-more, putting-all, length-server}
-use Rattle.sim_changes.specs.Opening.{newServer}
+use Rattle.sim_changes.specs.Inner.{newServer}
 use borrow.Author.Needs.{needs}
 use Rattle.sim_changes.proofs.new_servers.Statement.{statement}
 use Rattle.sim_changes.proofs.new_servers.Tie as tie
