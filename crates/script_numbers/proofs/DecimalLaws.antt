@@ -5,7 +5,7 @@ use native.Mathlib.Omega.{arith}
 use mathlib.Core.Path.{_≡_}
 use mathlib.Core.Bool.{true, false}
 use mathlib.Core.Logic.{⊎-elim}
-use mathlib.Core.List.{[], _∷_, _++_}
+use mathlib.Core.List.{List, [], _∷_, _++_}
 use lib.Dec.{ltb}
 use lib.ListN.{length, length-append}
 use borrow.Author.Tests.{lt-ltb, le-ltb, ltb-true, ltb-false}
@@ -16,8 +16,11 @@ pub decimal-one : (x : ℕ) → x < 10 → decimal x ≡ (48 + x) ∷ []
 unfolding decimal lastDigits
 decimal-one x h = rw (lt-ltb x 10 h)
 
+abbrev pub lastOf : ℕ → ℕ → List ℕ
+lastOf w x = lastDigits w (ltb x 10) x
+
 -- x + 1 digits are enough for x, and so are more
-enough : (w v x : ℕ) → x ≤ w → x ≤ v → lastDigits (suc w) x ≡ lastDigits (suc v) x
+enough : (w v x : ℕ) → x ≤ w → x ≤ v → lastOf (suc w) x ≡ lastOf (suc v) x
 unfolding lastDigits
 enough zero v x h k = let l : x < 10 = omega arith in rw (lt-ltb x 10 l)
 enough (suc w) zero x h k = let l : x < 10 = omega arith in rw (lt-ltb x 10 l)

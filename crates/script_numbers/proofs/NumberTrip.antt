@@ -13,21 +13,21 @@ use borrow.Author.Tests.{le-leb, leb-true, lt-ltb, ltb-true, ltb-false, eqb-true
 use Rattle.ids.specs.Choice.{maybe}
 use Rattle.ids.proofs.Choice.{decided, both, and-true, passed}
 use Rattle.script_numbers.specs.Decimals.{largest32, isDigit, digitUpTo, digitsUpTo, numberUpTo, number, lastDigits, decimal}
-use Rattle.script_numbers.proofs.DecimalLaws.{decimal-one, decimal-more}
+use Rattle.script_numbers.proofs.DecimalLaws.{lastOf, decimal-one, decimal-more}
 use Rattle.script_numbers.proofs.ReadLaws.{number-digits}
 
 -- a printed number is read ----------------------------------------------------------------------------------------------------
 
-some-digit : (w x : ℕ) → 0 < length (lastDigits (suc w) x)
+some-digit : (w x : ℕ) → 0 < length (lastOf (suc w) x)
 unfolding lastDigits
 some-digit w x =
     ⊎-elim
     (λ (t : ltb x 10 ≡ true). rw t (omega arith))
-    (λ (t : ltb x 10 ≡ false). rw t (omega (arith, length-append (lastDigits w (x / 10)) ((48 + x % 10) ∷ []))))
+    (λ (t : ltb x 10 ≡ false). rw t (omega (arith, length-append (lastOf w (x / 10)) ((48 + x % 10) ∷ []))))
     (decided (ltb x 10))
 
 -- the first digit is not 0
-leads : (w x : ℕ) → x ≤ w → 0 < x → getD (lastDigits (suc w) x) 0 0 ≡ 48 → ⊥
+leads : (w x : ℕ) → x ≤ w → 0 < x → getD (lastOf (suc w) x) 0 0 ≡ 48 → ⊥
 unfolding lastDigits
 leads zero x h p e = omega arith
 leads (suc w) x h p e =
@@ -36,8 +36,8 @@ leads (suc w) x h p e =
     (λ (t : ltb x 10 ≡ false).
     let ten : 10 ≤ x = ltb-false x 10 t in
     let d : x / 10 ≤ w = omega arith in
-    let g : getD (lastDigits (suc w) (x / 10) ++ ((48 + x % 10) ∷ [])) 0 0 ≡ 48 = rw t at e in
-    let f = List·getD-append (lastDigits (suc w) (x / 10)) ((48 + x % 10) ∷ []) 0 0 (some-digit w (x / 10)) in
+    let g : getD (lastOf (suc w) (x / 10) ++ ((48 + x % 10) ∷ [])) 0 0 ≡ 48 = rw t at e in
+    let f = List·getD-append (lastOf (suc w) (x / 10)) ((48 + x % 10) ∷ []) 0 0 (some-digit w (x / 10)) in
     leads w (x / 10) d (omega arith) (sym f ∙ g))
     (decided (ltb x 10))
 
@@ -74,7 +74,7 @@ module _ (limit : ℕ) where
       let m : 10 * 0 + x ≤ limit = omega arith in
       rw (digit-is 0 x h m, z)
 
-  digits-last : (w x : ℕ) → x ≤ w → x ≤ limit → digitsUpTo limit 0 (lastDigits (suc w) x) ≡ some x
+  digits-last : (w x : ℕ) → x ≤ w → x ≤ limit → digitsUpTo limit 0 (lastOf (suc w) x) ≡ some x
   unfolding lastDigits
   digits-last zero x h l = let s : x < 10 = omega arith in rw (lt-ltb x 10 s) (one-read x s l)
   digits-last (suc w) x h l =
@@ -85,8 +85,8 @@ module _ (limit : ℕ) where
       (λ (t : ltb x 10 ≡ true). rw t (one-read x (ltb-true x 10 t) l))
       (λ (t : ltb x 10 ≡ false).
       let ten : 10 ≤ x = ltb-false x 10 t in
-      let ih : digitsUpTo limit 0 (lastDigits (suc w) (x / 10)) ≡ some (x / 10) = digits-last w (x / 10) (omega arith) (omega arith) in
-      rw t (digits-behind 0 (lastDigits (suc w) (x / 10)) (48 + x % 10) ∙ rw (ih, digit-is (x / 10) (x % 10) r m, whole)))
+      let ih : digitsUpTo limit 0 (lastOf (suc w) (x / 10)) ≡ some (x / 10) = digits-last w (x / 10) (omega arith) (omega arith) in
+      rw t (digits-behind 0 (lastOf (suc w) (x / 10)) (48 + x % 10) ∙ rw (ih, digit-is (x / 10) (x % 10) r m, whole)))
       (decided (ltb x 10))
 
   zero-read : numberUpTo limit (decimal 0) ≡ some 0
@@ -102,7 +102,7 @@ module _ (limit : ℕ) where
       let n : x ≡ 0 → ⊥ = eqb-false x 0 t in
       let p : 0 < x = omega arith in
       let b : x ≤ x = omega arith in
-      number-digits limit (lastDigits (suc x) x) (λ e. omega (arith, some-digit x x)) (leads x x b p) ∙ digits-last x x b l)
+      number-digits limit (lastOf (suc x) x) (λ e. omega (arith, some-digit x x)) (leads x x b p) ∙ digits-last x x b l)
       (decided (eqb x 0))
 
 pub decimal-read : (x : ℕ) → x ≤ largest32 → number (decimal x) ≡ some x

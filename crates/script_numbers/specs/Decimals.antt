@@ -1,7 +1,7 @@
 -- Decimal numbers as bytes: digits without a leading zero. The digit 0 is byte 48, and 9 is 57.
 -- Printing is for any number; reading takes the largest number that is read.
 use Prim.Native.Nat.{ℕ, zero, suc, _+_, _-_, _*_, _/_, _%_}
-use mathlib.Core.Bool.{Bool, _&&_}
+use mathlib.Core.Bool.{Bool, true, false, _&&_}
 use mathlib.Core.Option.{Option, none, some}
 use mathlib.Core.List.{List, [], _∷_, _++_}
 use lib.Dec.{eqb, leb, ltb}
@@ -35,11 +35,13 @@ numberUpTo limit (b ∷ l) = if eqb b 48 && ltb 0 (length l) then none else digi
 abbrev pub number : List ℕ → Option ℕ
 number = numberUpTo largest32
 
--- the last w digits of x, or all of them if they are fewer
-unfoldable pub lastDigits : ℕ → ℕ → List ℕ
-lastDigits zero x = []
-lastDigits (suc w) x = if ltb x 10 then (48 + x) ∷ [] else lastDigits w (x / 10) ++ ((48 + x % 10) ∷ [])
+-- the last w digits of x, or all of them if they are fewer; `one` says whether x has only one
+-- (it is an argument to match on, so that the recursion ends where a literal is computed)
+unfoldable pub lastDigits : ℕ → Bool → ℕ → List ℕ
+lastDigits zero one x = []
+lastDigits (suc w) true x = (48 + x) ∷ []
+lastDigits (suc w) false x = lastDigits w (ltb (x / 10) 10) (x / 10) ++ ((48 + x % 10) ∷ [])
 
 -- x in decimal: no number x has more than x + 1 digits
 unfoldable pub decimal : ℕ → List ℕ
-decimal x = lastDigits (suc x) x
+decimal x = lastDigits (suc x) (ltb x 10) x
