@@ -43,6 +43,7 @@ pub record FeedLeaves (w input out w′ out′ : List ℕ) : Type 0 where
   pub reader : feeds w (length out) ≡ true → view w′ ≡ fedWithin (length out) (view w) input .now
   pub again : feeds w (length out) ≡ true → valid w′ ≡ true
   pub bytes : feeds w (length out) ≡ true → out′ ≡ sets out 0 (fedWithin (length out) (view w) input .out)
+  pub within : feeds w (length out) ≡ true → length (fedWithin (length out) (view w) input .out) ≤ length out
   pub kept : feeds w (length out) ≡ false → (w′ ≡ w) × (out′ ≡ out)
 
 -- the end: 21, 6 no room for two lines
@@ -61,6 +62,7 @@ pub record FinishLeaves (w out w′ out′ : List ℕ) : Type 0 where
   pub reader : finishes w (length out) ≡ true → view w′ ≡ record { stage = closed; line = [] }
   pub again : finishes w (length out) ≡ true → valid w′ ≡ true
   pub bytes : finishes w (length out) ≡ true → out′ ≡ sets out 0 (finished (view w))
+  pub within : finishes w (length out) ≡ true → length (finished (view w)) ≤ length out
   pub kept : finishes w (length out) ≡ false → (w′ ≡ w) × (out′ ≡ out)
 
 -- Inside, what a valid state gives is handed on: its length, and the length of the line.
@@ -82,20 +84,24 @@ pub record Reads (w : List ℕ) : Type 0 where
   pub more : getD w answeredAt 0 < maxLines
   pub fewer : getD w acceptedAt 0 ≤ getD w answeredAt 0
 
+-- these bytes, no more than a line has, were printed from place `at` on, and r is the place behind them
+pub record Prints (out : List ℕ) (at : ℕ) (l out′ : List ℕ) (r : ℕ) : Type 0 where
+  pub place : r ≡ at + length l
+  pub bytes : out′ ≡ sets out at l
+  pub few : length l ≤ maxPrinted
+
 -- the stage became and printed this, from place `at` on, and r is the place behind it; the line is as it was
 pub record Does (w out : List ℕ) (at : ℕ) (p : Printed Stage) (w′ out′ : List ℕ) (r : ℕ) : Type 0 where
   pub stage : view w′ .stage ≡ p .now
   pub line : view w′ .line ≡ view w .line
   pub again : valid w′ ≡ true
-  pub place : r ≡ at + length (p .out)
-  pub bytes : out′ ≡ sets out at (p .out)
+  pub prints : Prints out at (p .out) out′ r
 
 -- the same of the whole reader
 pub record Takes (out : List ℕ) (at : ℕ) (p : Printed Reader) (w′ out′ : List ℕ) (r : ℕ) : Type 0 where
   pub reader : view w′ ≡ p .now
   pub again : valid w′ ≡ true
-  pub place : r ≡ at + length (p .out)
-  pub bytes : out′ ≡ sets out at (p .out)
+  pub prints : Prints out at (p .out) out′ r
 
 -- the bytes were taken in while there was room for a line
 pub record FedAs (w input out w′ out′ : List ℕ) (r : Progress) : Type 0 where
@@ -103,6 +109,15 @@ pub record FedAs (w input out w′ out′ : List ℕ) (r : Progress) : Type 0 wh
   pub reader : view w′ ≡ fedWithin (length out) (view w) input .now
   pub again : valid w′ ≡ true
   pub bytes : out′ ≡ sets out 0 (fedWithin (length out) (view w) input .out)
+  pub within : length (fedWithin (length out) (view w) input .out) ≤ length out
+
+-- the script was closed, and its end printed
+pub record Closes (w out w′ out′ : List ℕ) (r : ℕ) : Type 0 where
+  pub reader : view w′ ≡ record { stage = closed; line = [] }
+  pub again : valid w′ ≡ true
+  pub place : r ≡ length (finished (view w))
+  pub bytes : out′ ≡ sets out 0 (finished (view w))
+  pub within : length (finished (view w)) ≤ length out
 
 -- an event of a script that runs, and a line that changes nothing
 abbrev pub happened : Script → Event → Printed Stage

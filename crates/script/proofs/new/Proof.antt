@@ -15,7 +15,12 @@ same-length : tie.Need-same-length
 same-length c = search needs
 
 returns-2 : tie.Need-returns-2
-returns-2 c = (newly-answered (now (c .before .before .before .before .before .before .args .w)) (c .before .before .before .before .if1 .left), newly (now (c .before .before .before .before .before .before .args .w)) _ (c .before .before .before .before .if1 .left) (c .before .before .clear .ensures))
+returns-2 c = (
+  newly-answered (now (c .before .before .before .before .before .before .args .w)) (c .before .before .before .before .if1 .left),
+  newly
+      (now (c .before .before .before .before .before .before .args .w)) _ (c .before .before .before .before .if1 .left)
+      (c .before .before .clear .ensures),
+)
 
 pub new-spec : {M : Type 1} → statement M
 new-spec = tie.close (tie.spec returns clear-requires same-length returns-2)
