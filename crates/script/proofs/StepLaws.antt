@@ -396,8 +396,7 @@ module _ (w out : List ℕ) (at : ℕ) (R : Ready w out at) (zeroth : getD w sta
         answered = omega arith;
         accepted = omega arith;
         holding = omega (arith, k);
-        few =
-            (arith, k, few-holders s′ v);
+        few = omega (arith, k, few-holders s′ v);
       }))
       out′ r (prints b (omega (arith, header-short s (in-range-small s in-it)))))
 
