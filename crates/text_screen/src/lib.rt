@@ -97,6 +97,8 @@ pub fn put_report(out: &mut [u8], n: u32, m: u32, f: u32) -> usize
 fn put_event(out: &mut [u8], at: usize, e: Event) -> usize
     ensures { λ r. ⌜ sheetOf (now (out .exit)) r ≡ puts (eventLine e ∷ (newline ∷ []) ∷ []) (sheetOf (now (out .entry)) at) ⌝ }
 {
+    // That its number has 32 bits says that the line has room.
+    script_lines::number_of(e);
     let mut line = [0u8; 16];
     let n = script_lines::put_event(&mut line, 0, e);
     let p = text_sheet::put(out, at, &line[0..n]);

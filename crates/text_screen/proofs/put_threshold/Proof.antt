@@ -11,13 +11,10 @@ unfolding thresholdText
 returns c =
     let d₂ = c .before .before in
     let d₁ = d₂ .before .before .before .before .before in
-    rw (c .before .before .before .before .before .before .before .before .before .before .before .t .given .1) (then _ _ _ (d₁ .put-with .ensures) (d₂ .put .ensures))
-
-returns-2 : tie.Need-returns-2
-unfolding thresholdText puts
-returns-2 c = rw (c .enum-told .given .1)
+    rw (d₁ .before .before .before .before .t .given .1) (then _ _ _ (d₁ .put-with .ensures) (d₂ .put .ensures))
 
 pub put-threshold-spec : {M : Type 1} → statement M
+unfolding thresholdText puts
 put-threshold-spec =
     tie.close
     (tie.spec
@@ -29,4 +26,4 @@ put-threshold-spec =
     (λ c. search needs)
     (λ c. search needs)
     returns
-    returns-2)
+    (λ c. rw (c .enum-told .given .1)))
