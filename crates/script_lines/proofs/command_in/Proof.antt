@@ -9,72 +9,92 @@ use borrow.Author.Needs.{needs}
 use Rattle.script_lines.proofs.command_in.Statement.{statement}
 use Rattle.script_lines.proofs.command_in.Tie as tie
 
-module _ (c : tie.Start) where
-  abbrev its : List ℕ
-  its = now (c .args .w)
-
 module _ (c : tie.Else1) where
-  abbrev word₁ : List ℕ
-  word₁ = its (c .before .before .before .before)
+  abbrev its₁ : List ℕ
+  its₁ = now (c .before .before .before .before .args .w)
 
-  left₁ : Left word₁ (drop 1 commands)
-  left₁ = left-more word₁ _ _ (left-all word₁) _ (c .before .equal .ensures) (c .if1 .left)
+  left₁ : Left its₁ (drop 1 commands)
+  left₁ = left-more its₁ _ _ (left-all its₁) _ (c .before .equal .ensures) (c .if1 .left)
 
 module _ (c : tie.Else2) where
-  abbrev word₂ : List ℕ
-  word₂ = word₁ (c .before .before .before)
+  abbrev last₂ : tie.Else1
+  last₂ = c .before .before .before
 
-  left₂ : Left word₂ (drop 2 commands)
-  left₂ = left-more word₂ _ _ (left₁ (c .before .before .before)) _ (c .before .equal2 .ensures) (c .if2 .left)
+  abbrev its₂ : List ℕ
+  its₂ = its₁ last₂
+
+  left₂ : Left its₂ (drop 2 commands)
+  left₂ = left-more its₂ _ _ (left₁ last₂) _ (c .before .equal2 .ensures) (c .if2 .left)
 
 module _ (c : tie.Else3) where
-  abbrev word₃ : List ℕ
-  word₃ = word₂ (c .before .before .before)
+  abbrev last₃ : tie.Else2
+  last₃ = c .before .before .before
 
-  left₃ : Left word₃ (drop 3 commands)
-  left₃ = left-more word₃ _ _ (left₂ (c .before .before .before)) _ (c .before .equal3 .ensures) (c .if3 .left)
+  abbrev its₃ : List ℕ
+  its₃ = its₂ last₃
+
+  left₃ : Left its₃ (drop 3 commands)
+  left₃ = left-more its₃ _ _ (left₂ last₃) _ (c .before .equal3 .ensures) (c .if3 .left)
 
 module _ (c : tie.Else4) where
-  abbrev word₄ : List ℕ
-  word₄ = word₃ (c .before .before .before)
+  abbrev last₄ : tie.Else3
+  last₄ = c .before .before .before
 
-  left₄ : Left word₄ (drop 4 commands)
-  left₄ = left-more word₄ _ _ (left₃ (c .before .before .before)) _ (c .before .equal4 .ensures) (c .if4 .left)
+  abbrev its₄ : List ℕ
+  its₄ = its₃ last₄
+
+  left₄ : Left its₄ (drop 4 commands)
+  left₄ = left-more its₄ _ _ (left₃ last₄) _ (c .before .equal4 .ensures) (c .if4 .left)
 
 module _ (c : tie.Else5) where
-  abbrev word₅ : List ℕ
-  word₅ = word₄ (c .before .before .before)
+  abbrev last₅ : tie.Else4
+  last₅ = c .before .before .before
 
-  left₅ : Left word₅ (drop 5 commands)
-  left₅ = left-more word₅ _ _ (left₄ (c .before .before .before)) _ (c .before .equal5 .ensures) (c .if5 .left)
+  abbrev its₅ : List ℕ
+  its₅ = its₄ last₅
+
+  left₅ : Left its₅ (drop 5 commands)
+  left₅ = left-more its₅ _ _ (left₄ last₅) _ (c .before .equal5 .ensures) (c .if5 .left)
 
 module _ (c : tie.Else6) where
-  abbrev word₆ : List ℕ
-  word₆ = word₅ (c .before .before .before)
+  abbrev last₆ : tie.Else5
+  last₆ = c .before .before .before
 
-  left₆ : Left word₆ (drop 6 commands)
-  left₆ = left-more word₆ _ _ (left₅ (c .before .before .before)) _ (c .before .equal6 .ensures) (c .if6 .left)
+  abbrev its₆ : List ℕ
+  its₆ = its₅ last₆
+
+  left₆ : Left its₆ (drop 6 commands)
+  left₆ = left-more its₆ _ _ (left₅ last₆) _ (c .before .equal6 .ensures) (c .if6 .left)
 
 module _ (c : tie.Else7) where
-  abbrev word₇ : List ℕ
-  word₇ = word₆ (c .before .before .before)
+  abbrev last₇ : tie.Else6
+  last₇ = c .before .before .before
 
-  left₇ : Left word₇ (drop 7 commands)
-  left₇ = left-more word₇ _ _ (left₆ (c .before .before .before)) _ (c .before .equal7 .ensures) (c .if7 .left)
+  abbrev its₇ : List ℕ
+  its₇ = its₆ last₇
+
+  left₇ : Left its₇ (drop 7 commands)
+  left₇ = left-more its₇ _ _ (left₆ last₇) _ (c .before .equal7 .ensures) (c .if7 .left)
 
 module _ (c : tie.Else8) where
-  abbrev word₈ : List ℕ
-  word₈ = word₇ (c .before .before .before)
+  abbrev last₈ : tie.Else7
+  last₈ = c .before .before .before
 
-  left₈ : Left word₈ (drop 8 commands)
-  left₈ = left-more word₈ _ _ (left₇ (c .before .before .before)) _ (c .before .equal8 .ensures) (c .if8 .left)
+  abbrev its₈ : List ℕ
+  its₈ = its₇ last₈
+
+  left₈ : Left its₈ (drop 8 commands)
+  left₈ = left-more its₈ _ _ (left₇ last₈) _ (c .before .equal8 .ensures) (c .if8 .left)
 
 module _ (c : tie.Else9) where
-  abbrev word₉ : List ℕ
-  word₉ = word₈ (c .before .before .before)
+  abbrev last₉ : tie.Else8
+  last₉ = c .before .before .before
 
-  left₉ : Left word₉ (drop 9 commands)
-  left₉ = left-more word₉ _ _ (left₈ (c .before .before .before)) _ (c .before .equal9 .ensures) (c .if9 .left)
+  abbrev its₉ : List ℕ
+  its₉ = its₈ last₉
+
+  left₉ : Left its₉ (drop 9 commands)
+  left₉ = left-more its₉ _ _ (left₈ last₉) _ (c .before .equal9 .ensures) (c .if9 .left)
 
 pub command-in-spec : {M : Type 1} → statement M
 command-in-spec =
