@@ -8,14 +8,15 @@ use mathlib.Core.List.{List, [], _∷_, _++_, append-nil, append-assoc}
 use lib.Dec.{leb}
 use lib.ListN.{length, getD, set, drop, length-append}
 use lib.Seq.{sets, drop-cons, drop-length, length-sets}
-use borrow.Author.Tests.{lt-ltb, le-ltb, le-leb, lt-leb, not-true, not-false}
+use borrow.Author.Tests.{lt-ltb, le-ltb, le-leb, lt-leb}
+use Rattle.ids.proofs.Choice.{clash, fails, holds}
 use Rattle.ids.specs.declared.Refusal.the-variants.{RoomShort, InvalidRecord}
 use Rattle.wire.proofs.BytesLaws.{stored-on}
 use Rattle.script.specs.declared.Progress.{Progress}
 use Rattle.script.specs.declared.Progress.the-variants.{Took, Refused}
 use Rattle.script_output.specs.Reader.{closed, Reader, Printed, taken, Fed, maxPrinted, followed, fedWithin, ended, lastLine, finished, maxKept}
 use Rattle.script.specs.State.{stageClosed, stageAt, lengthAt, keptIn, simulationIn, stageOf, view, valid, stateSize}
-use Rattle.script.specs.Calls.{feedAnswer, FeedLeaves, finishAnswer, FinishLeaves, Sound, Ready, Prints, Does, Takes, FedAs, Closes, maxEnding}
+use Rattle.script.specs.Calls.{feedAnswer, Leaves, FeedLeaves, finishAnswer, FinishLeaves, Sound, Ready, Prints, Does, Takes, FedAs, Closes, maxEnding}
 use Rattle.script.proofs.StateLaws.{itself-is, view-is, valid-is, store-stage, store-length, from-facts}
 use Rattle.script.proofs.LineLaws.{known, sound}
 
@@ -134,63 +135,56 @@ module _ {w₀ input out₀ w out : List ℕ} {used at : ℕ} (F : Feeding w₀ 
 
 -- the calls ----------------------------------------------------------------------------------------------------------------------------
 
+-- a call on a state that is valid or not, with so much room or not
+module _ (w out : List ℕ) (most : ℕ) (r : Reader) (printed : List ℕ) where
+  abbrev Left : List ℕ → List ℕ → Type 0
+  Left w′ out′ = Leaves (valid w && leb most (length out)) r printed w out w′ out′
+
+  refused-leaves : valid w && leb most (length out) ≡ false → Left w out
+  refused-leaves f =
+      record { reader = never; again = never; bytes = never; within = never; kept = λ t. (refl, refl) }
+    where
+      never : {A : Type 0} → valid w && leb most (length out) ≡ true → A
+      never t = clash (valid w && leb most (length out)) t f
+
+  invalid-leaves : valid w ≡ false → Left w out
+  invalid-leaves f = refused-leaves (rw f)
+
+  short-leaves : valid w ≡ true → length out < most → Left w out
+  short-leaves v h = refused-leaves (rw (v, lt-leb most (length out) h))
+
+  done-leaves : valid w ≡ true → most ≤ length out → (w′ out′ : List ℕ) → view w′ ≡ r → valid w′ ≡ true → out′ ≡ sets out 0 printed
+      → length printed ≤ length out → Left w′ out′
+  done-leaves v h w′ out′ p q b n =
+      let t : valid w && leb most (length out) ≡ true = rw (v, le-leb most (length out) h) in
+      record { reader = λ e. p; again = λ e. q; bytes = λ e. b; within = λ e. n; kept = clash (valid w && leb most (length out)) t }
+
 module _ (w input out : List ℕ) (x : Bool) (e : x ≡ valid w) where
   abbrev Feeds : List ℕ → List ℕ → Progress → Type 0
   Feeds w′ out′ r = (r ≡ feedAnswer w input (length out)) × FeedLeaves w input out w′ out′
 
   pub feed-invalid : not x ≡ true → Feeds w out (Refused InvalidRecord)
   unfolding feedAnswer
-  feed-invalid n =
-      let f : valid w ≡ false = sym e ∙ not-true x n in (
-        rw f,
-        record {
-          reader = λ t. absurd (never f t);
-          again = λ t. absurd (never f t);
-          bytes = λ t. absurd (never f t);
-          within = λ t. absurd
-              (never f t);
-          kept = λ t. (refl, refl);
-        },
-      )
-    where
-      never : valid w ≡ false → valid w && leb maxPrinted (length out) ≡ true → ⊥
-      never f t = let z : false ≡ true = rw f at t in let y : _≡_ {A = ℕ} 0 1 = cc in omega arith
+  feed-invalid n = let f = fails x (valid w) e n in (rw f, invalid-leaves w out maxPrinted _ _ f)
 
   module _ (n : not x ≡ false) where
     good : valid w ≡ true
-    good = sym e ∙ not-false x n
+    good = holds x (valid w) e n
 
     pub feed-sound : Sound w
     feed-sound = sound w good
 
     pub feed-short : length out < maxPrinted → Feeds w out (Refused RoomShort)
     unfolding feedAnswer
-    feed-short h = (
-      rw (good, lt-ltb (length out) maxPrinted h),
-      record {
-        reader = λ t. absurd (never t);
-        again = λ t. absurd (never t);
-        bytes = λ t. absurd (never t);
-        within = λ t. absurd (never t);
-        kept = λ t. (refl, refl);
-      },
-    )
-      where
-        never : valid w && leb maxPrinted (length out) ≡ true → ⊥
-        never t = let z : false ≡ true = rw (good, lt-leb maxPrinted (length out) h) at t in let y : _≡_ {A = ℕ} 0 1 = cc in omega arith
+    feed-short h = (rw (good, lt-ltb (length out) maxPrinted h), short-leaves w out maxPrinted _ _ good h)
 
     pub feed-done : maxPrinted ≤ length out → (w′ out′ : List ℕ) (r : Progress) → FedAs w input out w′ out′ r → Feeds w′ out′ r
     unfolding feedAnswer
     feed-done h w′ out′ r A = (
       rw (good, le-ltb (length out) maxPrinted h) (A .answer),
-      record
-          { reader = λ t. A .reader; again = λ t. A .again; bytes = λ t. A .bytes; within = λ t. A .within; kept = λ t. absurd (never t) },
+      done-leaves w out maxPrinted _ _ good h w′ out′ (A .reader) (A .again) (A .bytes) (A .within),
     )
-      where
-        never : valid w && leb maxPrinted (length out) ≡ false → ⊥
-        never t = let z : true ≡ false = rw (good, le-leb maxPrinted (length out) h) at t in let y : _≡_ {A = ℕ} 0 1 = cc in omega arith
 
--- the end
 -- a script that has ended
 closed-words : (w₁ w₂ : List ℕ) → Sound w₁ → w₂ ≡ set (set w₁ stageAt stageClosed) lengthAt 0
     → (view w₂ ≡ record { stage = closed; line = [] }) × (valid w₂ ≡ true)
@@ -242,51 +236,22 @@ module _ (w out : List ℕ) (x : Bool) (e : x ≡ valid w) where
 
   pub finish-invalid : not x ≡ true → Finishes w out (Refused InvalidRecord)
   unfolding finishAnswer
-  finish-invalid n =
-      let f : valid w ≡ false = sym e ∙ not-true x n in (
-        rw f,
-        record {
-          reader = λ t. absurd (never f t);
-          again = λ t. absurd (never f t);
-          bytes = λ t. absurd (never f t);
-          within = λ t. absurd
-              (never f t);
-          kept = λ t. (refl, refl);
-        },
-      )
-    where
-      never : valid w ≡ false → valid w && leb maxEnding (length out) ≡ true → ⊥
-      never f t = let z : false ≡ true = rw f at t in let y : _≡_ {A = ℕ} 0 1 = cc in omega arith
+  finish-invalid n = let f = fails x (valid w) e n in (rw f, invalid-leaves w out maxEnding _ _ f)
 
   module _ (n : not x ≡ false) where
     fine : valid w ≡ true
-    fine = sym e ∙ not-false x n
+    fine = holds x (valid w) e n
 
     pub finish-sound : Sound w
     finish-sound = sound w fine
 
     pub finish-short : length out < maxEnding → Finishes w out (Refused RoomShort)
     unfolding finishAnswer
-    finish-short h = (
-      rw (fine, lt-ltb (length out) maxEnding h),
-      record {
-        reader = λ t. absurd (never t);
-        again = λ t. absurd (never t);
-        bytes = λ t. absurd (never t);
-        within = λ t. absurd (never t);
-        kept = λ t. (refl, refl);
-      },
-    )
-      where
-        never : valid w && leb maxEnding (length out) ≡ true → ⊥
-        never t = let z : false ≡ true = rw (fine, lt-leb maxEnding (length out) h) at t in let y : _≡_ {A = ℕ} 0 1 = cc in omega arith
+    finish-short h = (rw (fine, lt-ltb (length out) maxEnding h), short-leaves w out maxEnding _ _ fine h)
 
     pub finish-done : maxEnding ≤ length out → (w′ out′ : List ℕ) (r : ℕ) → Closes w out w′ out′ r → Finishes w′ out′ (Took 0 r)
     unfolding finishAnswer
     finish-done h w′ out′ r A = (
       rw (fine, le-ltb (length out) maxEnding h, A .place),
-      record { reader = λ t. A .reader; again = λ t. A .again; bytes = λ t. A .bytes; within = λ t. A .within; kept = λ t. absurd (never t) },
+      done-leaves w out maxEnding _ _ fine h w′ out′ (A .reader) (A .again) (A .bytes) (A .within),
     )
-      where
-        never : valid w && leb maxEnding (length out) ≡ false → ⊥
-        never t = let z : true ≡ false = rw (fine, le-leb maxEnding (length out) h) at t in let y : _≡_ {A = ℕ} 0 1 = cc in omega arith

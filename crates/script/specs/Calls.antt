@@ -39,12 +39,18 @@ feedAnswer w input room =
 abbrev pub feeds : List ℕ → ℕ → Bool
 feeds w room = valid w && leb maxPrinted room
 
-pub record FeedLeaves (w input out w′ out′ : List ℕ) : Type 0 where
-  pub reader : feeds w (length out) ≡ true → view w′ ≡ fedWithin (length out) (view w) input .now
-  pub again : feeds w (length out) ≡ true → valid w′ ≡ true
-  pub bytes : feeds w (length out) ≡ true → out′ ≡ sets out 0 (fedWithin (length out) (view w) input .out)
-  pub within : feeds w (length out) ≡ true → length (fedWithin (length out) (view w) input .out) ≤ length out
-  pub kept : feeds w (length out) ≡ false → (w′ ≡ w) × (out′ ≡ out)
+-- what a call leaves: done, the state is this reader and these bytes are printed; refused, all is as it was
+pub record Leaves (done : Bool) (r : Reader) (printed w out w′ out′ : List ℕ) : Type 0 where
+  pub reader : done ≡ true → view w′ ≡ r
+  pub again : done ≡ true → valid w′ ≡ true
+  pub bytes : done ≡ true → out′ ≡ sets out 0 printed
+  pub within : done ≡ true → length printed ≤ length out
+  pub kept : done ≡ false → (w′ ≡ w) × (out′ ≡ out)
+
+abbrev pub FeedLeaves : List ℕ → List ℕ → List ℕ → List ℕ → List ℕ → Type 0
+FeedLeaves w input out w′ out′ =
+    let q = fedWithin (length out) (view w) input in
+    Leaves (feeds w (length out)) (q .now) (q .out) w out w′ out′
 
 -- the end: 21, 6 no room for two lines
 abbrev pub maxEnding : ℕ
@@ -58,12 +64,9 @@ finishAnswer w room =
 abbrev pub finishes : List ℕ → ℕ → Bool
 finishes w room = valid w && leb maxEnding room
 
-pub record FinishLeaves (w out w′ out′ : List ℕ) : Type 0 where
-  pub reader : finishes w (length out) ≡ true → view w′ ≡ record { stage = closed; line = [] }
-  pub again : finishes w (length out) ≡ true → valid w′ ≡ true
-  pub bytes : finishes w (length out) ≡ true → out′ ≡ sets out 0 (finished (view w))
-  pub within : finishes w (length out) ≡ true → length (finished (view w)) ≤ length out
-  pub kept : finishes w (length out) ≡ false → (w′ ≡ w) × (out′ ≡ out)
+abbrev pub FinishLeaves : List ℕ → List ℕ → List ℕ → List ℕ → Type 0
+FinishLeaves w out w′ out′ =
+    Leaves (finishes w (length out)) (record { stage = closed; line = [] }) (finished (view w)) w out w′ out′
 
 -- Inside, what a valid state gives is handed on: its length, and the length of the line.
 pub record Sound (w : List ℕ) : Type 0 where

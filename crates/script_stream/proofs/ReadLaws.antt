@@ -31,8 +31,10 @@ module _ (w input out w′ out′ : List ℕ) (p : Progress) (v : valid w ≡ tr
   pub fed-taken : Taken w (take u input) w′
   fed-taken =
       let e : u ≡ fedWithin (length out) (view w) input .used = cc (sym t ∙ fed-took w input out w′ out′ p v room f) in
-      record { reader = f .1 .reader (feeds w input out w′ out′ p v room f) ∙ rw e
-          (sym (ap (λ (q : Printed Reader). q .now) (within-fed (length out) (view w) input))) }
+      record {
+        reader = f .1 .reader (feeds w input out w′ out′ p v room f) ∙ rw e
+            (sym (ap (λ (q : Printed Reader). q .now) (within-fed (length out) (view w) input)));
+      }
 
 -- the bytes so far, and some more of what is left
 taken-none : (w part : List ℕ) → Taken w (take 0 part) w
@@ -46,7 +48,7 @@ taken-next w w′ w″ part i k a b =
           b .reader ∙
           (ap (λ (r : Reader). fed r (take k (drop i part)) .now) (a .reader) ∙
           sym (ap (λ (l : List ℕ). fed (view w) l .now) (take-add i k part) ∙ ap (λ (q : Printed Reader). q .now)
-              (in-parts (view w) (take i part) (take k (drop i part)))));
+          (in-parts (view w) (take i part) (take k (drop i part)))));
     }
 
 -- up to place j, which is not before i
@@ -90,7 +92,7 @@ module _ {w₀ part out₀ w out : List ℕ} {i : ℕ} (T : Taking w₀ part out
       → Taken w (take k (take (length part - i) (drop i part))) w′ → Taking w₀ part out₀ w′ out′ (i + k)
   taking-more {w′} {out′} {k} a b h v t =
       let left : take (length part - i) (drop i part) ≡ drop i part =
-          take-all (length part - i) (drop i part) (omega (arith, length-drop i part)) in
+      take-all (length part - i) (drop i part) (omega (arith, length-drop i part)) in
       let n : k ≤ length (drop i part) = rw left at h in
       let z : i + k - i ≡ k = omega arith in
       let s : Taken w (take (i + k - i) (drop i part)) w′ = rw z (rw left at t) in

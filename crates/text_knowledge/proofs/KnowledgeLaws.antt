@@ -83,8 +83,12 @@ unfolding supportText
 support-append r j [] b = let z : j + 0 ≡ j = omega arith in rw z
 support-append r j (o ∷ a) b =
     let z : j + suc (length a) ≡ suc j + length a = omega arith in
-    rw (support-append r (suc j) a b, z, append-assoc (if isRequest r o then text " " ∷ decimal j ∷ [] else []) (supportText r (serverNo (suc j)) a)
-        (supportText r (serverNo (suc j + length a)) b))
+    rw (
+      support-append r (suc j) a b,
+      z,
+      append-assoc (if isRequest r o then text " " ∷ decimal j ∷ [] else []) (supportText r (serverNo (suc j)) a)
+          (supportText r (serverNo (suc j + length a)) b),
+    )
 
 pub support-none : (r : Request) (s : Sheet) → s ≡ puts (supportText r (serverNo 1) []) s
 unfolding supportText puts
@@ -93,13 +97,19 @@ support-none r s = refl
 pub support-more : (r : Request) (row : List ℕ) (n : ℕ) → Padded row n → (i : ℕ) → i < n → (s₀ : Sheet) {s₁ s₂ : Sheet} (q : Request)
     → q ≡ getD (requestsIn row) i noRequest
     → s₁ ≡ puts (supportText r (serverNo 1) (responsesIn row i)) s₀ → s₂ ≡ puts (supportText r (serverNo (i + 1)) (shown q ∷ [])) s₁
-        → s₂ ≡ puts (supportText r (serverNo 1) (responsesIn row (i + 1))) s₀
+    → s₂ ≡ puts (supportText r (serverNo 1) (responsesIn row (i + 1))) s₀
 support-more r row n p i h s₀ q e f g =
     let l = requestsIn row in
     let m : length (map shown (take i l)) ≡ i = length-map (take i l) shown ∙ (length-take i l ∙ omega (arith, p .within)) in
     let z : 1 + length (map shown (take i l)) ≡ i + 1 = omega (arith, m) in
-    rw (add-one i, take-suc l i noRequest (omega (arith, p .within)), map-append shown (take i l) (getD l i noRequest ∷ []), support-append r 1
-        (map shown (take i l)) (shown (getD l i noRequest) ∷ []), z) (behind s₀ _ _ f (rw e at g))
+    rw (
+      add-one i,
+      take-suc l i noRequest (omega (arith, p .within)),
+      map-append shown (take i l) (getD l i noRequest ∷ []),
+      support-append r 1
+          (map shown (take i l)) (shown (getD l i noRequest) ∷ []),
+      z,
+    ) (behind s₀ _ _ f (rw e at g))
 
 module _ (r : Request) (j : ServerId) (q : Request) (b : Bool) (e : b ≡ isRequest r (shown q)) where
   pub support-own : b ≡ true → supportText r j (shown q ∷ []) ≡ text " " ∷ decimal (j .0) ∷ []
@@ -137,7 +147,7 @@ module _ (w : List ℕ) (j : ServerId) (H : HasServer w j) where
 
     pub server-text : (b : Bool) → b ≡ serverPlace (serverBlockOf w j) .up
         → serverText j (serverAt (view w) j) ≡ text "keeper " ∷ decimal (j .0) ∷
-            ((if b then votesText (votes.view (h .votes) row) else text " down" ∷ []) ++ ends)
+        ((if b then votesText (votes.view (h .votes) row) else text " down" ∷ []) ++ ends)
     unfolding serverText serverPlace
     server-text b f =
         let g : server.view (serverOf h row) ≡ server.view (serverFrom (serverRecord (serverBlockOf w j))) = ap server.view e in
@@ -156,7 +166,7 @@ module _ (w : List ℕ) (k : ClientId) (H : HasClient w k) where
 
     pub client-text : (b : Bool) → b ≡ clientPlace (clientBlockOf w k) .living
         → clientText k (clientAt (view w) k) ≡ text "kiosk " ∷ decimal (k .0) ∷
-            ((if b then stateText k (client.view (clientOf h row)) else text " fallen" ∷ []) ++ ends)
+        ((if b then stateText k (client.view (clientOf h row)) else text " fallen" ∷ []) ++ ends)
     unfolding clientText clientPlace
     client-text b f = rw (client-is w (k .0) H, f, e)
 

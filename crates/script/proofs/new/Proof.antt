@@ -5,15 +5,6 @@ use borrow.Author.Needs.{needs}
 use Rattle.script.proofs.new.Statement.{statement}
 use Rattle.script.proofs.new.Tie as tie
 
-returns : tie.Need-returns
-returns c = not-new (now (c .before .before .args .w)) (c .if1 .taken)
-
-clear-requires : tie.Need-clear-requires
-clear-requires c κs = search needs
-
-same-length : tie.Need-same-length
-same-length c = search needs
-
 returns-2 : tie.Need-returns-2
 returns-2 c = (
   newly-answered (now (c .before .before .before .before .before .before .args .w)) (c .before .before .before .before .if1 .left),
@@ -23,4 +14,10 @@ returns-2 c = (
 )
 
 pub new-spec : {M : Type 1} → statement M
-new-spec = tie.close (tie.spec returns clear-requires same-length returns-2)
+new-spec =
+    tie.close
+    (tie.spec
+    (λ c. not-new (now (c .before .before .args .w)) (c .if1 .taken))
+    (λ c κs. search needs)
+    (λ c. search needs)
+    returns-2)

@@ -38,8 +38,7 @@ returns c =
     let p = c .before .before .before .before .before in
     let f = fed p in
     let d = entry f in
-    let a = d .args in
-    (
+    let a = d .args in (
       fed-used (now (a .w)) (now (a .part)) (now (a .out)) _ _ _ (d .pre .0) (d .pre .1) (f .feed .ensures) _ _ (p .p .given .1),
       again f,
       λ z. fed-taken (now (a .w)) (now (a .part)) (now (a .out)) _ _ _ (d .pre .0) (d .pre .1) (f .feed .ensures) _ _ (p .p .given .1),

@@ -18,9 +18,14 @@ abbrev μ-loop : tie.MeasureT-loop
 μ-loop w₀ part₀ out₀ wanted turns₀ w part out turns = turns
 
 loop-again : tie.Need-loop-again Inv-loop μ-loop
-loop-again c =
-    (search needs, search needs, search needs, c .before .before .before .before .before .answer .ensures (not-false _ (c .if1 .left)) .0, search
-    needs)
+loop-again c = (
+  search needs,
+  search needs,
+  search needs,
+  c .before .before .before .before .before .answer .ensures (not-false _ (c .if1 .left)) .0,
+  search
+      needs,
+)
 
 pub run-spec : {M : Type 1} → statement M
 run-spec =
