@@ -1,5 +1,4 @@
 -- `text_screen::put_events` meets its contract: only an unsafe setting has a run.
-use Rattle.text_sheet.proofs.SheetLaws.{then}
 use Rattle.text_screen.specs.Screen.{eventsText}
 use Rattle.text_sheet.specs.Sheet.{puts}
 use borrow.Author.Needs.{needs}
@@ -9,9 +8,8 @@ use Rattle.text_screen.proofs.put_events.Tie as tie
 returns : tie.Need-returns
 unfolding eventsText
 returns c =
-    let d₂ = c .before .before in
-    let d₁ = d₂ .before .before .before .before .before in
-    rw (d₁ .before .before .before .before .v .given .1) (then _ _ _ (d₁ .put-with .ensures) (d₂ .put .ensures))
+    let d = c .before .before in
+    rw (d .before .before .before .before .v .given .1) (d .put-count .ensures)
 
 pub put-events-spec : {M : Type 1} → statement M
 unfolding eventsText puts
@@ -19,8 +17,6 @@ put-events-spec =
     tie.close
     (tie.spec
     (λ c. search needs)
-    (λ c. search needs)
-    (λ c κs. search needs)
     (λ c. search needs)
     (λ c κs. search needs)
     (λ c. search needs)
