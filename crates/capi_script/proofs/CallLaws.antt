@@ -57,10 +57,12 @@ abbrev Gives : Type 0 → Progress → List ℕ → List ℕ → List ℕ → �
 Gives L p w out counts r w′ out′ counts′ = (r ≡ codeOf p) × Leaves L p w out counts w′ out′ counts′
 
 module _ (w out counts : List ℕ) (r : ℕ) where
-  refuses : (L : Type 0) (p : Progress) → p ≡ Refused (shortOf (valid w)) → length counts < 2 → r ≡ code (shortOf (valid w)) → Gives L p w out counts r w out counts
+  refuses : (L : Type 0) (p : Progress) → p ≡ Refused (shortOf (valid w)) → length counts < 2 → r ≡ code (shortOf (valid w))
+      → Gives L p w out counts r w out counts
   refuses L p e h q = (rw e q, record { lent = λ l. absurd (omega (arith, l, h)); short = λ s. (refl, refl); counted = rw e })
 
-  gives : (L : Type 0) (p : Progress) (w′ out′ counts′ : List ℕ) → 2 ≤ length counts → L → counts′ ≡ countsOf counts p → r ≡ codeOf p → Gives L p w out counts r w′ out′ counts′
+  gives : (L : Type 0) (p : Progress) (w′ out′ counts′ : List ℕ) → 2 ≤ length counts → L → counts′ ≡ countsOf counts p → r ≡ codeOf p
+      → Gives L p w out counts r w′ out′ counts′
   gives L p w′ out′ counts′ h l k q = (q, record { lent = λ s. l; short = λ s. absurd (omega (arith, s, h)); counted = k })
 
   no-room : length counts < 2 → roomOf out counts ≡ 0
@@ -69,7 +71,8 @@ module _ (w out counts : List ℕ) (r : ℕ) where
   its-room : 2 ≤ length counts → length out ≡ roomOf out counts
   its-room h = rw (le-ltb (length counts) 2 h)
 
-  pub feed-short : (input : List ℕ) → length counts < 2 → r ≡ code (shortOf (valid w)) → Gives (FeedLeaves w input out w out) (fed w input out counts) w out counts r w out counts
+  pub feed-short : (input : List ℕ) → length counts < 2 → r ≡ code (shortOf (valid w))
+      → Gives (FeedLeaves w input out w out) (fed w input out counts) w out counts r w out counts
   feed-short input h q =
       let a : fed w input out counts ≡ Refused (shortOf (valid w)) = rw (no-room h) (feed-roomless w input) in
       refuses (FeedLeaves w input out w out) (fed w input out counts) a h q
@@ -80,12 +83,14 @@ module _ (w out counts : List ℕ) (r : ℕ) where
       refuses (FinishLeaves w out w out) (ended w out counts) a h q
 
   module _ (h : 2 ≤ length counts) (p : Progress) (w′ out′ counts′ : List ℕ) (k : counts′ ≡ countsOf counts p) (q : r ≡ codeOf p) where
-    pub feed-lent : (input : List ℕ) → (p ≡ feedAnswer w input (length out)) × FeedLeaves w input out w′ out′ → Gives (FeedLeaves w input out w′ out′) (fed w input out counts) w out counts r w′ out′ counts′
+    pub feed-lent : (input : List ℕ) → (p ≡ feedAnswer w input (length out)) × FeedLeaves w input out w′ out′
+        → Gives (FeedLeaves w input out w′ out′) (fed w input out counts) w out counts r w′ out′ counts′
     feed-lent input f =
         let a : p ≡ fed w input out counts = rw (← (its-room h)) (f .0) in
         gives (FeedLeaves w input out w′ out′) (fed w input out counts) w′ out′ counts′ h (f .1) (rw (← a) k) (rw (← a) q)
 
-    pub finish-lent : (p ≡ finishAnswer w (length out)) × FinishLeaves w out w′ out′ → Gives (FinishLeaves w out w′ out′) (ended w out counts) w out counts r w′ out′ counts′
+    pub finish-lent : (p ≡ finishAnswer w (length out)) × FinishLeaves w out w′ out′
+        → Gives (FinishLeaves w out w′ out′) (ended w out counts) w out counts r w′ out′ counts′
     finish-lent f =
         let a : p ≡ ended w out counts = rw (← (its-room h)) (f .0) in
         gives (FinishLeaves w out w′ out′) (ended w out counts) w′ out′ counts′ h (f .1) (rw (← a) k) (rw (← a) q)

@@ -50,11 +50,13 @@ module _ (w out counts w′ out′ counts′ : List ℕ) (x : Refusal) where
       by-state (inl v) (inl t) = rw (v, lt-leb maxEnding (length out) (ltb-true (length out) maxEnding t))
       by-state (inl v) (inr t) = absurd (took-refused _ _ (rw (v, t) at e))
 
-  pub feed-kept : (input : List ℕ) → Leaves (FeedLeaves w input out w′ out′) (fed w input out counts) w out counts w′ out′ counts′ → fed w input out counts ≡ Refused x →
+  pub feed-kept : (input : List ℕ) → Leaves (FeedLeaves w input out w′ out′) (fed w input out counts) w out counts w′ out′ counts′
+      → fed w input out counts ≡ Refused x →
       (w′ ≡ w) × (out′ ≡ out) × (counts′ ≡ counts)
   feed-kept input l e =
       kept (FeedLeaves w input out w′ out′) (fed w input out counts) l e (λ h f. f .kept (unfed input (rw (le-ltb (length counts) 2 h) at e)))
 
-  pub finish-kept : Leaves (FinishLeaves w out w′ out′) (ended w out counts) w out counts w′ out′ counts′ → ended w out counts ≡ Refused x → (w′ ≡ w) × (out′ ≡ out) × (counts′ ≡ counts)
+  pub finish-kept : Leaves (FinishLeaves w out w′ out′) (ended w out counts) w out counts w′ out′ counts′ → ended w out counts ≡ Refused x
+      → (w′ ≡ w) × (out′ ≡ out) × (counts′ ≡ counts)
   finish-kept l e =
       kept (FinishLeaves w out w′ out′) (ended w out counts) l e (λ h f. f .kept (unended (rw (le-ltb (length counts) 2 h) at e)))

@@ -15,12 +15,12 @@ use Rattle.script.specs.Calls.{newAnswer, newWords, feedAnswer, FeedLeav
 use Rattle.script.specs.declared.Progress.{Progress}
 use Rattle.script.specs.declared.Progress.the-variants.{Took}
 use Rattle.script.proofs.NewLaws.{new-valid}
-use Rattle.script.proofs.FeedLaws.{wrote-few, finished-short}
 
 pub begun : (w w′ : List ℕ) (p : Progress) → stateSize ≡ length w → (p ≡ newAnswer w) × (w′ ≡ newWords w) → valid w′ ≡ true
 begun w w′ p e f = rw (f .1) (new-valid w (sym e))
 
-module _ (w input out w′ out′ : List ℕ) (p : Progress) (v : valid w ≡ true) (room : maxPrinted ≤ length out) (f : (p ≡ feedAnswer w input (length out)) × FeedLeaves w input out w′ out′) where
+module _ (w input out w′ out′ : List ℕ) (p : Progress) (v : valid w ≡ true) (room : maxPrinted ≤ length out)
+    (f : (p ≡ feedAnswer w input (length out)) × FeedLeaves w input out w′ out′) where
   abbrev pub fed-all : Fed
   fed-all = fedWithin (length out) (view w) input
 
@@ -41,9 +41,10 @@ module _ (w input out w′ out′ : List ℕ) (p : Progress) (v : valid w ≡ tr
     pub fed-wrote : k ≤ length out′
     fed-wrote =
         let e : k ≡ length (fed-all .out) = cc (sym t ∙ fed-took) in
-        omega (arith, e, wrote-few (length out) (view w) input, ap length (f .1 .bytes feeds), length-sets out 0 (fed-all .out))
+        omega (arith, e, f .1 .within feeds, ap length (f .1 .bytes feeds), length-sets out 0 (fed-all .out))
 
-module _ (w out w′ out′ : List ℕ) (p : Progress) (v : valid w ≡ true) (room : maxEnding ≤ length out) (f : (p ≡ finishAnswer w (length out)) × FinishLeaves w out w′ out′) where
+module _ (w out w′ out′ : List ℕ) (p : Progress) (v : valid w ≡ true) (room : maxEnding ≤ length out)
+    (f : (p ≡ finishAnswer w (length out)) × FinishLeaves w out w′ out′) where
   end-took : p ≡ Took 0 (length (finished (view w)))
   unfolding finishAnswer
   end-took = f .0 ∙ rw (v, le-ltb (length out) maxEnding room) refl
@@ -54,4 +55,4 @@ module _ (w out w′ out′ : List ℕ) (p : Progress) (v : valid w ≡ true) (r
   pub end-wrote : (u k : ℕ) → p ≡ Took u k → k ≤ length out′
   end-wrote u k t =
       let e : k ≡ length (finished (view w)) = cc (sym t ∙ end-took) in
-      omega (arith, e, room, finished-short (view w), ap length (f .1 .bytes finishes), length-sets out 0 (finished (view w)))
+      omega (arith, e, f .1 .within finishes, ap length (f .1 .bytes finishes), length-sets out 0 (finished (view w)))

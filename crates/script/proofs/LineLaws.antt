@@ -32,7 +32,8 @@ unfolding headIn
 sound w e = record { valid = e; long = valid-sized w e .0; short = known w e .few }
 
 -- a validity that only the line's part changes
-still-valid : (w w′ : List ℕ) (h′ : Head) (l′ : List ℕ) → valid w ≡ true → Is w′ h′ l′ (simulationIn w) → h′ .stage ≡ headIn w .stage → validRun h′ (simulationIn w) ≡ validRun (headIn w) (simulationIn w) →
+still-valid : (w w′ : List ℕ) (h′ : Head) (l′ : List ℕ) → valid w ≡ true → Is w′ h′ l′ (simulationIn w) → h′ .stage ≡ headIn w .stage
+    → validRun h′ (simulationIn w) ≡ validRun (headIn w) (simulationIn w) →
     h′ .length ≤ maxKept → every byteWord l′ ≡ true → valid w′ ≡ true
 still-valid w w′ h′ l′ v p e r few bytes =
     let f = known w v in
@@ -51,8 +52,10 @@ behind-full l b e =
 
 behind-more : (l : List ℕ) (i b : ℕ) → i < maxKept → length l ≡ maxKept → take (i + 1) (set l i b) ≡ behind (take i l) b
 behind-more l i b lt e =
-    let a : take (suc i) (set l i b) ≡ take i l ++ (b ∷ []) = rw (take-suc (set l i b) i 0 (omega (arith, length-set l i b)), getD-set-same l i b 0 (omega arith), take-set-le i l i b (omega arith)) in
-    ap (λ (n : ℕ). take n (set l i b)) (add-one i) ∙ (a ∙ sym (take-all maxKept (take i l ++ (b ∷ [])) (omega (arith, ap length (sym a), length-take (suc i) (set l i b)))))
+    let a : take (suc i) (set l i b) ≡ take i l ++ (b ∷ []) = rw
+    (take-suc (set l i b) i 0 (omega (arith, length-set l i b)), getD-set-same l i b 0 (omega arith), take-set-le i l i b (omega arith)) in
+    ap (λ (n : ℕ). take n (set l i b)) (add-one i) ∙
+    (a ∙ sym (take-all maxKept (take i l ++ (b ∷ [])) (omega (arith, ap length (sym a), length-take (suc i) (set l i b)))))
 
 module _ (w : List ℕ) (b : ℕ) (S : Sound w) where
   abbrev Keeps : List ℕ → Type 0
@@ -84,7 +87,8 @@ module _ (w : List ℕ) where
   module _ (i : ℕ) (S : Passing byteWord 0 (drop lineFrom w) maxKept i) (lt : i < maxKept) where
     pub bytes-failed : 255 < getD w (lineFrom + i) 0 → false ≡ every byteWord (keptIn w)
     unfolding keptIn
-    bytes-failed h = passing-failed byteWord 0 (drop lineFrom w) maxKept i S lt (ap byteWord (getD-drop lineFrom w i 0) ∙ lt-leb (getD w (lineFrom + i) 0) 255 h)
+    bytes-failed h =
+        passing-failed byteWord 0 (drop lineFrom w) maxKept i S lt (ap byteWord (getD-drop lineFrom w i 0) ∙ lt-leb (getD w (lineFrom + i) 0) 255 h)
 
     pub bytes-more : getD w (lineFrom + i) 0 ≤ 255 → Passing byteWord 0 (drop lineFrom w) maxKept (i + 1)
     bytes-more h = passing-more byteWord 0 (drop lineFrom w) maxKept i S lt (ap byteWord (getD-drop lineFrom w i 0) ∙ le-leb (getD w (lineFrom + i) 0) 255 h)
@@ -101,16 +105,21 @@ module _ (w : List ℕ) (S : Sound w) where
 
   line-word : (i : ℕ) → i < getD w lengthAt 0 → getD (view w .line) i 0 ≡ getD w (lineFrom + i) 0
   unfolding view headIn keptIn
-  line-word i lt = getD-take (getD w lengthAt 0) (take maxKept (drop lineFrom w)) i 0 lt ∙ (getD-take maxKept (drop lineFrom w) i 0 (omega (arith, lt, S .short)) ∙ getD-drop lineFrom w i 0)
+  line-word i lt =
+      getD-take (getD w lengthAt 0) (take maxKept (drop lineFrom w)) i 0 lt ∙
+      (getD-take maxKept (drop lineFrom w) i 0 (omega (arith, lt, S .short)) ∙ getD-drop lineFrom w i 0)
 
   pub word-small : (i : ℕ) → i < getD w lengthAt 0 → getD w (lineFrom + i) 0 ≤ 255
   unfolding keptIn
   word-small i lt =
-      let e : getD (take maxKept (drop lineFrom w)) i 0 ≡ getD w (lineFrom + i) 0 = getD-take maxKept (drop lineFrom w) i 0 (omega (arith, lt, S .short)) ∙ getD-drop lineFrom w i 0 in
-      let t : byteWord (getD (take maxKept (drop lineFrom w)) i 0) ≡ true = every-at byteWord 0 (take maxKept (drop lineFrom w)) i (known w (S .valid) .bytes) (omega (arith, lt, S .short, kept-long w (S .long))) in
+      let e : getD (take maxKept (drop lineFrom w)) i 0 ≡ getD w (lineFrom + i) 0 = getD-take maxKept (drop lineFrom w) i 0
+      (omega (arith, lt, S .short)) ∙ getD-drop lineFrom w i 0 in
+      let t : byteWord (getD (take maxKept (drop lineFrom w)) i 0) ≡ true = every-at byteWord 0 (take maxKept (drop lineFrom w)) i
+      (known w (S .valid) .bytes) (omega (arith, lt, S .short, kept-long w (S .long))) in
       leb-true (getD w (lineFrom + i) 0) 255 (rw e at t)
 
-  pub copy-more : (o l : List ℕ) (i : ℕ) → Copied o l 0 (view w .line) i → i < getD w lengthAt 0 → Copied o (set l i (getD w (lineFrom + i) 0)) 0 (view w .line) (i + 1)
+  pub copy-more : (o l : List ℕ) (i : ℕ) → Copied o l 0 (view w .line) i → i < getD w lengthAt 0
+      → Copied o (set l i (getD w (lineFrom + i) 0)) 0 (view w .line) (i + 1)
   copy-more o l i C lt =
       let z : 0 + i ≡ i = omega arith in
       let d = copied-more o l 0 (view w .line) i C (omega (arith, lt, line-long)) in
@@ -124,4 +133,5 @@ module _ (w : List ℕ) (S : Sound w) where
   line-parsed o l e q =
       let z : getD w lengthAt 0 - 0 ≡ length (view w .line) = omega (arith, line-long) in
       let f = sets-eq (view w .line) o 0 (omega (arith, line-long, S .short)) in
-      rw (z, q, f) (take-left (length (view w .line)) (view w .line) (drop (0 + length (view w .line)) o) (omega arith) ∙ take-all (length (view w .line)) (view w .line) (omega arith))
+      rw (z, q, f) (take-left (length (view w .line)) (view w .line) (drop (0 + length (view w .line)) o) (omega arith) ∙ take-all
+      (length (view w .line)) (view w .line) (omega arith))

@@ -67,7 +67,8 @@ module _ {w : List ℕ} {h : Head} {l s : List ℕ} (p : Is w h l s) where
   other : (i j v : ℕ) → (j ≡ i → ⊥) → getD (set w i v) j 0 ≡ getD w j 0
   other i j v ne = getD-set-other w i j v 0 ne
 
-  pub store-stage : (v : ℕ) → Is (set w stageAt v) (record { stage = v; answered = h .answered; accepted = h .accepted; holding = h .holding; length = h .length }) l s
+  pub store-stage : (v : ℕ) → Is (set w stageAt v)
+      (record { stage = v; answered = h .answered; accepted = h .accepted; holding = h .holding; length = h .length }) l s
   unfolding headIn
   store-stage v =
       head-store stageAt v _ (omega arith)
@@ -79,7 +80,8 @@ module _ {w : List ℕ} {h : Head} {l s : List ℕ} (p : Is w h l s) where
       let f = other stageAt lengthAt v (λ x. omega arith) ∙ ap (λ (y : Head). y .length) e in
       λ i. record { stage = a i; answered = b i; accepted = c i; holding = d i; length = f i })
 
-  pub store-answered : (v : ℕ) → Is (set w answeredAt v) (record { stage = h .stage; answered = v; accepted = h .accepted; holding = h .holding; length = h .length }) l s
+  pub store-answered : (v : ℕ)
+      → Is (set w answeredAt v) (record { stage = h .stage; answered = v; accepted = h .accepted; holding = h .holding; length = h .length }) l s
   unfolding headIn
   store-answered v =
       head-store answeredAt v _ (omega arith)
@@ -91,7 +93,8 @@ module _ {w : List ℕ} {h : Head} {l s : List ℕ} (p : Is w h l s) where
       let f = other answeredAt lengthAt v (λ x. omega arith) ∙ ap (λ (y : Head). y .length) e in
       λ i. record { stage = a i; answered = b i; accepted = c i; holding = d i; length = f i })
 
-  pub store-accepted : (v : ℕ) → Is (set w acceptedAt v) (record { stage = h .stage; answered = h .answered; accepted = v; holding = h .holding; length = h .length }) l s
+  pub store-accepted : (v : ℕ)
+      → Is (set w acceptedAt v) (record { stage = h .stage; answered = h .answered; accepted = v; holding = h .holding; length = h .length }) l s
   unfolding headIn
   store-accepted v =
       head-store acceptedAt v _ (omega arith)
@@ -103,7 +106,8 @@ module _ {w : List ℕ} {h : Head} {l s : List ℕ} (p : Is w h l s) where
       let f = other acceptedAt lengthAt v (λ x. omega arith) ∙ ap (λ (y : Head). y .length) e in
       λ i. record { stage = a i; answered = b i; accepted = c i; holding = d i; length = f i })
 
-  pub store-holding : (v : ℕ) → Is (set w holdingAt v) (record { stage = h .stage; answered = h .answered; accepted = h .accepted; holding = v; length = h .length }) l s
+  pub store-holding : (v : ℕ)
+      → Is (set w holdingAt v) (record { stage = h .stage; answered = h .answered; accepted = h .accepted; holding = v; length = h .length }) l s
   unfolding headIn
   store-holding v =
       head-store holdingAt v _ (omega arith)
@@ -115,7 +119,8 @@ module _ {w : List ℕ} {h : Head} {l s : List ℕ} (p : Is w h l s) where
       let f = other holdingAt lengthAt v (λ x. omega arith) ∙ ap (λ (y : Head). y .length) e in
       λ i. record { stage = a i; answered = b i; accepted = c i; holding = d i; length = f i })
 
-  pub store-length : (v : ℕ) → Is (set w lengthAt v) (record { stage = h .stage; answered = h .answered; accepted = h .accepted; holding = h .holding; length = v }) l s
+  pub store-length : (v : ℕ)
+      → Is (set w lengthAt v) (record { stage = h .stage; answered = h .answered; accepted = h .accepted; holding = h .holding; length = v }) l s
   unfolding headIn
   store-length v =
       head-store lengthAt v _ (omega arith)
@@ -140,18 +145,26 @@ module _ {w : List ℕ} {h : Head} {l s : List ℕ} (p : Is w h l s) where
 
   kept-stored : (i v : ℕ) → i < maxKept → keptIn (set w (lineFrom + i) v) ≡ set l i v
   unfolding keptIn
-  kept-stored i v lt = ap (take maxKept) (drop-set-add lineFrom w i v) ∙ (take-set-lt maxKept (drop lineFrom w) i v lt ∙ ap (λ (x : List ℕ). set x i v) (p .kept))
+  kept-stored i v lt =
+      ap (take maxKept) (drop-set-add lineFrom w i v) ∙ (take-set-lt maxKept (drop lineFrom w) i v lt ∙ ap (λ (x : List ℕ). set x i v) (p .kept))
 
   pub store-kept : (i v : ℕ) → i < maxKept → Is (set w (lineFrom + i) v) h (set l i v) s
   store-kept i v lt =
-      record { long = length-set w (lineFrom + i) v ∙ p .long; head = kept-head i v; kept = kept-stored i v lt; simulation = behind-simulation (lineFrom + i) v (omega arith) }
+      record {
+        long = length-set w (lineFrom + i) v ∙ p .long;
+        head = kept-head i v;
+        kept = kept-stored i v lt;
+        simulation = behind-simulation
+            (lineFrom + i) v (omega arith);
+      }
 
   -- the simulation, stored whole
   store-head : (v : List ℕ) → headIn (sets w stateHead v) ≡ h
   unfolding headIn
   store-head v =
       let word : (i : ℕ) → i < stateHead → getD (sets w stateHead v) i 0 ≡ getD w i 0 = λ i lt.
-      sym (getD-take stateHead (sets w stateHead v) i 0 lt) ∙ (ap (λ (x : List ℕ). getD x i 0) (take-sets-after stateHead w stateHead v (omega arith)) ∙ getD-take stateHead w i 0 lt) in
+      sym (getD-take stateHead (sets w stateHead v) i 0 lt) ∙
+      (ap (λ (x : List ℕ). getD x i 0) (take-sets-after stateHead w stateHead v (omega arith)) ∙ getD-take stateHead w i 0 lt) in
       let a = word stageAt (omega arith) in
       let b = word answeredAt (omega arith) in
       let c = word acceptedAt (omega arith) in
@@ -166,7 +179,8 @@ module _ {w : List ℕ} {h : Head} {l s : List ℕ} (p : Is w h l s) where
   store-all : (v : List ℕ) → length v ≡ simulationSize → simulationIn (sets w stateHead v) ≡ v
   unfolding simulationIn
   store-all v e =
-      region-inside stateHead simulationSize w 0 v (omega arith) ∙ covered (take simulationSize (drop stateHead w)) v (omega (arith, simulation-long w (p .long)))
+      region-inside stateHead simulationSize w 0 v (omega arith) ∙ covered (take simulationSize (drop stateHead w)) v
+      (omega (arith, simulation-long w (p .long)))
 
   pub store-simulation : (v : List ℕ) → length v ≡ simulationSize → Is (sets w stateHead v) h l v
   store-simulation v e =
@@ -182,7 +196,8 @@ pub record Facts (h : Head) (l s : List ℕ) : Type 0 where
 pub facts : (h : Head) (l s : List ℕ) → validParts h l s ≡ true → Facts h l s
 unfolding validParts
 facts h l s e =
-    let (a, x) = both (leb (h .stage) stageClosed) (leb (h .length) maxKept && (every byteWord l && (if eqb (h .stage) stageRunning then validRun h s else true))) e in
+    let (a, x) = both (leb (h .stage) stageClosed)
+    (leb (h .length) maxKept && (every byteWord l && (if eqb (h .stage) stageRunning then validRun h s else true))) e in
     let (b, y) = both (leb (h .length) maxKept) (every byteWord l && (if eqb (h .stage) stageRunning then validRun h s else true)) x in
     let (c, z) = both (every byteWord l) (if eqb (h .stage) stageRunning then validRun h s else true) y in
     record { stage = leb-true _ _ a; few = leb-true _ _ b; bytes = c; runs = λ q. rw (eq-eqb (h .stage) stageRunning q) at z }
@@ -197,8 +212,11 @@ pub record RunFacts (h : Head) (s : List ℕ) : Type 0 where
 pub run-facts : (h : Head) (s : List ℕ) → validRun h s ≡ true → RunFacts h s
 unfolding validRun
 run-facts h s e =
-    let (a, x) = both (layout.valid s) (leb (h .answered) maxLines && (leb (h .accepted) (h .answered) && (leb (holders (layout.view s)) (h .holding) && leb (h .holding) systemClients))) e in
-    let (b, y) = both (leb (h .answered) maxLines) (leb (h .accepted) (h .answered) && (leb (holders (layout.view s)) (h .holding) && leb (h .holding) systemClients)) x in
+    let (a, x) = both (layout.valid s)
+    (leb (h .answered) maxLines && (leb (h .accepted) (h .answered) &&
+    (leb (holders (layout.view s)) (h .holding) && leb (h .holding) systemClients))) e in
+    let (b, y) = both (leb (h .answered) maxLines)
+    (leb (h .accepted) (h .answered) && (leb (holders (layout.view s)) (h .holding) && leb (h .holding) systemClients)) x in
     let (c, z) = both (leb (h .accepted) (h .answered)) (leb (holders (layout.view s)) (h .holding) && leb (h .holding) systemClients) y in
     let (d, f) = both (leb (holders (layout.view s)) (h .holding)) (leb (h .holding) systemClients) z in
     record { simulation = a; answered = leb-true _ _ b; accepted = leb-true _ _ c; holding = leb-true _ _ d; few = leb-true _ _ f }
@@ -206,9 +224,17 @@ run-facts h s e =
 pub from-run : (h : Head) (s : List ℕ) → RunFacts h s → validRun h s ≡ true
 unfolding validRun
 from-run h s f =
-    rw (f .simulation, le-leb (h .answered) maxLines (f .answered), le-leb (h .accepted) (h .answered) (f .accepted), le-leb (holders (layout.view s)) (h .holding) (f .holding), le-leb (h .holding) systemClients (f .few))
+    rw (
+      f .simulation,
+      le-leb (h .answered) maxLines (f .answered),
+      le-leb (h .accepted) (h .answered) (f .accepted),
+      le-leb (holders (layout.view s))
+          (h .holding) (f .holding),
+      le-leb (h .holding) systemClients (f .few),
+    )
 
-pub from-facts : (h : Head) (l s : List ℕ) → h .stage ≤ stageClosed → h .length ≤ maxKept → every byteWord l ≡ true → (h .stage ≡ stageRunning → validRun h s ≡ true) → validParts h l s ≡ true
+pub from-facts : (h : Head) (l s : List ℕ) → h .stage ≤ stageClosed → h .length ≤ maxKept → every byteWord l ≡ true
+    → (h .stage ≡ stageRunning → validRun h s ≡ true) → validParts h l s ≡ true
 unfolding validParts
 from-facts h l s a b c d = rw (le-leb (h .stage) stageClosed a, le-leb (h .length) maxKept b, c) (by-stage (decided (eqb (h .stage) stageRunning)))
   where

@@ -15,8 +15,10 @@ use Rattle.ids.specs.Choice.{if_then_else_}
 use Rattle.ids.specs.Limits.{within, maxShort}
 use Rattle.ids.specs.declared.Refusal.{Refusal}
 use Rattle.ids.specs.declared.Refusal.the-variants.{BadLine, ParameterOutOfRange, NoSuchParty}
+use Rattle.ids.proofs.Choice.{both}
 use Rattle.ids.proofs.LimitsLaws.{within-range}
 use Rattle.client_responses.specs.Figure1.{count}
+use Rattle.quorum.specs.Check.{inRangeUpTo}
 use Rattle.quorum.proofs.CheckLaws.{range}
 use Rattle.system.specs.declared.Event.{Event}
 use Rattle.system.specs.declared.Event.the-variants.{Try, Exit, Fall, Down, Up, Take, Drop, Miss, Check}
@@ -31,10 +33,11 @@ use Rattle.wire.specs.Step.{refused, stepped}
 use Rattle.system.specs.declared.Setting.{Setting}
 use Rattle.script_lines.specs.declared.First.the-variants.{Setting as Opens, Bad as NotOpening}
 use Rattle.script_lines.specs.declared.Line.the-variants.{Event as Says, Unknown, Bad}
+use Rattle.script_numbers.specs.Decimals.{largest32}
 use Rattle.script_lines.specs.Words.{newline}
 use Rattle.script_lines.specs.Lines.{eventIn, sixteenBits, lineOf, firstOf, settingIn as line-setting}
 use Rattle.script_lines.specs.Printed.{headerLine, noLine, okLine, endLine, refusedLine}
-use Rattle.script_lines.proofs.PrintedLaws.{no-short, ok-short, header-short, end-short}
+use Rattle.script_lines.proofs.PrintedLaws.{Small, no-short, ok-short, header-short, end-short, refused-short}
 use Rattle.sim_blocks.proofs.Fronts.{Clearing, clearing-more}
 use Rattle.sim_layout.specs.Layout as layout
 use Rattle.sim_layout.proofs.ValidLaws as layout-laws
@@ -56,7 +59,7 @@ use Rattle.script_output.specs.Output.{maxLines, answerLine}
 use Rattle.script_output.specs.Reader.{Script, Stage, opening, running, closed, Reader, Printed, unanswered, opened, onward, lineTaken, worked, behind, taken, ended, lastLine, maxKept, maxPrinted}
 use Rattle.script.specs.State.{stageOpening, stageRunning, stageClosed, stageAt, answeredAt, acceptedAt, holdingAt, lengthAt, stateSize, Head, headIn, keptIn, simulationIn, countsIn, scriptIn, stageOf, view, validRun, valid, stateHead}
 use Rattle.script.specs.declared.Progress.the-variants.{Took, Refused}
-use Rattle.script.specs.Calls.{newAnswer as newScript, newWords, Sound, Ready, Reads, Does, Takes, happened, passing, replyLine, withCounts}
+use Rattle.script.specs.Calls.{newAnswer as newScript, newWords, Sound, Ready, Reads, Prints, Does, Takes, happened, passing, replyLine, withCounts}
 use Rattle.script.proofs.StateLaws.{Is, itself-is, view-is, valid-is, store-length, store-stage, store-answered, store-accepted, store-holding, store-simulation, Facts, RunFacts, run-facts, from-run, from-facts}
 use Rattle.script.proofs.TestLaws.{few-clients, part-long}
 use Rattle.script.proofs.LineLaws.{known, sound, line-long, line-parsed}
@@ -104,16 +107,34 @@ unfolding bounded.replyOf replyLine answerLine
 reply-line i u (refused x) = refl
 reply-line i u (stepped s) = refl
 
-module _ (out out′ : List ℕ) (at r i : ℕ) (p : Reply) where
-  pub replied-no : (x : Refusal) → p ≡ reply.Refused x → (r ≡ at + length (noLine i x)) × (out′ ≡ sets out at (noLine i x)) → (r ≡ at + length (replyLine i p)) × (out′ ≡ sets out at (replyLine i p))
-  unfolding replyLine
-  replied-no x e b = rw e b
+-- l stands in out′ from place `at` on, and r is the place behind it
+abbrev Put : List ℕ → ℕ → List ℕ → List ℕ → ℕ → Type 0
+Put out at l out′ r = (r ≡ at + length l) × (out′ ≡ sets out at l)
 
-  pub replied-ok : (sent k : ℕ) → p ≡ reply.Accepted sent k → (r ≡ at + length (okLine i sent k)) × (out′ ≡ sets out at (okLine i sent k)) → (r ≡ at + length (replyLine i p)) × (out′ ≡ sets out at (replyLine i p))
-  unfolding replyLine
-  replied-ok sent k e b = rw e b
+pub prints : {out : List ℕ} {at : ℕ} {l out′ : List ℕ} {r : ℕ} → Put out at l out′ r → length l ≤ maxPrinted → Prints out at l out′ r
+prints b h = record { place = b .0; bytes = b .1; few = h }
 
-stage-without : (w : List ℕ) → stageOf (record { stage = getD w stageAt 0; answered = getD w answeredAt 0; accepted = getD w acceptedAt 0; holding = getD w holdingAt 0; length = 0 }) (simulationIn w) ≡ view w .stage
+prints-none : (out : List ℕ) (at : ℕ) → Prints out at [] out at
+prints-none out at = record { place = omega arith; bytes = refl; few = omega arith }
+
+module _ (out out′ : List ℕ) (at r i : ℕ) (p : Reply) (small : i ≤ largest32) where
+  pub replied-no : (x : Refusal) → p ≡ reply.Refused x → Put out at (noLine i x) out′ r → Prints out at (replyLine i p) out′ r
+  unfolding replyLine
+  replied-no x e b = rw e (prints b (omega (arith, no-short i x small)))
+
+  pub replied-ok : (sent k : ℕ) → sent ≤ largest32 → k ≤ largest32 → p ≡ reply.Accepted sent k → Put out at (okLine i sent k) out′ r
+      → Prints out at (replyLine i p) out′ r
+  unfolding replyLine
+  replied-ok sent k hs hk e b = rw e (prints b (omega (arith, ok-short i sent k small hs hk)))
+
+stage-without : (w : List ℕ)
+    → stageOf (record {
+      stage = getD w stageAt 0;
+      answered = getD w answeredAt 0;
+      accepted = getD w acceptedAt 0;
+      holding = getD w holdingAt 0;
+      length = 0;
+    }) (simulationIn w) ≡ view w .stage
 unfolding view stageOf headIn
 stage-without w = refl
 
@@ -124,22 +145,25 @@ module _ (w out : List ℕ) (at : ℕ) (R : Ready w out at) where
 
   -- the general form: h has the length of w's line
   pub does : (p : Printed Stage) (w′ : List ℕ) (h : Head) (s : List ℕ) → Is w′ h (keptIn w) s → h .length ≡ headIn w .length → stageOf h s ≡ p .now →
-      h .stage ≤ stageClosed → (h .stage ≡ stageRunning → validRun h s ≡ true) → (out′ : List ℕ) (r : ℕ) → (r ≡ at + length (p .out)) × (out′ ≡ sets out at (p .out)) → Does w out at p w′ out′ r
+      h .stage ≤ stageClosed → (h .stage ≡ stageRunning → validRun h s ≡ true) → (out′ : List ℕ) (r : ℕ) → Prints out at (p .out) out′ r
+      → Does w out at p w′ out′ r
   unfolding view
   does p w′ h s I e q few run out′ r b =
       record {
         stage = ap (λ (x : Reader). x .stage) (view-is I) ∙ q;
         line = ap (λ (x : Reader). x .line) (view-is I) ∙ ap (λ (n : ℕ). take n (keptIn w)) e;
         again = valid-is I ∙ from-facts h (keptIn w) s few (omega (arith, e, its .few)) (its .bytes) run;
-        place = b .0;
-        bytes = b .1;
+        prints = b;
       }
 
   -- the first line is refused
-  pub refused-does : (x : Refusal) (out′ : List ℕ) (r : ℕ) → (r ≡ at + length (refusedLine x)) × (out′ ≡ sets out at (refusedLine x)) →
+  pub refused-does : (x : Refusal) (out′ : List ℕ) (r : ℕ) → Put out at (refusedLine x) out′ r →
       Does w out at (record { now = closed; out = refusedLine x }) (set w stageAt stageClosed) out′ r
   unfolding stageOf
-  refused-does x out′ r b = does (record { now = closed; out = refusedLine x }) (set w stageAt stageClosed) _ (simulationIn w) (store-stage (itself-is w (R .long)) 2) refl refl (omega arith) (λ e. absurd (omega (arith, e))) out′ r b
+  refused-does x out′ r b =
+      does (record { now = closed; out = refusedLine x }) (set w stageAt stageClosed) _ (simulationIn w)
+      (store-stage (itself-is w (R .long)) 2) refl refl (omega arith) (λ e. absurd (omega (arith, e)))
+      out′ r (prints b (omega (arith, refused-short x)))
 
   -- nothing is done and nothing printed
   pub stays : (p : Printed Stage) → p .now ≡ view w .stage → p .out ≡ [] → Does w out at p w out at
@@ -148,8 +172,7 @@ module _ (w out : List ℕ) (at : ℕ) (R : Ready w out at) where
         stage = sym e;
         line = refl;
         again = R .valid;
-        place = rw q (omega arith);
-        bytes = rw q;
+        prints = rw q (prints-none out at);
       }
 
   module _ (N : Reads w) where
@@ -158,17 +181,30 @@ module _ (w out : List ℕ) (at : ℕ) (R : Ready w out at) where
     run-known = run-facts (headIn w) (simulationIn w) (its .runs (N .runs))
 
     -- a line that changes nothing
-    pub passing-does : (x : Refusal) (out′ : List ℕ) (r : ℕ) → (r ≡ at + length (noLine (getD w answeredAt 0 + 1) x)) × (out′ ≡ sets out at (noLine (getD w answeredAt 0 + 1) x)) →
+    pub number-small : getD w answeredAt 0 + 1 ≤ largest32
+    number-small = omega (arith, N .more)
+
+    pub passing-does : (x : Refusal) (out′ : List ℕ) (r : ℕ) → Put out at (noLine (getD w answeredAt 0 + 1) x) out′ r →
         Does w out at (passing (scriptIn (headIn w) (simulationIn w)) x) (set w answeredAt (getD w answeredAt 0 + 1)) out′ r
     unfolding stageOf headIn
     passing-does x out′ r b =
         let F = run-known in
         let z : getD w answeredAt 0 + 1 ≡ suc (getD w answeredAt 0) = add-one (getD w answeredAt 0) in
-        does (passing (scriptIn (headIn w) (simulationIn w)) x) (set w answeredAt (getD w answeredAt 0 + 1)) _ (simulationIn w) (store-answered (itself-is w (R .long)) (getD w answeredAt 0 + 1)) refl
+        let P : Prints out at (noLine (getD w answeredAt 0 + 1) x) out′ r =
+        prints b (omega (arith, no-short (getD w answeredAt 0 + 1) x number-small)) in
+        does (passing (scriptIn (headIn w) (simulationIn w)) x) (set w answeredAt (getD w answeredAt 0 + 1)) _ (simulationIn w)
+        (store-answered (itself-is w (R .long)) (getD w answeredAt 0 + 1)) refl
         (rw (N .runs, z))
         (omega (arith, N .runs))
-        (λ e. from-run _ (simulationIn w) (record { simulation = F .simulation; answered = omega (arith, N .more); accepted = omega (arith, F .accepted); holding = F .holding; few = F .few }))
-        out′ r (rw z at b)
+        (λ e. from-run _ (simulationIn w)
+        (record {
+          simulation = F .simulation;
+          answered = omega (arith, N .more);
+          accepted = omega (arith, F .accepted);
+          holding = F .holding;
+          few = F .few;
+        }))
+        out′ r (rw z at P)
 
     -- an event, which left the simulation s′ and these counts
     module _ (e : Event) (s′ : List ℕ) (went : Went) (G : Goes (countsIn (headIn w)) (simulationIn w) e s′ went) where
@@ -179,7 +215,14 @@ module _ (w out : List ℕ) (at : ℕ) (R : Ready w out at) where
       outcome = bounded.happens (simulationIn w) e
 
       abbrev head : Head
-      head = record { stage = getD w stageAt 0; answered = getD w answeredAt 0 + 1; accepted = went .counts .accepted; holding = went .counts .holding; length = getD w lengthAt 0 }
+      head =
+          record {
+            stage = getD w stageAt 0;
+            answered = getD w answeredAt 0 + 1;
+            accepted = went .counts .accepted;
+            holding = went .counts .holding;
+            length = getD w lengthAt 0;
+          }
 
       now-holding : holders (layout.view s′) ≡ holders (after (layout.view (simulationIn w)) outcome)
       now-holding = ap holders (ap (λ (r : Run). r .system) (G .run) ∙ moved-system before outcome)
@@ -213,7 +256,7 @@ module _ (w out : List ℕ) (at : ℕ) (R : Ready w out at) where
       answered-line = rw (G .reply, add-one (getD w answeredAt 0)) (reply-line _ _ _)
 
       pub happened-does : (w′ : List ℕ) → Is w′ head (keptIn w) s′ → (out′ : List ℕ) (r : ℕ) →
-          (r ≡ at + length (replyLine (getD w answeredAt 0 + 1) (went .reply))) × (out′ ≡ sets out at (replyLine (getD w answeredAt 0 + 1) (went .reply))) →
+          Prints out at (replyLine (getD w answeredAt 0 + 1) (went .reply)) out′ r →
           Does w out at (happened (scriptIn (headIn w) (simulationIn w)) e) w′ out′ r
       unfolding stageOf headIn
       happened-does w′ I out′ r b =
@@ -225,32 +268,44 @@ unfolding simulationIn headIn
 end-valid w v one = run-facts (headIn w) (simulationIn w) (known w v .runs one) .simulation
 
 -- room for each line
-pub no-fits : (out : List ℕ) (at i : ℕ) (x : Refusal) → at + maxPrinted ≤ length out → at + length (noLine i x) ≤ length out
-no-fits out at i x h = omega (arith, no-short i x, h)
+module _ (out : List ℕ) (at : ℕ) (room : at + maxPrinted ≤ length out) where
+  pub no-fits : (i : ℕ) (x : Refusal) → i ≤ largest32 → at + length (noLine i x) ≤ length out
+  no-fits i x h = omega (arith, no-short i x h, room)
 
-pub ok-fits : (out : List ℕ) (at i sent k : ℕ) → at + maxPrinted ≤ length out → at + length (okLine i sent k) ≤ length out
-ok-fits out at i sent k h = omega (arith, ok-short i sent k, h)
-
-pub end-fits : (out : List ℕ) (at a h k : ℕ) → at + maxPrinted ≤ length out → at + length (endLine a h k) ≤ length out
-end-fits out at a h k r = omega (arith, end-short a h k, r)
+  pub ok-fits : (i sent k : ℕ) → i ≤ largest32 → sent ≤ largest32 → k ≤ largest32 → at + length (okLine i sent k) ≤ length out
+  ok-fits i sent k a b c = omega (arith, ok-short i sent k a b c, room)
 
 -- what the end prints
 module _ (w : List ℕ) (at : ℕ) (o : List ℕ) where
   abbrev Ends : List ℕ → ℕ → Type 0
-  Ends o′ r = (r ≡ at + length (ended (view w .stage))) × (o′ ≡ sets o at (ended (view w .stage)))
+  Ends o′ r = Prints o at (ended (view w .stage)) o′ r
 
-  pub end-opening : getD w stageAt 0 ≡ stageOpening → (o′ : List ℕ) (r : ℕ) → (r ≡ at + length (refusedLine BadLine)) × (o′ ≡ sets o at (refusedLine BadLine)) → Ends o′ r
+  pub end-opening : getD w stageAt 0 ≡ stageOpening → (o′ : List ℕ) (r : ℕ) → Put o at (refusedLine BadLine) o′ r → Ends o′ r
   unfolding ended
-  end-opening e o′ r b = rw (stage-opening w e) b
+  end-opening e o′ r b = rw (stage-opening w e) (prints b (omega (arith, refused-short BadLine)))
 
-  pub end-running : getD w stageAt 0 ≡ stageRunning → (k : ℕ) → k ≡ layout.view (take simulationSize (drop stateHead w)) .most → (o′ : List ℕ) (r : ℕ) →
-      (r ≡ at + length (endLine (getD w acceptedAt 0) (getD w holdingAt 0) k)) × (o′ ≡ sets o at (endLine (getD w acceptedAt 0) (getD w holdingAt 0) k)) → Ends o′ r
-  unfolding ended headIn simulationIn
-  end-running e k q o′ r b = rw (stage-running w e) (rw q at b)
+  module _ (v : valid w ≡ true) (e : getD w stageAt 0 ≡ stageRunning) (k : ℕ) (small : k ≤ largest32) where
+    end-few : length (endLine (getD w acceptedAt 0) (getD w holdingAt 0) k) ≤ maxPrinted
+    unfolding headIn
+    end-few =
+        let F = run-facts (headIn w) (simulationIn w) (known w v .runs e) in
+        let a : getD w acceptedAt 0 ≤ largest32 = omega (arith, F .answered, F .accepted) in
+        let h : getD w holdingAt 0 ≤ largest32 = omega (arith, F .few) in
+        omega (arith, end-short (getD w acceptedAt 0) (getD w holdingAt 0) k a h small)
+
+    pub end-fits : at + maxPrinted ≤ length o → at + length (endLine (getD w acceptedAt 0) (getD w holdingAt 0) k) ≤ length o
+    end-fits room = omega (arith, end-few, room)
+
+    pub end-running : k ≡ layout.view (take simulationSize (drop stateHead w)) .most → (o′ : List ℕ) (r : ℕ) →
+        Put o at (endLine (getD w acceptedAt 0) (getD w holdingAt 0) k) o′ r → Ends o′ r
+    unfolding ended headIn simulationIn
+    end-running q o′ r b =
+        let P : Prints o at (endLine (getD w acceptedAt 0) (getD w holdingAt 0) k) o′ r = prints b end-few in
+        rw (stage-running w e) (rw q at P)
 
   pub end-closed : (getD w stageAt 0 ≡ stageOpening → ⊥) → (getD w stageAt 0 ≡ stageRunning → ⊥) → Ends o at
   unfolding ended
-  end-closed a b = rw (stage-closed w a b) (omega arith, refl)
+  end-closed a b = rw (stage-closed w a b) (prints-none o at)
 
 -- words set to 0 from the first on
 pub cleared-more : (o l : List ℕ) (n i : ℕ) → Clearing o 0 n l i → i < n → Clearing o 0 n (set l i 0) (i + 1)
@@ -269,6 +324,18 @@ unfolding newScript newWords
 not-new w ne = (rw (ne-eqb (length w) stateSize ne), rw (ne-eqb (length w) stateSize ne))
 
 -- the first line ---------------------------------------------------------------------------------------------------------------
+
+-- a setting in range has small numbers, and so a short header
+in-range-small : (s : Setting) → inRange s ≡ true → Small s
+in-range-small s e =
+    let (q, k) = both (inRangeUpTo systemServers (s .n) (s .m) (s .f)) (within (s .clients) systemClients) e in
+    let R = range (s .n) (s .m) (s .f) q in
+    record {
+      n = omega (arith, R .servers);
+      m = omega (arith, R .servers, R .threshold);
+      f = omega (arith, R .servers, R .faults);
+      clients = omega (arith, within-range (s .clients) systemClients k .1);
+    }
 
 -- a new run is made or refused as the setting is in range
 opens-range : (s : Setting) (l : ℕ) → l ≡ simulationSize → opens l s ≡ inRange s
@@ -295,7 +362,8 @@ module _ (w out : List ℕ) (at : ℕ) (R : Ready w out at) (zeroth : getD w sta
     unfolding headIn
     lent-ready =
         let K = known w (R .valid) in
-        let v : valid (sets w stateHead s′) ≡ true = valid-is lent-is ∙ from-facts (headIn w) (keptIn w) s′ (K .stage) (K .few) (K .bytes) (λ e. absurd (omega (arith, zeroth, e))) in
+        let v : valid (sets w stateHead s′) ≡ true = valid-is lent-is ∙ from-facts (headIn w) (keptIn w) s′ (K .stage) (K .few) (K .bytes)
+        (λ e. absurd (omega (arith, zeroth, e))) in
         let S = sound (sets w stateHead s′) v in
         record { valid = v; long = S .long; short = S .short; room = R .room }
 
@@ -304,15 +372,18 @@ module _ (w out : List ℕ) (at : ℕ) (R : Ready w out at) (zeroth : getD w sta
     lent-line = ap (λ (x : Reader). x .line) (view-is lent-is)
 
   -- the setting is out of range
-  pub open-refused : (s : Setting) (s′ : List ℕ) → length s′ ≡ simulationSize → inRange s ≡ false → (x : Refusal) → x ≡ ParameterOutOfRange → (w′ out′ : List ℕ) (r : ℕ) →
+  pub open-refused : (s : Setting) (s′ : List ℕ) → length s′ ≡ simulationSize → inRange s ≡ false → (x : Refusal) → x ≡ ParameterOutOfRange
+      → (w′ out′ : List ℕ) (r : ℕ) →
       Does (sets w stateHead s′) out at (record { now = closed; out = refusedLine x }) w′ out′ r → Does w out at (opened (some s)) w′ out′ r
   unfolding opened
   open-refused s s′ long out-of x q w′ out′ r D =
-      rw (out-of, ← q) (record { stage = D .stage; line = D .line ∙ lent-line s′ long; again = D .again; place = D .place; bytes = D .bytes })
+      rw (out-of, ← q) (record { stage = D .stage; line = D .line ∙ lent-line s′ long; again = D .again; prints = D .prints })
 
   -- the setting is in range: the script runs
-  pub open-running : (s : Setting) (s′ : List ℕ) → inRange s ≡ true → runIn (countsOf (started s)) s′ ≡ started s → layout.valid s′ ≡ true → length s′ ≡ simulationSize → (out′ : List ℕ) (r : ℕ) →
-      (r ≡ at + length (headerLine s)) × (out′ ≡ sets out at (headerLine s)) → Does w out at (opened (some s)) (withCounts (set (sets w stateHead s′) stageAt stageRunning) 0 (countsOf (started s))) out′ r
+  pub open-running : (s : Setting) (s′ : List ℕ) → inRange s ≡ true → runIn (countsOf (started s)) s′ ≡ started s → layout.valid s′ ≡ true
+      → length s′ ≡ simulationSize → (out′ : List ℕ) (r : ℕ) →
+      Put out at (headerLine s) out′ r
+      → Does w out at (opened (some s)) (withCounts (set (sets w stateHead s′) stageAt stageRunning) 0 (countsOf (started s))) out′ r
   unfolding opened stageOf
   open-running s s′ in-it u v long out′ r b =
       let I = store-holding (store-accepted (store-answered (store-stage (lent-is s′ long) 1) 0) 0) (holders (fresh s)) in
@@ -320,8 +391,14 @@ module _ (w out : List ℕ) (at : ℕ) (R : Ready w out at) (zeroth : getD w sta
       let q : _≡_ {A = Script} (unanswered (runIn (countsOf (started s)) s′)) (unanswered (started s)) = ap unanswered u in
       rw in-it
       (does w out at R (record { now = running (unanswered (started s)); out = headerLine s }) _ _ s′ I refl (ap running q) (omega arith)
-      (λ e. from-run _ s′ (record { simulation = v; answered = omega arith; accepted = omega arith; holding = omega (arith, k); few = omega (arith, k, few-holders s′ v) }))
-      out′ r b)
+      (λ e. from-run _ s′ (record {
+        simulation = v;
+        answered = omega arith;
+        accepted = omega arith;
+        holding = omega (arith, k);
+        few = omega (arith, k, few-holders s′ v);
+      }))
+      out′ r (prints b (omega (arith, header-short s (in-range-small s in-it)))))
 
 -- the line by its stage ----------------------------------------------------------------------------------------------------------
 
@@ -333,7 +410,8 @@ module _ (w : List ℕ) where
   unfolding worked
   opening-line e = rw (stage-opening w e)
 
-  pub closed-line : (getD w stageAt 0 ≡ stageOpening → ⊥) → (getD w stageAt 0 ≡ stageRunning → ⊥) → worked (view w .stage) (view w .line) ≡ record { now = closed; out = [] }
+  pub closed-line : (getD w stageAt 0 ≡ stageOpening → ⊥) → (getD w stageAt 0 ≡ stageRunning → ⊥)
+      → worked (view w .stage) (view w .line) ≡ record { now = closed; out = [] }
   unfolding worked
   closed-line a b = rw (stage-closed w a b)
 
@@ -399,7 +477,9 @@ module _ (s : List ℕ) (v : layout.valid s ≡ true) where
   few-servers = range _ _ _ (layout-laws.facts s v .range) .servers
 
   no-client : (k : ℕ) → leb k maxShort ≡ false → has (layout.view s .clients) k ≡ false
-  no-client k e = client-there s k ∙ beyond k (layout.settingOf s .clients) e (omega (arith, within-range (layout.settingOf s .clients) systemClients (layout-laws.facts s v .some) .1))
+  no-client k e =
+      client-there s k ∙ beyond k (layout.settingOf s .clients) e
+      (omega (arith, within-range (layout.settingOf s .clients) systemClients (layout-laws.facts s v .some) .1))
 
   no-server : (j : ℕ) → leb j maxShort ≡ false → has (layout.view s .servers) j ≡ false
   no-server j e = server-there s j ∙ beyond j (layout.settingOf s .n) e (omega (arith, few-servers))
@@ -419,7 +499,8 @@ module _ (s : List ℕ) (v : layout.valid s ≡ true) where
 -- the counts stored leave as many words
 pub counts-same : (w : List ℕ) (i : ℕ) (c : Counts) → length (withCounts w i c) ≡ length w
 counts-same w i c =
-    length-set (set (set w answeredAt i) acceptedAt (c .accepted)) holdingAt (c .holding) ∙ (length-set (set w answeredAt i) acceptedAt (c .accepted) ∙ length-set w answeredAt i)
+    length-set (set (set w answeredAt i) acceptedAt (c .accepted)) holdingAt (c .holding) ∙
+    (length-set (set w answeredAt i) acceptedAt (c .accepted) ∙ length-set w answeredAt i)
 
 pub started-same : (w w′ : List ℕ) (c : Counts) → w′ ≡ withCounts (set w stageAt stageRunning) 0 c → length w′ ≡ length w
 started-same w w′ c p = ap length p ∙ (counts-same (set w stageAt stageRunning) 0 c ∙ length-set w stageAt stageRunning)
@@ -445,7 +526,8 @@ unfolding headIn
 counts-small w N c e = omega (arith, ap (λ (x : Counts). x .accepted) e, N .fewer, N .more)
 
 -- an event's end: the simulation is back, and the counts are stored
-module _ (w out : List ℕ) (at : ℕ) (R : Ready w out at) (N : Reads w) (e : Event) (s′ : List ℕ) (counts : Counts) (c : counts ≡ countsIn (headIn w)) (went : Went) (L : Goes counts (take simulationSize (drop stateHead w)) e s′ went) where
+module _ (w out : List ℕ) (at : ℕ) (R : Ready w out at) (N : Reads w) (e : Event) (s′ : List ℕ) (counts : Counts) (c : counts ≡ countsIn (headIn w))
+    (went : Went) (L : Goes counts (take simulationSize (drop stateHead w)) e s′ went) where
   long′ : length s′ ≡ simulationSize
   long′ = valid-long s′ (L .again)
 
@@ -461,13 +543,14 @@ module _ (w out : List ℕ) (at : ℕ) (R : Ready w out at) (N : Reads w) (e : E
     unfolding headIn
     words =
         rw (p, back w s′ (R .long) long′)
-        (store-holding (store-accepted (store-answered (store-simulation (itself-is w (R .long)) s′ long′) (getD w answeredAt 0 + 1)) (went .counts .accepted)) (went .counts .holding))
+        (store-holding (store-accepted (store-answered (store-simulation (itself-is w (R .long)) s′ long′) (getD w answeredAt 0 + 1))
+        (went .counts .accepted)) (went .counts .holding))
 
     pub event-same : length w′ ≡ length w
     event-same = words .long ∙ sym (R .long)
 
     pub event-happened : (out′ : List ℕ) (r : ℕ) →
-        (r ≡ at + length (replyLine (getD w answeredAt 0 + 1) (went .reply))) × (out′ ≡ sets out at (replyLine (getD w answeredAt 0 + 1) (went .reply))) →
+        Prints out at (replyLine (getD w answeredAt 0 + 1) (went .reply)) out′ r →
         Does w out at (happened (scriptIn (headIn w) (simulationIn w)) e) w′ out′ r
     event-happened out′ r b = happened-does w out at R N e s′ went leaves w′ words out′ r b
 
@@ -493,8 +576,12 @@ module _ (w out : List ℕ) (at : ℕ) (R : Ready w out at) (zeroth : getD w sta
     pub begin-ready : Ready (putMid stateHead simulationSize w s′) out at
     begin-ready = rw (back w s′ (R .long) kept-long′) (lent-ready w out at R zeroth s′ kept-long′)
 
-    pub begin-refused : (w′ out′ : List ℕ) (r : ℕ) → Does (putMid stateHead simulationSize w s′) out at (record { now = closed; out = refusedLine x }) w′ out′ r → Does w out at (opened (some s)) w′ out′ r
-    begin-refused w′ out′ r D = open-refused w out at R zeroth s s′ kept-long′ (sym as-range ∙ refusing .0) x (refusing .1) w′ out′ r (rw (back w s′ (R .long) kept-long′) at D)
+    pub begin-refused : (w′ out′ : List ℕ) (r : ℕ)
+        → Does (putMid stateHead simulationSize w s′) out at (record { now = closed; out = refusedLine x }) w′ out′ r
+        → Does w out at (opened (some s)) w′ out′ r
+    begin-refused w′ out′ r D =
+        open-refused w out at R zeroth s s′ kept-long′ (sym as-range ∙ refusing .0) x (refusing .1) w′ out′ r
+        (rw (back w s′ (R .long) kept-long′) at D)
 
   module _ (c : Counts) (e : made ≡ begun.Run c) where
     running-it : (opens-it ≡ true) × (c ≡ countsOf (started s))
@@ -506,17 +593,20 @@ module _ (w out : List ℕ) (at : ℕ) (R : Ready w out at) (zeroth : getD w sta
     pub begin-long : length (putMid stateHead simulationSize w s′) ≡ stateSize
     begin-long = back-long w s′ (R .long) fresh-long
 
+    pub begin-room : at + length (headerLine s) ≤ length out
+    begin-room = omega (arith, header-short s (in-range-small s (sym as-range ∙ running-it .0)), R .room)
+
     module _ (w′ : List ℕ) (p : w′ ≡ withCounts (set (putMid stateHead simulationSize w s′) stageAt stageRunning) 0 c) where
       pub begin-same : length w′ ≡ length w
-      begin-same = ap length p ∙ (counts-same (set (putMid stateHead simulationSize w s′) stageAt stageRunning) 0 c ∙ (length-set (putMid stateHead simulationSize w s′) stageAt stageRunning ∙ (begin-long ∙ sym (R .long))))
+      begin-same =
+          ap length p ∙ (counts-same (set (putMid stateHead simulationSize w s′) stageAt stageRunning) 0 c ∙
+          (length-set (putMid stateHead simulationSize w s′) stageAt stageRunning ∙ (begin-long ∙ sym (R .long))))
 
-      pub begin-running : (out′ : List ℕ) (r : ℕ) → (r ≡ at + length (headerLine s)) × (out′ ≡ sets out at (headerLine s)) → Does w out at (opened (some s)) w′ out′ r
+      pub begin-running : (out′ : List ℕ) (r : ℕ) → Put out at (headerLine s) out′ r → Does w out at (opened (some s)) w′ out′ r
       begin-running out′ r b =
-          rw (p, running-it .1, back w s′ (R .long) fresh-long) (open-running w out at R zeroth s s′ (sym as-range ∙ running-it .0) (N .0 .run (running-it .0)) (N .0 .again (running-it .0)) fresh-long out′ r b)
-
-module _ (w out : List ℕ) (at : ℕ) (R : Ready w out at) where
-  pub header-room : (s : Setting) → at + length (headerLine s) ≤ length out
-  header-room s = omega (arith, header-short s, R .room)
+          rw (p, running-it .1, back w s′ (R .long) fresh-long)
+          (open-running w out at R zeroth s s′ (sym as-range ∙ running-it .0) (N .0 .run (running-it .0)) (N .0 .again (running-it .0)) fresh-long
+          out′ r b)
 
 -- an event line, by what the parser said of it -------------------------------------------------------------------------------------
 
@@ -533,24 +623,32 @@ module _ (w out : List ℕ) (at : ℕ) (R : Ready w out at) where
     pub swapped : (p q : Printed Stage) → p ≡ q → Does w out at q w′ out′ r → Does w out at p w′ out′ r
     swapped p q e D = rw e D
 
-    pub bad-first : NotOpening ≡ firstOf (line-setting (view w .line)) → Does w out at (record { now = closed; out = refusedLine BadLine }) w′ out′ r → Does w out at (opened (line-setting (view w .line))) w′ out′ r
+    pub bad-first : NotOpening ≡ firstOf (line-setting (view w .line)) → Does w out at (record { now = closed; out = refusedLine BadLine }) w′ out′ r
+        → Does w out at (opened (line-setting (view w .line))) w′ out′ r
     unfolding opened
     bad-first e D = rw (first-bad (line-setting (view w .line)) e) D
 
-    pub setting-first : (s : Setting) → Opens s ≡ firstOf (line-setting (view w .line)) → Does w out at (opened (some s)) w′ out′ r → Does w out at (opened (line-setting (view w .line))) w′ out′ r
+    pub setting-first : (s : Setting) → Opens s ≡ firstOf (line-setting (view w .line)) → Does w out at (opened (some s)) w′ out′ r
+        → Does w out at (opened (line-setting (view w .line))) w′ out′ r
     setting-first s e D = rw (first-setting (line-setting (view w .line)) s e) D
 
-    pub opening-does : getD w stageAt 0 ≡ stageOpening → Does w out at (opened (line-setting (view w .line))) w′ out′ r → Does w out at (worked (view w .stage) (view w .line)) w′ out′ r
+    pub opening-does : getD w stageAt 0 ≡ stageOpening → Does w out at (opened (line-setting (view w .line))) w′ out′ r
+        → Does w out at (worked (view w .stage) (view w .line)) w′ out′ r
     opening-does e D = rw (opening-line w e) D
 
     module _ (one : getD w stageAt 0 ≡ stageRunning) (more : getD w answeredAt 0 < maxLines) where
-      pub bad-does : Bad ≡ lineOf (eventIn (view w .line)) → Does w out at (passing (scriptIn (headIn w) (simulationIn w)) BadLine) w′ out′ r → Does w out at (worked (view w .stage) (view w .line)) w′ out′ r
+      pub bad-does : Bad ≡ lineOf (eventIn (view w .line)) → Does w out at (passing (scriptIn (headIn w) (simulationIn w)) BadLine) w′ out′ r
+          → Does w out at (worked (view w .stage) (view w .line)) w′ out′ r
       bad-does e D = rw (bad-line w one more (parsed-bad (eventIn (view w .line)) e)) D
 
-      pub event-does : (x : Event) → Says x ≡ lineOf (eventIn (view w .line)) → Does w out at (happened (scriptIn (headIn w) (simulationIn w)) x) w′ out′ r → Does w out at (worked (view w .stage) (view w .line)) w′ out′ r
+      pub event-does : (x : Event) → Says x ≡ lineOf (eventIn (view w .line))
+          → Does w out at (happened (scriptIn (headIn w) (simulationIn w)) x) w′ out′ r
+          → Does w out at (worked (view w .stage) (view w .line)) w′ out′ r
       event-does x e D = rw (event-line w one more x (parsed-event (eventIn (view w .line)) x e)) D
 
-      pub unknown-does : Unknown ≡ lineOf (eventIn (view w .line)) → Does w out at (passing (scriptIn (headIn w) (simulationIn w)) NoSuchParty) w′ out′ r → Does w out at (worked (view w .stage) (view w .line)) w′ out′ r
+      pub unknown-does : Unknown ≡ lineOf (eventIn (view w .line))
+          → Does w out at (passing (scriptIn (headIn w) (simulationIn w)) NoSuchParty) w′ out′ r
+          → Does w out at (worked (view w .stage) (view w .line)) w′ out′ r
       unfolding headIn
       unknown-does e D =
           let K : IsUnknown (eventIn (view w .line)) = parsed-unknown (eventIn (view w .line)) e in
@@ -564,14 +662,16 @@ module _ (w out : List ℕ) (at : ℕ) (R : Ready w out at) where
   pub unread-does : getD w stageAt 0 ≡ stageRunning → maxLines ≤ getD w answeredAt 0 → Does w out at (worked (view w .stage) (view w .line)) w out at
   unread-does one h = let e = unread-line w one h in stays w out at R _ (ap (λ (p : Printed Stage). p .now) e) (ap (λ (p : Printed Stage). p .out) e)
 
-  pub closed-does : (getD w stageAt 0 ≡ stageOpening → ⊥) → (getD w stageAt 0 ≡ stageRunning → ⊥) → Does w out at (worked (view w .stage) (view w .line)) w out at
+  pub closed-does : (getD w stageAt 0 ≡ stageOpening → ⊥) → (getD w stageAt 0 ≡ stageRunning → ⊥)
+      → Does w out at (worked (view w .stage) (view w .line)) w out at
   closed-does a b =
       let e = closed-line w a b in
       stays w out at R _ (ap (λ (p : Printed Stage). p .now) e ∙ sym (stage-closed w a b)) (ap (λ (p : Printed Stage). p .out) e)
 
   -- a byte ----------------------------------------------------------------------------------------------------------------------------
 
-  pub line-taken : (b : ℕ) → b ≡ newline → (w′ out′ : List ℕ) (r : ℕ) → Does w out at (worked (view w .stage) (view w .line)) w′ out′ r → Takes out at (taken (view w) b) (set w′ lengthAt 0) out′ r
+  pub line-taken : (b : ℕ) → b ≡ newline → (w′ out′ : List ℕ) (r : ℕ) → Does w out at (worked (view w .stage) (view w .line)) w′ out′ r
+      → Takes out at (taken (view w) b) (set w′ lengthAt 0) out′ r
   unfolding taken headIn validRun
   line-taken b e w′ out′ r D =
       let S = sound w′ (D .again) in
@@ -579,17 +679,26 @@ module _ (w out : List ℕ) (at : ℕ) (R : Ready w out at) where
       rw (eq-eqb b newline e)
       (record {
         reader = view-is I ∙ (λ i. record { stage = kept-stage i; line = [] });
-        again = valid-is I ∙ from-facts _ (keptIn w′) (simulationIn w′) (known w′ (D .again) .stage) (omega arith) (known w′ (D .again) .bytes) (known w′ (D .again) .runs);
-        place = D .place;
-        bytes = D .bytes;
+        again =
+            valid-is I ∙ from-facts _ (keptIn w′) (simulationIn w′) (known w′ (D .again) .stage) (omega arith) (known w′ (D .again) .bytes)
+            (known w′ (D .again) .runs);
+        prints = D .prints;
       })
     where
-      kept-stage : stageOf (record { stage = getD w′ stageAt 0; answered = getD w′ answeredAt 0; accepted = getD w′ acceptedAt 0; holding = getD w′ holdingAt 0; length = 0 }) (simulationIn w′) ≡ worked (view w .stage) (view w .line) .now
+      kept-stage : stageOf (record {
+        stage = getD w′ stageAt 0;
+        answered = getD w′ answeredAt 0;
+        accepted = getD w′ acceptedAt 0;
+        holding = getD w′
+            holdingAt 0;
+        length = 0;
+      }) (simulationIn w′) ≡ worked (view w .stage) (view w .line) .now
       kept-stage = stage-without w′ ∙ D .stage
 
-  pub byte-taken : (b : ℕ) → (b ≡ newline → ⊥) → (w′ : List ℕ) → (view w′ ≡ record { stage = view w .stage; line = behind (view w .line) b }) × (valid w′ ≡ true) → Takes out at (taken (view w) b) w′ out at
+  pub byte-taken : (b : ℕ) → (b ≡ newline → ⊥) → (w′ : List ℕ)
+      → (view w′ ≡ record { stage = view w .stage; line = behind (view w .line) b }) × (valid w′ ≡ true) → Takes out at (taken (view w) b) w′ out at
   unfolding taken
-  byte-taken b ne w′ e = rw (ne-eqb b newline ne) (record { reader = e .0; again = e .1; place = omega arith; bytes = refl })
+  byte-taken b ne w′ e = rw (ne-eqb b newline ne) (record { reader = e .0; again = e .1; prints = prints-none out at })
 
   -- the last line
   pub last-none : getD w lengthAt 0 ≡ 0 → Does w out at (lastLine (view w)) w out at
@@ -597,6 +706,7 @@ module _ (w out : List ℕ) (at : ℕ) (R : Ready w out at) where
       let z : length (view w .line) ≡ 0 = line-long w (sound w (R .valid)) ∙ e in
       rw (eq-eqb (length (view w .line)) 0 z) (stays w out at R (record { now = view w .stage; out = [] }) refl refl)
 
-  pub last-line : (getD w lengthAt 0 ≡ 0 → ⊥) → (w′ out′ : List ℕ) (r : ℕ) → Does w out at (worked (view w .stage) (view w .line)) w′ out′ r → Does w out at (lastLine (view w)) w′ out′ r
+  pub last-line : (getD w lengthAt 0 ≡ 0 → ⊥) → (w′ out′ : List ℕ) (r : ℕ) → Does w out at (worked (view w .stage) (view w .line)) w′ out′ r
+      → Does w out at (lastLine (view w)) w′ out′ r
   last-line ne w′ out′ r D =
       rw (ne-eqb (length (view w .line)) 0 (λ z. ne (sym (line-long w (sound w (R .valid))) ∙ z))) D

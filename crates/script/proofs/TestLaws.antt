@@ -51,12 +51,24 @@ module _ (w : List ℕ) (long : length w ≡ stateSize) where
           pub holders-many : getD w holdingAt 0 < c → false ≡ validRun (headIn w) (simulationIn w)
           unfolding validRun simulationIn headIn
           holders-many g =
-              rw (simulation-good, le-leb (getD w answeredAt 0) maxLines l, le-leb (getD w acceptedAt 0) (getD w answeredAt 0) a, lt-leb (holders (layout.view (take simulationSize (drop stateHead w)))) (getD w holdingAt 0) (omega (arith, g, q)))
+              rw (
+                simulation-good,
+                le-leb (getD w answeredAt 0) maxLines l,
+                le-leb (getD w acceptedAt 0) (getD w answeredAt 0) a,
+                lt-leb
+                    (holders (layout.view (take simulationSize (drop stateHead w)))) (getD w holdingAt 0) (omega (arith, g, q)),
+              )
 
           pub holders-few : c ≤ getD w holdingAt 0 → (r : Bool) → r ≡ leb (getD w holdingAt 0) systemClients → r ≡ validRun (headIn w) (simulationIn w)
           unfolding validRun simulationIn headIn
           holders-few g r p =
-              rw (simulation-good, le-leb (getD w answeredAt 0) maxLines l, le-leb (getD w acceptedAt 0) (getD w answeredAt 0) a, le-leb (holders (layout.view (take simulationSize (drop stateHead w)))) (getD w holdingAt 0) (omega (arith, g, q))) p
+              rw (
+                simulation-good,
+                le-leb (getD w answeredAt 0) maxLines l,
+                le-leb (getD w acceptedAt 0) (getD w answeredAt 0) a,
+                le-leb
+                    (holders (layout.view (take simulationSize (drop stateHead w)))) (getD w holdingAt 0) (omega (arith, g, q)),
+              ) p
 
 -- the whole
 module _ (w : List ℕ) where
@@ -77,13 +89,30 @@ module _ (w : List ℕ) where
       module _ (b : getD w lengthAt 0 ≤ maxKept) (x : Bool) (e : x ≡ every byteWord (keptIn w)) where
         pub bytes-wrong : not x ≡ true → false ≡ valid w
         unfolding valid validParts headIn
-        bytes-wrong n = rw (eq-eqb (length w) stateSize long, le-leb (getD w stageAt 0) stageClosed a, le-leb (getD w lengthAt 0) maxKept b, sym e ∙ not-true x n)
+        bytes-wrong n =
+            rw (eq-eqb (length w) stateSize long, le-leb (getD w stageAt 0) stageClosed a, le-leb (getD w lengthAt 0) maxKept b, sym e ∙ not-true x n)
 
         module _ (n : not x ≡ false) where
           pub no-run : (getD w stageAt 0 ≡ stageRunning → ⊥) → true ≡ valid w
           unfolding valid validParts headIn
-          no-run ne = rw (eq-eqb (length w) stateSize long, le-leb (getD w stageAt 0) stageClosed a, le-leb (getD w lengthAt 0) maxKept b, sym e ∙ not-false x n, ne-eqb (getD w stageAt 0) stageRunning ne)
+          no-run ne =
+              rw (
+                eq-eqb (length w) stateSize long,
+                le-leb (getD w stageAt 0) stageClosed a,
+                le-leb (getD w lengthAt 0) maxKept b,
+                sym e ∙ not-false x
+                    n,
+                ne-eqb (getD w stageAt 0) stageRunning ne,
+              )
 
           pub run-decides : getD w stageAt 0 ≡ stageRunning → (r : Bool) → r ≡ validRun (headIn w) (simulationIn w) → r ≡ valid w
           unfolding valid validParts headIn
-          run-decides q r p = rw (eq-eqb (length w) stateSize long, le-leb (getD w stageAt 0) stageClosed a, le-leb (getD w lengthAt 0) maxKept b, sym e ∙ not-false x n, eq-eqb (getD w stageAt 0) stageRunning q) p
+          run-decides q r p =
+              rw (
+                eq-eqb (length w) stateSize long,
+                le-leb (getD w stageAt 0) stageClosed a,
+                le-leb (getD w lengthAt 0) maxKept b,
+                sym e ∙ not-false x
+                    n,
+                eq-eqb (getD w stageAt 0) stageRunning q,
+              ) p

@@ -39,11 +39,18 @@ feedAnswer w input room =
 abbrev pub feeds : List ℕ → ℕ → Bool
 feeds w room = valid w && leb maxPrinted room
 
-pub record FeedLeaves (w input out w′ out′ : List ℕ) : Type 0 where
-  pub reader : feeds w (length out) ≡ true → view w′ ≡ fedWithin (length out) (view w) input .now
-  pub again : feeds w (length out) ≡ true → valid w′ ≡ true
-  pub bytes : feeds w (length out) ≡ true → out′ ≡ sets out 0 (fedWithin (length out) (view w) input .out)
-  pub kept : feeds w (length out) ≡ false → (w′ ≡ w) × (out′ ≡ out)
+-- what a call leaves: done, the state is this reader and these bytes are printed; refused, all is as it was
+pub record Leaves (done : Bool) (r : Reader) (printed w out w′ out′ : List ℕ) : Type 0 where
+  pub reader : done ≡ true → view w′ ≡ r
+  pub again : done ≡ true → valid w′ ≡ true
+  pub bytes : done ≡ true → out′ ≡ sets out 0 printed
+  pub within : done ≡ true → length printed ≤ length out
+  pub kept : done ≡ false → (w′ ≡ w) × (out′ ≡ out)
+
+abbrev pub FeedLeaves : List ℕ → List ℕ → List ℕ → List ℕ → List ℕ → Type 0
+FeedLeaves w input out w′ out′ =
+    let q = fedWithin (length out) (view w) input in
+    Leaves (feeds w (length out)) (q .now) (q .out) w out w′ out′
 
 -- the end: 21, 6 no room for two lines
 abbrev pub maxEnding : ℕ
@@ -57,11 +64,9 @@ finishAnswer w room =
 abbrev pub finishes : List ℕ → ℕ → Bool
 finishes w room = valid w && leb maxEnding room
 
-pub record FinishLeaves (w out w′ out′ : List ℕ) : Type 0 where
-  pub reader : finishes w (length out) ≡ true → view w′ ≡ record { stage = closed; line = [] }
-  pub again : finishes w (length out) ≡ true → valid w′ ≡ true
-  pub bytes : finishes w (length out) ≡ true → out′ ≡ sets out 0 (finished (view w))
-  pub kept : finishes w (length out) ≡ false → (w′ ≡ w) × (out′ ≡ out)
+abbrev pub FinishLeaves : List ℕ → List ℕ → List ℕ → List ℕ → Type 0
+FinishLeaves w out w′ out′ =
+    Leaves (finishes w (length out)) (record { stage = closed; line = [] }) (finished (view w)) w out w′ out′
 
 -- Inside, what a valid state gives is handed on: its length, and the length of the line.
 pub record Sound (w : List ℕ) : Type 0 where
@@ -82,20 +87,24 @@ pub record Reads (w : List ℕ) : Type 0 where
   pub more : getD w answeredAt 0 < maxLines
   pub fewer : getD w acceptedAt 0 ≤ getD w answeredAt 0
 
+-- these bytes, no more than a line has, were printed from place `at` on, and r is the place behind them
+pub record Prints (out : List ℕ) (at : ℕ) (l out′ : List ℕ) (r : ℕ) : Type 0 where
+  pub place : r ≡ at + length l
+  pub bytes : out′ ≡ sets out at l
+  pub few : length l ≤ maxPrinted
+
 -- the stage became and printed this, from place `at` on, and r is the place behind it; the line is as it was
 pub record Does (w out : List ℕ) (at : ℕ) (p : Printed Stage) (w′ out′ : List ℕ) (r : ℕ) : Type 0 where
   pub stage : view w′ .stage ≡ p .now
   pub line : view w′ .line ≡ view w .line
   pub again : valid w′ ≡ true
-  pub place : r ≡ at + length (p .out)
-  pub bytes : out′ ≡ sets out at (p .out)
+  pub prints : Prints out at (p .out) out′ r
 
 -- the same of the whole reader
 pub record Takes (out : List ℕ) (at : ℕ) (p : Printed Reader) (w′ out′ : List ℕ) (r : ℕ) : Type 0 where
   pub reader : view w′ ≡ p .now
   pub again : valid w′ ≡ true
-  pub place : r ≡ at + length (p .out)
-  pub bytes : out′ ≡ sets out at (p .out)
+  pub prints : Prints out at (p .out) out′ r
 
 -- the bytes were taken in while there was room for a line
 pub record FedAs (w input out w′ out′ : List ℕ) (r : Progress) : Type 0 where
@@ -103,6 +112,15 @@ pub record FedAs (w input out w′ out′ : List ℕ) (r : Progress) : Type 0 wh
   pub reader : view w′ ≡ fedWithin (length out) (view w) input .now
   pub again : valid w′ ≡ true
   pub bytes : out′ ≡ sets out 0 (fedWithin (length out) (view w) input .out)
+  pub within : length (fedWithin (length out) (view w) input .out) ≤ length out
+
+-- the script was closed, and its end printed
+pub record Closes (w out w′ out′ : List ℕ) (r : ℕ) : Type 0 where
+  pub reader : view w′ ≡ record { stage = closed; line = [] }
+  pub again : valid w′ ≡ true
+  pub place : r ≡ length (finished (view w))
+  pub bytes : out′ ≡ sets out 0 (finished (view w))
+  pub within : length (finished (view w)) ≤ length out
 
 -- an event of a script that runs, and a line that changes nothing
 abbrev pub happened : Script → Event → Printed Stage

@@ -1,6 +1,6 @@
 -- The state of a script as words: what a reader of it has taken in so far. 0 is none.
--- First the head: the stage, the event lines answered, those accepted, the most holders at once, and the bytes of the line so far. Then those bytes, a word for each, and
--- the simulation's words.
+-- First the head: the stage, the event lines answered, those accepted, the most holders at once, and the bytes of the line so far.
+-- Then those bytes, a word for each, and the simulation's words.
 use Prim.Native.Nat.{ℕ, _+_}
 use mathlib.Core.Bool.{Bool, true, _&&_}
 use mathlib.Core.List.{List}

@@ -13,7 +13,7 @@ ghost use Rattle.script_lines.specs.Lines.{eventIn, lineOf, settingIn, firstOf}
 ghost use Rattle.script_lines.specs.Printed.{refusedLine};
 ghost use Rattle.script_output.specs.Reader.{closed, opened, worked, behind, taken, ended, lastLine, finished, maxKept, maxPrinted};
 ghost use Rattle.script.specs.State.{headIn, keptIn, simulationIn, countsIn, scriptIn, byteWord, validRun, view, valid as isValid, stateSize, stateHead, stageAt, lengthAt, stageOpening, stageRunning, stageClosed};
-ghost use Rattle.script.specs.Calls.{newAnswer, newWords, feedAnswer, FeedLeaves, finishAnswer, FinishLeaves, Sound, Ready, Reads, Does, Takes, FedAs, happened, passing, maxEnding, withCounts, replyLine};
+ghost use Rattle.script.specs.Calls.{newAnswer, newWords, feedAnswer, FeedLeaves, finishAnswer, FinishLeaves, Sound, Ready, Reads, Prints, Does, Takes, FedAs, Closes, happened, passing, maxEnding, withCounts, replyLine};
 use ids::Refusal;
 use script_lines::First;
 use script_lines::Line;
@@ -239,7 +239,7 @@ fn open(w: &mut [u32], out: &mut [u8], at: usize) -> usize
 // The answer to event number `number`.
 fn put_reply(out: &mut [u8], at: usize, number: u32, reply: Reply) -> usize
     requires { ⌜ at + maxPrinted ≤ length (now out) ⌝ }
-    ensures { λ r. ⌜ (r ≡ at + length (replyLine number reply)) × (now (out .exit) ≡ sets (now (out .entry)) at (replyLine number reply)) ⌝ }
+    ensures { λ r. ⌜ Prints (now (out .entry)) at (replyLine number reply) (now (out .exit)) r ⌝ }
 {
     match reply {
         Reply::Refused(x) => script_lines::put_no(out, at, number, x),
@@ -380,7 +380,7 @@ fn last(w: &mut [u32], out: &mut [u8]) -> usize
 // What the end prints.
 fn end(w: &[u32], out: &mut [u8], at: usize) -> usize
     requires { ⌜ Ready (now w) (now out) at ⌝ }
-    ensures { λ r. ⌜ (r ≡ at + length (ended (view (now (w .entry)) .stage))) × (now (out .exit) ≡ sets (now (out .entry)) at (ended (view (now (w .entry)) .stage))) ⌝ }
+    ensures { λ r. ⌜ Prints (now (out .entry)) at (ended (view (now (w .entry)) .stage)) (now (out .exit)) r ⌝ }
 {
     if w[STAGE] == OPENING {
         return script_lines::put_refused(out, at, Refusal::BadLine);
@@ -408,7 +408,7 @@ fn seal(w: &mut [u32])
 
 fn close(w: &mut [u32], out: &mut [u8]) -> usize
     requires { ⌜ Sound (now w) × (maxEnding ≤ length (now out)) ⌝ }
-    ensures { λ r. ⌜ (r ≡ length (finished (view (now (w .entry))))) × (view (now (w .exit)) ≡ record { stage = closed; line = [] }) × (isValid (now (w .exit)) ≡ true) × (now (out .exit) ≡ sets (now (out .entry)) 0 (finished (view (now (w .entry))))) ⌝ }
+    ensures { λ r. ⌜ Closes (now (w .entry)) (now (out .entry)) (now (w .exit)) (now (out .exit)) r ⌝ }
 {
     let at = last(w, out);
     let wrote = end(w, out, at);

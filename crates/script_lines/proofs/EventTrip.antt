@@ -13,7 +13,7 @@ use Rattle.ids.specs.Choice.{if_then_else_, maybe}
 use Rattle.ids.proofs.Choice.{decided, both}
 use Rattle.system.specs.declared.Event.{Event}
 use Rattle.system.specs.declared.Event.the-variants.{Try, Exit, Fall, Down, Up, Take, Drop, Miss, Check}
-use Rattle.script_numbers.specs.Decimals.{largest, number, decimal}
+use Rattle.script_numbers.specs.Decimals.{largest32, number, decimal}
 use Rattle.script_lines.specs.Words.{text, space, same, word, rest, spaced}
 use Rattle.script_lines.specs.Lines.{short, commandIn, eventOf, eventIn, sixteenBits, lineOf, maxLine}
 use Rattle.script_lines.specs.Printed.{wordOf, numberOf, eventLine}
@@ -38,8 +38,8 @@ word-short (Drop i) = omega arith
 word-short (Miss j) = omega arith
 word-short (Check j) = omega arith
 
-pub event-short : (e : Event) → length (eventLine e) ≤ 16
-event-short e = omega (arith, length-event e, word-short e, decimal-short (numberOf e))
+pub event-short : (e : Event) → numberOf e ≤ largest32 → length (eventLine e) ≤ 16
+event-short e h = omega (arith, length-event e, word-short e, decimal-short (numberOf e) h)
 
 -- its word, what stands behind it, and the event that the two are
 record Parts (e : Event) : Type 0 where
@@ -59,11 +59,11 @@ parts (Drop i) = record { first = refl; second = refl; event = refl }
 parts (Miss j) = record { first = refl; second = refl; event = refl }
 parts (Check j) = record { first = refl; second = refl; event = refl }
 
-pub event-read : (e : Event) → numberOf e ≤ largest → eventIn (eventLine e) ≡ some e
+pub event-read : (e : Event) → numberOf e ≤ largest32 → eventIn (eventLine e) ≡ some e
 unfolding eventIn
 event-read e h =
     let p = parts e in
-    let s : length (eventLine e) ≤ maxLine = omega (arith, event-short e) in
+    let s : length (eventLine e) ≤ maxLine = omega (arith, event-short e h) in
     simp (le-leb (length (eventLine e)) maxLine s, p .first, p .second, decimal-read (numberOf e) h, p .event)
 
 -- an event that is read is printed as it stood --------------------------------------------------------------------------------
@@ -132,6 +132,6 @@ event-printed l e h =
     (decided (short l))
 
 -- at the calls: an event that `put_event` has written is the one that `parse_event` answers with
-pub event-again : (e : Event) → numberOf e ≤ largest → sixteenBits e ≡ true → lineOf (eventIn (eventLine e)) ≡ Says e
+pub event-again : (e : Event) → numberOf e ≤ largest32 → sixteenBits e ≡ true → lineOf (eventIn (eventLine e)) ≡ Says e
 unfolding lineOf
 event-again e h b = rw (event-read e h, b)

@@ -85,7 +85,8 @@ module _ (s : List ℕ) (at : ℕ) where
       let z : _≡_ {A = ℕ} 0 1 = cc in absurd (omega arith))
       (decided (ltb p (length s)))
 
-  missing-by : {A : Type 0} (f : ℕ → List ℕ → Option A) (o : Option ℕ) (q : Option (List ℕ)) → number (word (drop at s)) ≡ o → rest (drop at s) ≡ q → fieldAt s at ≡ NoField → next (drop at s) f ≡ none
+  missing-by : {A : Type 0} (f : ℕ → List ℕ → Option A) (o : Option ℕ) (q : Option (List ℕ)) → number (word (drop at s)) ≡ o → rest (drop at s) ≡ q
+      → fieldAt s at ≡ NoField → next (drop at s) f ≡ none
   unfolding fieldAt
   missing-by f none q n b e = rw n
   missing-by f (some x) none n b e = simp (n, b)

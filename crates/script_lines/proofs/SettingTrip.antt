@@ -6,18 +6,19 @@ use mathlib.Core.Bool.{Bool, true, false, _&&_}
 use mathlib.Core.Logic.{⊎-elim}
 use mathlib.Core.Option.{Option, none, some}
 use mathlib.Core.List.{List, [], _∷_, _++_}
-use lib.Dec.{eqb, ltb}
+use lib.Dec.{eqb}
 use lib.ListN.{length}
 use borrow.Author.Tests.{le-leb, ne-eqb}
 use Rattle.ids.specs.Choice.{maybe}
-use Rattle.ids.proofs.Choice.{decided, both, passed}
-use Rattle.script_numbers.specs.Decimals.{largest, digit, digits, number, decimal}
+use Rattle.ids.proofs.Choice.{decided, both}
+use Rattle.script_numbers.specs.Decimals.{largest32, digitUpTo, digitsUpTo, number, decimal}
 use Rattle.script_lines.specs.Words.{text, space, same, word, rest, spaced}
 use Rattle.script_lines.specs.Lines.{short, next, fourIn, settingIn, maxLine}
-use Rattle.script_lines.specs.Printed.{settingLine}
+use Rattle.script_lines.specs.Printed.{fourWords, settingLine}
 use Rattle.system.specs.declared.Setting.{Setting}
+use Rattle.script_lines.proofs.PrintedLaws.{Small}
 use Rattle.script_lines.proofs.FirstLaws.{fourth, third, second}
-use Rattle.script_numbers.proofs.NumberTrip.{digit-low, decimal-read, number-printed, through}
+use Rattle.script_numbers.proofs.NumberTrip.{digit-low, number-read, not-empty, decimal-read, number-printed, through}
 use Rattle.script_lines.proofs.EventTrip.{same-is, rest-joins}
 
 -- a printed setting is read ---------------------------------------------------------------------------------------------------
@@ -26,37 +27,37 @@ record Cut (w r : List ℕ) : Type 0 where
   before : word (w ++ (space ∷ r)) ≡ w
   behind : rest (w ++ (space ∷ r)) ≡ some r
 
-cut-digits : (w r : List ℕ) (y x : ℕ) → digits y w ≡ some x → Cut w r
-unfolding digits word rest
+cut-digits : (w r : List ℕ) (y x : ℕ) → digitsUpTo largest32 y w ≡ some x → Cut w r
+unfolding digitsUpTo word rest
 cut-digits [] r y x e = record { before = refl; behind = refl }
 cut-digits (b ∷ w) r y x e =
-    let t = through (digit y b) (λ z. digits z w) x e in
-    let low : 48 ≤ b = digit-low y b (t .value) (t .is) in
+    let t = through (digitUpTo largest32 y b) (λ z. digitsUpTo largest32 z w) x e in
+    let low : 48 ≤ b = digit-low largest32 y b (t .value) (t .is) in
     let c = cut-digits w r (t .value) x (t .gives) in
     let n : eqb b space ≡ false = ne-eqb b space (λ (s : b ≡ 32). omega arith) in
     record { before = simp (n, c .before); behind = simp (n, c .behind) }
 
 cut-number : (w r : List ℕ) (x : ℕ) → number w ≡ some x → Cut w r
-unfolding number
-cut-number [] r x e = let z : _≡_ {A = ℕ} 0 1 = cc in absurd (omega arith)
-cut-number (b ∷ w) r x e =
-    let (n, d) = passed (eqb b 48 && ltb 0 (length w)) (λ (f : none ≡ some x). let z : _≡_ {A = ℕ} 0 1 = cc in omega arith) e in
-    cut-digits (b ∷ w) r 0 x d
+cut-number [] r x e = absurd (not-empty largest32 x e)
+cut-number (b ∷ w) r x e = cut-digits (b ∷ w) r 0 x (number-read largest32 b w x e .1)
 
-next-read : {A : Type 0} (x : ℕ) (r : List ℕ) (f : ℕ → List ℕ → Option A) → x ≤ largest → next (decimal x ++ (space ∷ r)) f ≡ f x r
+next-read : {A : Type 0} (x : ℕ) (r : List ℕ) (f : ℕ → List ℕ → Option A) → x ≤ largest32
+    → next (decimal x ++ (space ∷ r)) f ≡ f x r
 next-read x r f h =
     let e : number (decimal x) ≡ some x = decimal-read x h in
     let c = cut-number (decimal x) r x e in
     simp (c .before, c .behind, e)
 
-module _ (s : Setting) (hn : s .n ≤ largest) (hm : s .m ≤ largest) (hf : s .f ≤ largest) (hk : s .clients ≤ largest) where
-  four-read : fourIn (spaced (decimal (s .n) ∷ decimal (s .m) ∷ decimal (s .f) ∷ decimal (s .clients) ∷ [])) ≡ some s
+module _ (s : Setting) (small : Small s) where
+  four-read : fourIn (spaced (fourWords s)) ≡ some s
   unfolding fourIn spaced
   four-read =
       let r₃ : List ℕ = decimal (s .clients) in
       let r₂ : List ℕ = decimal (s .f) ++ (space ∷ r₃) in
       let r₁ : List ℕ = decimal (s .m) ++ (space ∷ r₂) in
-      next-read (s .n) r₁ second hn ∙ (next-read (s .m) r₂ (third (s .n)) hm ∙ (next-read (s .f) r₃ (fourth (s .n) (s .m)) hf ∙ rw (decimal-read (s .clients) hk)))
+      next-read (s .n) r₁ second (small .n) ∙
+      (next-read (s .m) r₂ (third (s .n)) (small .m) ∙
+      (next-read (s .f) r₃ (fourth (s .n) (s .m)) (small .f) ∙ rw (decimal-read (s .clients) (small .clients))))
 
   pub setting-read : length (settingLine s) ≤ maxLine → settingIn (settingLine s) ≡ some s
   unfolding settingIn settingLine spaced word rest same
@@ -78,7 +79,7 @@ began l f s e =
     let d : decimal (t .value) ≡ word l = number-printed (word l) (t .value) (t .is) in
     record { number-is = t .value; tail = u .value; joins = rw d (rest-joins l (u .value) (u .is)); gives = u .gives }
 
-four-printed : (l : List ℕ) (s : Setting) → fourIn l ≡ some s → spaced (decimal (s .n) ∷ decimal (s .m) ∷ decimal (s .f) ∷ decimal (s .clients) ∷ []) ≡ l
+four-printed : (l : List ℕ) (s : Setting) → fourIn l ≡ some s → spaced (fourWords s) ≡ l
 unfolding fourIn spaced
 four-printed l s e =
     let a = began l second s e in

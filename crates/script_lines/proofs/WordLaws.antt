@@ -112,7 +112,8 @@ rest-none [] e = refl
 rest-none (b ∷ l) e =
     ⊎-elim
     (λ (t : eqb b space ≡ true). absurd (omega (arith, rw t at e)))
-    (λ (t : eqb b space ≡ false). let f : suc (length (word l)) ≡ suc (length l) = rw t at e in let g : length (word l) ≡ length l = omega arith in rw t (rest-none l g))
+    (λ (t : eqb b space ≡ false). let f : suc (length (word l)) ≡ suc (length l) = rw t at e in let g : length (word l) ≡ length l = omega arith in rw
+    t (rest-none l g))
     (decided (eqb b space))
 
 pub rest-some : (l : List ℕ) → length (word l) < length l → rest l ≡ some (drop (suc (length (word l))) l)
@@ -121,7 +122,8 @@ rest-some [] h = absurd (omega arith)
 rest-some (b ∷ l) h =
     ⊎-elim
     (λ (t : eqb b space ≡ true). rw t)
-    (λ (t : eqb b space ≡ false). let f : suc (length (word l)) < suc (length l) = rw t at h in let g : length (word l) < length l = omega arith in rw t (rest-some l g))
+    (λ (t : eqb b space ≡ false). let f : suc (length (word l)) < suc (length l) = rw t at h in let g : length (word l) < length l = omega arith in rw
+    t (rest-some l g))
     (decided (eqb b space))
 
 -- the same of the line from place `at` on, whose word ends at place p

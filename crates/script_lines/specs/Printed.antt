@@ -12,9 +12,13 @@ use Rattle.system.specs.declared.Setting.{Setting}
 abbrev pub printed : List (List ℕ) → List ℕ
 printed ws = spaced ws ++ (newline ∷ [])
 
+-- the four numbers of a setting
+abbrev pub fourWords : Setting → List (List ℕ)
+fourWords s = decimal (s .n) ∷ decimal (s .m) ∷ decimal (s .f) ∷ decimal (s .clients) ∷ []
+
 -- the header is the setting
 unfoldable pub headerLine : Setting → List ℕ
-headerLine s = printed (text "gallery" ∷ decimal (s .n) ∷ decimal (s .m) ∷ decimal (s .f) ∷ decimal (s .clients) ∷ [])
+headerLine s = printed (text "gallery" ∷ fourWords s)
 
 -- event number i was accepted: the messages sent, the living holders
 unfoldable pub okLine : ℕ → ℕ → ℕ → List ℕ
@@ -44,6 +48,10 @@ wordOf (Drop i) = text "drop"
 wordOf (Miss j) = text "miss"
 wordOf (Check j) = text "check"
 
+-- the commands one after another, as the code holds them
+abbrev pub names : List ℕ
+names = text "try exit fall down up take drop miss check"
+
 abbrev pub numberOf : Event → ℕ
 numberOf (Try k) = k .0
 numberOf (Exit k) = k .0
@@ -60,4 +68,4 @@ eventLine e = spaced (wordOf e ∷ decimal (numberOf e) ∷ [])
 
 -- a setting as the first line of a script
 unfoldable pub settingLine : Setting → List ℕ
-settingLine s = spaced (text "setting" ∷ decimal (s .n) ∷ decimal (s .m) ∷ decimal (s .f) ∷ decimal (s .clients) ∷ [])
+settingLine s = spaced (text "setting" ∷ fourWords s)

@@ -8,7 +8,7 @@ ghost use Rattle.ids.specs.Limits.{maxShort};
 ghost use Rattle.script_numbers.specs.Decimals.{decimal};
 ghost use Rattle.script_lines.specs.Words.{same, word, spaced};
 ghost use Rattle.script_lines.specs.Lines.{commandIn, eventOf, eventIn, lineOf, fourIn, settingIn, firstOf};
-ghost use Rattle.script_lines.specs.Printed.{headerLine, okLine, noLine, endLine, refusedLine, eventLine, settingLine};
+ghost use Rattle.script_lines.specs.Printed.{headerLine, okLine, noLine, endLine, refusedLine, names, wordOf, numberOf, eventLine, fourWords, settingLine};
 ghost use Rattle.script_lines.specs.Answers.{fieldAt};
 use ids::ClientId;
 use ids::MAX_SHORT;
@@ -311,16 +311,26 @@ fn put_word(out: &mut [u8], at: usize, w: &[u8]) -> usize
     p + 1
 }
 
+// A setting's four numbers.
+fn put_four(out: &mut [u8], at: usize, s: Setting) -> usize
+    requires { ⌜ at + length (spaced (fourWords s)) ≤ length (now out) ⌝ }
+    ensures { λ r. ⌜ (r ≡ at + length (spaced (fourWords s))) × (now (out .exit) ≡ sets (now (out .entry)) at (spaced (fourWords s))) ⌝ }
+{
+    let p = put_number(out, at, s.n, b' ');
+    let q = put_number(out, p, s.m, b' ');
+    let t = put_number(out, q, s.f, b' ');
+    script_numbers::put_decimal(out, t, s.clients)
+}
+
 // The header of a run.
 pub fn put_header(out: &mut [u8], at: usize, s: Setting) -> usize
     requires { ⌜ at + length (headerLine s) ≤ length (now out) ⌝ }
     ensures { λ r. ⌜ (r ≡ at + length (headerLine s)) × (now (out .exit) ≡ sets (now (out .entry)) at (headerLine s)) ⌝ }
 {
     let p = put_word(out, at, b"gallery");
-    let q = put_number(out, p, s.n, b' ');
-    let t = put_number(out, q, s.m, b' ');
-    let u = put_number(out, t, s.f, b' ');
-    put_number(out, u, s.clients, b'\n')
+    let q = put_four(out, p, s);
+    out[q] = b'\n';
+    q + 1
 }
 
 // The line of an accepted event.
@@ -364,13 +374,38 @@ pub fn put_refused(out: &mut [u8], at: usize, refusal: Refusal) -> usize
     put_number(out, p, ids::code_of(refusal), b'\n')
 }
 
-// A command and its number.
-fn put_command(out: &mut [u8], at: usize, w: &[u8], x: u32) -> usize
-    requires { ⌜ at + length (now w) + 1 + length (decimal x) ≤ length (now out) ⌝ }
-    ensures { λ r. ⌜ (r ≡ at + length (now (w .entry)) + 1 + length (decimal x)) × (now (out .exit) ≡ sets (now (out .entry)) at (spaced (now (w .entry) ∷ decimal x ∷ []))) ⌝ }
+// The place of an event's command among the commands, each with a space behind it but the last.
+fn name_at(e: Event) -> usize
+    ensures { λ r. ⌜ (r ≤ length names) × (word (drop r names) ≡ wordOf e) ⌝ }
 {
-    let p = put_word(out, at, w);
-    script_numbers::put_decimal(out, p, x)
+    match e {
+        Event::Try(_) => 0,
+        Event::Exit(_) => 4,
+        Event::Fall(_) => 9,
+        Event::Down(_) => 14,
+        Event::Up(_) => 19,
+        Event::Take(_) => 22,
+        Event::Drop(_) => 27,
+        Event::Miss(_) => 32,
+        Event::Check(_) => 37,
+    }
+}
+
+// The number that an event names.
+pub fn number_of(e: Event) -> u32
+    ensures { λ r. ⌜ r ≡ numberOf e ⌝ }
+{
+    match e {
+        Event::Try(k) => k.0 as u32,
+        Event::Exit(k) => k.0 as u32,
+        Event::Fall(k) => k.0 as u32,
+        Event::Down(j) => j.0 as u32,
+        Event::Up(j) => j.0 as u32,
+        Event::Take(i) => i.0,
+        Event::Drop(i) => i.0,
+        Event::Miss(j) => j.0 as u32,
+        Event::Check(j) => j.0 as u32,
+    }
 }
 
 // An event as a line of a script, without a newline.
@@ -378,17 +413,11 @@ pub fn put_event(out: &mut [u8], at: usize, e: Event) -> usize
     requires { ⌜ at + length (eventLine e) ≤ length (now out) ⌝ }
     ensures { λ r. ⌜ (r ≡ at + length (eventLine e)) × (now (out .exit) ≡ sets (now (out .entry)) at (eventLine e)) ⌝ }
 {
-    match e {
-        Event::Try(k) => put_command(out, at, b"try", k.0 as u32),
-        Event::Exit(k) => put_command(out, at, b"exit", k.0 as u32),
-        Event::Fall(k) => put_command(out, at, b"fall", k.0 as u32),
-        Event::Down(j) => put_command(out, at, b"down", j.0 as u32),
-        Event::Up(j) => put_command(out, at, b"up", j.0 as u32),
-        Event::Take(i) => put_command(out, at, b"take", i.0),
-        Event::Drop(i) => put_command(out, at, b"drop", i.0),
-        Event::Miss(j) => put_command(out, at, b"miss", j.0 as u32),
-        Event::Check(j) => put_command(out, at, b"check", j.0 as u32),
-    }
+    let names: &[u8] = b"try exit fall down up take drop miss check";
+    let from = name_at(e);
+    let to = word_end(names, from);
+    let p = put_word(out, at, &names[from..to]);
+    script_numbers::put_decimal(out, p, number_of(e))
 }
 
 // A setting as the first line of a script, without a newline.
@@ -397,8 +426,5 @@ pub fn put_setting(out: &mut [u8], at: usize, s: Setting) -> usize
     ensures { λ r. ⌜ (r ≡ at + length (settingLine s)) × (now (out .exit) ≡ sets (now (out .entry)) at (settingLine s)) ⌝ }
 {
     let p = put_word(out, at, b"setting");
-    let q = put_number(out, p, s.n, b' ');
-    let t = put_number(out, q, s.m, b' ');
-    let u = put_number(out, t, s.f, b' ');
-    script_numbers::put_decimal(out, u, s.clients)
+    put_four(out, p, s)
 }

@@ -1,10 +1,15 @@
-// Decimal numbers, read and printed.
+// Decimal numbers of 32 bits, read and printed.
 ghost use mathlib.Core.Path.{_≡_};
 ghost use Prim.Native.Nat.{_+_, _≤_, _<_};
 ghost use lib.ListN.{length};
 ghost use lib.Seq.{sets};
-ghost use Rattle.script_numbers.specs.Decimals.{digit, digits, number, decimal};
+ghost use Rattle.script_numbers.specs.Decimals.{largest32, digitUpTo, digitsUpTo, number, decimal};
 ghost use Rattle.script_numbers.specs.Answers.{readingOf};
+
+// The largest number, and the most digits that a number has.
+const LARGEST_32: u64 = 4_294_967_295;
+
+pub const DIGITS_32: usize = 10;
 
 // Bytes as a number, if they are one.
 pub enum Reading {
@@ -14,7 +19,7 @@ pub enum Reading {
 
 // One more digit behind x.
 fn add_digit(x: u32, b: u8) -> Reading
-    ensures { λ r. ⌜ r ≡ readingOf (digit x b) ⌝ }
+    ensures { λ r. ⌜ r ≡ readingOf (digitUpTo largest32 x b) ⌝ }
 {
     if b < b'0' {
         return Reading::Nothing;
@@ -23,7 +28,7 @@ fn add_digit(x: u32, b: u8) -> Reading
         return Reading::Nothing;
     }
     let y = 10 * (x as u64) + ((b - b'0') as u64);
-    if y > 4294967295 {
+    if y > LARGEST_32 {
         return Reading::Nothing;
     }
     Reading::Number(y as u32)
@@ -31,7 +36,7 @@ fn add_digit(x: u32, b: u8) -> Reading
 
 // The bytes as digits, the first of which may be 0.
 fn read_digits(s: &[u8]) -> Reading
-    ensures { λ r. ⌜ r ≡ readingOf (digits 0 (now (s .entry))) ⌝ }
+    ensures { λ r. ⌜ r ≡ readingOf (digitsUpTo largest32 0 (now (s .entry))) ⌝ }
 {
     let mut x: u32 = 0;
     let mut i: usize = 0;

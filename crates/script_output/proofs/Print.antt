@@ -11,7 +11,7 @@ use Rattle.system.specs.Transit.{numbered, pending, replaced}
 use Rattle.system.specs.Places.{downFrom, worst}
 use Rattle.system.specs.Events.{deliver, event, withPlaces}
 use Rattle.system.specs.Runs.{after, start, runBy, acceptedEvents, mostHolders}
-use Rattle.script_numbers.specs.Decimals.{digit, digits, number, lastDigits, decimal}
+use Rattle.script_numbers.specs.Decimals.{digitUpTo, digitsUpTo, numberUpTo, lastDigits, decimal}
 use Rattle.script_lines.specs.Words.{same, word, rest, spaced}
 use Rattle.script_lines.specs.Lines.{commandIn, eventOf, eventIn, fourIn, settingIn}
 use Rattle.script_lines.specs.Printed.{headerLine, okLine, noLine, endLine, refusedLine}
@@ -21,10 +21,10 @@ use Rattle.script_output.specs.Samples.{lines, All, samples, example, tw
 pub samples-print : All samples
 unfolding before equal timestampIn insert enqueue without promote delete inform act receive suspect check enough toAll tries exits next
     heard reply round judge responds checked inRangeUpTo added numbered pending replaced downFrom worst deliver event withPlaces after start
-    runBy acceptedEvents mostHolders digit digits number lastDigits decimal same word rest spaced commandIn eventOf eventIn fourIn settingIn
-    headerLine okLine noLine endLine refusedLine linesOf answerLine answers eventsIn endOf played printedFor output lines samples example
-    twoHolders yieldRound redelivery ownerlessAnswer lostRelease fallenOwner epochs refusals empty firstLineEmpty firstLineUnknown
-    firstLineShort firstLineZeroLed firstLinePast32Bits firstLineOf40Bytes firstLineOf41Bytes servers0 servers32 threshold0 thresholdAboveN
-    faultsAboveN clients0 clients17 noLastNewline emptyLastLine stallingSetting
+    runBy acceptedEvents mostHolders digitUpTo digitsUpTo numberUpTo lastDigits decimal same word rest spaced commandIn eventOf eventIn
+    fourIn settingIn headerLine okLine noLine endLine refusedLine linesOf answerLine answers eventsIn endOf played printedFor output lines
+    samples example twoHolders yieldRound redelivery ownerlessAnswer lostRelease fallenOwner epochs refusals empty firstLineEmpty
+    firstLineUnknown firstLineShort firstLineZeroLed firstLinePast32Bits firstLineOf40Bytes firstLineOf41Bytes servers0 servers32 threshold0
+    thresholdAboveN faultsAboveN clients0 clients17 noLastNewline emptyLastLine stallingSetting
 samples-print = (refl, (refl, (refl, (refl, (refl,
     (refl, (refl, (refl, (refl, (refl, (refl, (refl, (refl, (refl, (refl, (refl, (refl, (refl, (refl, (refl, (refl, (refl, (refl, (refl, (refl, (refl, (refl, tt)))))))))))))))))))))))))))

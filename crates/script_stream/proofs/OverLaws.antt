@@ -68,7 +68,8 @@ module _ (w : List ℕ) where
   unfolding view stageOf headIn
   read-all e h = over-on (view w .stage) (rw e (running-spent _ h)) (view w) refl
 
-  pub over-read : valid w ≡ true → (getD w stageAt 0 ≡ stageClosed → ⊥) → (getD w stageAt 0 ≡ stageOpening → ⊥) → leb maxLines (getD w answeredAt 0) ≡ true → Over (view w)
+  pub over-read : valid w ≡ true → (getD w stageAt 0 ≡ stageClosed → ⊥) → (getD w stageAt 0 ≡ stageOpening → ⊥)
+      → leb maxLines (getD w answeredAt 0) ≡ true → Over (view w)
   unfolding headIn
   over-read v a b h =
       let s = known w v .stage in

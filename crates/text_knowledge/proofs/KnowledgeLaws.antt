@@ -56,7 +56,8 @@ module _ (row : List ℕ) (len : ℕ) (p : Padded row len) where
   pub place-there : (i : ℕ) → i < len → Places row × (2 * i + 2 ≤ length row)
   place-there i h = (p .places, omega (arith, p .places .even, p .within))
 
-  pub requests-more : (i : ℕ) → i < len → (s₀ : Sheet) {s₁ s₂ : Sheet} (q : Request) → q ≡ getD (requestsIn row) i noRequest → s₁ ≡ puts (requestsText (queueOf row i)) s₀
+  pub requests-more : (i : ℕ) → i < len → (s₀ : Sheet) {s₁ s₂ : Sheet} (q : Request) → q ≡ getD (requestsIn row) i noRequest
+      → s₁ ≡ puts (requestsText (queueOf row i)) s₀
       → s₂ ≡ puts (requestsText (q ∷ [])) s₁ → s₂ ≡ puts (requestsText (queueOf row (i + 1))) s₀
   requests-more i h s₀ q e f g =
       let l = requestsIn row in
@@ -76,24 +77,39 @@ pub queue-some : (row : List ℕ) (len : ℕ) → Padded row len → (len ≡ 0 
 queue-some row len p h = some-text (requestsIn row) len (p .within) h
 
 -- the servers whose response is r
-support-append : (r : Request) (j : ℕ) (a b : List Owner) → supportText r (serverNo j) (a ++ b) ≡ supportText r (serverNo j) a ++ supportText r (serverNo (j + length a)) b
+support-append : (r : Request) (j : ℕ) (a b : List Owner)
+    → supportText r (serverNo j) (a ++ b) ≡ supportText r (serverNo j) a ++ supportText r (serverNo (j + length a)) b
 unfolding supportText
 support-append r j [] b = let z : j + 0 ≡ j = omega arith in rw z
 support-append r j (o ∷ a) b =
     let z : j + suc (length a) ≡ suc j + length a = omega arith in
-    rw (support-append r (suc j) a b, z, append-assoc (if isRequest r o then text " " ∷ decimal j ∷ [] else []) (supportText r (serverNo (suc j)) a) (supportText r (serverNo (suc j + length a)) b))
+    rw (
+      support-append r (suc j) a b,
+      z,
+      append-assoc (if isRequest r o then text " " ∷ decimal j ∷ [] else []) (supportText r (serverNo (suc j)) a)
+          (supportText r (serverNo (suc j + length a)) b),
+    )
 
 pub support-none : (r : Request) (s : Sheet) → s ≡ puts (supportText r (serverNo 1) []) s
 unfolding supportText puts
 support-none r s = refl
 
-pub support-more : (r : Request) (row : List ℕ) (n : ℕ) → Padded row n → (i : ℕ) → i < n → (s₀ : Sheet) {s₁ s₂ : Sheet} (q : Request) → q ≡ getD (requestsIn row) i noRequest
-    → s₁ ≡ puts (supportText r (serverNo 1) (responsesIn row i)) s₀ → s₂ ≡ puts (supportText r (serverNo (i + 1)) (shown q ∷ [])) s₁ → s₂ ≡ puts (supportText r (serverNo 1) (responsesIn row (i + 1))) s₀
+pub support-more : (r : Request) (row : List ℕ) (n : ℕ) → Padded row n → (i : ℕ) → i < n → (s₀ : Sheet) {s₁ s₂ : Sheet} (q : Request)
+    → q ≡ getD (requestsIn row) i noRequest
+    → s₁ ≡ puts (supportText r (serverNo 1) (responsesIn row i)) s₀ → s₂ ≡ puts (supportText r (serverNo (i + 1)) (shown q ∷ [])) s₁
+    → s₂ ≡ puts (supportText r (serverNo 1) (responsesIn row (i + 1))) s₀
 support-more r row n p i h s₀ q e f g =
     let l = requestsIn row in
     let m : length (map shown (take i l)) ≡ i = length-map (take i l) shown ∙ (length-take i l ∙ omega (arith, p .within)) in
     let z : 1 + length (map shown (take i l)) ≡ i + 1 = omega (arith, m) in
-    rw (add-one i, take-suc l i noRequest (omega (arith, p .within)), map-append shown (take i l) (getD l i noRequest ∷ []), support-append r 1 (map shown (take i l)) (shown (getD l i noRequest) ∷ []), z) (behind s₀ _ _ f (rw e at g))
+    rw (
+      add-one i,
+      take-suc l i noRequest (omega (arith, p .within)),
+      map-append shown (take i l) (getD l i noRequest ∷ []),
+      support-append r 1
+          (map shown (take i l)) (shown (getD l i noRequest) ∷ []),
+      z,
+    ) (behind s₀ _ _ f (rw e at g))
 
 module _ (r : Request) (j : ServerId) (q : Request) (b : Bool) (e : b ≡ isRequest r (shown q)) where
   pub support-own : b ≡ true → supportText r j (shown q ∷ []) ≡ text " " ∷ decimal (j .0) ∷ []
@@ -130,9 +146,12 @@ module _ (w : List ℕ) (j : ServerId) (H : HasServer w j) where
     queue-padded = server-padded (serverOf h row) true (sym (rw e (its-facts .valid))) refl
 
     pub server-text : (b : Bool) → b ≡ serverPlace (serverBlockOf w j) .up
-        → serverText j (serverAt (view w) j) ≡ text "keeper " ∷ decimal (j .0) ∷ ((if b then votesText (votes.view (h .votes) row) else text " down" ∷ []) ++ ends)
+        → serverText j (serverAt (view w) j) ≡ text "keeper " ∷ decimal (j .0) ∷
+        ((if b then votesText (votes.view (h .votes) row) else text " down" ∷ []) ++ ends)
     unfolding serverText serverPlace
-    server-text b f = let g : server.view (serverOf h row) ≡ server.view (serverFrom (serverRecord (serverBlockOf w j))) = ap server.view e in rw (server-is w (j .0) H, f, g)
+    server-text b f =
+        let g : server.view (serverOf h row) ≡ server.view (serverFrom (serverRecord (serverBlockOf w j))) = ap server.view e in
+        rw (server-is w (j .0) H, f, g)
 
 module _ (w : List ℕ) (k : ClientId) (H : HasClient w k) where
   facts : ClientBlock (settingOf w .n) (settingOf w .m) (settingOf w .clients) (k .0) (clientBlockOf w k)
@@ -146,7 +165,8 @@ module _ (w : List ℕ) (k : ClientId) (H : HasClient w k) where
     responses-padded = valid-padded (clientOf h row) (rw e (facts .valid))
 
     pub client-text : (b : Bool) → b ≡ clientPlace (clientBlockOf w k) .living
-        → clientText k (clientAt (view w) k) ≡ text "kiosk " ∷ decimal (k .0) ∷ ((if b then stateText k (client.view (clientOf h row)) else text " fallen" ∷ []) ++ ends)
+        → clientText k (clientAt (view w) k) ≡ text "kiosk " ∷ decimal (k .0) ∷
+        ((if b then stateText k (client.view (clientOf h row)) else text " fallen" ∷ []) ++ ends)
     unfolding clientText clientPlace
     client-text b f = rw (client-is w (k .0) H, f, e)
 
@@ -156,7 +176,8 @@ module _ (u : System) where
   unfolding serversText puts
   servers-none s = refl
 
-  pub servers-more : (j : ℕ) (s₀ : Sheet) {s₁ s₂ : Sheet} → s₁ ≡ puts (serversText u j) s₀ → s₂ ≡ puts (serverText (serverNo (j + 1)) (serverAt u (serverNo (j + 1)))) s₁
+  pub servers-more : (j : ℕ) (s₀ : Sheet) {s₁ s₂ : Sheet} → s₁ ≡ puts (serversText u j) s₀
+      → s₂ ≡ puts (serverText (serverNo (j + 1)) (serverAt u (serverNo (j + 1)))) s₁
       → s₂ ≡ puts (serversText u (j + 1)) s₀
   unfolding serversText
   servers-more j s₀ p q = rw (add-one j) (behind s₀ _ _ p (rw (add-one j) at q))
@@ -165,7 +186,8 @@ module _ (u : System) where
   unfolding clientsText puts
   clients-none s = refl
 
-  pub clients-more : (k : ℕ) (s₀ : Sheet) {s₁ s₂ : Sheet} → s₁ ≡ puts (clientsText u k) s₀ → s₂ ≡ puts (clientText (clientNo (k + 1)) (clientAt u (clientNo (k + 1)))) s₁
+  pub clients-more : (k : ℕ) (s₀ : Sheet) {s₁ s₂ : Sheet} → s₁ ≡ puts (clientsText u k) s₀
+      → s₂ ≡ puts (clientText (clientNo (k + 1)) (clientAt u (clientNo (k + 1)))) s₁
       → s₂ ≡ puts (clientsText u (k + 1)) s₀
   unfolding clientsText
   clients-more k s₀ p q = rw (add-one k) (behind s₀ _ _ p (rw (add-one k) at q))

@@ -8,11 +8,10 @@ use mathlib.Core.List.{[], _∷_, _++_}
 use lib.IntN.{subℕ}
 use lib.ListN.{length}
 use borrow.Author.Tests.{lt-ltb, le-ltb}
-use Rattle.script_numbers.specs.Decimals.{decimal}
+use Rattle.script_numbers.specs.Decimals.{largest32, decimal}
 use Rattle.script_lines.specs.Words.{text}
 use Rattle.script_lines.specs.Printed.{settingLine}
-use Rattle.script_numbers.proofs.DecimalLaws.{decimal-short}
-use Rattle.script_lines.proofs.PrintedLaws.{length-setting}
+use Rattle.script_lines.proofs.PrintedLaws.{setting-short}
 use Rattle.quorum.specs.Check.{inRange, margin}
 use Rattle.quorum.specs.Run.{runEvent}
 use Rattle.ids.proofs.Choice.{fails, holds}
@@ -46,6 +45,5 @@ module _ (n m f : ℕ) where
   one-more i s₀ p q = rw (add-one i) (then s₀ _ _ p (rw (add-one i) at q))
 
 -- room for the first line
-pub opening-short : (n m f : ℕ) → length (settingLine (opening n m f)) ≤ 51
-opening-short n m f =
-    omega (arith, length-setting (opening n m f), decimal-short n, decimal-short m, decimal-short f, decimal-short 2)
+pub opening-short : (n m f : ℕ) → n ≤ largest32 → m ≤ largest32 → f ≤ largest32 → length (settingLine (opening n m f)) ≤ 51
+opening-short n m f a b c = setting-short (opening n m f) (record { n = a; m = b; f = c; clients = omega arith })

@@ -3,10 +3,11 @@
 ghost use mathlib.Core.Path.{_≡_};
 ghost use mathlib.Core.List.{[], _∷_};
 ghost use lib.IntN.{subℕ};
+ghost use Rattle.script_numbers.specs.Decimals.{decimal};
 ghost use Rattle.script_lines.specs.Printed.{eventLine};
 ghost use Rattle.quorum.specs.Run.{runEvent};
 ghost use Rattle.script_lines.specs.Words.{newline, text};
-ghost use Rattle.text_sheet.specs.Sheet.{sheet as sheetOf, puts};
+ghost use Rattle.text_sheet.specs.Sheet.{sheet as sheetOf, puts, ends};
 ghost use Rattle.text_screen.specs.Screen.{signed, marginText, refusedText, verdictText, eventsText, thresholdText, report, openingText, askedText, scriptText};
 use ids::Refusal;
 use quorum::Asked;
@@ -56,15 +57,20 @@ fn put_verdict(out: &mut [u8], at: usize, v: Verdict) -> usize
     }
 }
 
+// A line of a text and a number.
+fn put_count(out: &mut [u8], at: usize, text: &[u8], x: u32) -> usize
+    ensures { λ r. ⌜ sheetOf (now (out .exit)) r ≡ puts (now (text .entry) ∷ decimal x ∷ ends) (sheetOf (now (out .entry)) at) ⌝ }
+{
+    let p = text_sheet::put_with(out, at, text, x);
+    text_sheet::put(out, p, b"\n")
+}
+
 // The events in the run of an unsafe setting.
 fn put_events(out: &mut [u8], at: usize, v: Verdict) -> usize
     ensures { λ r. ⌜ sheetOf (now (out .exit)) r ≡ puts (eventsText v) (sheetOf (now (out .entry)) at) ⌝ }
 {
     match v {
-        Verdict::Unsafe(_, events) => {
-            let p = text_sheet::put_with(out, at, b"events ", events);
-            text_sheet::put(out, p, b"\n")
-        }
+        Verdict::Unsafe(_, events) => put_count(out, at, b"events ", events),
         Verdict::Accepted(_) => at,
         Verdict::Stalls(_) => at,
         Verdict::OutOfRange => at,
@@ -75,10 +81,7 @@ fn put_threshold(out: &mut [u8], at: usize, t: Threshold) -> usize
     ensures { λ r. ⌜ sheetOf (now (out .exit)) r ≡ puts (thresholdText t) (sheetOf (now (out .entry)) at) ⌝ }
 {
     match t {
-        Threshold::Default(m) => {
-            let p = text_sheet::put_with(out, at, b"usual threshold ", m);
-            text_sheet::put(out, p, b"\n")
-        }
+        Threshold::Default(m) => put_count(out, at, b"usual threshold ", m),
         Threshold::OutOfRange => at,
     }
 }
@@ -97,6 +100,8 @@ pub fn put_report(out: &mut [u8], n: u32, m: u32, f: u32) -> usize
 fn put_event(out: &mut [u8], at: usize, e: Event) -> usize
     ensures { λ r. ⌜ sheetOf (now (out .exit)) r ≡ puts (eventLine e ∷ (newline ∷ []) ∷ []) (sheetOf (now (out .entry)) at) ⌝ }
 {
+    // That its number has 32 bits says that the line has room.
+    script_lines::number_of(e);
     let mut line = [0u8; 16];
     let n = script_lines::put_event(&mut line, 0, e);
     let p = text_sheet::put(out, at, &line[0..n]);

@@ -38,7 +38,7 @@ pub fn put(out: &mut [u8], at: usize, text: &[u8]) -> usize
 pub fn put_number(out: &mut [u8], at: usize, x: u32) -> usize
     ensures { λ r. ⌜ sheet (now (out .exit)) r ≡ puts (decimal x ∷ []) (sheet (now (out .entry)) at) ⌝ }
 {
-    let mut digits = [0u8; 10];
+    let mut digits = [0u8; script_numbers::DIGITS_32];
     let n = script_numbers::put_decimal(&mut digits, 0, x);
     put(out, at, &digits[0..n])
 }

@@ -5,9 +5,6 @@ use borrow.Author.Needs.{needs}
 use Rattle.capi_script.proofs.put_counts.Statement.{statement}
 use Rattle.capi_script.proofs.put_counts.Tie as tie
 
-returns : tie.Need-returns
-returns c = took-counts (now (c .before .before .before .args .counts)) _ _ _ (c .before .p .given .1)
-
 pub put-counts-spec : {M : Type 1} → statement M
 put-counts-spec =
     tie.close
@@ -17,5 +14,5 @@ put-counts-spec =
     (λ c. search needs)
     (λ c. search needs)
     (λ c. search needs)
-    returns
+    (λ c. took-counts (now (c .before .before .before .args .counts)) _ _ _ (c .before .p .given .1))
     (λ c. search needs))

@@ -6,10 +6,19 @@ use Rattle.capi_script.proofs.sigma_script_feed.Statement.{statement}
 use Rattle.capi_script.proofs.sigma_script_feed.Tie as tie
 
 returns : tie.Need-returns
-returns c = let a = c .before .before .before .before .before .before .before .args in feed-short (now (a .state)) (now (a .out)) (now (a .counts)) _ (now (a .input)) (c .before .before .if1 .taken) (c .short-number .ensures)
+returns c =
+    let t = c .before .before in
+    let a = t .before .before .before .before .before .args in
+    feed-short (now (a .state)) (now (a .out)) (now (a .counts)) _ (now (a .input)) (t .if1 .taken) (c .short-number .ensures)
 
 returns-2 : tie.Need-returns-2
-returns-2 c = let a = c .before .before .before .before .before .before .before .before .before .before .before .before .before .before .before .before .before .args in feed-lent (now (a .state)) (now (a .out)) (now (a .counts)) _ (c .before .before .before .before .before .before .before .before .before .before .before .before .if1 .left) _ _ _ _ (c .before .before .before .put-counts .ensures) (c .number-of .ensures) (now (a .input)) (c .before .before .before .before .before .before .before .before .before .feed .ensures)
+returns-2 c =
+    let k = c .before .before .before in
+    let f = k .before .before .before .before .before .before in
+    let e = f .before .before .before in
+    let a = e .before .before .before .before .before .args in
+    feed-lent (now (a .state)) (now (a .out)) (now (a .counts)) _ (e .if1 .left) _ _ _ _ (k .put-counts .ensures) (c .number-of .ensures)
+    (now (a .input)) (f .feed .ensures)
 
 pub sigma-script-feed-spec : {M : Type 1} → statement M
 sigma-script-feed-spec =

@@ -6,10 +6,19 @@ use Rattle.capi_script.proofs.sigma_script_finish.Statement.{statement}
 use Rattle.capi_script.proofs.sigma_script_finish.Tie as tie
 
 returns : tie.Need-returns
-returns c = let a = c .before .before .before .before .before .before .args in finish-short (now (a .state)) (now (a .out)) (now (a .counts)) _ (c .before .before .if1 .taken) (c .short-number .ensures)
+returns c =
+    let t = c .before .before in
+    let a = t .before .before .before .before .args in
+    finish-short (now (a .state)) (now (a .out)) (now (a .counts)) _ (t .if1 .taken) (c .short-number .ensures)
 
 returns-2 : tie.Need-returns-2
-returns-2 c = let a = c .before .before .before .before .before .before .before .before .before .before .before .before .before .before .before .before .args in finish-lent (now (a .state)) (now (a .out)) (now (a .counts)) _ (c .before .before .before .before .before .before .before .before .before .before .before .before .if1 .left) _ _ _ _ (c .before .before .before .put-counts .ensures) (c .number-of .ensures) (c .before .before .before .before .before .before .before .before .before .finish .ensures)
+returns-2 c =
+    let k = c .before .before .before in
+    let f = k .before .before .before .before .before .before in
+    let e = f .before .before .before in
+    let a = e .before .before .before .before .args in
+    finish-lent (now (a .state)) (now (a .out)) (now (a .counts)) _ (e .if1 .left) _ _ _ _ (k .put-counts .ensures) (c .number-of .ensures)
+    (f .finish .ensures)
 
 pub sigma-script-finish-spec : {M : Type 1} → statement M
 sigma-script-finish-spec =

@@ -5,9 +5,6 @@ use borrow.Author.Needs.{needs}
 use Rattle.commission.proofs.refuse.Statement.{statement}
 use Rattle.commission.proofs.refuse.Tie as tie
 
-part-write-out-end : tie.Need-part-write-out-end
-part-write-out-end c = omega (arith, placed _ _ _ _ (c .before .before .before .put-refused .ensures))
-
 pub refuse-spec : {M : Type 1} → statement M
 refuse-spec =
     tie.close
@@ -16,7 +13,7 @@ refuse-spec =
     (λ c κs. search needs)
     (λ c. search needs)
     (λ c. search needs)
-    part-write-out-end
+    (λ c. omega (arith, placed _ _ _ _ (c .before .before .before .put-refused .ensures)))
     (λ c κs. search needs)
     (λ c. search needs)
     (λ c. search needs))

@@ -5,9 +5,6 @@ use borrow.Author.Needs.{needs}
 use Rattle.commission.proofs.show.Statement.{statement}
 use Rattle.commission.proofs.show.Tie as tie
 
-part-write-out-end : tie.Need-part-write-out-end
-part-write-out-end c = omega (arith, placed _ _ _ _ (c .before .before .before .put-script .ensures))
-
 pub show-spec : {M : Type 1} → statement M
 show-spec =
     tie.close
@@ -17,7 +14,7 @@ show-spec =
     (λ c κs. search needs)
     (λ c. search needs)
     (λ c. search needs)
-    part-write-out-end
+    (λ c. omega (arith, placed _ _ _ _ (c .before .before .before .put-script .ensures)))
     (λ c κs. search needs)
     (λ c. search needs)
     (λ c. search needs)

@@ -1,4 +1,5 @@
--- `gallery::answer` meets its contract: what was read lies within the part and is taken in; at the end, or where reading failed, nothing goes on.
+-- `gallery::answer` meets its contract: what was read lies within the part and is taken in; at the end, or where reading failed, nothing
+-- goes on.
 use denote.Ref.{now}
 use native.Mathlib.Omega.{arith}
 use mathlib.Core.Bool.{false≢true}
@@ -8,20 +9,18 @@ use borrow.Author.Needs.{needs}
 use Rattle.gallery.proofs.answer.Statement.{statement}
 use Rattle.gallery.proofs.answer.Tie as tie
 
-part-answer-part-end : tie.Need-part-answer-part-end
-part-answer-part-end c = omega (arith, fits-bytes _ _ _ (c .before .before .input .given .1) (c .before .before .before .before .before .before .before .pre .2))
-
-returns : tie.Need-returns
-returns c = (c .before .before .before .before .before .pre .0, λ z. absurd (false≢true z))
-
-returns-2 : tie.Need-returns-2
-returns-2 c = (c .before .before .before .before .finish .ensures .again, λ z. absurd (false≢true z))
+-- bytes were read
+module _ (c : tie.After-input) where
+  abbrev entry : tie.Start
+  entry = c .before .before .before .before .before
 
 returns-3 : tie.Need-returns-3
 returns-3 c =
-    let a = c .before .before .before .before .before .before .before .before .before .before .before .before .before .before .args in
-    let s = c .before .before .before .before .answer-part .ensures in
-    (s .0, λ z. answered (now (a .w)) (now (a .part)) _ (a .input) _ (c .before .before .before .before .before .before .before .before .before .input .given .1) (s .1 z))
+    let p = c .before .before .before .before in
+    let i = p .before .before .before .before .before in
+    let a = entry i .args in
+    let s = p .answer-part .ensures in
+    (s .0, λ z. answered (now (a .w)) (now (a .part)) _ (a .input) _ (i .input .given .1) (s .1 z))
 
 pub answer-spec : {M : Type 1} → statement M
 answer-spec =
@@ -33,12 +32,12 @@ answer-spec =
     (λ c. search needs)
     (λ c. search needs)
     (λ c. search needs)
-    part-answer-part-end
+    (λ c. let i = c .before .before in omega (arith, fits-bytes _ _ _ (i .input .given .1) (entry i .pre .2)))
     (λ c κs. search needs)
-    returns
+    (λ c. (c .before .before .before .before .before .pre .0, λ z. absurd (false≢true z)))
     (λ c. search needs)
     (λ c. search needs)
-    returns-2
+    (λ c. (c .before .before .before .before .finish .ensures .again, λ z. absurd (false≢true z)))
     (λ c. search needs)
     (λ c. search needs)
     returns-3)

@@ -10,7 +10,8 @@ use Rattle.gallery.proofs.run.Tie as tie
 use Rattle.script.specs.Calls.{maxEnding}
 
 abbrev Inv-loop : tie.InvT-loop
-Inv-loop w₀ part₀ out₀ turns₀ w part out turns = (length w ≡ length w₀) × (length part ≡ length part₀) × (length out ≡ length out₀) × (valid w ≡ true) × (maxEnding ≤ length out)
+Inv-loop w₀ part₀ out₀ turns₀ w part out turns =
+    (length w ≡ length w₀) × (length part ≡ length part₀) × (length out ≡ length out₀) × (valid w ≡ true) × (maxEnding ≤ length out)
 
 abbrev μ-loop : tie.MeasureT-loop
 μ-loop w₀ part₀ out₀ turns₀ w part out turns = turns

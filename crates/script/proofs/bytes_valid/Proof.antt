@@ -17,20 +17,8 @@ Inv-loop w i₀ i = Passing byteWord 0 (drop 5 w) maxKept i
 abbrev μ-loop : tie.MeasureT-loop
 μ-loop w i₀ i = maxKept - i
 
-loop-holds : tie.Need-loop-holds Inv-loop μ-loop
-loop-holds c = bytes-none (now (c .args .w)) (c .pre)
-
-returns : tie.Need-returns Inv-loop μ-loop
-returns c = bytes-failed _ _ (c .before .before .before .loop .inv) (omega arith) (c .if1 .taken)
-
-loop-less : tie.Need-loop-less Inv-loop μ-loop
-loop-less c = omega arith
-
 loop-again : tie.Need-loop-again Inv-loop μ-loop
 loop-again c = bytes-more (now (c .before .before .before .before .args .w)) _ (c .before .before .before .loop .inv) (omega arith) (c .if1 .left)
-
-returns-2 : tie.Need-returns-2 Inv-loop μ-loop
-returns-2 c = bytes-all _ _ (c .before .loop .inv) (omega arith)
 
 pub bytes-valid-spec : {M : Type 1} → statement M
 bytes-valid-spec =
@@ -38,12 +26,12 @@ bytes-valid-spec =
     (tie.spec
     Inv-loop
     μ-loop
-    loop-holds
+    (λ c. bytes-none (now (c .args .w)) (c .pre))
     (λ c. search needs)
     (λ c. search needs)
     (λ c. search needs)
-    returns
+    (λ c. bytes-failed _ _ (c .before .before .before .loop .inv) (omega arith) (c .if1 .taken))
     (λ c. search needs)
-    loop-less
+    (λ c. omega arith)
     loop-again
-    returns-2)
+    (λ c. bytes-all _ _ (c .before .loop .inv) (omega arith)))

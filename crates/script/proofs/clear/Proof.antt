@@ -16,29 +16,17 @@ Inv-loop w₀ i₀ w i = (length w₀ ≡ stateSize) × Clearing w₀ 0 stateHea
 abbrev μ-loop : tie.MeasureT-loop
 μ-loop w₀ i₀ w i = stateHead - i
 
-loop-holds : tie.Need-loop-holds Inv-loop μ-loop
-loop-holds c = (c .pre, clearing-none _ _ _)
-
-loop-less : tie.Need-loop-less Inv-loop μ-loop
-loop-less c = omega arith
-
-loop-again : tie.Need-loop-again Inv-loop μ-loop
-loop-again c = (c .before .loop .inv .0, cleared-more _ _ _ _ (c .before .loop .inv .1) (omega arith))
-
-returns : tie.Need-returns Inv-loop μ-loop
-returns c = clearing-all _ _ _ _ _ (c .before .loop .inv .1) (omega arith)
-
 pub clear-spec : {M : Type 1} → statement M
 clear-spec =
     tie.close
     (tie.spec
     Inv-loop
     μ-loop
-    loop-holds
+    (λ c. (c .pre, clearing-none _ _ _))
     (λ c. search needs)
     (λ c. search needs)
     (λ c. search needs)
-    loop-less
-    loop-again
+    (λ c. omega arith)
+    (λ c. (c .before .loop .inv .0, cleared-more _ _ _ _ (c .before .loop .inv .1) (omega arith)))
     (λ c. search needs)
-    returns)
+    (λ c. clearing-all _ _ _ _ _ (c .before .loop .inv .1) (omega arith)))

@@ -15,17 +15,18 @@ Inv-loop w line₀ len i₀ line i = Copied line₀ line 0 (view w .line) i
 abbrev μ-loop : tie.MeasureT-loop
 μ-loop w line₀ len i₀ line i = len - i
 
-loop-holds : tie.Need-loop-holds Inv-loop μ-loop
-loop-holds c = copied-none _ _ _
-
 cast-line : tie.Need-cast-line Inv-loop μ-loop
-cast-line c = omega (arith, word-small (now (c .before .before .before .before .args .w)) (c .before .before .before .before .pre .0) (c .before .before .loop .i) (omega arith))
-
-loop-less : tie.Need-loop-less Inv-loop μ-loop
-loop-less c = omega arith
+cast-line c =
+    omega (
+      arith,
+      word-small (now (c .before .before .before .before .args .w)) (c .before .before .before .before .pre .0)
+          (c .before .before .loop .i) (omega arith),
+    )
 
 loop-again : tie.Need-loop-again Inv-loop μ-loop
-loop-again c = copy-more (now (c .before .before .before .before .args .w)) (c .before .before .before .before .pre .0) _ _ _ (c .before .before .loop .inv) (omega arith)
+loop-again c =
+    copy-more (now (c .before .before .before .before .args .w)) (c .before .before .before .before .pre .0) _ _ _ (c .before .before .loop .inv)
+    (omega arith)
 
 returns : tie.Need-returns Inv-loop μ-loop
 returns c = copy-all (now (c .before .before .before .args .w)) (c .before .before .before .pre .0) _ _ _ (c .before .loop .inv) (omega arith)
@@ -38,14 +39,14 @@ copy-line-spec =
     μ-loop
     (λ c. search needs)
     (λ c. search needs)
-    loop-holds
+    (λ c. copied-none _ _ _)
     (λ c. search needs)
     (λ c. search needs)
     (λ c. search needs)
     cast-line
     (λ c. search needs)
     (λ c. search needs)
-    loop-less
+    (λ c. omega arith)
     loop-again
     (λ c. search needs)
     returns)

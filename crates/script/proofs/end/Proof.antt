@@ -3,13 +3,15 @@ use denote.Ref.{now}
 use native.Mathlib.Omega.{arith}
 use Rattle.ids.specs.declared.Refusal.the-variants.{BadLine}
 use Rattle.script_lines.proofs.PrintedLaws.{refused-short}
-use Rattle.script.proofs.StepLaws.{end-fits, end-opening, end-valid, end-running, end-closed}
+use Rattle.script.proofs.StepLaws.{end-valid, end-fits, end-opening, end-running, end-closed}
 use borrow.Author.Needs.{needs}
 use Rattle.script.proofs.end.Statement.{statement}
 use Rattle.script.proofs.end.Tie as tie
 
-put-refused-requires : tie.Need-put-refused-requires
-put-refused-requires c κs = omega (arith, refused-short BadLine, c .before .before .before .before .before .pre .room)
+-- the script runs
+module _ (c : tie.Then2) where
+  abbrev entry : tie.Start
+  entry = c .before .before .before .before .before .before
 
 returns : tie.Need-returns
 returns c =
@@ -20,20 +22,21 @@ returns c =
 most-down-requires : tie.Need-most-down-requires
 most-down-requires c κs =
     let t = c .before .before .before .before in
-    let d = t .before .before .before .before .before .before in
-    end-valid (now (d .args .w)) (d .pre .valid) (t .if2 .taken)
+    end-valid (now (entry t .args .w)) (entry t .pre .valid) (t .if2 .taken)
 
 put-end-requires : tie.Need-put-end-requires
 put-end-requires c κs =
-    let d = c .before .before .before .before .before .before .before .before .before .before .before in
-    end-fits (now (d .args .out)) _ _ _ _ (d .pre .room)
+    let t = c .before .before .before .before .before in
+    let d = entry t in
+    end-fits (now (d .args .w)) (d .args .at) (now (d .args .out)) (d .pre .valid) (t .if2 .taken) _ (omega arith) (d .pre .room)
 
 returns-2 : tie.Need-returns-2
 returns-2 c =
     let m = c .before .before .before in
     let t = m .before .before .before .before .before in
-    let d = t .before .before .before .before .before .before in
-    end-running (now (d .args .w)) (d .args .at) (now (d .args .out)) (t .if2 .taken) _ (m .most-down .ensures) _ _ (c .before .before .put-end .ensures)
+    let d = entry t in
+    end-running (now (d .args .w)) (d .args .at) (now (d .args .out)) (d .pre .valid) (t .if2 .taken) _ (omega arith) (m .most-down .ensures)
+    _ _ (c .before .before .put-end .ensures)
 
 returns-3 : tie.Need-returns-3
 returns-3 c =
@@ -45,7 +48,7 @@ end-spec =
     tie.close
     (tie.spec
     (λ c. search needs)
-    put-refused-requires
+    (λ c κs. omega (arith, refused-short BadLine, c .before .before .before .before .before .pre .room))
     (λ c. search needs)
     returns
     (λ c. search needs)

@@ -5,17 +5,19 @@ use borrow.Author.Needs.{needs}
 use Rattle.script.proofs.new.Statement.{statement}
 use Rattle.script.proofs.new.Tie as tie
 
-returns : tie.Need-returns
-returns c = not-new (now (c .before .before .args .w)) (c .if1 .taken)
-
-clear-requires : tie.Need-clear-requires
-clear-requires c κs = search needs
-
-same-length : tie.Need-same-length
-same-length c = search needs
-
 returns-2 : tie.Need-returns-2
-returns-2 c = (newly-answered (now (c .before .before .before .before .before .before .args .w)) (c .before .before .before .before .if1 .left), newly (now (c .before .before .before .before .before .before .args .w)) _ (c .before .before .before .before .if1 .left) (c .before .before .clear .ensures))
+returns-2 c = (
+  newly-answered (now (c .before .before .before .before .before .before .args .w)) (c .before .before .before .before .if1 .left),
+  newly
+      (now (c .before .before .before .before .before .before .args .w)) _ (c .before .before .before .before .if1 .left)
+      (c .before .before .clear .ensures),
+)
 
 pub new-spec : {M : Type 1} → statement M
-new-spec = tie.close (tie.spec returns clear-requires same-length returns-2)
+new-spec =
+    tie.close
+    (tie.spec
+    (λ c. not-new (now (c .before .before .args .w)) (c .if1 .taken))
+    (λ c κs. search needs)
+    (λ c. search needs)
+    returns-2)

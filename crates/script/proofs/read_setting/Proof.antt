@@ -1,14 +1,17 @@
 -- `script::read_setting` meets its contract: the line is copied out as bytes, and parsed.
-use denote.Ref.{now}
 use mathlib.Core.Path.{refl}
-use Rattle.script_lines.specs.Lines.{settingIn, firstOf}
+use denote.Ref.{now}
+use Rattle.script_lines.specs.Lines.{firstOf, settingIn}
 use Rattle.script.proofs.StepLaws.{line-read}
 use borrow.Author.Needs.{needs}
 use Rattle.script.proofs.read_setting.Statement.{statement}
 use Rattle.script.proofs.read_setting.Tie as tie
 
 returns : tie.Need-returns
-returns c = line-read (λ l. firstOf (settingIn l)) (now (c .before .before .before .before .before .before .before .before .args .w)) (c .before .before .before .before .before .before .before .before .pre) _ _ refl (c .before .before .before .before .before .copy-line .ensures) _ (c .parse-setting .ensures)
+returns c =
+    let y = c .before .before .before .before .before in
+    let d = y .before .before .before in
+    line-read (λ l. firstOf (settingIn l)) (now (d .args .w)) (d .pre) _ _ refl (y .copy-line .ensures) _ (c .parse-setting .ensures)
 
 pub read-setting-spec : {M : Type 1} → statement M
 read-setting-spec =

@@ -7,18 +7,6 @@ use borrow.Author.Needs.{needs}
 use Rattle.script.proofs.refuse.Statement.{statement}
 use Rattle.script.proofs.refuse.Tie as tie
 
-slice-write-w : tie.Need-slice-write-w
-slice-write-w c = search needs
-
-put-refused-requires : tie.Need-put-refused-requires
-put-refused-requires c κs = omega (arith, refused-short (c .before .before .before .args .x), c .before .before .before .pre .room)
-
-same-length : tie.Need-same-length
-same-length c = search needs
-
-same-length-2 : tie.Need-same-length-2
-same-length-2 c = search needs
-
 returns : tie.Need-returns
 returns c =
     let d = c .before .before .before .before .before .before in
@@ -27,4 +15,10 @@ returns c =
 
 pub refuse-spec : {M : Type 1} → statement M
 refuse-spec =
-    tie.close (tie.spec slice-write-w put-refused-requires same-length same-length-2 returns)
+    tie.close
+    (tie.spec
+    (λ c. search needs)
+    (λ c κs. let d = c .before .before .before in omega (arith, refused-short (d .args .x), d .pre .room))
+    (λ c. search needs)
+    (λ c. search needs)
+    returns)

@@ -7,15 +7,18 @@ use Rattle.script.proofs.take.Tie as tie
 
 returns : tie.Need-returns
 returns c =
-    let d = c .before .before .before .before .before .before .before .before .before .before in
+    let k = c .before .before .before .before in
+    let t = k .before .before .before in
+    let d = t .before .before .before in
     let a = d .args in
-    line-taken (now (a .w)) (now (a .out)) (a .at) (d .pre) _ (c .before .before .before .before .before .before .before .if1 .taken) _ _ _ (c .before .before .before .before .work .ensures)
+    line-taken (now (a .w)) (now (a .out)) (a .at) (d .pre) _ (t .if1 .taken) _ _ _ (k .work .ensures)
 
 returns-2 : tie.Need-returns-2
 returns-2 c =
-    let d = c .before .before .before .before .before .before .before in
+    let t = c .before .before .before .before in
+    let d = t .before .before .before in
     let a = d .args in
-    byte-taken (now (a .w)) (now (a .out)) (a .at) (d .pre) _ (c .before .before .before .before .if1 .left) _ (c .before .before .keep .ensures)
+    byte-taken (now (a .w)) (now (a .out)) (a .at) (d .pre) _ (t .if1 .left) _ (c .before .before .keep .ensures)
 
 pub take-spec : {M : Type 1} → statement M
 take-spec =

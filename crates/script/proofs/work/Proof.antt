@@ -7,18 +7,18 @@ use Rattle.script.proofs.work.Tie as tie
 
 returns : tie.Need-returns
 returns c =
-    let d = c .before .before .before .before .before .before .before .before .before .before .before in
+    let o = c .before .before .before .before in
+    let t = o .before .before .before in
+    let d = t .before .before .before .before in
     let a = d .args in
-    opening-does (now (a .w)) (now (a .out)) (a .at) (d .pre) _ _ _ (c .before .before .before .before .before .before .before .if1 .taken) (c .before .before .before .before .«open» .ensures)
-
-returns-2 : tie.Need-returns-2
-returns-2 c = c .before .before .before .before .answer .ensures
+    opening-does (now (a .w)) (now (a .out)) (a .at) (d .pre) _ _ _ (t .if1 .taken) (o .«open» .ensures)
 
 returns-3 : tie.Need-returns-3
 returns-3 c =
-    let d = c .before .before .before .before .before .before in
+    let e = c .before .before in
+    let d = e .before .before .before .before in
     let a = d .args in
-    closed-does (now (a .w)) (now (a .out)) (a .at) (d .pre) (c .before .before .if1 .left) (c .if2 .left)
+    closed-does (now (a .w)) (now (a .out)) (a .at) (d .pre) (e .if1 .left) (c .if2 .left)
 
 pub work-spec : {M : Type 1} → statement M
 work-spec =
@@ -33,5 +33,5 @@ work-spec =
     (λ c κs. search needs)
     (λ c. search needs)
     (λ c. search needs)
-    returns-2
+    (λ c. c .before .before .before .before .answer .ensures)
     returns-3)

@@ -1,102 +1,100 @@
--- `script_lines::command_in` meets its contract: the words are tried in the definition's order.
-use Rattle.script_lines.proofs.WordLaws.{no, yes}
-use Rattle.script_lines.specs.Lines.{commandIn}
+-- `script_lines::command_in` meets its contract: the words are tried in the definition's order. Behind each test, the word is none of
+-- those tried so far.
+use denote.Ref.{now}
+use mathlib.Core.List.{List}
+use Prim.Native.Nat.{ℕ}
+use lib.ListN.{drop}
+use Rattle.script_lines.proofs.LineLaws.{commands, Left, left-all, left-is, left-more, left-none}
 use borrow.Author.Needs.{needs}
 use Rattle.script_lines.proofs.command_in.Statement.{statement}
 use Rattle.script_lines.proofs.command_in.Tie as tie
 
-returns : tie.Need-returns
-unfolding commandIn
-returns c = simp (yes (c .before .equal .ensures) (c .if1 .taken))
+module _ (c : tie.Else1) where
+  abbrev its₁ : List ℕ
+  its₁ = now (c .before .before .before .before .args .w)
 
-returns-2 : tie.Need-returns-2
-unfolding commandIn
-returns-2 c =
-    let d₁ = c .before .before .before in
-    simp (no (d₁ .before .equal .ensures) (d₁ .if1 .left), yes (c .before .equal2 .ensures) (c .if2 .taken))
+  left₁ : Left its₁ (drop 1 commands)
+  left₁ = left-more its₁ _ _ (left-all its₁) _ (c .before .equal .ensures) (c .if1 .left)
 
-returns-3 : tie.Need-returns-3
-unfolding commandIn
-returns-3 c =
-    let d₂ = c .before .before .before in
-    let d₁ = d₂ .before .before .before in
-    simp (no (d₁ .before .equal .ensures) (d₁ .if1 .left), no (d₂ .before .equal2 .ensures) (d₂ .if2 .left), yes (c .before .equal3 .ensures) (c .if3 .taken))
+module _ (c : tie.Else2) where
+  abbrev last₂ : tie.Else1
+  last₂ = c .before .before .before
 
-returns-4 : tie.Need-returns-4
-unfolding commandIn
-returns-4 c =
-    let d₃ = c .before .before .before in
-    let d₂ = d₃ .before .before .before in
-    let d₁ = d₂ .before .before .before in
-    simp (no (d₁ .before .equal .ensures) (d₁ .if1 .left), no (d₂ .before .equal2 .ensures) (d₂ .if2 .left), no (d₃ .before .equal3 .ensures) (d₃ .if3 .left), yes (c .before .equal4 .ensures) (c .if4 .taken))
+  abbrev its₂ : List ℕ
+  its₂ = its₁ last₂
 
-returns-5 : tie.Need-returns-5
-unfolding commandIn
-returns-5 c =
-    let d₄ = c .before .before .before in
-    let d₃ = d₄ .before .before .before in
-    let d₂ = d₃ .before .before .before in
-    let d₁ = d₂ .before .before .before in
-    simp (no (d₁ .before .equal .ensures) (d₁ .if1 .left), no (d₂ .before .equal2 .ensures) (d₂ .if2 .left), no (d₃ .before .equal3 .ensures) (d₃ .if3 .left), no (d₄ .before .equal4 .ensures) (d₄ .if4 .left), yes (c .before .equal5 .ensures) (c .if5 .taken))
+  left₂ : Left its₂ (drop 2 commands)
+  left₂ = left-more its₂ _ _ (left₁ last₂) _ (c .before .equal2 .ensures) (c .if2 .left)
 
-returns-6 : tie.Need-returns-6
-unfolding commandIn
-returns-6 c =
-    let d₅ = c .before .before .before in
-    let d₄ = d₅ .before .before .before in
-    let d₃ = d₄ .before .before .before in
-    let d₂ = d₃ .before .before .before in
-    let d₁ = d₂ .before .before .before in
-    simp (no (d₁ .before .equal .ensures) (d₁ .if1 .left), no (d₂ .before .equal2 .ensures) (d₂ .if2 .left), no (d₃ .before .equal3 .ensures) (d₃ .if3 .left), no (d₄ .before .equal4 .ensures) (d₄ .if4 .left), no (d₅ .before .equal5 .ensures) (d₅ .if5 .left), yes (c .before .equal6 .ensures) (c .if6 .taken))
+module _ (c : tie.Else3) where
+  abbrev last₃ : tie.Else2
+  last₃ = c .before .before .before
 
-returns-7 : tie.Need-returns-7
-unfolding commandIn
-returns-7 c =
-    let d₆ = c .before .before .before in
-    let d₅ = d₆ .before .before .before in
-    let d₄ = d₅ .before .before .before in
-    let d₃ = d₄ .before .before .before in
-    let d₂ = d₃ .before .before .before in
-    let d₁ = d₂ .before .before .before in
-    simp (no (d₁ .before .equal .ensures) (d₁ .if1 .left), no (d₂ .before .equal2 .ensures) (d₂ .if2 .left), no (d₃ .before .equal3 .ensures) (d₃ .if3 .left), no (d₄ .before .equal4 .ensures) (d₄ .if4 .left), no (d₅ .before .equal5 .ensures) (d₅ .if5 .left), no (d₆ .before .equal6 .ensures) (d₆ .if6 .left), yes (c .before .equal7 .ensures) (c .if7 .taken))
+  abbrev its₃ : List ℕ
+  its₃ = its₂ last₃
 
-returns-8 : tie.Need-returns-8
-unfolding commandIn
-returns-8 c =
-    let d₇ = c .before .before .before in
-    let d₆ = d₇ .before .before .before in
-    let d₅ = d₆ .before .before .before in
-    let d₄ = d₅ .before .before .before in
-    let d₃ = d₄ .before .before .before in
-    let d₂ = d₃ .before .before .before in
-    let d₁ = d₂ .before .before .before in
-    simp (no (d₁ .before .equal .ensures) (d₁ .if1 .left), no (d₂ .before .equal2 .ensures) (d₂ .if2 .left), no (d₃ .before .equal3 .ensures) (d₃ .if3 .left), no (d₄ .before .equal4 .ensures) (d₄ .if4 .left), no (d₅ .before .equal5 .ensures) (d₅ .if5 .left), no (d₆ .before .equal6 .ensures) (d₆ .if6 .left), no (d₇ .before .equal7 .ensures) (d₇ .if7 .left), yes (c .before .equal8 .ensures) (c .if8 .taken))
+  left₃ : Left its₃ (drop 3 commands)
+  left₃ = left-more its₃ _ _ (left₂ last₃) _ (c .before .equal3 .ensures) (c .if3 .left)
 
-returns-9 : tie.Need-returns-9
-unfolding commandIn
-returns-9 c =
-    let d₈ = c .before .before .before in
-    let d₇ = d₈ .before .before .before in
-    let d₆ = d₇ .before .before .before in
-    let d₅ = d₆ .before .before .before in
-    let d₄ = d₅ .before .before .before in
-    let d₃ = d₄ .before .before .before in
-    let d₂ = d₃ .before .before .before in
-    let d₁ = d₂ .before .before .before in
-    simp (no (d₁ .before .equal .ensures) (d₁ .if1 .left), no (d₂ .before .equal2 .ensures) (d₂ .if2 .left), no (d₃ .before .equal3 .ensures) (d₃ .if3 .left), no (d₄ .before .equal4 .ensures) (d₄ .if4 .left), no (d₅ .before .equal5 .ensures) (d₅ .if5 .left), no (d₆ .before .equal6 .ensures) (d₆ .if6 .left), no (d₇ .before .equal7 .ensures) (d₇ .if7 .left), no (d₈ .before .equal8 .ensures) (d₈ .if8 .left), yes (c .before .equal9 .ensures) (c .if9 .taken))
+module _ (c : tie.Else4) where
+  abbrev last₄ : tie.Else3
+  last₄ = c .before .before .before
 
-returns-10 : tie.Need-returns-10
-unfolding commandIn
-returns-10 c =
-    let d₈ = c .before .before .before in
-    let d₇ = d₈ .before .before .before in
-    let d₆ = d₇ .before .before .before in
-    let d₅ = d₆ .before .before .before in
-    let d₄ = d₅ .before .before .before in
-    let d₃ = d₄ .before .before .before in
-    let d₂ = d₃ .before .before .before in
-    let d₁ = d₂ .before .before .before in
-    simp (no (d₁ .before .equal .ensures) (d₁ .if1 .left), no (d₂ .before .equal2 .ensures) (d₂ .if2 .left), no (d₃ .before .equal3 .ensures) (d₃ .if3 .left), no (d₄ .before .equal4 .ensures) (d₄ .if4 .left), no (d₅ .before .equal5 .ensures) (d₅ .if5 .left), no (d₆ .before .equal6 .ensures) (d₆ .if6 .left), no (d₇ .before .equal7 .ensures) (d₇ .if7 .left), no (d₈ .before .equal8 .ensures) (d₈ .if8 .left), no (c .before .equal9 .ensures) (c .if9 .left))
+  abbrev its₄ : List ℕ
+  its₄ = its₃ last₄
+
+  left₄ : Left its₄ (drop 4 commands)
+  left₄ = left-more its₄ _ _ (left₃ last₄) _ (c .before .equal4 .ensures) (c .if4 .left)
+
+module _ (c : tie.Else5) where
+  abbrev last₅ : tie.Else4
+  last₅ = c .before .before .before
+
+  abbrev its₅ : List ℕ
+  its₅ = its₄ last₅
+
+  left₅ : Left its₅ (drop 5 commands)
+  left₅ = left-more its₅ _ _ (left₄ last₅) _ (c .before .equal5 .ensures) (c .if5 .left)
+
+module _ (c : tie.Else6) where
+  abbrev last₆ : tie.Else5
+  last₆ = c .before .before .before
+
+  abbrev its₆ : List ℕ
+  its₆ = its₅ last₆
+
+  left₆ : Left its₆ (drop 6 commands)
+  left₆ = left-more its₆ _ _ (left₅ last₆) _ (c .before .equal6 .ensures) (c .if6 .left)
+
+module _ (c : tie.Else7) where
+  abbrev last₇ : tie.Else6
+  last₇ = c .before .before .before
+
+  abbrev its₇ : List ℕ
+  its₇ = its₆ last₇
+
+  left₇ : Left its₇ (drop 7 commands)
+  left₇ = left-more its₇ _ _ (left₆ last₇) _ (c .before .equal7 .ensures) (c .if7 .left)
+
+module _ (c : tie.Else8) where
+  abbrev last₈ : tie.Else7
+  last₈ = c .before .before .before
+
+  abbrev its₈ : List ℕ
+  its₈ = its₇ last₈
+
+  left₈ : Left its₈ (drop 8 commands)
+  left₈ = left-more its₈ _ _ (left₇ last₈) _ (c .before .equal8 .ensures) (c .if8 .left)
+
+module _ (c : tie.Else9) where
+  abbrev last₉ : tie.Else8
+  last₉ = c .before .before .before
+
+  abbrev its₉ : List ℕ
+  its₉ = its₈ last₉
+
+  left₉ : Left its₉ (drop 9 commands)
+  left₉ = left-more its₉ _ _ (left₈ last₉) _ (c .before .equal9 .ensures) (c .if9 .left)
 
 pub command-in-spec : {M : Type 1} → statement M
 command-in-spec =
@@ -104,29 +102,29 @@ command-in-spec =
     (tie.spec
     (λ c. search needs)
     (λ c κs. search needs)
-    returns
+    (λ c. left-is _ _ _ (left-all _) _ (c .before .equal .ensures) (c .if1 .taken))
     (λ c. search needs)
     (λ c κs. search needs)
-    returns-2
+    (λ c. left-is _ _ _ (left₁ (c .before .before .before)) _ (c .before .equal2 .ensures) (c .if2 .taken))
     (λ c. search needs)
     (λ c κs. search needs)
-    returns-3
+    (λ c. left-is _ _ _ (left₂ (c .before .before .before)) _ (c .before .equal3 .ensures) (c .if3 .taken))
     (λ c. search needs)
     (λ c κs. search needs)
-    returns-4
+    (λ c. left-is _ _ _ (left₃ (c .before .before .before)) _ (c .before .equal4 .ensures) (c .if4 .taken))
     (λ c. search needs)
     (λ c κs. search needs)
-    returns-5
+    (λ c. left-is _ _ _ (left₄ (c .before .before .before)) _ (c .before .equal5 .ensures) (c .if5 .taken))
     (λ c. search needs)
     (λ c κs. search needs)
-    returns-6
+    (λ c. left-is _ _ _ (left₅ (c .before .before .before)) _ (c .before .equal6 .ensures) (c .if6 .taken))
     (λ c. search needs)
     (λ c κs. search needs)
-    returns-7
+    (λ c. left-is _ _ _ (left₆ (c .before .before .before)) _ (c .before .equal7 .ensures) (c .if7 .taken))
     (λ c. search needs)
     (λ c κs. search needs)
-    returns-8
+    (λ c. left-is _ _ _ (left₇ (c .before .before .before)) _ (c .before .equal8 .ensures) (c .if8 .taken))
     (λ c. search needs)
     (λ c κs. search needs)
-    returns-9
-    returns-10)
+    (λ c. left-is _ _ _ (left₈ (c .before .before .before)) _ (c .before .equal9 .ensures) (c .if9 .taken))
+    (λ c. left-none _ (left₉ c)))

@@ -12,33 +12,18 @@ Inv-loop a b i₀ i = Agrees a b i
 abbrev μ-loop : tie.MeasureT-loop
 μ-loop a b i₀ i = length a - i
 
-returns : tie.Need-returns Inv-loop μ-loop
-returns c = search same-longer
-
-loop-holds : tie.Need-loop-holds Inv-loop μ-loop
-loop-holds c = search agrees-none
-
-returns-2 : tie.Need-returns-2 Inv-loop μ-loop
-returns-2 c = search agrees-stop
-
-loop-again : tie.Need-loop-again Inv-loop μ-loop
-loop-again c = search agrees-more
-
-returns-3 : tie.Need-returns-3 Inv-loop μ-loop
-returns-3 c = search agrees-all
-
 pub equal-spec : {M : Type 1} → statement M
 equal-spec =
     tie.close
     (tie.spec
     Inv-loop
     μ-loop
-    returns
-    loop-holds
+    (λ c. search same-longer)
+    (λ c. search agrees-none)
     (λ c. search needs)
     (λ c. search needs)
-    returns-2
+    (λ c. search agrees-stop)
     (λ c. search needs)
     (λ c. search needs)
-    loop-again
-    returns-3)
+    (λ c. search agrees-more)
+    (λ c. search agrees-all))

@@ -4,30 +4,28 @@ use borrow.Author.Needs.{needs}
 use Rattle.script_lines.proofs.parse_event.Statement.{statement}
 use Rattle.script_lines.proofs.parse_event.Tie as tie
 
-returns : tie.Need-returns
-returns c = event-long _ (c .if1 .taken)
-
-returns-2 : tie.Need-returns-2
-returns-2 c = event-one-word _ _ (c .before .before .if1 .left) (c .before .word-end .ensures) (c .if2 .taken)
-
 returns-3 : tie.Need-returns-3
 returns-3 c =
-    let d = c .before .before .before .before in
-    let b = d .before .before .before .before in
-    event-command _ _ (b .before .before .if1 .left) (b .before .word-end .ensures) (b .if2 .left) _ (d .before .before .read-number .ensures) _ _ _ (d .x .given .1) (c .before .command-in .ensures) (c .line-of .ensures)
+    let x = c .before .before .before .before in
+    let r = x .before .before in
+    let d = r .before .before in
+    event-command _ _ (d .before .before .if1 .left) (d .before .word-end .ensures) (d .if2 .left) _ (r .read-number .ensures)
+    _ _ _ (x .x .given .1) (c .before .command-in .ensures) (c .line-of .ensures)
 
 returns-4 : tie.Need-returns-4
 returns-4 c =
-    let b = c .before .before .before .before in
-    event-no-number _ _ (b .before .before .if1 .left) (b .before .word-end .ensures) (b .if2 .left) _ (c .before .before .read-number .ensures) (c .enum-told .given .1)
+    let r = c .before .before in
+    let d = r .before .before in
+    event-no-number _ _ (d .before .before .if1 .left) (d .before .word-end .ensures) (d .if2 .left) _ (r .read-number .ensures)
+    (c .enum-told .given .1)
 
 pub parse-event-spec : {M : Type 1} → statement M
 parse-event-spec =
     tie.close
     (tie.spec
-    returns
+    (λ c. event-long _ (c .if1 .taken))
     (λ c κs. search needs)
-    returns-2
+    (λ c. event-one-word _ _ (c .before .before .if1 .left) (c .before .word-end .ensures) (c .if2 .taken))
     (λ c. search needs)
     (λ c. search needs)
     (λ c. search needs)

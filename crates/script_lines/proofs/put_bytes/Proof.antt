@@ -12,28 +12,19 @@ Inv-loop out₀ at w i₀ out i = Copied out₀ out at w i
 abbrev μ-loop : tie.MeasureT-loop
 μ-loop out₀ at w i₀ out i = length w - i
 
-loop-holds : tie.Need-loop-holds Inv-loop μ-loop
-loop-holds c = copied-none _ _ _
-
-loop-again : tie.Need-loop-again Inv-loop μ-loop
-loop-again c = search copied-more
-
-returns : tie.Need-returns Inv-loop μ-loop
-returns c = copied-all _ _ _ _ _ (c .before .loop .inv) (c .loop-test .left)
-
 pub put-bytes-spec : {M : Type 1} → statement M
 put-bytes-spec =
     tie.close
     (tie.spec
     Inv-loop
     μ-loop
-    loop-holds
+    (λ c. copied-none _ _ _)
     (λ c. search needs)
     (λ c. search needs)
     (λ c. search needs)
     (λ c. search needs)
     (λ c. search needs)
-    loop-again
+    (λ c. search copied-more)
     (λ c. search needs)
     (λ c. search needs)
-    returns)
+    (λ c. copied-all _ _ _ _ _ (c .before .loop .inv) (c .loop-test .left)))

@@ -1,5 +1,7 @@
 -- `script_lines::put_end` meets its contract: four words, each put where the last one ended.
 use native.Mathlib.Omega.{arith}
+use Prim.Native.Nat.{_+_, _≤_}
+use lib.ListN.{length}
 use denote.Ref.{now}
 use Rattle.script_numbers.specs.Decimals.{decimal}
 use Rattle.script_lines.specs.Words.{text}
@@ -9,26 +11,33 @@ use borrow.Author.Needs.{needs}
 use Rattle.script_lines.proofs.put_end.Statement.{statement}
 use Rattle.script_lines.proofs.put_end.Tie as tie
 
-put-word-requires : tie.Need-put-word-requires
-put-word-requires c κs = let a = c .before .before .before .args in omega (arith, length-end (a .accepted) (a .holders) (a .downs))
+-- at entry there is room for the line
+module _ (c : tie.Start) where
+  room : c .args .at + (length (decimal (c .args .accepted)) + length (decimal (c .args .holders)) + length (decimal (c .args .downs)) + 7)
+      ≤ length (now (c .args .out))
+  room = omega (arith, length-end (c .args .accepted) (c .args .holders) (c .args .downs), c .pre)
 
-put-number-requires : tie.Need-put-number-requires
-put-number-requires c κs = let a = c .before .before .before .before .before .before .before .args in omega (arith, length-end (a .accepted) (a .holders) (a .downs))
+-- the word is put, the events accepted, the holders
+module _ (c : tie.After-put-word) where
+  abbrev entry : tie.Start
+  entry = c .before .before .before .before
 
-put-number-requires-2 : tie.Need-put-number-requires-2
-put-number-requires-2 c κs = let a = c .before .before .before .before .before .before .before .before .before .before .before .args in omega (arith, length-end (a .accepted) (a .holders) (a .downs))
+module _ (c : tie.After-put-number) where
+  abbrev one : tie.After-put-word
+  one = c .before .before .before .before
 
-put-number-requires-3 : tie.Need-put-number-requires-3
-put-number-requires-3 c κs = let a = c .before .before .before .before .before .before .before .before .before .before .before .before .before .before .before .args in omega (arith, length-end (a .accepted) (a .holders) (a .downs))
+module _ (c : tie.After-put-number2) where
+  abbrev two : tie.After-put-number
+  two = c .before .before .before .before
 
 returns : tie.Need-returns
 unfolding endLine
 returns c =
     let d₄ = c .before .before in
     let d₃ = d₄ .before .before .before .before in
-    let d₂ = d₃ .before .before .before .before in
-    let d₁ = d₂ .before .before .before .before in
-    let a = d₁ .before .before .before .before .args in
+    let d₂ = two d₃ in
+    let d₁ = one d₂ in
+    let a = entry d₁ .args in
     let e₁ = puts-more (puts-none (now (a .out)) (a .at)) (text "end") (d₁ .put-word .ensures) in
     let e₂ = puts-more e₁ (decimal (a .accepted)) (d₂ .put-number .ensures) in
     let e₃ = puts-more e₂ (decimal (a .holders)) (d₃ .put-number2 .ensures) in
@@ -39,9 +48,9 @@ put-end-spec =
     tie.close
     (tie.spec
     (λ c. search needs)
-    put-word-requires
-    put-number-requires
-    put-number-requires-2
-    put-number-requires-3
+    (λ c κs. omega (arith, room (c .before .before .before)))
+    (λ c κs. omega (arith, room (entry (c .before .before .before))))
+    (λ c κs. omega (arith, room (entry (one (c .before .before .before)))))
+    (λ c κs. omega (arith, room (entry (one (two (c .before .before .before))))))
     (λ c. search needs)
     returns)

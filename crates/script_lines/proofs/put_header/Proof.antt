@@ -1,53 +1,31 @@
--- `script_lines::put_header` meets its contract: five words, each put where the last one ended.
+-- `script_lines::put_header` meets its contract: the four numbers behind the word, and a newline.
 use native.Mathlib.Omega.{arith}
 use denote.Ref.{now}
-use Rattle.script_numbers.specs.Decimals.{decimal}
-use Rattle.script_lines.specs.Words.{text}
-use Rattle.script_lines.specs.Printed.{headerLine}
-use Rattle.script_lines.proofs.PrintedLaws.{length-header, puts-none, puts-more, puts-last}
+use lib.ListN.{length-set}
+use Rattle.script_lines.proofs.PrintedLaws.{length-header, put-heading}
 use borrow.Author.Needs.{needs}
 use Rattle.script_lines.proofs.put_header.Statement.{statement}
 use Rattle.script_lines.proofs.put_header.Tie as tie
 
-put-word-requires : tie.Need-put-word-requires
-put-word-requires c κs = let a = c .before .before .before .args in omega (arith, length-header (a .s))
-
-put-number-requires : tie.Need-put-number-requires
-put-number-requires c κs = let a = c .before .before .before .before .before .before .before .args in omega (arith, length-header (a .s))
-
-put-number-requires-2 : tie.Need-put-number-requires-2
-put-number-requires-2 c κs = let a = c .before .before .before .before .before .before .before .before .before .before .before .args in omega (arith, length-header (a .s))
-
-put-number-requires-3 : tie.Need-put-number-requires-3
-put-number-requires-3 c κs = let a = c .before .before .before .before .before .before .before .before .before .before .before .before .before .before .before .args in omega (arith, length-header (a .s))
-
-put-number-requires-4 : tie.Need-put-number-requires-4
-put-number-requires-4 c κs = let a = c .before .before .before .before .before .before .before .before .before .before .before .before .before .before .before .before .before .before .before .args in omega (arith, length-header (a .s))
+-- the word is put
+module _ (c : tie.After-put-word) where
+  abbrev entry : tie.Start
+  entry = c .before .before .before .before
 
 returns : tie.Need-returns
-unfolding headerLine
 returns c =
-    let d₅ = c .before .before in
-    let d₄ = d₅ .before .before .before .before in
-    let d₃ = d₄ .before .before .before .before in
-    let d₂ = d₃ .before .before .before .before in
-    let d₁ = d₂ .before .before .before .before in
-    let a = d₁ .before .before .before .before .args in
-    let e₁ = puts-more (puts-none (now (a .out)) (a .at)) (text "gallery") (d₁ .put-word .ensures) in
-    let e₂ = puts-more e₁ (decimal (a .s .n)) (d₂ .put-number .ensures) in
-    let e₃ = puts-more e₂ (decimal (a .s .m)) (d₃ .put-number2 .ensures) in
-    let e₄ = puts-more e₃ (decimal (a .s .f)) (d₄ .put-number3 .ensures) in
-    puts-last e₄ (decimal (a .s .clients)) (d₅ .put-number4 .ensures)
+    let d = c .before .before .before .before .before .before in
+    let a = entry d .args in
+    put-heading (a .s) (now (a .out)) _ _ _ _ _ (c .before .before .put-four .ensures) (d .put-word .ensures)
 
 pub put-header-spec : {M : Type 1} → statement M
 put-header-spec =
     tie.close
     (tie.spec
     (λ c. search needs)
-    put-word-requires
-    put-number-requires
-    put-number-requires-2
-    put-number-requires-3
-    put-number-requires-4
-    (λ c. search needs)
+    (λ c κs. omega (arith, length-header (c .before .before .before .args .s)))
+    (λ c κs. omega (arith, length-header (entry (c .before .before .before) .args .s)))
+    (λ c. omega (arith, length-header (entry (c .before .before .before .before .before .before) .args .s)))
+    (λ c. omega (arith, length-header (entry (c .before .before .before .before .before .before) .args .s)))
+    (λ c. let d = c .before .before .put-four in omega (arith, length-set (d .last .0) (d .result) 10))
     returns)

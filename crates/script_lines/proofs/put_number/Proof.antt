@@ -6,21 +6,18 @@ use borrow.Author.Needs.{needs}
 use Rattle.script_lines.proofs.put_number.Statement.{statement}
 use Rattle.script_lines.proofs.put_number.Tie as tie
 
-put-decimal-requires : tie.Need-put-decimal-requires
-put-decimal-requires c κs = search needs
-
-slice-write-out : tie.Need-slice-write-out
-slice-write-out c = search needs
-
-add-result : tie.Need-add-result
-add-result c = search needs
-
-same-length : tie.Need-same-length
-same-length c = search needs
-
 returns : tie.Need-returns
-returns c = let a = c .before .before .before .before .before .args in put-behind (now (a .out)) _ _ _ _ (decimal (a .x)) (c .before .before .put-decimal .ensures)
+returns c =
+    let d = c .before .before in
+    let a = d .before .before .before .args in
+    put-behind (now (a .out)) _ _ _ _ (decimal (a .x)) (d .put-decimal .ensures)
 
 pub put-number-spec : {M : Type 1} → statement M
 put-number-spec =
-    tie.close (tie.spec put-decimal-requires slice-write-out add-result same-length returns)
+    tie.close
+    (tie.spec
+    (λ c κs. search needs)
+    (λ c. search needs)
+    (λ c. search needs)
+    (λ c. search needs)
+    returns)

@@ -11,18 +11,21 @@ use borrow.Author.Needs.{needs}
 use Rattle.script_lines.proofs.put_refused.Statement.{statement}
 use Rattle.script_lines.proofs.put_refused.Tie as tie
 
-put-word-requires : tie.Need-put-word-requires
-put-word-requires c κs = let a = c .before .before .before .args in omega (arith, length-refused (a .refusal))
+-- the word is put
+module _ (c : tie.After-put-word) where
+  abbrev entry : tie.Start
+  entry = c .before .before .before .before
 
 put-number-requires : tie.Need-put-number-requires
-put-number-requires c κs = let a = c .before .before .before .before .before .before .before .before .args in omega (arith, length-refused (a .refusal), ap (λ x. length (decimal x)) (c .code-of .ensures))
+put-number-requires c κs =
+    omega (arith, length-refused (entry (c .before .before .before .before) .args .refusal), ap (λ x. length (decimal x)) (c .code-of .ensures))
 
 returns : tie.Need-returns
 unfolding refusedLine
 returns c =
     let d₂ = c .before .before in
     let d₁ = d₂ .before .before .before .before .before in
-    let a = d₁ .before .before .before .before .args in
+    let a = entry d₁ .args in
     let e₁ = puts-more (puts-none (now (a .out)) (a .at)) (text "no") (d₁ .put-word .ensures) in
     rw (d₂ .before .code-of .ensures) at (puts-last e₁ (decimal (d₂ .before .code-of .result)) (d₂ .put-number .ensures))
 
@@ -31,7 +34,7 @@ put-refused-spec =
     tie.close
     (tie.spec
     (λ c. search needs)
-    put-word-requires
+    (λ c κs. omega (arith, length-refused (c .before .before .before .args .refusal)))
     (λ c κs. search needs)
     put-number-requires
     (λ c. search needs)

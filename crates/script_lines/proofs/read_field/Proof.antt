@@ -4,21 +4,24 @@ use borrow.Author.Needs.{needs}
 use Rattle.script_lines.proofs.read_field.Statement.{statement}
 use Rattle.script_lines.proofs.read_field.Tie as tie
 
-returns : tie.Need-returns
-returns c = field-unended _ _ _ (c .before .word-end .ensures) (c .if1 .taken)
-
 returns-2 : tie.Need-returns-2
-returns-2 c = field-found _ _ _ (c .before .before .before .before .before .before .word-end .ensures) (c .before .before .before .before .before .if1 .left) _ (c .before .before .before .read-number .ensures) _ (c .before .x .given .1)
+returns-2 c =
+    let r = c .before .before .before in
+    let d = r .before .before in
+    field-found _ _ _ (d .before .word-end .ensures) (d .if1 .left) _ (r .read-number .ensures) _ (c .before .x .given .1)
 
 returns-3 : tie.Need-returns-3
-returns-3 c = field-unread _ _ _ (c .before .before .before .before .before .word-end .ensures) (c .before .before .before .before .if1 .left) _ (c .before .before .read-number .ensures) (c .enum-told .given .1)
+returns-3 c =
+    let r = c .before .before in
+    let d = r .before .before in
+    field-unread _ _ _ (d .before .word-end .ensures) (d .if1 .left) _ (r .read-number .ensures) (c .enum-told .given .1)
 
 pub read-field-spec : {M : Type 1} → statement M
 read-field-spec =
     tie.close
     (tie.spec
     (λ c κs. search needs)
-    returns
+    (λ c. field-unended _ _ _ (c .before .word-end .ensures) (c .if1 .taken))
     (λ c. search needs)
     (λ c. search needs)
     (λ c. search needs)

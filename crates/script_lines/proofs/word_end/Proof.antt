@@ -12,28 +12,16 @@ Inv-loop line at i₀ i = Passes line at i
 abbrev μ-loop : tie.MeasureT-loop
 μ-loop line at i₀ i = length line - i
 
-loop-holds : tie.Need-loop-holds Inv-loop μ-loop
-loop-holds c = search passes-none
-
-returns : tie.Need-returns Inv-loop μ-loop
-returns c = (search passes-stop, search needs)
-
-loop-again : tie.Need-loop-again Inv-loop μ-loop
-loop-again c = search passes-more
-
-returns-2 : tie.Need-returns-2 Inv-loop μ-loop
-returns-2 c = (search passes-all, search needs)
-
 pub word-end-spec : {M : Type 1} → statement M
 word-end-spec =
     tie.close
     (tie.spec
     Inv-loop
     μ-loop
-    loop-holds
+    (λ c. search passes-none)
     (λ c. search needs)
-    returns
+    (λ c. (search passes-stop, search needs))
     (λ c. search needs)
     (λ c. search needs)
-    loop-again
-    returns-2)
+    (λ c. search passes-more)
+    (λ c. (search passes-all, search needs)))

@@ -1,23 +1,48 @@
 -- `script_stream::answer_some` meets its contract: the call is not refused, so what it wrote lies within the buffer.
 use denote.Ref.{now}
+use mathlib.Core.Path.{_≡_}
+use mathlib.Core.Bool.{true}
 use native.Mathlib.Omega.{arith}
+use Rattle.script.specs.State.{valid}
 use Rattle.script.proofs.CallLaws.{fed-valid, fed-used, fed-wrote}
 use Rattle.script_stream.proofs.ReadLaws.{fed-taken}
 use borrow.Author.Needs.{needs}
 use Rattle.script_stream.proofs.answer_some.Statement.{statement}
 use Rattle.script_stream.proofs.answer_some.Tie as tie
 
+-- the part is fed
+module _ (c : tie.After-feed) where
+  abbrev entry : tie.Start
+  entry = c .before .before .before .before .before .before
+
+  again : valid (c .feed .last .0) ≡ true
+  again =
+      let a = entry .args in
+      fed-valid (now (a .w)) (now (a .part)) (now (a .out)) _ _ _ (entry .pre .0) (entry .pre .1) (c .feed .ensures)
+
+-- and not refused
+module _ (c : tie.After-p) where
+  abbrev fed : tie.After-feed
+  fed = c .before .before .before .before .before .before
+
 part-write-out-end : tie.Need-part-write-out-end
-part-write-out-end c = let a = c .before .before .before .before .before .before .before .before .before .before .before .before .before .before .args in let p = c .before .before .before .before .before .before .before .before .before .before .before .before .before .before .pre in fed-wrote (now (a .w)) (now (a .part)) (now (a .out)) _ _ _ (p .0) (p .1) (c .before .before .before .before .before .before .before .before .feed .ensures) _ _ (c .before .before .p .given .1)
+part-write-out-end c =
+    let p = c .before .before in
+    let f = fed p in
+    let d = entry f in
+    let a = d .args in
+    fed-wrote (now (a .w)) (now (a .part)) (now (a .out)) _ _ _ (d .pre .0) (d .pre .1) (f .feed .ensures) _ _ (p .p .given .1)
 
 returns : tie.Need-returns
-returns c = let a = c .before .before .before .before .before .before .before .before .before .before .before .before .before .before .before .before .before .args in let p = c .before .before .before .before .before .before .before .before .before .before .before .before .before .before .before .before .before .pre in (fed-used (now (a .w)) (now (a .part)) (now (a .out)) _ _ _ (p .0) (p .1) (c .before .before .before .before .before .before .before .before .before .before .before .feed .ensures) _ _ (c .before .before .before .before .before .p .given .1), fed-valid (now (a .w)) (now (a .part)) (now (a .out)) _ _ _ (p .0) (p .1) (c .before .before .before .before .before .before .before .before .before .before .before .feed .ensures), λ z. fed-taken (now (a .w)) (now (a .part)) (now (a .out)) _ _ _ (p .0) (p .1) (c .before .before .before .before .before .before .before .before .before .before .before .feed .ensures) _ _ (c .before .before .before .before .before .p .given .1))
-
-returns-2 : tie.Need-returns-2
-returns-2 c = let a = c .before .before .before .before .before .before .before .before .before .before .before .before .args in let p = c .before .before .before .before .before .before .before .before .before .before .before .before .pre in (omega arith, fed-valid (now (a .w)) (now (a .part)) (now (a .out)) _ _ _ (p .0) (p .1) (c .before .before .before .before .before .before .feed .ensures), λ z. absurd (omega (arith, z)))
-
-returns-3 : tie.Need-returns-3
-returns-3 c = let a = c .before .before .before .before .before .before .before .before .before .before .before .before .before .before .before .before .before .args in let p = c .before .before .before .before .before .before .before .before .before .before .before .before .before .before .before .before .before .pre in (omega arith, fed-valid (now (a .w)) (now (a .part)) (now (a .out)) _ _ _ (p .0) (p .1) (c .before .before .before .before .before .before .before .before .before .before .before .feed .ensures), λ z. absurd (omega (arith, z)))
+returns c =
+    let p = c .before .before .before .before .before in
+    let f = fed p in
+    let d = entry f in
+    let a = d .args in (
+      fed-used (now (a .w)) (now (a .part)) (now (a .out)) _ _ _ (d .pre .0) (d .pre .1) (f .feed .ensures) _ _ (p .p .given .1),
+      again f,
+      λ z. fed-taken (now (a .w)) (now (a .part)) (now (a .out)) _ _ _ (d .pre .0) (d .pre .1) (f .feed .ensures) _ _ (p .p .given .1),
+    )
 
 pub answer-some-spec : {M : Type 1} → statement M
 answer-some-spec =
@@ -35,7 +60,7 @@ answer-some-spec =
     returns
     (λ c. search needs)
     (λ c. search needs)
-    returns-2
+    (λ c. (omega arith, again (c .before .before .before .before .before .before), λ z. absurd (omega (arith, z))))
     (λ c. search needs)
     (λ c. search needs)
-    returns-3)
+    (λ c. (omega arith, again (fed (c .before .before .before .before .before)), λ z. absurd (omega (arith, z)))))

@@ -4,8 +4,11 @@ use borrow.Author.Needs.{needs}
 use Rattle.script_stream.proofs.start.Statement.{statement}
 use Rattle.script_stream.proofs.start.Tie as tie
 
-returns : tie.Need-returns
-returns c = started _ _ _ (c .before .before .before .zeros .ensures) (c .before .new .ensures)
-
 pub start-spec : {M : Type 1} → statement M
-start-spec = tie.close (tie.spec (λ c κs. search needs) (λ c. search needs) (λ c κs. search needs) returns)
+start-spec =
+    tie.close
+    (tie.spec
+    (λ c κs. search needs)
+    (λ c. search needs)
+    (λ c κs. search needs)
+    (λ c. started _ _ _ (c .before .before .before .zeros .ensures) (c .before .new .ensures)))

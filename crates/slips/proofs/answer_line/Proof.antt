@@ -28,35 +28,20 @@ module _ (c : tie.Else1) where
   taken : Taken (now (entry fed .args .w)) (now (entry fed .args .line)) (fed .answer-part .last .0)
   taken = fed .answer-part .ensures .1 (not-false _ (c .if1 .left))
 
-slice-read-before : tie.Need-slice-read-before
-slice-read-before c = omega (arith, sound _ (c .before .before .before .before .pre .0) .long)
-
-returns : tie.Need-returns
-returns c = (again (c .before .before .before .before .before), λ z. absurd (false≢true z))
-
-slice-read-if2 : tie.Need-slice-read-if2
-slice-read-if2 c = omega (arith, sound _ (again (fed (c .before))) .long)
-
-returns-2 : tie.Need-returns-2
-returns-2 c = let d = c .before .before in (again (fed d), λ z. taken d)
-
-returns-3 : tie.Need-returns-3
-returns-3 c = let d = c .before .before .before .before .before .before .before in (again (fed d), λ z. taken d)
-
 pub answer-line-spec : {M : Type 1} → statement M
 answer-line-spec =
     tie.close
     (tie.spec
-    slice-read-before
+    (λ c. omega (arith, sound _ (c .before .before .before .before .pre .0) .long))
     (λ c κs. search needs)
     (λ c. search needs)
     (λ c. search needs)
-    returns
-    slice-read-if2
+    (λ c. (again (c .before .before .before .before .before), λ z. absurd (false≢true z)))
+    (λ c. omega (arith, sound _ (again (fed (c .before))) .long))
     (λ c. search needs)
     (λ c. search needs)
-    returns-2
+    (λ c. let d = c .before .before in (again (fed d), λ z. taken d))
     (λ c κs. search needs)
     (λ c. search needs)
     (λ c. search needs)
-    returns-3)
+    (λ c. let d = c .before .before .before .before .before .before .before in (again (fed d), λ z. taken d)))

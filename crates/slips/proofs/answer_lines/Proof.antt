@@ -1,41 +1,33 @@
--- `slips::answer_lines` meets its contract: the state stays valid and has taken in the lines before `from`; each turn takes one.
+-- `slips::answer_lines` meets its contract. The invariant: the state is valid and has taken in the lines before `from`. Each turn takes
+-- one.
 use denote.Ref.{now}
-use mathlib.Core.Path.{_≡_, refl}
-use mathlib.Core.Bool.{true, false≢true}
-use Prim.Native.Nat.{_≤_, _-_}
+use mathlib.Core.Bool.{false≢true}
+use Prim.Native.Nat.{_-_}
 use native.Mathlib.Omega.{arith}
-use lib.ListN.{length, take}
-use Rattle.script.specs.State.{valid}
-use Rattle.script_stream.specs.Taken.{Taken}
-use Rattle.script_stream.proofs.ReadLaws.{taken-none, taken-to, taken-all}
+use lib.ListN.{length}
+use Rattle.script_stream.proofs.ReadLaws.{Taking, taking-none, taking-to, taking-all}
 use borrow.Author.Tests.{not-false}
 use borrow.Author.Needs.{needs}
 use Rattle.slips.proofs.answer_lines.Statement.{statement}
 use Rattle.slips.proofs.answer_lines.Tie as tie
-use Rattle.script_output.specs.Reader.{maxPrinted}
 
 abbrev Inv-loop : tie.InvT-loop
-Inv-loop w₀ part out₀ wanted from₀ w out from = (length w ≡ length w₀) × (length out ≡ length out₀) × (from ≤ length part) × (valid w ≡ true) × (maxPrinted ≤ length out) × Taken w₀ (take from part) w
+Inv-loop w₀ part out₀ wanted from₀ w out from = Taking w₀ part out₀ w out from
 
 abbrev μ-loop : tie.MeasureT-loop
 μ-loop w₀ part out₀ wanted from₀ w out from = length part - from
 
 loop-holds : tie.Need-loop-holds Inv-loop μ-loop
-loop-holds c = let a = c .before .before .before .args in let p = c .before .before .before .pre in (refl, refl, omega arith, p .0, p .1, taken-none (now (a .w)) (now (a .part)))
-
-returns : tie.Need-returns Inv-loop μ-loop
-returns c = (c .before .before .before .before .before .answer-line .ensures .0, λ z. absurd (false≢true z))
+loop-holds c =
+    let d = c .before .before .before in taking-none (now (d .args .w)) (now (d .args .part)) (now (d .args .out)) (d .pre .0) (d .pre .1)
 
 loop-again : tie.Need-loop-again Inv-loop μ-loop
 loop-again c =
-    let a = c .before .before .before .before .before .before .before .before .before .before .before .before .before .before .before .args in
-    let l = c .before .before .before .before .before .before .before .before .before .before .before .loop in
-    let s = c .before .before .before .before .before .answer-line .ensures in
-    let n = c .before .before .before .before .before .before .before .before .before .line-behind in
-    (search needs, search needs, search needs, s .0, search needs, taken-to (now (a .w)) (l .w) _ (now (a .part)) (l .from) (n .result) (omega (arith, n .ensures .0)) (l .inv .5) (s .1 (not-false _ (c .if1 .left))))
-
-returns-2 : tie.Need-returns-2 Inv-loop μ-loop
-returns-2 c = let a = c .before .before .before .before .before .args in let l = c .before .loop in (l .inv .3, λ z. taken-all (now (a .w)) (l .w) (now (a .part)) (l .from) (l .inv .5) (c .loop-test .left))
+    let s = c .before .before .before .before .before in
+    let e = s .answer-line .ensures in
+    let n = s .before .before .before .before in
+    taking-to (n .before .before .loop .inv) (search needs) (search needs) (omega (arith, n .line-behind .ensures .0))
+    (n .line-behind .ensures .1) (e .0) (e .1 (not-false _ (c .if1 .left)))
 
 pub answer-lines-spec : {M : Type 1} → statement M
 answer-lines-spec =
@@ -51,9 +43,9 @@ answer-lines-spec =
     (λ c κs. search needs)
     (λ c. search needs)
     (λ c. search needs)
-    returns
+    (λ c. (c .before .before .before .before .before .answer-line .ensures .0, λ z. absurd (false≢true z)))
     (λ c. search needs)
     loop-again
     (λ c. search needs)
     (λ c. search needs)
-    returns-2)
+    (λ c. let l = c .before .loop in (l .inv .valid, λ z. taking-all (l .inv) (c .loop-test .left))))

@@ -5,10 +5,14 @@ use borrow.Author.Needs.{needs}
 use Rattle.slips.proofs.close_line.Statement.{statement}
 use Rattle.slips.proofs.close_line.Tie as tie
 
-slice-read-if1 : tie.Need-slice-read-if1
-slice-read-if1 c = omega (arith, sound _ (c .before .before .before .pre .0) .long)
-
 pub close-line-spec : {M : Type 1} → statement M
 close-line-spec =
     tie.close
-    (tie.spec slice-read-if1 (λ c. search needs) (λ c. search needs) (λ c κs. search needs) (λ c. search needs) (λ c. search needs) (λ c. search needs))
+    (tie.spec
+    (λ c. omega (arith, sound _ (c .before .before .before .pre .0) .long))
+    (λ c. search needs)
+    (λ c. search needs)
+    (λ c κs. search needs)
+    (λ c. search needs)
+    (λ c. search needs)
+    (λ c. search needs))

@@ -11,13 +11,21 @@ use Rattle.slips.proofs.run.Tie as tie
 use Rattle.script.specs.Calls.{maxEnding}
 
 abbrev Inv-loop : tie.InvT-loop
-Inv-loop w₀ part₀ out₀ wanted turns₀ w part out turns = (length w ≡ length w₀) × (length part ≡ length part₀) × (length out ≡ length out₀) × (valid w ≡ true) × (maxEnding ≤ length out)
+Inv-loop w₀ part₀ out₀ wanted turns₀ w part out turns =
+    (length w ≡ length w₀) × (length part ≡ length part₀) × (length out ≡ length out₀) × (valid w ≡ true) × (maxEnding ≤ length out)
 
 abbrev μ-loop : tie.MeasureT-loop
 μ-loop w₀ part₀ out₀ wanted turns₀ w part out turns = turns
 
 loop-again : tie.Need-loop-again Inv-loop μ-loop
-loop-again c = (search needs, search needs, search needs, c .before .before .before .before .before .answer .ensures (not-false _ (c .if1 .left)) .0, search needs)
+loop-again c = (
+  search needs,
+  search needs,
+  search needs,
+  c .before .before .before .before .before .answer .ensures (not-false _ (c .if1 .left)) .0,
+  search
+      needs,
+)
 
 pub run-spec : {M : Type 1} → statement M
 run-spec =

@@ -26,36 +26,21 @@ module _ (c : tie.Else1) where
   simulation : valid (take simulationSize (drop stateHead (now (entry .args .w)))) ≡ true
   simulation = runs _ (entry .pre) (c .if1 .left)
 
-shared-slice-read-if1 : tie.Need-shared-slice-read-if1
-shared-slice-read-if1 c = omega (arith, long (c .before .before .before))
-
-shared-slice-read-if2 : tie.Need-shared-slice-read-if2
-shared-slice-read-if2 c = omega (arith, long (entry (c .before)))
-
-part-put-all-end : tie.Need-part-put-all-end
-part-put-all-end c = omega (arith, long (entry (c .before .before .before)))
-
-put-all-requires : tie.Need-put-all-requires
-put-all-requires c κs = simulation (c .before .before .before .before)
-
-part-write-out-end : tie.Need-part-write-out-end
-part-write-out-end c = omega (arith, c .before .before .before .put-all .ensures)
-
 pub show-spec : {M : Type 1} → statement M
 show-spec =
     tie.close
     (tie.spec
-    shared-slice-read-if1
+    (λ c. omega (arith, long (c .before .before .before)))
     (λ c. search needs)
-    shared-slice-read-if2
-    (λ c. search needs)
-    (λ c. search needs)
-    (λ c. search needs)
-    part-put-all-end
-    put-all-requires
+    (λ c. omega (arith, long (entry (c .before))))
     (λ c. search needs)
     (λ c. search needs)
-    part-write-out-end
+    (λ c. search needs)
+    (λ c. omega (arith, long (entry (c .before .before .before))))
+    (λ c κs. simulation (c .before .before .before .before))
+    (λ c. search needs)
+    (λ c. search needs)
+    (λ c. omega (arith, c .before .before .before .put-all .ensures))
     (λ c κs. search needs)
     (λ c. search needs)
     (λ c. search needs))

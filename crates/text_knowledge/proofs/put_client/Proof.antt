@@ -17,8 +17,11 @@ use Rattle.text_knowledge.proofs.put_client.Tie as tie
 
 -- the record is read
 module _ (c : tie.After-client-head) where
+  abbrev tested : tie.After-is-living
+  tested = c .before .before .before .before
+
   abbrev entry : tie.Start
-  entry = c .before .before .before .before .before .before .before
+  entry = tested .before .before .before
 
   abbrev row : List ℕ
   row = c .before .before .client-row .last .1 .1 .0
@@ -26,37 +29,33 @@ module _ (c : tie.After-client-head) where
   read : clientOf (c .client-head .result) row ≡ clientFrom (clientRecord (clientBlockOf (now (entry .args .w)) (entry .args .k)))
   read = client-read _ _ _ (c .client-head .ensures) (c .before .before .client-row .ensures)
 
-is-living-requires : tie.Need-is-living-requires
-is-living-requires c κs = client-in _ _ (c .before .before .pre)
-
-client-row-requires : tie.Need-client-row-requires
-client-row-requires c κs = (client-in _ _ (c .before .before .before .before .pre), search needs)
-
-client-head-requires : tie.Need-client-head-requires
-client-head-requires c κs = let d = c .before .before .before .before .before .before in (client-in _ _ (d .pre), client-held _ (d .args .k) (d .pre))
-
-put-life-requires : tie.Need-put-life-requires
-put-life-requires c κs = let m = c .before .before .before .before .before .before .before .before in responses-padded _ _ (entry m .pre) _ _ (read m)
+-- and what it says is put behind the number
+module _ (c : tie.After-put-with) where
+  abbrev known : tie.After-client-head
+  known = c .before .before .before .before
 
 returns : tie.Need-returns
 returns c =
-    let m = c .before .before .before .before .before .before .before .before .before .before .before .before .before .before .before .before in
-    rw (client-text _ _ (entry m .pre) _ _ (read m) _ (c .before .before .before .before .before .before .before .before .before .before .before .before .before .before .before .before .before .before .before .before .is-living .ensures))
-    (then _ _ _ (then _ _ _ (c .before .before .before .before .before .before .before .before .before .before .before .before .put-with .ensures) (c .before .before .before .before .before .before .before .put-life .ensures)) (c .before .before .put .ensures))
+    let d₃ = c .before .before in
+    let d₂ = d₃ .before .before .before .before .before in
+    let d₁ = d₂ .before .before .before .before .before in
+    let m = known d₁ in
+    rw (client-text _ _ (entry m .pre) _ _ (read m) _ (tested m .is-living .ensures))
+    (then _ _ _ (then _ _ _ (d₁ .put-with .ensures) (d₂ .put-life .ensures)) (d₃ .put .ensures))
 
 pub put-client-spec : {M : Type 1} → statement M
 put-client-spec =
     tie.close
     (tie.spec
-    is-living-requires
+    (λ c κs. client-in _ _ (c .before .before .pre))
     (λ c. search needs)
-    client-row-requires
-    client-head-requires
+    (λ c κs. (client-in _ _ (c .before .before .before .before .pre), search needs))
+    (λ c κs. let d = c .before .before .before .before .before .before in (client-in _ _ (d .pre), client-held _ (d .args .k) (d .pre)))
     (λ c. search needs)
     (λ c. search needs)
     (λ c κs. search needs)
     (λ c. search needs)
-    put-life-requires
+    (λ c κs. let m = known (c .before .before .before .before) in responses-padded _ _ (entry m .pre) _ _ (read m))
     (λ c. search needs)
     (λ c κs. search needs)
     (λ c. search needs)

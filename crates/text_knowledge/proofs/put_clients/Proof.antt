@@ -17,16 +17,10 @@ Inv-loop out₀ at w clients end₀ k₀ out end k = (sheet out end ≡ puts (cl
 abbrev μ-loop : tie.MeasureT-loop
 μ-loop out₀ at w clients end₀ k₀ out end k = clients - k
 
-loop-holds : tie.Need-loop-holds Inv-loop μ-loop
-loop-holds c = (clients-none _ _, omega arith, refl)
-
 put-client-requires : tie.Need-put-client-requires Inv-loop μ-loop
 put-client-requires c κs =
     let p = c .before .before .before .before .before .pre in
     record { valid = p .0; first = omega arith; last = omega (arith, p .1) }
-
-loop-less : tie.Need-loop-less Inv-loop μ-loop
-loop-less c = omega arith
 
 loop-again : tie.Need-loop-again Inv-loop μ-loop
 loop-again c =
@@ -45,10 +39,10 @@ put-clients-spec =
     (tie.spec
     Inv-loop
     μ-loop
-    loop-holds
+    (λ c. (clients-none _ _, omega arith, refl))
     (λ c. search needs)
     put-client-requires
-    loop-less
+    (λ c. omega arith)
     loop-again
     (λ c. search needs)
     returns)

@@ -1,4 +1,5 @@
--- `text_knowledge::put_in_transit` meets its contract: the three calls read the slot, and its number, message and mark are put one after another.
+-- `text_knowledge::put_in_transit` meets its contract: the three calls read the slot, and its number, message and mark are put one after
+-- another.
 use denote.Ref.{now}
 use mathlib.Core.Path.{_≡_, sym}
 use Rattle.sim_layout.specs.Layout.{transitWords}
@@ -25,7 +26,11 @@ module _ (c : tie.After-message-at) where
 returns : tie.Need-returns
 unfolding inTransitText
 returns c =
-    rw (its-slot (c .before .before .before .before .before .before .before .before .before .before .before .before .before)) (then _ _ _ (c .before .before .before .before .before .before .before .before .before .before .put-with .ensures) (then _ _ _ (c .before .before .before .before .before .before .put-message .ensures) (c .before .before .put-standing .ensures)))
+    let d₃ = c .before .before in
+    let d₂ = d₃ .before .before .before .before in
+    let d₁ = d₂ .before .before .before .before in
+    rw (its-slot (d₁ .before .before .before))
+    (then _ _ _ (d₁ .put-with .ensures) (then _ _ _ (d₂ .put-message .ensures) (d₃ .put-standing .ensures)))
 
 pub put-in-transit-spec : {M : Type 1} → statement M
 put-in-transit-spec =

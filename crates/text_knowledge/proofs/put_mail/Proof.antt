@@ -42,18 +42,6 @@ module _ (c : tie.After-put-in-transit Inv-loop μ-loop) where
   abbrev turn : tie.At-loop Inv-loop μ-loop
   turn = c .before .before .before
 
-loop-holds : tie.Need-loop-holds Inv-loop μ-loop
-loop-holds c = (mail-none _ _, omega arith, refl)
-
-put-in-transit-requires : tie.Need-put-in-transit-requires Inv-loop μ-loop
-put-in-transit-requires c κs = (entry (c .before .before) .pre, omega arith)
-
-add-i : tie.Need-add-i Inv-loop μ-loop
-add-i c = record { fits = omega (arith, few (entry (turn (c .before .before)))) }
-
-loop-less : tie.Need-loop-less Inv-loop μ-loop
-loop-less c = omega arith
-
 loop-again : tie.Need-loop-again Inv-loop μ-loop
 loop-again c =
     let d = c .before .before in
@@ -74,10 +62,10 @@ put-mail-spec =
     Inv-loop
     μ-loop
     (λ c κs. search needs)
-    loop-holds
-    put-in-transit-requires
-    add-i
-    loop-less
+    (λ c. (mail-none _ _, omega arith, refl))
+    (λ c κs. (entry (c .before .before) .pre, omega arith))
+    (λ c. record { fits = omega (arith, few (entry (turn (c .before .before)))) })
+    (λ c. omega arith)
     loop-again
     (λ c. search needs)
     returns)

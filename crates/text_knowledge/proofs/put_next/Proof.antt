@@ -5,18 +5,6 @@ use borrow.Author.Needs.{needs}
 use Rattle.text_knowledge.proofs.put_next.Statement.{statement}
 use Rattle.text_knowledge.proofs.put_next.Tie as tie
 
-slice-aggregate-put : tie.Need-slice-aggregate-put
-slice-aggregate-put c = search needs
-
-put-requires : tie.Need-put-requires
-put-requires c κs = search needs
-
-put-request-requires : tie.Need-put-request-requires
-put-request-requires c κs = search needs
-
-same-length : tie.Need-same-length
-same-length c = search needs
-
 returns : tie.Need-returns
 unfolding requestsText
 returns c =
@@ -26,4 +14,10 @@ returns c =
 
 pub put-next-spec : {M : Type 1} → statement M
 put-next-spec =
-    tie.close (tie.spec slice-aggregate-put put-requires put-request-requires same-length returns)
+    tie.close
+    (tie.spec
+    (λ c. search needs)
+    (λ c κs. search needs)
+    (λ c κs. search needs)
+    (λ c. search needs)
+    returns)

@@ -6,19 +6,19 @@ use borrow.Author.Needs.{needs}
 use Rattle.text_knowledge.proofs.put_queue.Statement.{statement}
 use Rattle.text_knowledge.proofs.put_queue.Tie as tie
 
-returns : tie.Need-returns
-unfolding puts
-returns c = rw (queue-none _ _ (c .if1 .taken))
-
 returns-2 : tie.Need-returns-2
 returns-2 c =
-    rw (queue-some _ _ (c .before .before .before .before .before .before .before .before .before .before .before .before .pre) (c .before .before .before .before .before .before .before .before .before .if1 .left)) (then _ _ _ (c .before .before .before .before .before .before .put .ensures) (c .before .before .put-requests .ensures))
+    let d₂ = c .before .before in
+    let d₁ = d₂ .before .before .before .before in
+    let e = d₁ .before .before .before in
+    rw (queue-some _ _ (e .before .before .before .pre) (e .if1 .left)) (then _ _ _ (d₁ .put .ensures) (d₂ .put-requests .ensures))
 
 pub put-queue-spec : {M : Type 1} → statement M
+unfolding puts
 put-queue-spec =
     tie.close
     (tie.spec
-    returns
+    (λ c. rw (queue-none _ _ (c .if1 .taken)))
     (λ c. search needs)
     (λ c κs. search needs)
     (λ c κs. search needs)

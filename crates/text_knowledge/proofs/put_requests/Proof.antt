@@ -12,27 +12,22 @@ use Rattle.text_knowledge.proofs.put_requests.Statement.{statement}
 use Rattle.text_knowledge.proofs.put_requests.Tie as tie
 
 abbrev Inv-loop : tie.InvT-loop
-Inv-loop out₀ at row len end₀ i₀ out end i = (sheet out end ≡ puts (requestsText (queueOf row i)) (sheet out₀ end₀)) × (i ≤ len) × (length out ≡ length out₀)
+Inv-loop out₀ at row len end₀ i₀ out end i =
+    (sheet out end ≡ puts (requestsText (queueOf row i)) (sheet out₀ end₀)) × (i ≤ len) × (length out ≡ length out₀)
 
 abbrev μ-loop : tie.MeasureT-loop
 μ-loop out₀ at row len end₀ i₀ out end i = len - i
 
-loop-holds : tie.Need-loop-holds Inv-loop μ-loop
-loop-holds c = (requests-none _, omega arith, refl)
-
-request-at-requires : tie.Need-request-at-requires Inv-loop μ-loop
-request-at-requires c κs = place-there _ _ (c .before .before .before .before .before .pre) _ (omega arith)
-
-add-i : tie.Need-add-i Inv-loop μ-loop
-add-i c = search needs
-
-loop-less : tie.Need-loop-less Inv-loop μ-loop
-loop-less c = omega arith
-
 loop-again : tie.Need-loop-again Inv-loop μ-loop
 loop-again c =
-    let l = c .before .before .before .before .before .before .loop in
-    (requests-more _ _ (c .before .before .before .before .before .before .before .before .before .pre) (l .i) (omega arith) _ _ (c .before .before .before .request-at .ensures) (l .inv .0) (c .before .before .put-next .ensures), omega arith, omega arith)
+    let p = c .before .before in
+    let q = p .before in
+    let t = q .before .before .before in
+    let l = t .loop in (
+      requests-more _ _ (t .before .before .before .pre) (l .i) (omega arith) _ _ (q .request-at .ensures) (l .inv .0) (p .put-next .ensures),
+      omega arith,
+      omega arith,
+    )
 
 returns : tie.Need-returns Inv-loop μ-loop
 returns c =
@@ -46,11 +41,11 @@ put-requests-spec =
     (tie.spec
     Inv-loop
     μ-loop
-    loop-holds
-    request-at-requires
+    (λ c. (requests-none _, omega arith, refl))
+    (λ c κs. place-there _ _ (c .before .before .before .before .before .pre) _ (omega arith))
     (λ c κs. search needs)
-    add-i
-    loop-less
+    (λ c. search needs)
+    (λ c. omega arith)
     loop-again
     (λ c. search needs)
     returns)

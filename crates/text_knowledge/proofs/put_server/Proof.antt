@@ -17,8 +17,11 @@ use Rattle.text_knowledge.proofs.put_server.Tie as tie
 
 -- the record is read
 module _ (c : tie.After-server-head) where
+  abbrev tested : tie.After-is-up
+  tested = c .before .before .before .before
+
   abbrev entry : tie.Start
-  entry = c .before .before .before .before .before .before .before
+  entry = tested .before .before .before
 
   abbrev row : List ℕ
   row = c .before .before .server-row .last .1 .1 .0
@@ -26,37 +29,33 @@ module _ (c : tie.After-server-head) where
   read : serverOf (c .server-head .result) row ≡ serverFrom (serverRecord (serverBlockOf (now (entry .args .w)) (entry .args .j)))
   read = server-read _ _ _ (c .server-head .ensures) (c .before .before .server-row .ensures)
 
-is-up-requires : tie.Need-is-up-requires
-is-up-requires c κs = server-in _ _ (c .before .before .pre)
-
-server-row-requires : tie.Need-server-row-requires
-server-row-requires c κs = (server-in _ _ (c .before .before .before .before .pre), search needs)
-
-server-head-requires : tie.Need-server-head-requires
-server-head-requires c κs = let d = c .before .before .before .before .before .before in (server-in _ _ (d .pre), server-held _ (d .args .j) (d .pre))
-
-put-knowledge-requires : tie.Need-put-knowledge-requires
-put-knowledge-requires c κs = let m = c .before .before .before .before .before .before .before .before in queue-padded _ _ (entry m .pre) _ _ (read m)
+-- and what it says is put behind the number
+module _ (c : tie.After-put-with) where
+  abbrev known : tie.After-server-head
+  known = c .before .before .before .before
 
 returns : tie.Need-returns
 returns c =
-    let m = c .before .before .before .before .before .before .before .before .before .before .before .before .before .before .before .before in
-    rw (server-text _ _ (entry m .pre) _ _ (read m) _ (c .before .before .before .before .before .before .before .before .before .before .before .before .before .before .before .before .before .before .before .before .is-up .ensures))
-    (then _ _ _ (then _ _ _ (c .before .before .before .before .before .before .before .before .before .before .before .before .put-with .ensures) (c .before .before .before .before .before .before .before .put-knowledge .ensures)) (c .before .before .put .ensures))
+    let d₃ = c .before .before in
+    let d₂ = d₃ .before .before .before .before .before in
+    let d₁ = d₂ .before .before .before .before .before in
+    let m = known d₁ in
+    rw (server-text _ _ (entry m .pre) _ _ (read m) _ (tested m .is-up .ensures))
+    (then _ _ _ (then _ _ _ (d₁ .put-with .ensures) (d₂ .put-knowledge .ensures)) (d₃ .put .ensures))
 
 pub put-server-spec : {M : Type 1} → statement M
 put-server-spec =
     tie.close
     (tie.spec
-    is-up-requires
+    (λ c κs. server-in _ _ (c .before .before .pre))
     (λ c. search needs)
-    server-row-requires
-    server-head-requires
+    (λ c κs. (server-in _ _ (c .before .before .before .before .pre), search needs))
+    (λ c κs. let d = c .before .before .before .before .before .before in (server-in _ _ (d .pre), server-held _ (d .args .j) (d .pre)))
     (λ c. search needs)
     (λ c. search needs)
     (λ c κs. search needs)
     (λ c. search needs)
-    put-knowledge-requires
+    (λ c κs. let m = known (c .before .before .before .before) in queue-padded _ _ (entry m .pre) _ _ (read m))
     (λ c. search needs)
     (λ c κs. search needs)
     (λ c. search needs)

@@ -17,16 +17,10 @@ Inv-loop out₀ at w n end₀ j₀ out end j = (sheet out end ≡ puts (serversT
 abbrev μ-loop : tie.MeasureT-loop
 μ-loop out₀ at w n end₀ j₀ out end j = n - j
 
-loop-holds : tie.Need-loop-holds Inv-loop μ-loop
-loop-holds c = (servers-none _ _, omega arith, refl)
-
 put-server-requires : tie.Need-put-server-requires Inv-loop μ-loop
 put-server-requires c κs =
     let p = c .before .before .before .before .before .pre in
     record { valid = p .0; first = omega arith; last = omega (arith, p .1) }
-
-loop-less : tie.Need-loop-less Inv-loop μ-loop
-loop-less c = omega arith
 
 loop-again : tie.Need-loop-again Inv-loop μ-loop
 loop-again c =
@@ -45,10 +39,10 @@ put-servers-spec =
     (tie.spec
     Inv-loop
     μ-loop
-    loop-holds
+    (λ c. (servers-none _ _, omega arith, refl))
     (λ c. search needs)
     put-server-requires
-    loop-less
+    (λ c. omega arith)
     loop-again
     (λ c. search needs)
     returns)

@@ -5,15 +5,17 @@ use borrow.Author.Needs.{needs}
 use Rattle.text_knowledge.proofs.put_slips.Statement.{statement}
 use Rattle.text_knowledge.proofs.put_slips.Tie as tie
 
-put-servers-requires : tie.Need-put-servers-requires
-put-servers-requires c κs = (c .before .before .before .before .before .pre, omega (arith, c .before .before .servers .ensures))
-
-put-clients-requires : tie.Need-put-clients-requires
-put-clients-requires c κs = (c .before .before .before .before .before .before .before .before .before .pre, omega (arith, c .before .before .before .before .before .clients .ensures))
+-- the servers' slips are put
+module _ (c : tie.After-put-servers) where
+  abbrev counted : tie.After-clients
+  counted = c .before .before
 
 returns : tie.Need-returns
 returns c =
-    rw (← c .before .before .before .before .before .before .before .before .before .servers .ensures, ← c .before .before .before .before .before .before .before .before .clients .ensures) (then _ _ _ (c .before .before .before .before .before .before .put-servers .ensures) (c .before .before .put-clients .ensures))
+    let d₂ = c .before .before in
+    let d₁ = d₂ .before .before .before .before in
+    let k = counted d₁ in
+    rw (← k .before .servers .ensures, ← k .clients .ensures) (then _ _ _ (d₁ .put-servers .ensures) (d₂ .put-clients .ensures))
 
 pub put-slips-spec : {M : Type 1} → statement M
 put-slips-spec =
@@ -21,7 +23,7 @@ put-slips-spec =
     (tie.spec
     (λ c κs. search needs)
     (λ c κs. search needs)
-    put-servers-requires
-    put-clients-requires
+    (λ c κs. (c .before .before .before .before .before .pre, omega (arith, c .before .before .servers .ensures)))
+    (λ c κs. let k = counted (c .before .before .before) in (k .before .before .before .before .pre, omega (arith, k .clients .ensures)))
     (λ c. search needs)
     returns)

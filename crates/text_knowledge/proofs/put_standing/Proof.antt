@@ -3,12 +3,6 @@ use borrow.Author.Needs.{needs}
 use Rattle.text_knowledge.proofs.put_standing.Statement.{statement}
 use Rattle.text_knowledge.proofs.put_standing.Tie as tie
 
-returns : tie.Need-returns
-returns c = let d = c .before .before in rw (d .before .before .before .if1 .taken) (d .put .ensures)
-
-returns-2 : tie.Need-returns-2
-returns-2 c = let d = c .before .before in rw (d .before .before .before .if1 .left) (d .put2 .ensures)
-
 pub put-standing-spec : {M : Type 1} → statement M
 put-standing-spec =
     tie.close
@@ -16,8 +10,8 @@ put-standing-spec =
     (λ c. search needs)
     (λ c κs. search needs)
     (λ c. search needs)
-    returns
+    (λ c. let d = c .before .before in rw (d .before .before .before .if1 .taken) (d .put .ensures))
     (λ c. search needs)
     (λ c κs. search needs)
     (λ c. search needs)
-    returns-2)
+    (λ c. let d = c .before .before in rw (d .before .before .before .if1 .left) (d .put2 .ensures)))

@@ -6,15 +6,6 @@ use borrow.Author.Needs.{needs}
 use Rattle.text_knowledge.proofs.put_state.Statement.{statement}
 use Rattle.text_knowledge.proofs.put_state.Tie as tie
 
-put-section-requires : tie.Need-put-section-requires
-put-section-requires c κs = search needs
-
-put-supporters-of-requires : tie.Need-put-supporters-of-requires
-put-supporters-of-requires c κs = search needs
-
-same-length : tie.Need-same-length
-same-length c = search needs
-
 returns : tie.Need-returns
 unfolding stateText view
 returns c =
@@ -24,4 +15,9 @@ returns c =
 
 pub put-state-spec : {M : Type 1} → statement M
 put-state-spec =
-    tie.close (tie.spec put-section-requires put-supporters-of-requires same-length returns)
+    tie.close
+    (tie.spec
+    (λ c κs. search needs)
+    (λ c κs. search needs)
+    (λ c. search needs)
+    returns)

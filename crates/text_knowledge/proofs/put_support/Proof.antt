@@ -6,7 +6,9 @@ use Rattle.text_knowledge.proofs.put_support.Statement.{statement}
 use Rattle.text_knowledge.proofs.put_support.Tie as tie
 
 returns : tie.Need-returns
-returns c = rw (support-own _ _ _ _ (c .before .before .before .before .before .before .before .is-own .ensures) (c .before .before .before .before .before .before .if1 .taken)) (c .before .before .put-with .ensures)
+returns c =
+    rw (support-own _ _ _ _ (c .before .before .before .before .before .before .before .is-own .ensures)
+    (c .before .before .before .before .before .before .if1 .taken)) (c .before .before .put-with .ensures)
 
 returns-2 : tie.Need-returns-2
 unfolding puts

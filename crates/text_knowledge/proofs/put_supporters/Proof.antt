@@ -4,18 +4,6 @@ use borrow.Author.Needs.{needs}
 use Rattle.text_knowledge.proofs.put_supporters.Statement.{statement}
 use Rattle.text_knowledge.proofs.put_supporters.Tie as tie
 
-slice-aggregate-put : tie.Need-slice-aggregate-put
-slice-aggregate-put c = search needs
-
-put-requires : tie.Need-put-requires
-put-requires c κs = search needs
-
-put-supports-requires : tie.Need-put-supports-requires
-put-supports-requires c κs = search needs
-
-same-length : tie.Need-same-length
-same-length c = search needs
-
 returns : tie.Need-returns
 returns c =
     let d₂ = c .before .before in
@@ -24,4 +12,10 @@ returns c =
 
 pub put-supporters-spec : {M : Type 1} → statement M
 put-supporters-spec =
-    tie.close (tie.spec slice-aggregate-put put-requires put-supports-requires same-length returns)
+    tie.close
+    (tie.spec
+    (λ c. search needs)
+    (λ c κs. search needs)
+    (λ c κs. search needs)
+    (λ c. search needs)
+    returns)

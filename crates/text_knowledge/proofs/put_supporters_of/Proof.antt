@@ -4,9 +4,6 @@ use borrow.Author.Needs.{needs}
 use Rattle.text_knowledge.proofs.put_supporters_of.Statement.{statement}
 use Rattle.text_knowledge.proofs.put_supporters_of.Tie as tie
 
-returns : tie.Need-returns
-returns c = supporters-none _ _ _ (c .enum-told .given .1)
-
 returns-2 : tie.Need-returns-2
 returns-2 c = supporters-trying _ _ _ (c .before .before .put-supporters .ensures) (c .before .before .before .before .enum-told2 .given .1)
 
@@ -22,7 +19,7 @@ put-supporters-of-spec =
     (λ c κs. search needs)
     (λ c. search needs)
     (λ c κs. search needs)
-    returns
+    (λ c. supporters-none _ _ _ (c .enum-told .given .1))
     (λ c. search needs)
     returns-2
     (λ c. search needs)

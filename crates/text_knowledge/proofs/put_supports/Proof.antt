@@ -13,30 +13,22 @@ use Rattle.text_knowledge.proofs.put_supports.Statement.{statement}
 use Rattle.text_knowledge.proofs.put_supports.Tie as tie
 
 abbrev Inv-loop : tie.InvT-loop
-Inv-loop out₀ at r row n end₀ i₀ out end i = (sheet out end ≡ puts (supportText r (serverNo 1) (responsesIn row i)) (sheet out₀ end₀)) × (i ≤ n) × (length out ≡ length out₀)
+Inv-loop out₀ at r row n end₀ i₀ out end i =
+    (sheet out end ≡ puts (supportText r (serverNo 1) (responsesIn row i)) (sheet out₀ end₀)) × (i ≤ n) × (length out ≡ length out₀)
 
 abbrev μ-loop : tie.MeasureT-loop
 μ-loop out₀ at r row n end₀ i₀ out end i = n - i
 
-loop-holds : tie.Need-loop-holds Inv-loop μ-loop
-loop-holds c = (support-none _ _, omega arith, refl)
-
-cast-request-at : tie.Need-cast-request-at Inv-loop μ-loop
-cast-request-at c = search needs
-
-request-at-requires : tie.Need-request-at-requires Inv-loop μ-loop
-request-at-requires c κs = place-there _ _ (c .before .before .before .before .pre) _ (omega arith)
-
-add-i : tie.Need-add-i Inv-loop μ-loop
-add-i c = search needs
-
-loop-less : tie.Need-loop-less Inv-loop μ-loop
-loop-less c = omega arith
-
 loop-again : tie.Need-loop-again Inv-loop μ-loop
 loop-again c =
-    let l = c .before .before .before .before .before .before .loop in
-    (support-more _ _ _ (c .before .before .before .before .before .before .before .before .before .pre) (l .i) (omega arith) _ _ (c .before .before .before .before .request-at .ensures) (l .inv .0) (c .before .before .put-support .ensures), omega arith, omega arith)
+    let p = c .before .before in
+    let q = p .before .before in
+    let t = q .before .before in
+    let l = t .loop in (
+      support-more _ _ _ (t .before .before .before .pre) (l .i) (omega arith) _ _ (q .request-at .ensures) (l .inv .0) (p .put-support .ensures),
+      omega arith,
+      omega arith,
+    )
 
 returns : tie.Need-returns Inv-loop μ-loop
 returns c =
@@ -50,12 +42,12 @@ put-supports-spec =
     (tie.spec
     Inv-loop
     μ-loop
-    loop-holds
-    cast-request-at
-    request-at-requires
-    add-i
+    (λ c. (support-none _ _, omega arith, refl))
+    (λ c. search needs)
+    (λ c κs. place-there _ _ (c .before .before .before .before .pre) _ (omega arith))
+    (λ c. search needs)
     (λ c κs. search needs)
-    loop-less
+    (λ c. omega arith)
     loop-again
     (λ c. search needs)
     returns)

@@ -8,14 +8,14 @@ use Rattle.text_screen.proofs.put_difference.Tie as tie
 returns : tie.Need-returns
 returns c =
     let d₂ = c .before .before in
-    let d₁ = d₂ .before .before .before .before .before .before in
-    rw (signed-below _ _ (c .before .before .before .before .before .if1 .taken)) (then _ _ _ (d₁ .put .ensures) (d₂ .put-with .ensures))
+    let t = d₂ .before .before .before in
+    rw (signed-below _ _ (t .if1 .taken)) (then _ _ _ (t .before .before .before .put .ensures) (d₂ .put-with .ensures))
 
 returns-2 : tie.Need-returns-2
 returns-2 c =
     let d₂ = c .before .before in
-    let d₁ = d₂ .before .before .before .before .before in
-    rw (signed-from _ _ (c .before .before .before .before .if1 .left)) (then _ _ _ (d₁ .put .ensures) (d₂ .put-number .ensures))
+    let t = d₂ .before .before in
+    rw (signed-from _ _ (t .if1 .left)) (then _ _ _ (t .before .before .before .put .ensures) (d₂ .put-number .ensures))
 
 pub put-difference-spec : {M : Type 1} → statement M
 put-difference-spec =

@@ -1,5 +1,4 @@
 -- `text_screen::put_events` meets its contract: only an unsafe setting has a run.
-use Rattle.text_sheet.proofs.SheetLaws.{then}
 use Rattle.text_screen.specs.Screen.{eventsText}
 use Rattle.text_sheet.specs.Sheet.{puts}
 use borrow.Author.Needs.{needs}
@@ -9,23 +8,11 @@ use Rattle.text_screen.proofs.put_events.Tie as tie
 returns : tie.Need-returns
 unfolding eventsText
 returns c =
-    let d₂ = c .before .before in
-    let d₁ = d₂ .before .before .before .before .before in
-    rw (c .before .before .before .before .before .before .before .before .before .before .before .v .given .1) (then _ _ _ (d₁ .put-with .ensures) (d₂ .put .ensures))
-
-returns-2 : tie.Need-returns-2
-unfolding eventsText puts
-returns-2 c = rw (c .enum-told .given .1)
-
-returns-3 : tie.Need-returns-3
-unfolding eventsText puts
-returns-3 c = rw (c .enum-told2 .given .1)
-
-returns-4 : tie.Need-returns-4
-unfolding eventsText puts
-returns-4 c = rw (c .enum-told3 .given .1)
+    let d = c .before .before in
+    rw (d .before .before .before .before .v .given .1) (d .put-count .ensures)
 
 pub put-events-spec : {M : Type 1} → statement M
+unfolding eventsText puts
 put-events-spec =
     tie.close
     (tie.spec
@@ -33,12 +20,10 @@ put-events-spec =
     (λ c. search needs)
     (λ c κs. search needs)
     (λ c. search needs)
-    (λ c κs. search needs)
-    (λ c. search needs)
     (λ c. search needs)
     (λ c. search needs)
     (λ c. search needs)
     returns
-    returns-2
-    returns-3
-    returns-4)
+    (λ c. rw (c .enum-told .given .1))
+    (λ c. rw (c .enum-told2 .given .1))
+    (λ c. rw (c .enum-told3 .given .1)))

@@ -7,7 +7,9 @@ use Rattle.text_screen.proofs.put_numbered.Tie as tie
 
 returns : tie.Need-returns
 unfolding askedText
-returns c = rw (← c .before .before .before .before .before .before .before .run-event .ensures, c .before .before .before .before .before .a .given .1) (c .before .before .put-event .ensures)
+returns c =
+    rw (← c .before .before .before .before .before .before .before .run-event .ensures, c .before .before .before .before .before .a .given .1)
+    (c .before .before .put-event .ensures)
 
 returns-2 : tie.Need-returns-2
 unfolding askedText puts

@@ -6,13 +6,13 @@ use Rattle.text_screen.proofs.put_report.Tie as tie
 
 returns : tie.Need-returns
 returns c =
-    let d₆ = c .before .before in
-    let d₅ = d₆ .before in
-    let d₄ = d₅ .before .before .before .before in
+    let d₅ = c .before .before in
+    let d₄ = d₅ .before .before .before .before .before in
     let d₃ = d₄ .before .before .before .before in
     let d₂ = d₃ .before .before .before .before in
     let d₁ = d₂ .before .before in
-    rw (← d₁ .check .ensures .0, ← d₅ .default-threshold .ensures) (then _ _ _ (then _ _ _ (then _ _ _ (d₂ .put-verdict .ensures) (d₃ .put-margin .ensures)) (d₄ .put-events .ensures)) (d₆ .put-threshold .ensures))
+    let three = then _ _ _ (then _ _ _ (d₂ .put-verdict .ensures) (d₃ .put-margin .ensures)) (d₄ .put-events .ensures) in
+    rw (← d₁ .check .ensures .0, ← d₅ .before .default-threshold .ensures) (then _ _ _ three (d₅ .put-threshold .ensures))
 
 pub put-report-spec : {M : Type 1} → statement M
 put-report-spec =

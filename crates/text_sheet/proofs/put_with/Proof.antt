@@ -4,17 +4,11 @@ use borrow.Author.Needs.{needs}
 use Rattle.text_sheet.proofs.put_with.Statement.{statement}
 use Rattle.text_sheet.proofs.put_with.Tie as tie
 
-put-requires : tie.Need-put-requires
-put-requires c κs = search needs
-
-put-number-requires : tie.Need-put-number-requires
-put-number-requires c κs = search needs
-
-same-length : tie.Need-same-length
-same-length c = search needs
-
-returns : tie.Need-returns
-returns c = then _ _ _ (c .before .before .before .before .before .before .put .ensures) (c .before .before .put-number .ensures)
-
 pub put-with-spec : {M : Type 1} → statement M
-put-with-spec = tie.close (tie.spec put-requires put-number-requires same-length returns)
+put-with-spec =
+    tie.close
+    (tie.spec
+    (λ c κs. search needs)
+    (λ c κs. search needs)
+    (λ c. search needs)
+    (λ c. then _ _ _ (c .before .before .before .before .before .before .put .ensures) (c .before .before .put-number .ensures)))
