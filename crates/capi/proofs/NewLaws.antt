@@ -72,7 +72,7 @@ pub server-new-whole : (n : ℕ) (j : ServerId) (x : ServerStepped) → x ≡ se
 unfolding server-calls.newResult
 server-new-whole n j x e =
     ⊎-elim (λ (v : server.validSizes n j ≡ true). rw (e, v) (refl, omega arith))
-        (λ (v : server.validSizes n j ≡ false). rw (e, v) (refl, omega arith)) (decided (server.validSizes n j))
+    (λ (v : server.validSizes n j ≡ false). rw (e, v) (refl, omega arith)) (decided (server.validSizes n j))
 
 module _ (n m k : ℕ) (ws : List ℕ) where
   abbrev pub ClientMade : ℕ → List ℕ → Type 0

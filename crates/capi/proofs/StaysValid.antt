@@ -91,7 +91,7 @@ module _ (ws out sent : List ℕ) (p : Step (List ℕ)) where
   pub server-message-stays-valid : (ms : List ℕ) → lent out sent (serverMessage ws ms) ≡ stepped p → ValidServer (recordInto ws (stepped p))
   server-message-stays-valid ms e =
       server-stays ws (ServerMessage (messageOr (messageIn ms))) p (server-takes-words ws (messageIn ms) (messageOr (messageIn ms)) refl ∙
-          lent-stepped out sent (serverMessage ws ms) p e)
+      lent-stepped out sent (serverMessage ws ms) p e)
 
   pub server-suspect-stays-valid : lent out sent (serverSuspect ws) ≡ stepped p → ValidServer (recordInto ws (stepped p))
   server-suspect-stays-valid e = server-stays ws Suspect p (lent-stepped out sent (serverSuspect ws) p e)
@@ -156,7 +156,7 @@ module _ (ws out sent : List ℕ) (p : Step (List ℕ)) where
   pub client-message-stays-valid : (ms : List ℕ) → lent out sent (clientMessage ws ms) ≡ stepped p → ValidClient (recordInto ws (stepped p))
   client-message-stays-valid ms e =
       client-stays ws (ClientMessage (messageOr (messageIn ms))) p (client-takes-words ws (messageIn ms) (messageOr (messageIn ms)) refl ∙
-          lent-stepped out sent (clientMessage ws ms) p e)
+      lent-stepped out sent (clientMessage ws ms) p e)
 
   pub client-begin-stays-valid : lent out sent (clientBegin ws) ≡ stepped p → ValidClient (recordInto ws (stepped p))
   client-begin-stays-valid e = client-stays ws Begin p (lent-stepped out sent (clientBegin ws) p e)

@@ -69,7 +69,7 @@ pub row-copied : (ws row back : List ℕ) → recordHead + length row ≤ length
 row-copied ws row back h e =
     let z : recordHead + length row - recordHead ≡ length row = omega arith in
     rw (e, z, drop-drop (length row) recordHead ws) (sym (append-assoc (take recordHead ws) row (drop (recordHead + length row) ws)) ∙
-        sym (sets-eq row ws recordHead h))
+    sym (sets-eq row ws recordHead h))
 
 module _ (ws : List ℕ) (n : ℕ) (l : length ws ≡ recordHead + n) where
   rest-long : length (drop recordHead ws) ≡ n
@@ -103,7 +103,7 @@ unfolding withRoom
 short-answers (refused e) room r h = h
 short-answers (stepped p) room r h =
     ⊎-elim (λ (t : ltb room (sizeOfAll (p .sent)) ≡ true). rw t at h) (λ (t : ltb room (sizeOfAll (p .sent)) ≡ false). rw t at h)
-        (decided (ltb room (sizeOfAll (p .sent))))
+    (decided (ltb room (sizeOfAll (p .sent))))
 
 short-leaves : {A : Type 0} (g : A → List ℕ) (ws out sent : List ℕ) (o : Outcome A) (r : ℕ) → length sent < 2 → r ≡ shortCode o
     → Leaves (lent out sent (inWords g o)) r ws ws out out sent sent
@@ -126,8 +126,10 @@ module _ {A : Type 0} where
       → ((p : Step A) → x ≡ stepped p → (length (p .sent) ≤ maxWord) × (sizeOfAll (p .sent) ≤ maxWord)) → Storable a
   fitting (refused e) a q k = record { few = λ i n h. let z : _≡_ {A = ℕ} 0 1 = cc in absurd (omega arith) }
   fitting (stepped p) a q k =
-      record { few = λ i n h. let c₁ : length (p .sent) ≡ i = cc in let c₂ : sizeOfAll (p .sent) ≡ n = cc in
-          (omega (arith, k p refl .0), omega (arith, k p refl .1)) }
+      record {
+        few = λ i n h. let c₁ : length (p .sent) ≡ i = cc in let c₂ : sizeOfAll (p .sent) ≡ n = cc in
+            (omega (arith, k p refl .0), omega (arith, k p refl .1));
+      }
 
 -- THE SERVER'S CALL
 -- the messages of a step are three at most
@@ -148,8 +150,10 @@ module _ (a b c : Mail) where
       (λ (t : ltb room (sizeOfAll ms) ≡ true). record
       { few = λ i n h. let k : x ≡ Refused RoomShort = rw t at e in let z : _≡_ {A = ℕ} 0 1 = cc in absurd (omega arith) })
       (λ (t : ltb room (sizeOfAll ms) ≡ false).
-      record { few = λ i n h. let k : x ≡ Sent (length ms) (sizeOfAll ms) = rw t at e in let c₁ : length ms ≡ i = cc in let c₂ : sizeOfAll
-          ms ≡ n = cc in (omega (arith, three-few), omega (arith, three-few, size-few ms)) })
+      record {
+        few = λ i n h. let k : x ≡ Sent (length ms) (sizeOfAll ms) = rw t at e in let c₁ : length ms ≡ i = cc in let c₂ : sizeOfAll
+            ms ≡ n = cc in (omega (arith, three-few), omega (arith, three-few, size-few ms));
+      })
       (decided (ltb room (sizeOfAll ms)))
 
 -- a step that was made, from what sending its messages answers
@@ -241,7 +245,7 @@ module _ (ws : List ℕ) (l : length ws ≡ clientSize) (h : ClientHead) where
       → ((p : Step client-state.State) → o ≡ stepped p → 2 * length (p .state .responses) ≤ client.rowWords)
       → Answers h row o out t row′ out′
       → (r ≡ answerCode (t .answer)) × (ws′ ≡ answerRecord (clientHeadWords (t .head)) (putMid recordHead client.rowWords ws row′) (t .answer))
-          × (sent′ ≡ answerCounts sent (t .answer))
+      × (sent′ ≡ answerCounts sent (t .answer))
       → Leaves (lent out sent (inWords (clientWith (client.clientOf h row)) o)) r ws ws′ out out′ sent sent′
   unfolding withRoom clientWords
   done-leaves (refused e) t row′ out out′ sent sent′ ws′ r g few (a, b, c) (er, ew, es) =
@@ -250,7 +254,7 @@ module _ (ws : List ℕ) (l : length ws ≡ clientSize) (h : ClientHead) where
       ⊎-elim
       (λ (u : ltb (length out) (sizeOfAll (p .sent)) ≡ true).
       rw u (record
-          { returned = rw (a, u) at er; stored = rw (a, b, u, put-same recordHead client.rowWords ws) at ew; written = rw u at c; counted = rw (a, u) at es }))
+      { returned = rw (a, u) at er; stored = rw (a, b, u, put-same recordHead client.rowWords ws) at ew; written = rw u at c; counted = rw (a, u) at es }))
       (λ (u : ltb (length out) (sizeOfAll (p .sent)) ≡ false).
       let k : List ℕ = client-calls.rowAfter row (stepped p) in
       let d : row′ ≡ k = rw u at b in
@@ -310,7 +314,7 @@ module _ (ws : List ℕ) (b : Bool) (e : b ≡ holdsClient ws) where
 
           pub client-done-leaves : (r : ℕ) (ws′ sent′ : List ℕ) → 2 ≤ length sent
               → (r ≡ answerCode (t .answer)) × (ws′ ≡ answerRecord (clientHeadWords (t .head)) (putMid recordHead client.rowWords ws row′) (t .answer))
-                  × (sent′ ≡ answerCounts sent (t .answer))
+              × (sent′ ≡ answerCounts sent (t .answer))
               → Leaves (lent out sent (onClient ws (clientOutcome call))) r ws ws′ out out′ sent sent′
           client-done-leaves r ws′ sent′ l F =
               rw (on-client (clientOutcome call))

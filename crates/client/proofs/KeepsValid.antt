@@ -327,7 +327,7 @@ module _ {limit : ℕ} (n m : ℕ) (k : ClientId) (s : State) (R : InRangeUpTo l
   unfolding tries next
   tries-fits h =
       trying-fits n m k R (record { 0 = s .timestamp .0 + 1 })
-          (rw (le-leb 1 (s .timestamp .0 + 1) (omega arith)) (lt-ltb (s .timestamp .0 + 1) maxTimestamp (omega arith)))
+      (rw (le-leb 1 (s .timestamp .0 + 1) (omega arith)) (lt-ltb (s .timestamp .0 + 1) maxTimestamp (omega arith)))
 
   pub exits-fits : FitsUpTo limit n m k (exits n k s .state)
   unfolding exits
@@ -393,7 +393,7 @@ module _ (c : Client) (s : Step State) (v : valid c ≡ true) where
       let (b, h₂) = taken (isRemainder (view c .section)) (never WrongSection s) h₁ in
       let (d, h₃) = taken (mayTry (view c)) (never TimestampsSpent s) h₂ in
       after maxServers c s v (tries (c .head .n) (c .head .id) (view c)) (cc)
-          (tries-fits (c .head .n) (c .head .m) (c .head .id) (view c) ranges (leb-true (view c .timestamp .0) lastTry d))
+      (tries-fits (c .head .n) (c .head .m) (c .head .id) (view c) ranges (leb-true (view c .timestamp .0) lastTry d))
 
   pub exit-valid : exitOutcome c ≡ stepped s → valid (clientAfter c (stepped s)) ≡ true
   unfolding exitOutcome

@@ -78,16 +78,16 @@ answers-stay h row x o r s q e p = answers-done h row x o r (stay s) q row o (om
 -- a message to each server, and the row emptied
 module _ (h : Head) (row : List ℕ) (f : ServerId → Message) (plain : (j : ServerId) → sizeOf (f j) ≡ messageBytes) (x : Outcome State)
     (a : Section) (t : Timestamp) (o : List ℕ) (r : Turned) (q : x ≡ stepped (record { state = without (h .n) a t; sent = toAll f (h .n) }))
-    where
-  all-short : length o < messageBytes * h .n → r ≡ turned h (refused RoomShort) → Answers h row x o r row o
-  all-short g p = answers-short h row x o r _ q (omega (arith, size-toAll f plain (h .n))) p
+  where
+    all-short : length o < messageBytes * h .n → r ≡ turned h (refused RoomShort) → Answers h row x o r row o
+    all-short g p = answers-short h row x o r _ q (omega (arith, size-toAll f plain (h .n))) p
 
-  all-done : (after l : List ℕ) → 2 * h .n ≤ length row → messageBytes * h .n ≤ length o
-      → r ≡ record { head = headWith h a t; answer = Sent (h .n) (messageBytes * h .n) } → after ≡ replicate (length row) 0
-      → l ≡ sets o 0 (bytesOfAll (toAll f (h .n))) → Answers h row x o r after l
-  all-done after l k g p z e =
-      answers-done h row x o r _ q after l (omega (arith, size-toAll f plain (h .n))) (rw (length-toAll f (h .n), size-toAll f plain (h .n)) p) (z ∙
-          sym (row-without (length row) (h .n) k)) e
+    all-done : (after l : List ℕ) → 2 * h .n ≤ length row → messageBytes * h .n ≤ length o
+        → r ≡ record { head = headWith h a t; answer = Sent (h .n) (messageBytes * h .n) } → after ≡ replicate (length row) 0
+        → l ≡ sets o 0 (bytesOfAll (toAll f (h .n))) → Answers h row x o r after l
+    all-done after l k g p z e =
+        answers-done h row x o r _ q after l (omega (arith, size-toAll f plain (h .n))) (rw (length-toAll f (h .n), size-toAll f plain (h .n)) p) (z ∙
+        sym (row-without (length row) (h .n) k)) e
 
 -- `attempt` and `leave`
 module _ (h : Head) (row : List ℕ) (o : List ℕ) (r : Turned) where
@@ -208,7 +208,7 @@ module _ (h : Head) (row : List ℕ) (found : ℕ) (o : List ℕ) (r : Turned) (
       → r ≡ record { head = headWith h Trying (h .timestamp); answer = Sent found (messageBytes * found) } → Answers h row (stepped yielded) o r after l
   yields-done q after l good g e w z p =
       answers-done h row (stepped yielded) o r yielded refl after l (omega (arith, its-size)) (rw (its-length, its-size) p) (z ∙
-          sym (row-without (length row) (h .n) (padded-words row (h .n) good))) (rw e at w)
+      sym (row-without (length row) (h .n) (padded-words row (h .n) good))) (rw e at w)
 
 -- what the verdicts decide
 module _ (full mine : Bool) (h : Head) (row : List ℕ) (good : Padded row (h .n)) where
@@ -220,7 +220,7 @@ module _ (full mine : Bool) (h : Head) (row : List ℕ) (good : Padded row (h .n
   decide-waits o r t p =
       let e : full ≡ false = fails full full refl t in
       answers-stay h row (stepped decided) o r (record { section = Trying; timestamp = h .timestamp; responses = responsesIn row (h .n) })
-          (rw e) (row-again row (h .n) good) p
+      (rw e) (row-again row (h .n) good) p
 
   module _ (t : not full ≡ false) where
     pub decide-enters : (o : List ℕ) (r : Turned) → mine ≡ true
@@ -228,8 +228,8 @@ module _ (full mine : Bool) (h : Head) (row : List ℕ) (good : Padded row (h .n
     decide-enters o r u p =
         let e : full ≡ true = holds full full refl t in
         answers-stay h row (stepped decided) o r
-            (record { section = Critical; timestamp = h .timestamp; responses = responsesIn row (h .n) }) (rw (e, u))
-            (row-again row (h .n) good) p
+        (record { section = Critical; timestamp = h .timestamp; responses = responsesIn row (h .n) }) (rw (e, u))
+        (row-again row (h .n) good) p
 
     pub decide-yields : mine ≡ false → stepped decided ≡ stepped (yields (h .n) (request h) (responsesIn row (h .n)))
     decide-yields u = let e : full ≡ true = holds full full refl t in rw (e, u)

@@ -72,11 +72,11 @@ further false a b d e = refl
 
 pub valid-split : (limit : ℕ) (c : Client)
     → validUpTo limit c ≡ validSizesUpTo limit (c .head .n) (c .head .m) && validClient (c .head .id) && fitsTimestamp (c .head .section)
-        (c .head .timestamp) && goodRow (c .row) (c .head .n) && validPlaces (c .head) (c .row)
+    (c .head .timestamp) && goodRow (c .row) (c .head .n) && validPlaces (c .head) (c .row)
 unfolding validUpTo validPlaces view
 valid-split limit c =
     further (validSizesUpTo limit (c .head .n) (c .head .m) && validClient (c .head .id) && fitsTimestamp (c .head .section)
-        (c .head .timestamp) && goodRow (c .row) (c .head .n))
+    (c .head .timestamp) && goodRow (c .row) (c .head .n))
     (every validOwner (responsesIn (c .row) (c .head .n))) (every (ownIsCurrent (request (c .head))) (responsesIn (c .row) (c .head .n)))
     (fitsSection (enough (c .head .m)) (c .head .section) (request (c .head)) (responsesIn (c .row) (c .head .n)))
     (noMore (c .head .section) (c .head .m) (responsesIn (c .row) (c .head .n)))
@@ -91,18 +91,32 @@ module _ (h : Head) (row : List ℕ) (x : Bool) (p : x ≡ validSizes (h .n) (h 
 
     module _ (z : Bool) (u : not y ≡ false) (w : z ≡ fitsTimestamp (h .section) (h .timestamp)) where
       pub timestamp-fails : not z ≡ true → false ≡ valid (clientOf h row)
-      timestamp-fails v = rw (valid-split, holds x (validSizes (h .n) (h .m)) p t, holds y (validClient (h .id)) q u,
-          fails z (fitsTimestamp (h .section) (h .timestamp)) w v)
+      timestamp-fails v = rw (
+        valid-split,
+        holds x (validSizes (h .n) (h .m)) p t,
+        holds y (validClient (h .id)) q u,
+        fails z (fitsTimestamp (h .section) (h .timestamp)) w v,
+      )
 
       module _ (g : Bool) (v : not z ≡ false) (d : g ≡ goodRow row (h .n)) where
         pub row-fails : not g ≡ true → false ≡ valid (clientOf h row)
-        row-fails s = rw (valid-split, holds x (validSizes (h .n) (h .m)) p t, holds y (validClient (h .id)) q u,
-            holds z (fitsTimestamp (h .section) (h .timestamp)) w v, fails g (goodRow row (h .n)) d s)
+        row-fails s = rw (
+          valid-split,
+          holds x (validSizes (h .n) (h .m)) p t,
+          holds y (validClient (h .id)) q u,
+          holds z (fitsTimestamp (h .section) (h .timestamp)) w v,
+          fails g (goodRow row (h .n)) d s,
+        )
 
         pub places-decide : (b : Bool) → not g ≡ false → b ≡ validPlaces h row → b ≡ valid (clientOf h row)
         places-decide b s f =
-            rw (valid-split, holds x (validSizes (h .n) (h .m)) p t, holds y (validClient (h .id)) q u,
-                holds z (fitsTimestamp (h .section) (h .timestamp)) w v, holds g (goodRow row (h .n)) d s) f
+            rw (
+              valid-split,
+              holds x (validSizes (h .n) (h .m)) p t,
+              holds y (validClient (h .id)) q u,
+              holds z (fitsTimestamp (h .section) (h .timestamp)) w v,
+              holds g (goodRow row (h .n)) d s,
+            ) f
 
 pub sizes-up-to : (limit n m : ℕ) → validSizesUpTo limit n m ≡ true → (1 ≤ n) × (n ≤ limit) × (1 ≤ m) × (m ≤ n)
 sizes-up-to limit n m h =
@@ -137,16 +151,18 @@ module _ (limit : ℕ) (c : Client) where
   known-up-to h =
       let l = responsesIn (c .row) (c .head .n) in
       let (h₁, h₂) = both (validSizesUpTo limit (c .head .n) (c .head .m) && validClient (c .head .id) && fitsTimestamp (c .head .section)
-          (c .head .timestamp) && goodRow (c .row) (c .head .n)) (validPlaces (c .head) (c .row)) (rw valid-split at h) in
+      (c .head .timestamp) && goodRow (c .row) (c .head .n)) (validPlaces (c .head) (c .row)) (rw valid-split at h) in
       let (h₃, g) = both
-          (validSizesUpTo limit (c .head .n) (c .head .m) && validClient (c .head .id) && fitsTimestamp (c .head .section) (c .head .timestamp))
-          (goodRow (c .row) (c .head .n)) h₁ in
-      let (h₄,
-          t) = both (validSizesUpTo limit (c .head .n) (c .head .m) && validClient (c .head .id)) (fitsTimestamp (c .head .section) (c .head .timestamp)) h₃ in
+      (validSizesUpTo limit (c .head .n) (c .head .m) && validClient (c .head .id) && fitsTimestamp (c .head .section) (c .head .timestamp))
+      (goodRow (c .row) (c .head .n)) h₁ in
+      let (
+        h₄,
+        t,
+      ) = both (validSizesUpTo limit (c .head .n) (c .head .m) && validClient (c .head .id)) (fitsTimestamp (c .head .section) (c .head .timestamp)) h₃ in
       let (z, k) = both (validSizesUpTo limit (c .head .n) (c .head .m)) (validClient (c .head .id)) h₄ in
       let (n₁, n₂, m₁, m₂) = sizes-up-to limit (c .head .n) (c .head .m) z in
       let (h₅, h₆) = both (every validOwner l && every (ownIsCurrent (request (c .head))) l)
-          (fitsSection (enough (c .head .m)) (c .head .section) (request (c .head)) l && noMore (c .head .section) (c .head .m) l) h₂ in
+      (fitsSection (enough (c .head .m)) (c .head .section) (request (c .head)) l && noMore (c .head .section) (c .head .m) l) h₂ in
       let (v, o) = both (every validOwner l) (every (ownIsCurrent (request (c .head))) l) h₅ in
       let (s, b) = both (fitsSection (enough (c .head .m)) (c .head .section) (request (c .head)) l) (noMore (c .head .section) (c .head .m) l) h₆ in
       record {
@@ -166,8 +182,19 @@ module _ (limit : ℕ) (c : Client) where
   pub valid-up-to : KnownUpTo limit c → validUpTo limit c ≡ true
   unfolding validPlaces view
   valid-up-to K =
-      rw (valid-split limit c, le-leb 1 (c .head .n) (K .some), le-leb (c .head .n) limit (K .few), le-leb 1 (c .head .m) (K .threshold),
-          le-leb (c .head .m) (c .head .n) (K .reached), K .client, K .timestamp, K .row, K .owners, K .own, K .section) (K .more)
+      rw (
+        valid-split limit c,
+        le-leb 1 (c .head .n) (K .some),
+        le-leb (c .head .n) limit (K .few),
+        le-leb 1 (c .head .m) (K .threshold),
+        le-leb (c .head .m) (c .head .n) (K .reached),
+        K .client,
+        K .timestamp,
+        K .row,
+        K .owners,
+        K .own,
+        K .section,
+      ) (K .more)
 
 pub valid-known : (c : Client) → valid c ≡ true → Known c
 valid-known c h = known-up-to maxServers c h

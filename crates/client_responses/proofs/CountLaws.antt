@@ -96,13 +96,25 @@ module _ (k t : ℕ) where
       module _ (fits : k ≤ maxClient) (small : t ≤ maxTimestamp) (m : t ≡ 0 → ⊥) where
         pub misfit-other : (k ≡ r .client .0 → ⊥) → 0 ≡ one (misfit r (shown (pair k t)))
         unfolding same validOwner validRequest
-        misfit-other d = rw (ne-eqb k 0 n, ne-eqb k (r .client .0) d, le-leb 1 k (omega arith), le-leb k maxClient fits,
-            le-leb 1 t (omega arith), le-leb t maxTimestamp small)
+        misfit-other d = rw (
+          ne-eqb k 0 n,
+          ne-eqb k (r .client .0) d,
+          le-leb 1 k (omega arith),
+          le-leb k maxClient fits,
+          le-leb 1 t (omega arith),
+          le-leb t maxTimestamp small,
+        )
 
         pub misfit-own : k ≡ r .client .0 → one (not (eqb t (r .timestamp .0))) ≡ one (misfit r (shown (pair k t)))
         unfolding same validOwner validRequest
-        misfit-own d = rw (ne-eqb k 0 n, eq-eqb k (r .client .0) d, le-leb 1 k (omega arith), le-leb k maxClient fits,
-            le-leb 1 t (omega arith), le-leb t maxTimestamp small)
+        misfit-own d = rw (
+          ne-eqb k 0 n,
+          eq-eqb k (r .client .0) d,
+          le-leb 1 k (omega arith),
+          le-leb k maxClient fits,
+          le-leb 1 t (omega arith),
+          le-leb t maxTimestamp small,
+        )
 
 -- the first n places of a row
 pub enough-places : (ws : List ℕ) (n : ℕ) → 2 * n ≤ length ws → n ≤ length (requestsIn ws)
@@ -120,7 +132,7 @@ module _ (ws : List ℕ) (n : ℕ) (size : 2 * n ≤ length ws) where
   response-at i h =
       drop-cons (responsesIn ws n) i (shown noRequest) (omega (arith, length-responses))
       ∙ ap (λ (o : Owner). o ∷ drop (suc i) (responsesIn ws n)) (List·getD-map shown (take n (requestsIn ws)) i noRequest ∙
-          ap shown (getD-take n (requestsIn ws) i noRequest h))
+      ap shown (getD-take n (requestsIn ws) i noRequest h))
 
   pub words-at : (i : ℕ) → i < n → getD (requestsIn ws) i noRequest ≡ pair (getD ws (2 * i) 0) (getD ws (2 * i + 1) 0)
   words-at i h = rw add-one (requests-at ws i (omega arith))
@@ -150,7 +162,7 @@ module _ (f : Owner → Bool) (ws : List ℕ) (n : ℕ) where
           let q = words-at ws n (C .size) i h in
           let g : x ≡ one (f (shown (getD (requestsIn ws) i noRequest))) = rw q e in
           let d : count (map f (drop i (responsesIn ws n))) ≡ one (f (shown (getD (requestsIn ws) i noRequest))) + count
-              (map f (drop (suc i) (responsesIn ws n))) = ap (λ (l : List Owner). count (map f l)) (response-at ws n (C .size) i h) in
+          (map f (drop (suc i) (responsesIn ws n))) = ap (λ (l : List Owner). count (map f l)) (response-at ws n (C .size) i h) in
           record {
             within = omega arith;
             size = C .size;

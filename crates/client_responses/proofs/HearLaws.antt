@@ -102,7 +102,7 @@ module _ (row : List ℕ) (i : ℕ) (x : Request) where
     undone-requests : (b : Bool) → fitsPlace x ≡ true → Put (chosen b) after i old → requestsIn after ≡ requestsIn row
     undone-requests true f P =
         put-requests (chosen true) after i old P ∙ ap (λ (l : List Request). set l i old) (put-requests row (chosen true) i x (put-it f)) ∙
-            set-set (requestsIn row) i x old
+        set-set (requestsIn row) i x old
         ∙ ap (λ (q : Request). set (requestsIn row) i q) e ∙ set-getD (requestsIn row) i noRequest
     undone-requests false f P = put-requests row after i old P ∙ ap (λ (q : Request). set (requestsIn row) i q) e ∙ set-getD (requestsIn row) i noRequest
 
@@ -135,8 +135,8 @@ module _ (r : Request) (row : List ℕ) (j : ServerId) (o : Owner) (v : validOwn
     place-shows : getD (responsesIn row n) (j .0 - 1) Nobody ≡ shown (placeOf row j)
     place-shows =
         ap (λ (d : Owner). getD (responsesIn row n) (j .0 - 1) d) (sym nobody-shown) ∙
-            List·getD-map shown (take n (requestsIn row)) (j .0 - 1) noRequest ∙
-            ap shown (getD-take n (requestsIn row) (j .0 - 1) noRequest inside)
+        List·getD-map shown (take n (requestsIn row)) (j .0 - 1) noRequest ∙
+        ap shown (getD-take n (requestsIn row) (j .0 - 1) noRequest inside)
 
     pub heardRow-shown : responsesIn (heardRow r row j o) n ≡ heard r (responsesIn row n) j o
     unfolding heardRow heard

@@ -125,13 +125,20 @@ module _ (r : Request) (ws : List ℕ) (n : ℕ) (o : List ℕ) where
           let s : i < length (responsesIn ws n) = omega arith in
           let s′ : i ≤ length (responsesIn ws n) = omega arith in
           let e : 1 + i ≡ suc i = omega arith in
-          rw (add-one, take-suc (responsesIn ws n) i (shown noRequest), round-more, length-take-le,
-              List·getD-map shown (take n (requestsIn ws)) i noRequest, getD-take, e)
+          rw (
+            add-one,
+            take-suc (responsesIn ws n) i (shown noRequest),
+            round-more,
+            length-take-le,
+            List·getD-map shown (take n (requestsIn ws)) i noRequest,
+            getD-take,
+            e,
+          )
 
       pub replying-fits : at + sizeOfAll (replies r (record { 0 = i + 1 }) (shown (getD (requestsIn ws) i noRequest))) ≤ length b
       replying-fits =
           let e : sizeOfAll (round r 1 (take (i + 1) (responsesIn ws n))) ≡ sizeOfAll (round r 1 (take i (responsesIn ws n))) + sizeOfAll
-              (replies r (record { 0 = i + 1 }) (shown (getD (requestsIn ws) i noRequest))) = rw (next, sizeOfAll-append) in
+          (replies r (record { 0 = i + 1 }) (shown (getD (requestsIn ws) i noRequest))) = rw (next, sizeOfAll-append) in
           omega (arith, e, R .room, R .size, R .behind, size-round r 1 (take (i + 1) (responsesIn ws n)), count-take filled (i + 1) (responsesIn ws n))
 
       pub replying-more : (b′ : List ℕ) (at′ : ℕ) → at′ ≡ at + sizeOfAll (replies r (record { 0 = i + 1 }) (shown (getD (requestsIn ws) i noRequest)))
@@ -146,8 +153,10 @@ module _ (r : Request) (ws : List ℕ) (n : ℕ) (o : List ℕ) where
             room = R .room;
             size = ap length p ∙ length-sets b at (bytesOfAll m) ∙ R .size;
             behind = rw (next, sizeOfAll-append) (omega (arith, R .behind));
-            done = rw (next,
-                bytesOfAll-append) (stored-on o b b′ (bytesOfAll d) (bytesOfAll m) 0 at (R .done) p (omega (arith, R .behind, length-bytesOfAll d)));
+            done = rw (
+              next,
+              bytesOfAll-append,
+            ) (stored-on o b b′ (bytesOfAll d) (bytesOfAll m) 0 at (R .done) p (omega (arith, R .behind, length-bytesOfAll d)));
           }
 
     pub replying-all : n ≤ i → b ≡ sets o 0 (bytesOfAll (round r 1 (responsesIn ws n)))

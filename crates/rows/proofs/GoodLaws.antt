@@ -66,7 +66,7 @@ module _ (f : Request → Bool) (ws : List ℕ) (from n : ℕ) where
     counting-more x h e =
         let l = length-requests ws n (C .size) in
         let d : drop i (requestsIn ws) ≡ getD (requestsIn ws) i noRequest ∷ drop (suc i) (requestsIn ws) = drop-cons (requestsIn ws) i
-            noRequest (omega arith) in
+        noRequest (omega arith) in
         let m : misses f (drop i (requestsIn ws)) ≡ miss (f (getD (requestsIn ws) i noRequest)) + misses f (drop (suc i) (requestsIn ws)) = ap (misses f) d in
         record {
           begun = omega (arith, C .begun);
@@ -144,7 +144,7 @@ module _ (row : List ℕ) (len : ℕ) where
   unfolding goodRow
   good-padded e =
       let (a, r₁) = both (eqb (2 * length (requestsIn row)) (length row))
-          (leb len (length (requestsIn row)) && (every fitsPlace (requestsIn row) && every empty (drop len (requestsIn row)))) e in
+      (leb len (length (requestsIn row)) && (every fitsPlace (requestsIn row) && every empty (drop len (requestsIn row)))) e in
       let (b, r₂) = both (leb len (length (requestsIn row))) (every fitsPlace (requestsIn row) && every empty (drop len (requestsIn row))) r₁ in
       let (c, d) = both (every fitsPlace (requestsIn row)) (every empty (drop len (requestsIn row))) r₂ in
       let n = length-drop len (requestsIn row) in

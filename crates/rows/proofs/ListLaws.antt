@@ -57,7 +57,7 @@ is r x = same x r
 
 without-head : (b : Bool) (x : Request) (l m : List Request) (n : ℕ) → (n < length l → m ≡ take n l ++ drop (suc n) l)
     → (if b then 0 else suc n) < suc (length l)
-        → (if b then l else x ∷ m) ≡ take (if b then 0 else suc n) (x ∷ l) ++ drop (suc (if b then 0 else suc n)) (x ∷ l)
+    → (if b then l else x ∷ m) ≡ take (if b then 0 else suc n) (x ∷ l) ++ drop (suc (if b then 0 else suc n)) (x ∷ l)
 without-head true x l m n e h = refl
 without-head false x l m n e h = ap (λ (t : List Request). x ∷ t) (e (omega arith))
 

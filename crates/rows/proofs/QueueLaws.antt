@@ -58,13 +58,13 @@ module _ (row : List ℕ) (len : ℕ) (good : Padded row len) (at : ℕ) where
       let p : length (take at (queueOf row len)) ≡ at = length-take-le at (queueOf row len) (omega arith) in
       let q : length (take at (queueOf row len)) + length (drop (suc at) (queueOf row len)) ≡ len - 1 = simp length-drop (omega arith) in
       let u : requestsIn row ≡ take at (queueOf row len) ++ getD (queueOf row len) at noRequest ∷ (drop (suc at) (queueOf row len) ++ empties
-          (length (requestsIn row) - len)) =
+      (length (requestsIn row) - len)) =
       row-split row len good ∙
-          ap (λ (x : List Request). x ++ empties (length (requestsIn row) - len)) (split-at (queueOf row len) at noRequest (omega arith)) ∙
-          append-assoc (take at (queueOf row len)) _ _ in
+      ap (λ (x : List Request). x ++ empties (length (requestsIn row) - len)) (split-at (queueOf row len) at noRequest (omega arith)) ∙
+      append-assoc (take at (queueOf row len)) _ _ in
       rw (append-assoc) (subst (λ (x : List Request). Shifted noRequest x
-          (take at (queueOf row len) ++ (drop (suc at) (queueOf row len) ++ noRequest ∷ empties (length (requestsIn row) - len))) at
-          (len - 1)) (sym u)
+      (take at (queueOf row len) ++ (drop (suc at) (queueOf row len) ++ noRequest ∷ empties (length (requestsIn row) - len))) at
+      (len - 1)) (sym u)
       (shifted noRequest (take at (queueOf row len)) (drop (suc at) (queueOf row len)) (empties (length (requestsIn row) - len))
       (getD (queueOf row len) at noRequest) noRequest at (len - 1) p q))
 
@@ -77,10 +77,10 @@ module _ (row : List ℕ) (len : ℕ) (good : Padded row len) (at : ℕ) where
       let q : length (take at (queueOf row len)) + length (drop at (queueOf row len)) ≡ len = simp length-drop (omega arith) in
       let u : requestsIn row ≡ take at (queueOf row len) ++ (drop at (queueOf row len) ++ noRequest ∷ empties (length (requestsIn row) - suc len)) =
       row-split row len good ∙
-          rw k (ap (λ (x : List Request). x ++ (noRequest ∷ empties (length (requestsIn row) - suc len))) (sym (take-append-drop at (queueOf row len))) ∙
-          append-assoc (take at (queueOf row len)) _ _) in
+      rw k (ap (λ (x : List Request). x ++ (noRequest ∷ empties (length (requestsIn row) - suc len))) (sym (take-append-drop at (queueOf row len))) ∙
+      append-assoc (take at (queueOf row len)) _ _) in
       rw (append-assoc) (subst (λ (x : List Request). Shifted noRequest
-          (take at (queueOf row len) ++ (r ∷ (drop at (queueOf row len) ++ empties (length (requestsIn row) - suc len)))) x at len) (sym u)
+      (take at (queueOf row len) ++ (r ∷ (drop at (queueOf row len) ++ empties (length (requestsIn row) - suc len)))) x at len) (sym u)
       (shifted noRequest (take at (queueOf row len)) (drop at (queueOf row len)) (empties (length (requestsIn row) - suc len)) r noRequest at len p q))
 
 -- the places `lo` to `hi` are being moved: X has them one place further down than Y; the row, which was row₀, is at place i and holds `held`
@@ -104,14 +104,28 @@ module _ (X Y : List Request) (lo hi : ℕ) (row₀ : List ℕ) where
   pub rising-start : Places row₀ → X ≡ requestsIn row₀ → Shifted noRequest X Y lo hi → Rising X Y lo hi row₀ row₀ lo
   rising-start p e S =
       let n : length X ≡ length (requestsIn row₀) = ap length e in
-      record { shape = S; low = omega arith; high = S .order; size = refl; room = omega (arith, S .inside, p .even); places = p;
-          done = sym e ∙ rise-start noRequest X Y lo hi S }
+      record {
+        shape = S;
+        low = omega arith;
+        high = S .order;
+        size = refl;
+        room = omega (arith, S .inside, p .even);
+        places = p;
+        done = sym e ∙ rise-start noRequest X Y lo hi S;
+      }
 
   pub sinking-start : Places row₀ → Y ≡ requestsIn row₀ → Shifted noRequest X Y lo hi → Sinking X Y lo hi row₀ row₀ hi
   sinking-start p e S =
       let n : length Y ≡ length (requestsIn row₀) = ap length e in
-      record { shape = S; low = S .order; high = omega arith; size = refl; room = omega (arith, S .inside, S .size, p .even); places = p;
-          done = sym e ∙ sink-start noRequest X Y lo hi S }
+      record {
+        shape = S;
+        low = S .order;
+        high = omega arith;
+        size = refl;
+        room = omega (arith, S .inside, S .size, p .even);
+        places = p;
+        done = sym e ∙ sink-start noRequest X Y lo hi S;
+      }
 
   module _ (held : List Request) (row : List ℕ) (i : ℕ) (M : Moving X Y lo hi row₀ held row i) (after : List ℕ) where
     -- a place is put, and `next` is what the row holds then
@@ -155,10 +169,13 @@ module _ (row : List ℕ) (len : ℕ) (good : Padded row len) (at : ℕ) where
     unfolding removed
     removed-by-loop x h g M P e =
         let n = length-queue row len good in
-        let l : length (take at (queueOf row len) ++ drop (suc at) (queueOf row len)) ≡ len - 1 = simp (length-append,
-            length-take-le at (queueOf row len) (omega arith), length-drop) (omega arith) in
+        let l : length (take at (queueOf row len) ++ drop (suc at) (queueOf row len)) ≡ len - 1 = simp (
+          length-append,
+          length-take-le at (queueOf row len) (omega arith),
+          length-drop,
+        ) (omega arith) in
         let last : getD (removed row len at) (len - 1) noRequest ≡ x = getD-at
-            (take at (queueOf row len) ++ drop (suc at) (queueOf row len)) noRequest _ noRequest (len - 1) l ∙ sym e in
+        (take at (queueOf row len) ++ drop (suc at) (queueOf row len)) noRequest _ noRequest (len - 1) l ∙ sym e in
         let all : requestsIn after ≡ removed row len at =
         put-requests mid after (len - 1) x P ∙ rw last at (rise-end noRequest _ _ _ _ (M .shape) i (requestsIn mid) (M .done) (omega (arith, M .high))) in
         holding row after (len - 1) (suc (length (requestsIn row) - len)) _ (put-size mid after (len - 1) x P ∙ M .size) (P .places (M .places)) all l

@@ -56,8 +56,11 @@ module _ (n : ℕ) (l : List Request) (room : length l ≤ n) where
       let k = length-row-of (2 * n) l (omega arith) in
       let m : length (requestsIn (rowOf (2 * n) l)) ≡ n = rw (row-of-requests, length-append, length-replicate) (omega arith) in
       holding (rowOf (2 * n) l) (rowOf (2 * n) l) (length l) (n - length l) l refl
-      (record { even = omega arith; small = rw row-of-requests
-      (every-append fitsPlace l (replicate (n - length l) noRequest) small (every-same fitsPlace (n - length l) noRequest refl)) })
+      (record {
+        even = omega arith;
+        small = rw row-of-requests
+            (every-append fitsPlace l (replicate (n - length l) noRequest) small (every-same fitsPlace (n - length l) noRequest refl));
+      })
       row-of-requests refl .good
 
 -- a list in a row of so many words

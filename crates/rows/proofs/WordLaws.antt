@@ -96,5 +96,8 @@ module _ (row : List ℕ) (from to : ℕ) (h : 2 * from + 2 ≤ length row) wher
       (getD (requestsIn row) from noRequest)
   put-copied =
       let q = requests-at row from h in
-      rw (unmoved, add-one,
-          q) (put-made row (sets row (2 * to) (wordsOf (placeAt row (2 * from)))) to (placeAt row (2 * from)) refl (λ p. rw q at (small-at row from h p)))
+      rw (
+        unmoved,
+        add-one,
+        q,
+      ) (put-made row (sets row (2 * to) (wordsOf (placeAt row (2 * from)))) to (placeAt row (2 * from)) refl (λ p. rw q at (small-at row from h p)))

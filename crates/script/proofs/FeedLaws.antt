@@ -16,7 +16,8 @@ use Rattle.script.specs.declared.Progress.{Progress}
 use Rattle.script.specs.declared.Progress.the-variants.{Took, Refused}
 use Rattle.script_output.specs.Reader.{closed, Reader, Printed, taken, Fed, maxPrinted, followed, fedWithin, ended, lastLine, finished, maxKept}
 use Rattle.script.specs.State.{stageClosed, stageAt, lengthAt, keptIn, simulationIn, stageOf, view, valid, stateSize}
-use Rattle.script.specs.Calls.{feedAnswer, Leaves, FeedLeaves, finishAnswer, FinishLeaves, Sound, Ready, Prints, Does, Takes, FedAs, Closes, maxEnding}
+use Rattle.script.specs.Calls.{feedAnswer, Leaves, FeedLeaves, finishAnswer, FinishLeaves, maxEnding}
+use Rattle.script.specs.Inner.{Sound, Ready, Prints, Does, Takes, FedAs, Closes}
 use Rattle.script.proofs.StateLaws.{itself-is, view-is, valid-is, store-stage, store-length, from-facts}
 use Rattle.script.proofs.LineLaws.{known, sound}
 

@@ -16,7 +16,7 @@ use Rattle.sim_blocks.proofs.Fronts.{Passing, passing-none, passing-failed, pas
 use Rattle.script_lines.proofs.PutLaws.{Copied, copied-more, copied-all}
 use Rattle.script_output.specs.Reader.{maxKept, behind}
 use Rattle.script.specs.State.{lengthAt, lineFrom, stateSize, Head, headIn, keptIn, simulationIn, stageOf, view, validRun, byteWord, validParts, valid}
-use Rattle.script.specs.Calls.{Sound}
+use Rattle.script.specs.Inner.{Sound}
 use Rattle.script.proofs.StateLaws.{Is, itself-is, kept-long, view-is, valid-is, store-kept, store-length, Facts, facts, from-facts}
 
 -- what a valid state is handed on as

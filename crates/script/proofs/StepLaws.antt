@@ -59,7 +59,8 @@ use Rattle.script_output.specs.Output.{maxLines, answerLine}
 use Rattle.script_output.specs.Reader.{Script, Stage, opening, running, closed, Reader, Printed, unanswered, opened, onward, lineTaken, worked, behind, taken, ended, lastLine, maxKept, maxPrinted}
 use Rattle.script.specs.State.{stageOpening, stageRunning, stageClosed, stageAt, answeredAt, acceptedAt, holdingAt, lengthAt, stateSize, Head, headIn, keptIn, simulationIn, countsIn, scriptIn, stageOf, view, validRun, valid, stateHead}
 use Rattle.script.specs.declared.Progress.the-variants.{Took, Refused}
-use Rattle.script.specs.Calls.{newAnswer as newScript, newWords, Sound, Ready, Reads, Prints, Does, Takes, happened, passing, replyLine, withCounts}
+use Rattle.script.specs.Calls.{newAnswer as newScript, newWords}
+use Rattle.script.specs.Inner.{Sound, Ready, Reads, Prints, Does, Takes, happened, passing, replyLine, withCounts}
 use Rattle.script.proofs.StateLaws.{Is, itself-is, view-is, valid-is, store-length, store-stage, store-answered, store-accepted, store-holding, store-simulation, Facts, RunFacts, run-facts, from-run, from-facts}
 use Rattle.script.proofs.TestLaws.{few-clients, part-long}
 use Rattle.script.proofs.LineLaws.{known, sound, line-long, line-parsed}

@@ -13,7 +13,8 @@ ghost use Rattle.script_lines.specs.Lines.{eventIn, lineOf, settingIn, firstOf}
 ghost use Rattle.script_lines.specs.Printed.{refusedLine};
 ghost use Rattle.script_output.specs.Reader.{closed, opened, worked, behind, taken, ended, lastLine, finished, maxKept, maxPrinted};
 ghost use Rattle.script.specs.State.{headIn, keptIn, simulationIn, countsIn, scriptIn, byteWord, validRun, view, valid as isValid, stateSize, stateHead, stageAt, lengthAt, stageOpening, stageRunning, stageClosed};
-ghost use Rattle.script.specs.Calls.{newAnswer, newWords, feedAnswer, FeedLeaves, finishAnswer, FinishLeaves, Sound, Ready, Reads, Prints, Does, Takes, FedAs, Closes, happened, passing, maxEnding, withCounts, replyLine};
+ghost use Rattle.script.specs.Calls.{newAnswer, newWords, feedAnswer, FeedLeaves, finishAnswer, FinishLeaves, maxEnding};
+ghost use Rattle.script.specs.Inner.{Sound, Ready, Reads, Prints, Does, Takes, FedAs, Closes, happened, passing, withCounts, replyLine};
 use ids::Refusal;
 use script_lines::First;
 use script_lines::Line;

@@ -16,7 +16,7 @@ use Rattle.script_numbers.specs.Decimals.{number}
 use Rattle.script_lines.specs.Words.{text, same, word, rest}
 use Rattle.script_lines.specs.Lines.{next, fourIn, settingIn, firstOf, maxLine}
 use Rattle.script_numbers.specs.Answers.{readingOf}
-use Rattle.script_lines.specs.Answers.{fieldAt}
+use Rattle.script_lines.specs.Inner.{fieldAt}
 use Rattle.system.specs.declared.Setting.{Setting}
 use Rattle.script_numbers.specs.declared.Reading.{Reading}
 use Rattle.script_numbers.specs.declared.Reading.the-variants.{Number, Nothing}

@@ -1,4 +1,4 @@
 pub mod Words
 pub mod Lines
 pub mod Printed
-pub mod Answers
+pub mod Inner

@@ -48,10 +48,6 @@ wordOf (Drop i) = text "drop"
 wordOf (Miss j) = text "miss"
 wordOf (Check j) = text "check"
 
--- the commands one after another, as the code holds them
-abbrev pub names : List ℕ
-names = text "try exit fall down up take drop miss check"
-
 abbrev pub numberOf : Event → ℕ
 numberOf (Try k) = k .0
 numberOf (Exit k) = k .0

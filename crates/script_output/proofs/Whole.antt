@@ -202,7 +202,7 @@ module _ (s : Setting) where
     event-told tl x e =
         let o : Result = happens s (r .run .system) x in
         let w : next (r .run) x .system ≡ after (r .run .system) o = moved-system (r .run) _ ∙
-            ap (λ (t : Setting). after (r .run .system) (happens t (r .run .system) x)) q in
+        ap (λ (t : Setting). after (r .run .system) (happens t (r .run .system) x)) q in
         sym (append-assoc (answerLine (suc (r .answered)) (r .run .system) o) (answers s (suc (suc (r .answered))) (next (r .run) x .system) tl) _) ∙
         (ap (λ (v : System). (answerLine (suc (r .answered)) (r .run .system) o ++ answers s (suc (suc (r .answered))) v tl) ++ endRun
         (plays (next (r .run) x) (eventsIn tl))) w ∙
@@ -257,7 +257,7 @@ unfolding endOf
 whole-run s ls =
     running-told s ls (unanswered (started s)) refl (omega arith) ∙
     ap (λ (r : Run). answers s 1 (fresh s) (take maxLines ls) ++ endLine (r .accepted) (r .holding) (r .system .most))
-        (plays-counted s (eventsIn (take maxLines ls)))
+    (plays-counted s (eventsIn (take maxLines ls)))
 
 refused-told : (x : List ℕ) (ls : List (List ℕ)) → x ++ told closed ls ≡ x
 refused-told x ls = ap (λ (y : List ℕ). x ++ y) (closed-told ls) ∙ append-nil x
@@ -290,4 +290,4 @@ in-parts r [] b = refl
 in-parts r (x ∷ a) b =
     ap (λ (p : Printed Reader). record { now = p .now; out = taken r x .out ++ p .out }) (in-parts (taken r x .now) a b) ∙
     ap (λ (y : List ℕ). record { now = fed (fed r (x ∷ a) .now) b .now; out = y })
-        (sym (append-assoc (taken r x .out) (fed (taken r x .now) a .out) (fed (fed (taken r x .now) a .now) b .out)))
+    (sym (append-assoc (taken r x .out) (fed (taken r x .now) a .out) (fed (fed (taken r x .now) a .now) b .out)))

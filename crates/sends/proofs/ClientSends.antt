@@ -91,7 +91,7 @@ pub checked-few : (k : ClientId) (j : ServerId) (t : Timestamp) (c : State) → 
 unfolding checked
 checked-few k j t c =
     ⊎-elim (λ (e : eqb (t .0) (c .timestamp .0) ≡ true). rw e (nothing 1))
-        (λ (e : eqb (t .0) (c .timestamp .0) ≡ false). rw e (released k j t)) (decided (eqb (t .0) (c .timestamp .0)))
+    (λ (e : eqb (t .0) (c .timestamp .0) ≡ false). rw e (released k j t)) (decided (eqb (t .0) (c .timestamp .0)))
 
 to-all : (f : ServerId → Message) → ((j : ServerId) → sizeOf (f j) ≡ messageBytes) → (n : ℕ) → AtMost n (toAll f n)
 to-all f h n = record { few = omega (arith, length-toAll f n); small = omega (arith, size-toAll f h n) }
@@ -183,8 +183,11 @@ module _ (c : Client) (p : Step State) where
       let h₃ = entered (mayTry (view c)) (never TimestampsSpent p) h₂ in
       let g : tries (c .head .n) (c .head .id) (view c) ≡ p = cc in
       let v : valid c ≡ true = not-false (valid c) a in
-      record { before = v; most = rw (← g) (tries-few (c .head .n) (c .head .id) (view c));
-          long = rw (← g, length-replicate (c .head .n) Nobody) (omega arith) }
+      record {
+        before = v;
+        most = rw (← g) (tries-few (c .head .n) (c .head .id) (view c));
+        long = rw (← g, length-replicate (c .head .n) Nobody) (omega arith);
+      }
 
   pub exit-accepted : exitOutcome c ≡ stepped p → Accepted
   unfolding exitOutcome exits
@@ -193,8 +196,11 @@ module _ (c : Client) (p : Step State) where
       let h₂ = entered (isCritical (view c .section)) (never WrongSection p) h₁ in
       let g : exits (c .head .n) (c .head .id) (view c) ≡ p = cc in
       let v : valid c ≡ true = not-false (valid c) a in
-      record { before = v; most = rw (← g) (exits-few (c .head .n) (c .head .id) (view c));
-          long = rw (← g, length-replicate (c .head .n) Nobody) (omega arith) }
+      record {
+        before = v;
+        most = rw (← g) (exits-few (c .head .n) (c .head .id) (view c));
+        long = rw (← g, length-replicate (c .head .n) Nobody) (omega arith);
+      }
 
 -- what passes f: the messages with which request r replies to server j
 abbrev pub Replies : (Message → Bool) → Pair → ServerId → Type 0
@@ -250,7 +256,7 @@ module _ (f : Message → Bool) where
 
   pub responds-passes : (wins : Quorum) (n : ℕ) (k : ClientId) (j : ServerId) (o : Owner) (c : State) → length (c .responses) ≤ n
       → (isTrying (c .section) ≡ true → (i : ℕ) → 1 ≤ i → i ≤ n → Replies f (record { client = k; timestamp = c .timestamp }) (record { 0 = i }))
-          → every f (responds wins n k j o c .sent) ≡ true
+      → every f (responds wins n k j o c .sent) ≡ true
   unfolding responds
   responds-passes wins n k j o c few h =
       let r : Pair = record { client = k; timestamp = c .timestamp } in
@@ -263,7 +269,7 @@ module _ (f : Message → Bool) where
   unfolding checked
   checked-passes k j t c h =
       ⊎-elim (λ (e : eqb (t .0) (c .timestamp .0) ≡ true). rw e refl) (λ (e : eqb (t .0) (c .timestamp .0) ≡ false). rw (e, h))
-          (decided (eqb (t .0) (c .timestamp .0)))
+      (decided (eqb (t .0) (c .timestamp .0)))
 
 -- every number that a client in a fitting state sends is in its range
 stamped : (k : ClientId) (j : ℕ) (t : Timestamp) → validClient k ≡ true → 1 ≤ j → j ≤ maxServers → 1 ≤ t .0 → t .0 ≤ maxTimestamp
@@ -286,7 +292,7 @@ module _ (n m : ℕ) (k : ClientId) (s : State) (F : Fits n m k s) where
   unfolding format.validUpTo next
   tries-valid h =
       tries-passes format.valid n k s
-          (λ j a b. stamped k j (next (s .timestamp)) (F .ranges .client) a (omega (arith, F .ranges .few)) (omega arith) (omega arith))
+      (λ j a b. stamped k j (next (s .timestamp)) (F .ranges .client) a (omega (arith, F .ranges .few)) (omega arith) (omega arith))
 
   pub exits-valid : isCritical (s .section) ≡ true → every format.valid (exits n k s .sent) ≡ true
   unfolding format.validUpTo
@@ -300,7 +306,7 @@ module _ (n m : ℕ) (k : ClientId) (s : State) (F : Fits n m k s) where
       responds-passes format.valid wins n k j o s (omega (arith, F .long)) (λ t i a b.
       let (c, d) = in-trying (s .section) (s .timestamp) t (F .timestamp) in
       let v : validStamped k (record { 0 = i }) (s .timestamp) ≡ true = stamped k i (s .timestamp) (F .ranges .client) a
-          (omega (arith, F .ranges .few)) c (omega arith) in
+      (omega (arith, F .ranges .few)) c (omega arith) in
       (v, v, v))
 
 pub checked-valid : (k : ClientId) (j : ServerId) (t : Timestamp) (s : State) → format.valid (Check k j t) ≡ true

@@ -64,13 +64,13 @@ module _ (j : ServerId) where
   unfolding delete
   delete-few r q =
       ⊎-elim (λ (t : isRequest r (q .owner) ≡ true). rw t (promote-few (q .queue)))
-          (λ (t : isRequest r (q .owner) ≡ false). rw t (omega arith)) (decided (isRequest r (q .owner)))
+      (λ (t : isRequest r (q .owner) ≡ false). rw t (omega arith)) (decided (isRequest r (q .owner)))
 
   inform-few : (k : ClientId) (q : State) → length (inform j k q .sent) ≤ 1
   unfolding inform
   inform-few k q =
       ⊎-elim (λ (t : isClient k (q .owner) ≡ true). rw t (omega arith)) (λ (t : isClient k (q .owner) ≡ false). rw t (omega arith))
-          (decided (isClient k (q .owner)))
+      (decided (isClient k (q .owner)))
 
   yielded-few : (b : Bool) (l : List Pair) (q : State) → length ((if b then promote j l else stay q) .sent) ≤ 1
   yielded-few true l q = promote-few l
@@ -84,7 +84,7 @@ module _ (j : ServerId) where
   unfolding act
   act-few REQUEST r q =
       ⊎-elim (λ (t : isClient (r .client) (q .owner) ≡ true). rw t (omega arith))
-          (λ (t : isClient (r .client) (q .owner) ≡ false). rw t (omega arith)) (decided (isClient (r .client) (q .owner)))
+      (λ (t : isClient (r .client) (q .owner) ≡ false). rw t (omega arith)) (decided (isClient (r .client) (q .owner)))
   act-few YIELD r q =
       let a : Step State = if isRequest r (q .owner) then promote j (insert r (q .queue)) else stay q in
       rw length-append (omega (arith, yielded-few (isRequest r (q .owner)) (insert r (q .queue)) q, inform-few (r .client) (a .state)))
@@ -93,8 +93,8 @@ module _ (j : ServerId) where
 
   compared-few : (older newer : Bool) (tag : Tag) (r p : Pair) (q : State)
       → length ((if older then stay q else if newer then record
-          { state = act j tag r (delete j p q .state) .state; sent = delete j p q .sent ++ act j tag r (delete j p q .state) .sent } else
-          act j tag r q) .sent) ≤ 3
+      { state = act j tag r (delete j p q .state) .state; sent = delete j p q .sent ++ act j tag r (delete j p q .state) .sent } else
+      act j tag r q) .sent) ≤ 3
   compared-few true newer tag r p q = omega arith
   compared-few false true tag r p q = rw length-append (omega (arith, delete-few p q, act-few tag r (delete j p q .state)))
   compared-few false false tag r p q = omega (arith, act-few tag r q)
@@ -169,7 +169,7 @@ module _ (s : Server) (p : Step State) where
   taken-short : (tag : Tag) (k : ClientId) (j : ServerId) (t : Timestamp) → server-calls.taken s tag k j t ≡ stepped p → Short p
   taken-short tag k j t e =
       held-short (receive (s .head .id) tag (record { client = k; timestamp = t }) (server.view s))
-          (receive-few (s .head .id) tag (record { client = k; timestamp = t }) (server.view s))
+      (receive-few (s .head .id) tag (record { client = k; timestamp = t }) (server.view s))
       (entered (eqb (j .0) (s .head .id .0)) (never NotForServer p) e)
 
   received-short : (m : Message) → server-calls.received s m ≡ stepped p → Short p
@@ -224,7 +224,7 @@ module _ (s : Server) (p : Step State) where
       let v : server.valid s ≡ true = not-false (server.valid s) a in
       let g : check (s .head .id) (server.view s) ≡ p = cc in
       accepted v (check-keeps-valid s v p e)
-          (rw (← g) (record { few = check-few (s .head .id) (server.view s); room = rw (check-same (s .head .id) (server.view s)) (its-room v) }))
+      (rw (← g) (record { few = check-few (s .head .id) (server.view s); room = rw (check-same (s .head .id) (server.view s)) (its-room v) }))
 
 -- the owner and the queue pass g
 pub record Knows (g : Pair → Bool) (q : State) : Type 0 where
@@ -292,8 +292,8 @@ module _ (g : Pair → Bool) (f : Message → Bool) (j : ServerId)
 
   compared-passes : (older newer : Bool) (tag : Tag) (r p : Pair) (q : State) → g r ≡ true → Knows g q
       → every f ((if older then stay q else if newer then record
-          { state = act j tag r (delete j p q .state) .state; sent = delete j p q .sent ++ act j tag r (delete j p q .state) .sent } else
-          act j tag r q) .sent) ≡ true
+      { state = act j tag r (delete j p q .state) .state; sent = delete j p q .sent ++ act j tag r (delete j p q .state) .sent } else
+      act j tag r q) .sent) ≡ true
   compared-passes true newer tag r p q a k = refl
   compared-passes false true tag r p q a k =
       let d : Passes g f (delete j p q) = delete-passes p q k in

@@ -98,12 +98,12 @@ module _ (h : Head) (row : List ℕ) (r : Turned) (b : Bool) (e : b ≡ valid (s
       unfolding checkOutcome check
       check-asks =
           rw (sound n)
-              (ap {B = Outcome State} stepped (ap (λ (w : Owner). byOwner w (stay (view s)) (λ y. tell (view s) (Check (y .client) (h .id) (y .timestamp)))) q))
+          (ap {B = Outcome State} stepped (ap (λ (w : Owner). byOwner w (stay (view s)) (λ y. tell (view s) (Check (y .client) (h .id) (y .timestamp)))) q))
 
       pub check-asked : m ≡ telling (h .votes) (Check (x .client) (h .id) (x .timestamp)) → r ≡ doing h m → Turns h row (checkOutcome s) r row
       check-asked p a =
           let one = moves-telling row row m (h .votes) (tell (view s) (Check (x .client) (h .id) (x .timestamp)))
-              (holds-still row (h .votes .len) good) refl _ p refl in
+          (holds-still row (h .votes .len) good) refl _ p refl in
           turns-done h row (checkOutcome s) r row m _ check-asks (one .moves) (ap (λ (y : Moved). y .full) p) a
 
     pub check-idle : Padded row (h .votes .len) → (m : Moved) → h .votes .owner ≡ Nobody → m ≡ still (h .votes) → r ≡ doing h m
@@ -113,7 +113,7 @@ module _ (h : Head) (row : List ℕ) (r : Turned) (b : Bool) (e : b ≡ valid (s
         let one = stays (h .votes) row good m p in
         let w : checkOutcome s ≡ stepped (stay (view s)) =
         rw (sound n) (ap {B = Outcome State} stepped
-            (ap (λ (w : Owner). byOwner w (stay (view s)) (λ y. tell (view s) (Check (y .client) (h .id) (y .timestamp)))) q)) in
+        (ap (λ (w : Owner). byOwner w (stay (view s)) (λ y. tell (view s) (Check (y .client) (h .id) (y .timestamp)))) q)) in
         turns-done h row (checkOutcome s) r row m _ w (one .moves) (ap (λ (y : Moved). y .full) p) a
 
 -- a new server

@@ -121,7 +121,7 @@ module _ (r : Pair) where
       let o = head-other (r .client) x l _ refl n in
       let rest = insert-sorted l (s .1) (o .1) in
       ⊎-elim (λ (t : before r x ≡ true). rw t (t, s)) (λ (t : before r x ≡ false). rw t (insert-above x l (s .0) (later x (o .0) t), rest))
-          (decided (before r x))
+      (decided (before r x))
 
   absent-insert : (k : ClientId) (l : List Pair) → eqb (r .client .0) (k .0) ≡ false → timestampIn k l ≡ none → timestampIn k (insert r l) ≡ none
   unfolding insert
@@ -130,7 +130,7 @@ module _ (r : Pair) where
       let o = head-other k x l _ refl n in
       let rest = absent-insert k l e (o .1) in
       ⊎-elim (λ (t : before r x ≡ true). rw t (absent-cons k r (x ∷ l) e n))
-          (λ (t : before r x ≡ false). rw t (absent-cons k x (insert r l) (o .0) rest)) (decided (before r x))
+      (λ (t : before r x ≡ false). rw t (absent-cons k x (insert r l) (o .0) rest)) (decided (before r x))
 
   flip : (a b : ℕ) → eqb a b ≡ false → eqb b a ≡ false
   flip a b e = ne-eqb b a (λ h. eqb-false a b e (sym h))
@@ -142,8 +142,8 @@ module _ (r : Pair) where
       let o = head-other (r .client) x l _ refl n in
       let rest = insert-single l (s .1) (o .1) in
       ⊎-elim (λ (t : before r x ≡ true). rw t (n, s))
-          (λ (t : before r x ≡ false). rw t (absent-insert (x .client) l (flip (x .client .0) (r .client .0) (o .0)) (s .0), rest))
-          (decided (before r x))
+      (λ (t : before r x ≡ false). rw t (absent-insert (x .client) l (flip (x .client .0) (r .client .0) (o .0)) (s .0), rest))
+      (decided (before r x))
 
   -- removal
   above-past : (x y : Pair) (l : List Pair) → before x y ≡ true → Above y l → Above x l

@@ -69,7 +69,7 @@ module _ (a b c : Mail) where
       let i = length-bytesOfAll (mails a) in
       let k = length-bytesOfAll (mails b) in
       let s : l₂ ≡ sets o 0 (bytesOfAll (mails a) ++ bytesOfAll (mails b)) = stored-on o l₁ l₂ (bytesOfAll (mails a)) (bytesOfAll (mails b))
-          0 x (p .1) (q .1) (omega arith) in
+      0 x (p .1) (q .1) (omega arith) in
       let n : length (bytesOfAll (mails a) ++ bytesOfAll (mails b)) ≡ y = simp length-append (omega arith) in
       rw (bytesOfAll-append, bytesOfAll-append) (stored-on o l₂ l₃ (bytesOfAll (mails a) ++ bytesOfAll (mails b)) (bytesOfAll (mails c)) 0 y s r (omega arith))
 

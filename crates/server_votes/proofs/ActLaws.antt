@@ -167,7 +167,7 @@ module _ (row mid end : List ℕ) (d a m : Moved) (s : Step State) (g : State �
   after one room two fits e =
       let size = holds row mid d s (one .moves) room .size in
       let behind : mails (a .first) ++ mails (a .second) ≡ g (s .state) .sent = sym (append-nil (mails (a .first) ++ mails (a .second))) ∙
-          rw (two .third) at (two .moves .sent) in
+      rw (two .third) at (two .moves .sent) in
       let full : m .full ≡ false = ap (λ (x : Moved). x .full) e ∙ goes mid end a (g (s .state)) (two .moves) (rw size fits) in
       record {
         full = full ∙ sym (le-ltb _ _ fits);
@@ -194,8 +194,11 @@ module _ (j : ServerId) (tag : Tag) (r : Request) (v : Votes) (row : List ℕ) (
         → Moves row end m (compare j tag r (view v row) t)
     compares-newer end a m st h two e =
         let le : t .0 ≤ r .timestamp .0 = omega arith in
-        let room : 2 * length (act j tag r (delete j old (view v row) .state) .state .queue) ≤ length row = omega (arith,
-            renewed-fits j r tag t (view v row) st, fits v row good) in
+        let room : 2 * length (act j tag r (delete j old (view v row) .state) .state .queue) ≤ length row = omega (
+          arith,
+          renewed-fits j r tag t (view v row) st,
+          fits v row good,
+        ) in
         rw (le-ltb _ _ le, lt-ltb _ _ h)
         (after row mid end d a m _ (act j tag r) one (delete-fits v row good j old)
         (rw (left row mid d _ (one .moves) (delete-fits v row good j old)) at two) room e)

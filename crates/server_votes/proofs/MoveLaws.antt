@@ -117,7 +117,7 @@ module _ (row : List ℕ) (len : ℕ) (good : Padded row len) where
             → m ≡ leading j h k → MovesOne row after m (promote j (insert r (queueOf row len)))
         rotated-behind mid after k f H q G p =
             rw (inserted-list false (sym o ∙ f)) (moves-leading row after j h (insert r (drop 1 (queueOf row len))) m k
-                (rw q (holds-then row mid after (len - 1) (len - 1 + 1) _ (insert r) H G)) p)
+            (rw q (holds-then row mid after (len - 1) (len - 1 + 1) _ (insert r) H G)) p)
 
 -- Delete: the owner's place goes to the head of the queue, any other's is closed
 module _ (j : ServerId) (r : Request) (v : Votes) (row after : List ℕ) (b : Bool) (o : b ≡ isRequest r (v .owner)) (m : Moved) where
@@ -131,7 +131,7 @@ module _ (j : ServerId) (r : Request) (v : Votes) (row after : List ℕ) (b : Bo
   deleted-waiting n f H p =
       let e : isRequest r (v .owner) ≡ false = cc in
       rw e (moves-still row after m (record { owner = v .owner; len = n })
-          (stay (record { owner = v .owner; queue = without r (queueOf row (v .len)) })) H refl p refl)
+      (stay (record { owner = v .owner; queue = without r (queueOf row (v .len)) })) H refl p refl)
 
 -- r waits, unless its client does already, or the row is too short
 module _ (j : ServerId) (r : Request) (v : Votes) (row : List ℕ) (good : Padded row (v .len)) (at : ℕ)
@@ -141,7 +141,7 @@ module _ (j : ServerId) (r : Request) (v : Votes) (row : List ℕ) (good : Padde
   joined-again l p =
       let n = length-queue row (v .len) good in
       rw (timestamp-first (r .client) (queueOf row (v .len)) (omega arith))
-          (moves-telling row row m v (tell (view v row) (Response (r .client) j (v .owner))) (holds-still row (v .len) good) refl _ p refl)
+      (moves-telling row row m v (tell (view v row) (Response (r .client) j (v .owner))) (holds-still row (v .len) good) refl _ p refl)
 
   module _ (g : v .len ≤ at) where
     new : timestampIn (r .client) (queueOf row (v .len)) ≡ none
@@ -154,7 +154,7 @@ module _ (j : ServerId) (r : Request) (v : Votes) (row : List ℕ) (good : Padde
         let i = length-insert r (queueOf row (v .len)) in
         let over : length row < 2 * length (insert r (queueOf row (v .len))) = omega arith in
         rw new (moves-overflowing row m v
-            (tell (record { owner = v .owner; queue = insert r (queueOf row (v .len)) }) (Response (r .client) j (v .owner))) _ over p refl)
+        (tell (record { owner = v .owner; queue = insert r (queueOf row (v .len)) }) (Response (r .client) j (v .owner))) _ over p refl)
 
     pub joined-new : (after : List ℕ) (n : ℕ) → n ≡ v .len + 1 → Holds row after (v .len + 1) (insert r (queueOf row (v .len)))
         → m ≡ telling (record { owner = v .owner; len = n }) (Response (r .client) j (v .owner))

@@ -106,8 +106,8 @@ module _ (j : ServerId) (r : Request) where
 
     renewed-head : (b : Bool) (q : State) → (b ≡ false → length (without old (q .queue)) < length (q .queue))
         → length (act j tag r
-            ((if b then promote j (q .queue) else stay (record { owner = q .owner; queue = without old (q .queue) })) .state) .state .queue) ≤ length
-            (q .queue)
+        ((if b then promote j (q .queue) else stay (record { owner = q .owner; queue = without old (q .queue) })) .state) .state .queue) ≤ length
+        (q .queue)
     renewed-head true q n = promoted-acted tag (q .queue)
     renewed-head false q n = omega (arith, length-acted tag (record { owner = q .owner; queue = without old (q .queue) }), n refl)
 

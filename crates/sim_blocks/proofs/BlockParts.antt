@@ -65,14 +65,17 @@ module _ (ws : List ℕ) (count clients : ℕ) where
 
   pub naming-none : recordHead + 2 * count ≤ length ws → Naming 0
   naming-none h =
-      record { room = h; passing = passing-none (namedPair clients) noRequest requests count
-          (requests-fit (drop recordHead ws) count (omega (arith, length-drop recordHead ws))) }
+      record {
+        room = h;
+        passing = passing-none (namedPair clients) noRequest requests count
+            (requests-fit (drop recordHead ws) count (omega (arith, length-drop recordHead ws)));
+      }
 
   module _ (i : ℕ) (S : Naming i) where
     its-client : i < count → getD requests i noRequest .client .0 ≡ getD ws (recordHead + 2 * i) 0
     its-client h =
         ap (λ (q : Request). q .client .0) (requests-at (drop recordHead ws) i (omega (arith, length-drop recordHead ws, S .room))) ∙
-            getD-drop recordHead ws (2 * i) 0
+        getD-drop recordHead ws (2 * i) 0
 
     pub naming-failed : i < count → clients < getD ws (recordHead + 2 * i) 0 → false ≡ every (namedPair clients) (take count (requestsIn (drop recordHead ws)))
     naming-failed h g = passing-failed (namedPair clients) noRequest requests count i (S .passing) h
@@ -80,8 +83,11 @@ module _ (ws : List ℕ) (count clients : ℕ) where
 
     pub naming-more : i < count → getD ws (recordHead + 2 * i) 0 ≤ clients → Naming (i + 1)
     naming-more h g =
-        record { room = S .room; passing = passing-more (namedPair clients) noRequest requests count i (S .passing) h
-            (le-leb (getD requests i noRequest .client .0) clients (omega (arith, its-client h))) }
+        record {
+          room = S .room;
+          passing = passing-more (namedPair clients) noRequest requests count i (S .passing) h
+              (le-leb (getD requests i noRequest .client .0) clients (omega (arith, its-client h)));
+        }
 
     pub naming-all : count ≤ i → true ≡ every (namedPair clients) (take count (requestsIn (drop recordHead ws)))
     naming-all h = passing-all (namedPair clients) noRequest requests count i (S .passing) h
@@ -107,7 +113,7 @@ pub part-stored : (b ys vs : List ℕ) (a k : ℕ) → a + k ≤ length b → le
 part-stored b ys vs a k h e p =
     let l : length vs ≡ length (take k (drop a b)) = omega (arith, length-take k (drop a b), length-drop a b) in
     rw (p, covered (take k (drop a b)) vs l, drop-drop k a b, ← e) (sym (append-assoc (take a b) vs (drop (a + length vs) b)) ∙
-        sym (sets-eq vs b a (omega arith)))
+    sym (sets-eq vs b a (omega arith)))
 
 -- the front of a part is written, and a part is written over whole
 pub part-front : (b ys vs : List ℕ) (a k : ℕ) → a + k ≤ length b → length vs ≤ k → ys ≡ sets (take k (drop a b)) 0 vs
@@ -115,10 +121,10 @@ pub part-front : (b ys vs : List ℕ) (a k : ℕ) → a + k ≤ length b → len
 part-front b ys vs a k h e p =
     let l : length (take k (drop a b)) ≡ k = length-take-le k (drop a b) (omega (arith, length-drop a b)) in
     let q : sets (take k (drop a b)) 0 vs ≡ vs ++ drop (length vs) (take k (drop a b)) = let z : 0 + length vs ≡ length vs = omega arith in
-        rw z at (sets-eq vs (take k (drop a b)) 0 (omega arith)) in
+    rw z at (sets-eq vs (take k (drop a b)) 0 (omega arith)) in
     let d : drop (length vs) (take k (drop a b)) ++ drop k (drop a b) ≡ drop (a + length vs) b =
     sym (drop-append-le (length vs) (take k (drop a b)) (drop k (drop a b)) (omega arith)) ∙
-        (ap (drop (length vs)) (take-append-drop k (drop a b)) ∙ drop-drop (length vs) a b) in
+    (ap (drop (length vs)) (take-append-drop k (drop a b)) ∙ drop-drop (length vs) a b) in
     ap (λ (l : List ℕ). take a b ++ (l ++ drop k (drop a b))) (p ∙ q)
     ∙ (ap (λ (l : List ℕ). take a b ++ l) (append-assoc vs (drop (length vs) (take k (drop a b))) (drop k (drop a b)) ∙ ap (λ (l : List ℕ). vs ++ l) d)
     ∙ (sym (append-assoc (take a b) vs (drop (a + length vs) b)) ∙ sym (sets-eq vs b a (omega arith))))
@@ -196,7 +202,7 @@ module _ (b : List ℕ) (at : ℕ) (x : Bool) (e : x ≡ inEpoch (clientPlace b)
 pub sunk : (b l : List ℕ) (h e : ServerHead) → h ≡ serverHeadFrom (serverRecord b)
     → e ≡ record { n = h .n; id = h .id; votes = record { owner = Nobody; len = 0 } }
     → l ≡ sets b 1 (serverWords (server.serverOf e (replicate server.rowWords 0)))
-        → set l 0 0 ≡ set (sets b 1 (serverWords (emptied (serverFrom (serverRecord b))))) 0 0
+    → set l 0 0 ≡ set (sets b 1 (serverWords (emptied (serverFrom (serverRecord b))))) 0 0
 sunk b l h e p q r = rw (r, q, p)
 
 pub forgotten-short : (h e : ServerHead) → e ≡ record { n = h .n; id = h .id; votes = record { owner = Nobody; len = 0 } } → e .votes .len ≤ maxWord
@@ -208,7 +214,7 @@ pub client-put-back : (b x : List ℕ) (h : ClientHead) (row ys : List ℕ) → 
     → back (1 + recordHead) client.rowWords (back 1 clientSize b x) ys ≡ sets b 1 (clientWords (client.clientOf h row))
 client-put-back b x h row ys l m p q =
     let e : back 1 clientSize b x ≡ sets b 1 (clientHeadWords h) = part-front b x (clientHeadWords h) 1 clientSize (omega arith)
-        (omega (arith, client-head-long h)) p in
+    (omega (arith, client-head-long h)) p in
     let n : length (back 1 clientSize b x) ≡ clientBlock = ap length e ∙ (length-sets b 1 (clientHeadWords h) ∙ l) in
     client-put b _ _ h row e (part-whole (back 1 clientSize b x) ys row (1 + recordHead) client.rowWords (omega arith) m q)
 
@@ -217,6 +223,6 @@ pub server-put-back : (b x : List ℕ) (h : ServerHead) (row ys : List ℕ) → 
     → back (1 + recordHead) server.rowWords (back 1 serverSize b x) ys ≡ sets b 1 (serverWords (server.serverOf h row))
 server-put-back b x h row ys l m p q =
     let e : back 1 serverSize b x ≡ sets b 1 (serverHeadWords h) = part-front b x (serverHeadWords h) 1 serverSize (omega arith)
-        (omega (arith, server-head-long h)) p in
+    (omega (arith, server-head-long h)) p in
     let n : length (back 1 serverSize b x) ≡ serverBlock = ap length e ∙ (length-sets b 1 (serverHeadWords h) ∙ l) in
     server-put b _ _ h row e (part-whole (back 1 serverSize b x) ys row (1 + recordHead) server.rowWords (omega arith) m q)

@@ -144,5 +144,5 @@ module _ (n m clients k : ℕ) (b : List ℕ) (ok : validClientBlock n m clients
   pub stored-client : (s : State) → Fits n m (record { 0 = k }) s → every (named clients) (s .responses) ≡ true
       → (isRemainder (s .section) ≡ true → every zeroWord (flags b) ≡ true)
       → ClientIs n m clients k (sets b 1 (clientWords (client.store n m (record { 0 = k }) s)))
-          (record { living = clientPlace b .living; state = s; downs = clientPlace b .downs })
+      (record { living = clientPlace b .living; state = s; downs = clientPlace b .downs })
   stored-client s F names clear = stored-frame n m clients k b frame s F names clear

@@ -140,7 +140,7 @@ module _ (n m clients k : ℕ) (b : List ℕ) (ok : validClientBlock n m clients
 
   pub response-outcome : (j : ServerId) (o : Owner) → format.valid (Response (record { 0 = k }) j o) ≡ true → j .0 ≤ n
       → messageOutcome (clientFrom (clientRecord b)) (Response (record { 0 = k }) j o) ≡ stepped
-          (responds (enough m) n (record { 0 = k }) j o (clientPlace b .state))
+      (responds (enough m) n (record { 0 = k }) j o (clientPlace b .state))
   unfolding messageOutcomeUpTo
   response-outcome j o w h = rw (B .valid, w, for-me j h, shows, B .servers, B .threshold)
 
@@ -156,11 +156,11 @@ module _ (n m clients k : ℕ) (b : List ℕ) (ok : validClientBlock n m clients
   -- what they leave
   pub tries-block : isRemainder (clientPlace b .state .section) ≡ true → mayTry (clientPlace b .state) ≡ true
       → ClientIs n m clients k (written n m k b (tries n (record { 0 = k }) (clientPlace b .state) .state))
-          (placed b (tries n (record { 0 = k }) (clientPlace b .state) .state))
+      (placed b (tries n (record { 0 = k }) (clientPlace b .state) .state))
   unfolding tries
   tries-block h g =
       stored-client n m clients k b ok (tries n me (at .state) .state)
-          (tries-fits n m me (at .state) (fits .ranges) (leb-true (at .state .timestamp .0) lastTry g)) (named-none clients n)
+      (tries-fits n m me (at .state) (fits .ranges) (leb-true (at .state .timestamp .0) lastTry g)) (named-none clients n)
       (λ e. remainder-clear n m clients k b ok h)
 
   -- an exit ends the epoch: the flags are cleared before its record is written
@@ -173,7 +173,7 @@ module _ (n m clients k : ℕ) (b : List ℕ) (ok : validClientBlock n m clients
 
   pub responds-block : (j : ServerId) (o : Owner) → validOwner o ≡ true → named clients o ≡ true
       → ClientIs n m clients k (written n m k b (responds (enough m) n (record { 0 = k }) j o (clientPlace b .state) .state))
-          (placed b (responds (enough m) n (record { 0 = k }) j o (clientPlace b .state) .state))
+      (placed b (responds (enough m) n (record { 0 = k }) j o (clientPlace b .state) .state))
   responds-block j o v w =
       stored-client n m clients k b ok (responds (enough m) n me j o (at .state) .state) (responds-fits n m me j o v (at .state) fits)
       (responds-names (enough m) n clients me j o w (at .state) (B .names))
@@ -181,7 +181,7 @@ module _ (n m clients k : ℕ) (b : List ℕ) (ok : validClientBlock n m clients
 
   pub checked-block : (j : ServerId) (t : Timestamp)
       → ClientIs n m clients k (written n m k b (checked (record { 0 = k }) j t (clientPlace b .state) .state))
-          (placed b (checked (record { 0 = k }) j t (clientPlace b .state) .state))
+      (placed b (checked (record { 0 = k }) j t (clientPlace b .state) .state))
   checked-block j t =
       rw (checked-state me j t (at .state)) (stored-client n m clients k b ok (at .state) fits (B .names) (λ e. remainder-clear n m clients k b ok e))
 

@@ -96,10 +96,12 @@ module _ (n m clients k : ℕ) (b b′ : List ℕ) (ok : validClientBlock n m cl
       → ClientIs n m clients k b′ (record { living = eqb (getD b′ 0 0) 1; state = clientPlace b .state; downs = [] })
   no-flags l f =
       let M = moved n m clients k b b′ ok e l f (zero-bits (flags b′) z) (every-drop zeroWord n (flags b′) z)
-          (rw z (or-true (eqb (getD b′ 0 0) 1 && not (isRemainder (clientPlace b .state .section))))) in
-      record { place = M .place ∙
-          ap (λ (d : List ℕ). record { living = eqb (getD b′ 0 0) 1; state = clientPlace b .state; downs = d }) (none-flagged 1 (flags b′) z);
-          valid = M .valid }
+      (rw z (or-true (eqb (getD b′ 0 0) 1 && not (isRemainder (clientPlace b .state .section))))) in
+      record {
+        place = M .place ∙
+            ap (λ (d : List ℕ). record { living = eqb (getD b′ 0 0) 1; state = clientPlace b .state; downs = d }) (none-flagged 1 (flags b′) z);
+        valid = M .valid;
+      }
 
 module _ (n m clients k : ℕ) (b : List ℕ) (ok : validClientBlock n m clients (clientNo k) b ≡ true) where
   abbrev C : ClientBlock n m clients k b
@@ -127,7 +129,7 @@ module _ (n m clients k : ℕ) (b : List ℕ) (ok : validClientBlock n m clients
       let r : clientRecord (set b 0 0) ≡ clientRecord b = ap (take clientSize) (drop-set-lt 1 b 0 0 (omega arith)) in
       let f : getD (cleared (set b 0 0)) 0 0 ≡ 0 = cleared-first (set b 0 0) l ∙ getD-set-same b 0 0 0 (omega (arith, C .size)) in
       let M = no-flags n m clients k b (cleared (set b 0 0)) ok (cleared-record (set b 0 0) l ∙
-          r) (cleared-zero (set b 0 0) l) (length-cleared (set b 0 0) ∙ l) (rw f (omega arith)) in
+      r) (cleared-zero (set b 0 0) l) (length-cleared (set b 0 0) ∙ l) (rw f (omega arith)) in
       record { place = M .place ∙ rw f; valid = M .valid }
 
   -- what `put_flag` with 1 leaves, in an epoch
@@ -161,7 +163,7 @@ module _ (n m clients k : ℕ) (b : List ℕ) (ok : validClientBlock n m clients
     flag-block =
         let M =
         moved n m clients k b (set b (clientSize + j) 1) ok set-record (length-set b (clientSize + j) 1 ∙
-            C .size) (rw set-first (C .bit)) (rw set-flags (every-set bitWord (flags b) (j - 1) 1 (C .bits) refl))
+        C .size) (rw set-first (C .bit)) (rw set-flags (every-set bitWord (flags b) (j - 1) 1 (C .bits) refl))
         (rw (set-flags, drop-set-lt n (flags b) (j - 1) 1 (omega arith)) (C .behind))
         (rw (set-first, living-is, epoch)) in
         record { place = M .place ∙ rw (set-first, living-is, flag-downs, downs-are); valid = M .valid }
@@ -190,7 +192,7 @@ flag-next b vs i h =
     let z : clientSize + (i + 1) ≡ flagsFrom + i = omega arith in
     let t : take (i + 1) vs ≡ take i vs ++ (getD vs i 0 ∷ []) = rw add-one (take-suc vs i 0 h) in
     rw (z, t) (stored-on b (sets b flagsFrom (take i vs)) (set (sets b flagsFrom (take i vs)) (flagsFrom + i) (getD vs i 0)) (take i vs)
-        (getD vs i 0 ∷ []) flagsFrom (flagsFrom + i) refl refl (omega (arith, length-take-le i vs (omega arith))))
+    (getD vs i 0 ∷ []) flagsFrom (flagsFrom + i) refl refl (omega (arith, length-take-le i vs (omega arith))))
 
 down-bits : (qs : List ServerPlace) → every bitWord (map downBit qs) ≡ true
 down-bits [] = refl
@@ -215,7 +217,7 @@ module _ (n m clients k : ℕ) (b : List ℕ) (ok : validClientBlock n m clients
       let l : length (flags b) ≡ systemServers = simp (length-take, length-drop) (omega (arith, D .size)) in
       let z : 0 + length bits ≡ n = omega (arith, count, few-servers) in
       region-inside flagsFrom systemServers b 0 bits (omega (arith, count, few-servers)) ∙
-          sets-eq bits (flags b) 0 (omega (arith, count, few-servers)) ∙ ap (λ (x : ℕ). bits ++ drop x (flags b)) z
+      sets-eq bits (flags b) 0 (omega (arith, count, few-servers)) ∙ ap (λ (x : ℕ). bits ++ drop x (flags b)) z
 
   put-record : clientRecord (sets b flagsFrom bits) ≡ clientRecord b
   put-record = region-behind 1 clientSize b 0 bits
@@ -227,10 +229,10 @@ module _ (n m clients k : ℕ) (b : List ℕ) (ok : validClientBlock n m clients
       (record { living = clientPlace b .living; state = clientPlace b .state; downs = downFrom 1 qs })
   put-block epoch =
       let p : every bitWord (flags (sets b flagsFrom bits)) ≡ true = rw put-flags
-          (every-append bitWord bits (drop n (flags b)) (down-bits qs) (every-drop bitWord n (flags b) (D .bits))) in
+      (every-append bitWord bits (drop n (flags b)) (down-bits qs) (every-drop bitWord n (flags b) (D .bits))) in
       let r : every zeroWord (drop n (flags (sets b flagsFrom bits))) ≡ true = rw (put-flags, drop-at bits (drop n (flags b)) n count) (D .behind) in
       let M = moved n m clients k b (sets b flagsFrom bits) ok put-record (length-sets b flagsFrom bits ∙
-          D .size) (rw put-first (D .bit)) p r (rw (put-first, living-is n m clients k b ok, epoch)) in
+      D .size) (rw put-first (D .bit)) p r (rw (put-first, living-is n m clients k b ok, epoch)) in
       record { place = M .place ∙ rw (put-first, living-is n m clients k b ok, put-flags, down-flagged 1 qs (drop n (flags b)) (D .behind)); valid = M .valid }
 
 -- the record of a try is written, and the flags of the servers are put
@@ -238,7 +240,7 @@ pub tried-block : (n m clients k : ℕ) (b : List ℕ) → validClientBlock n m 
     → isRemainder (clientPlace b .state .section) ≡ true
     → mayTry (clientPlace b .state) ≡ true → (qs : List ServerPlace) → length qs ≡ n
     → ClientIs n m clients k (sets (written n m k b (tries n (record { 0 = k }) (clientPlace b .state) .state)) flagsFrom (map downBit qs))
-        (record { living = true; state = tries n (record { 0 = k }) (clientPlace b .state) .state; downs = downFrom 1 qs })
+    (record { living = true; state = tries n (record { 0 = k }) (clientPlace b .state) .state; downs = downFrom 1 qs })
 unfolding tries
 tried-block n m clients k b ok alive h g qs all =
     let T = tries-block n m clients k b ok h g in

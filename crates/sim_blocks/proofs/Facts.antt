@@ -86,8 +86,19 @@ module _ (n m clients k : ℕ) (b : List ℕ) where
     pub client-block : validClientBlock n m clients (clientNo k) b ≡ true
     unfolding validClientBlock fitsClient fitsFlags clientPlace
     client-block =
-        rw (eq-eqb _ _ (B .size), le-leb _ _ (B .bit), B .held, B .valid, eq-eqb _ _ (B .servers), eq-eqb _ _ (B .threshold),
-            eq-eqb _ _ (ap (λ (i : ClientId). i .0) (B .number)), B .names, B .bits, B .behind, B .outside)
+        rw (
+          eq-eqb _ _ (B .size),
+          le-leb _ _ (B .bit),
+          B .held,
+          B .valid,
+          eq-eqb _ _ (B .servers),
+          eq-eqb _ _ (B .threshold),
+          eq-eqb _ _ (ap (λ (i : ClientId). i .0) (B .number)),
+          B .names,
+          B .bits,
+          B .behind,
+          B .outside,
+        )
 
     -- its state fits its numbers
     pub client-fits : Fits n m (record { 0 = k }) (clientPlace b .state)
@@ -137,8 +148,15 @@ module _ (n clients j : ℕ) (b : List ℕ) where
     pub server-block : validServerBlock n clients (serverNo j) b ≡ true
     unfolding validServerBlock fitsServer serverPlace
     server-block =
-        rw (eq-eqb _ _ (B .size), le-leb _ _ (B .bit), B .held, B .valid, eq-eqb _ _ (B .servers),
-            eq-eqb _ _ (ap (λ (i : ServerId). i .0) (B .number)), B .names)
+        rw (
+          eq-eqb _ _ (B .size),
+          le-leb _ _ (B .bit),
+          B .held,
+          B .valid,
+          eq-eqb _ _ (B .servers),
+          eq-eqb _ _ (ap (λ (i : ServerId). i .0) (B .number)),
+          B .names,
+        )
 
     -- its numbers are in range, and its state is good
     pub server-sizes : server.validSizes n (record { 0 = j }) ≡ true

@@ -120,5 +120,8 @@ longer (Of r) l = omega arith
 
 pub queue-fits : (c : ℕ) (q : State) → Good q → every (namedPair c) (candidates q) ≡ true → length (q .queue) ≤ c
 queue-fits c q g h =
-    omega (arith, longer (q .owner) (q .queue),
-        few-clients c (candidates q) (g .single) (within-all c (candidates q) (candidates-valid (q .owner) (q .queue) (g .owner) (g .all)) h))
+    omega (
+      arith,
+      longer (q .owner) (q .queue),
+      few-clients c (candidates q) (g .single) (within-all c (candidates q) (candidates-valid (q .owner) (q .queue) (g .owner) (g .all)) h),
+    )

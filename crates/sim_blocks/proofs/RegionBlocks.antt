@@ -28,7 +28,7 @@ module _ {A : Type 0} (size : ℕ) (f : List ℕ → A) where
       (ap (λ (x : List A). f (take size l) ∷ x) (block-stored count i (drop size l) a vs (omega arith) h) ∙
       (ap (λ (x : List ℕ). f (take size l) ∷ set (blocks size f count (drop size l)) i (f (sets (take size x) a vs))) (drop-drop (i * size) size l) ∙
       ap (λ (x : ℕ). f (take size l) ∷ set (blocks size f count (drop size l)) i (f (sets (take size (drop x l)) a vs)))
-          (let w : size + i * size ≡ suc i * size = omega arith in w)))))
+      (let w : size + i * size ≡ suc i * size = omega arith in w)))))
 
   pub block-at : (count i : ℕ) (l : List ℕ) (d : A) → i < count → getD (blocks size f count l) i d ≡ f (take size (drop (i * size) l))
   unfolding blocks

@@ -25,7 +25,7 @@ drop-sets-at s l a [] = refl
 drop-sets-at s l a (v ∷ vs) =
     let z : suc (s + a) ≡ s + suc a = omega arith in
     ap (λ (i : ℕ). drop s (sets (set l (s + a) v) i vs)) z ∙
-        (drop-sets-at s (set l (s + a) v) (suc a) vs ∙ ap (λ (x : List ℕ). sets x (suc a) vs) (drop-set-add s l a v))
+    (drop-sets-at s (set l (s + a) v) (suc a) vs ∙ ap (λ (x : List ℕ). sets x (suc a) vs) (drop-set-add s l a v))
 
 -- a region, after stores inside it, before it and behind it
 module _ (from size : ℕ) (l : List ℕ) (a : ℕ) (vs : List ℕ) where
@@ -39,4 +39,4 @@ module _ (from size : ℕ) (l : List ℕ) (a : ℕ) (vs : List ℕ) where
   region-behind =
       let z : from + size + a ≡ from + (size + a) = omega arith in
       ap (λ (i : ℕ). region from size (sets l i vs)) z ∙
-          (ap (take size) (drop-sets-at from l (size + a) vs) ∙ take-sets-after size (drop from l) (size + a) vs (omega arith))
+      (ap (take size) (drop-sets-at from l (size + a) vs) ∙ take-sets-after size (drop from l) (size + a) vs (omega arith))

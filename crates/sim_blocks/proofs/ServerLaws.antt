@@ -66,7 +66,7 @@ module _ (n clients j : ℕ) (b : List ℕ) (size : length b ≡ serverBlock) (b
     its-record =
         let w = server-long kept kept-row in
         region-inside 1 serverSize b 0 (serverWords kept) (omega arith) ∙
-            covered (serverRecord b) (serverWords kept) (simp (length-take, length-drop) (omega arith))
+        covered (serverRecord b) (serverWords kept) (simp (length-take, length-drop) (omega arith))
 
     its-server : serverFrom (serverRecord (server-written n j b q)) ≡ kept
     its-server = ap serverFrom its-record ∙ words-held .1
@@ -115,7 +115,7 @@ module _ (n clients j : ℕ) (b : List ℕ) (ok : validServerBlock n clients (se
   unfolding serverPlace
   set-place =
       let v : server.view (serverFrom (serverRecord (set b 0 x))) ≡ server.view (serverFrom (serverRecord b)) = ap
-          (λ (l : List ℕ). server.view (serverFrom l)) same-record in
+      (λ (l : List ℕ). server.view (serverFrom l)) same-record in
       λ i. record { up = eqb (first-set i) 1; state = v i }
 
   set-up : ServerIs n clients j (set b 0 x) (record { up = eqb x 1; state = serverPlace b .state })
@@ -152,5 +152,8 @@ module _ (n clients j : ℕ) (b : List ℕ) (ok : validServerBlock n clients (se
       let F = server-facts n clients j b ok in
       let S = stored-server n clients j b ok idle idle-good refl (omega arith) in
       let D = set-up n clients j (server-written n j b idle) (S .valid) 0 (omega arith) in
-      rw (F .servers, F .number,
-          empty-row n j) (record { place = D .place ∙ ap (λ (p : ServerPlace). record { up = false; state = p .state }) (S .place); valid = D .valid })
+      rw (
+        F .servers,
+        F .number,
+        empty-row n j,
+      ) (record { place = D .place ∙ ap (λ (p : ServerPlace). record { up = false; state = p .state }) (S .place); valid = D .valid })

@@ -128,7 +128,7 @@ module _ (n clients j : ℕ) (b : List ℕ) (ok : validServerBlock n clients (se
 
       pub receive-block : clients ≤ systemClients
           → ServerIs n clients j (server-written n j b (receive (record { 0 = j }) tag r (serverPlace b .state) .state))
-              (record { up = serverPlace b .up; state = receive (record { 0 = j }) tag r (serverPlace b .state) .state })
+          (record { up = serverPlace b .up; state = receive (record { 0 = j }) tag r (serverPlace b .state) .state })
       receive-block few = stored-server n clients j b ok (receive me tag r at .state) (receive-good me tag r at v good) receive-names
           (omega (arith, receive-short))
 
@@ -143,7 +143,7 @@ module _ (n clients j : ℕ) (b : List ℕ) (ok : validServerBlock n clients (se
 
   pub suspect-block : clients ≤ systemClients
       → ServerIs n clients j (server-written n j b (suspect (record { 0 = j }) (serverPlace b .state) .state))
-          (record { up = serverPlace b .up; state = suspect (record { 0 = j }) (serverPlace b .state) .state })
+      (record { up = serverPlace b .up; state = suspect (record { 0 = j }) (serverPlace b .state) .state })
   suspect-block few =
       stored-server n clients j b ok (suspect me at .state) (suspect-good me at good) suspect-names (omega (arith, suspect-short))
 
@@ -158,7 +158,7 @@ module _ (n clients j : ℕ) (b : List ℕ) (ok : validServerBlock n clients (se
 
   pub check-block : clients ≤ systemClients
       → ServerIs n clients j (server-written n j b (check (record { 0 = j }) (serverPlace b .state) .state))
-          (record { up = serverPlace b .up; state = check (record { 0 = j }) (serverPlace b .state) .state })
+      (record { up = serverPlace b .up; state = check (record { 0 = j }) (serverPlace b .state) .state })
   check-block few =
       stored-server n clients j b ok (check me at .state) (check-good me at good) check-names (omega (arith, check-short))
 
@@ -170,13 +170,13 @@ module _ (n clients j : ℕ) (b : List ℕ) (ok : validServerBlock n clients (se
   pub receive-outcome : (tag : Tag) (k : ClientId) (t : Timestamp) → format.valid (message tag k (record { 0 = j }) t) ≡ true
       → leb (k .0) clients ≡ true → clients ≤ systemClients
       → messageOutcome (serverFrom (serverRecord b)) (message tag k (record { 0 = j }) t) ≡ stepped
-          (receive (record { 0 = j }) tag (record { client = k; timestamp = t }) (serverPlace b .state))
+      (receive (record { 0 = j }) tag (record { client = k; timestamp = t }) (serverPlace b .state))
   unfolding messageOutcomeUpTo
   receive-outcome tag k t w c few =
       let r : Request = record { client = k; timestamp = t } in
       let s = receive-short tag r c (message-request tag k me t w) in
       let f : ltb (length (its .row)) (2 * length (receive me tag r at .state .queue)) ≡ false = le-ltb (length (its .row))
-          (2 * length (receive me tag r at .state .queue)) (omega (arith, row-long)) in
+      (2 * length (receive me tag r at .state .queue)) (omega (arith, row-long)) in
       rw (B .valid, w, received-as its tag k me t, shows, B .number, eq-eqb j j refl, f)
 
   pub suspect-outcome : (o : Request) → serverPlace b .state .owner ≡ Of o

@@ -147,8 +147,14 @@ module _ (n m clients : ℕ) (k : ClientId) (ws : List ℕ) (c : Client) (e : c 
             → y ≡ fitsClient n m clients k (clientFrom ws)
         unfolding fitsClient clientHeadFrom client.view
         named-decides h y q =
-            rw (good, eq-eqb (getD ws 0 0) n f, eq-eqb (getD ws 1 0) m g, eq-eqb (getD ws 2 0) (k .0) h, f,
-                named-places clients (take n (requestsIn (drop recordHead ws)))) q
+            rw (
+              good,
+              eq-eqb (getD ws 0 0) n f,
+              eq-eqb (getD ws 1 0) m g,
+              eq-eqb (getD ws 2 0) (k .0) h,
+              f,
+              named-places clients (take n (requestsIn (drop recordHead ws))),
+            ) q
 
 -- a server's record
 named-owner : (clients k t : ℕ) (l : List Request) → every (namedPair clients)
@@ -173,8 +179,13 @@ module _ (n clients : ℕ) (j : ServerId) (ws : List ℕ) (s : Server) (e : s �
 
     pub length-fits : holdsServer ws ≡ true → recordHead + 2 * getD ws 4 0 ≤ length ws
     unfolding serverHeadFrom
-    length-fits h = let P = valid-padded maxServers (serverFrom ws) sound in omega (arith, P .within, P .places .even,
-        length-drop recordHead ws, server-held ws h .size)
+    length-fits h = let P = valid-padded maxServers (serverFrom ws) sound in omega (
+      arith,
+      P .within,
+      P .places .even,
+      length-drop recordHead ws,
+      server-held ws h .size,
+    )
 
     pub server-count-differs : (getD ws 0 0 ≡ n → ⊥) → false ≡ fitsServer n clients j (serverFrom ws)
     unfolding fitsServer serverHeadFrom
@@ -192,26 +203,36 @@ module _ (n clients : ℕ) (j : ServerId) (ws : List ℕ) (s : Server) (e : s �
         pub owner-unknown : clients < getD ws 2 0 → false ≡ fitsServer n clients j (serverFrom ws)
         unfolding fitsServer serverHeadFrom
         owner-unknown h =
-            rw (sound, eq-eqb (getD ws 0 0) n f, eq-eqb (getD ws 1 0) (j .0) g, named-owner clients (getD ws 2 0) (getD ws 3 0) queue,
-                lt-leb (getD ws 2 0) clients h)
+            rw (
+              sound,
+              eq-eqb (getD ws 0 0) n f,
+              eq-eqb (getD ws 1 0) (j .0) g,
+              named-owner clients (getD ws 2 0) (getD ws 3 0) queue,
+              lt-leb (getD ws 2 0) clients h,
+            )
 
         pub queue-decides : getD ws 2 0 ≤ clients → (y : Bool)
             → y ≡ every (namedPair clients) (take (getD ws 4 0) (requestsIn (drop recordHead ws)))
             → y ≡ fitsServer n clients j (serverFrom ws)
         unfolding fitsServer serverHeadFrom
         queue-decides h y q =
-            rw (sound, eq-eqb (getD ws 0 0) n f, eq-eqb (getD ws 1 0) (j .0) g, named-owner clients (getD ws 2 0) (getD ws 3 0) queue,
-                le-leb (getD ws 2 0) clients h) q
+            rw (
+              sound,
+              eq-eqb (getD ws 0 0) n f,
+              eq-eqb (getD ws 1 0) (j .0) g,
+              named-owner clients (getD ws 2 0) (getD ws 3 0) queue,
+              le-leb (getD ws 2 0) clients h,
+            ) q
 
 -- a whole block
 pub few-servers : (n m clients : ℕ) (k : ClientId) (c : Client) → fitsClient n m clients k c ≡ true → n ≤ systemServers
 unfolding fitsClient
 few-servers n m clients k c h =
     let (v, r) = both (client.valid c)
-        (eqb (c .head .n) n && (eqb (c .head .m) m && (eqb (c .head .id .0) (k .0) && every (named clients) (client.view c .responses))))
-        h in
+    (eqb (c .head .n) n && (eqb (c .head .m) m && (eqb (c .head .id .0) (k .0) && every (named clients) (client.view c .responses))))
+    h in
     let e : c .head .n ≡ n = eqb-true (c .head .n) n
-        (both (eqb (c .head .n) n) (eqb (c .head .m) m && (eqb (c .head .id .0) (k .0) && every (named clients) (client.view c .responses))) r .0) in
+    (both (eqb (c .head .n) n) (eqb (c .head .m) m && (eqb (c .head .id .0) (k .0) && every (named clients) (client.view c .responses))) r .0) in
     let K = valid-known c v in
     omega (arith, K .few)
 

@@ -40,7 +40,7 @@ module _ (f : List ℕ → ClientPlace) (l : List ℕ) where
         let z : i + 1 - 1 ≡ i = omega arith in
         let y : i + 1 ≡ suc i = omega arith in
         let is : isInside (f (take clientBlock (drop (i * clientBlock) l))) ≡ x = ap
-            (λ (k : ℕ). isInside (f (take clientBlock (drop (k * clientBlock) l)))) (sym z) ∙ (sym e ∙ t) in
+        (λ (k : ℕ). isInside (f (take clientBlock (drop (k * clientBlock) l)))) (sym z) ∙ (sym e ∙ t) in
         ap (λ (k : ℕ). count (map isInside (blocks clientBlock f k l))) y ∙
         (count-more clientBlock f i l ∙ (ap (λ (k : ℕ). k + (if isInside (f (take clientBlock (drop (i * clientBlock) l))) then 1 else 0))
         (sym (S .counted)) ∙ ap (λ (v : Bool). found + (if v then 1 else 0)) is))

@@ -96,5 +96,13 @@ module _ {w h c s t : List ℕ} (p : Is w h c s t) where
 
   pub view-is : view w ≡ systemIn h c s t
   unfolding view systemIn settingOf
-  view-is = rw (head-word 0 (omega arith), head-word 3 (omega arith), head-word 4 (omega arith), head-word 5 (omega arith),
-      head-word 6 (omega arith), p .clients, p .servers, p .transit)
+  view-is = rw (
+    head-word 0 (omega arith),
+    head-word 3 (omega arith),
+    head-word 4 (omega arith),
+    head-word 5 (omega arith),
+    head-word 6 (omega arith),
+    p .clients,
+    p .servers,
+    p .transit,
+  )

@@ -45,7 +45,7 @@ module _ (f : List ℕ → ClientPlace) (l : List ℕ) where
       let z : i + 1 - 1 ≡ i = omega arith in
       let y : i + 1 ≡ suc i = omega arith in
       let x′ : x ≡ length (f (take clientBlock (drop (i * clientBlock) l)) .downs) = g ∙
-          ap (λ (k : ℕ). length (f (take clientBlock (drop (k * clientBlock) l)) .downs)) z in
+      ap (λ (k : ℕ). length (f (take clientBlock (drop (k * clientBlock) l)) .downs)) z in
       h ∙ (omega (arith, e, x′, worst-more clientBlock f i l) ∙ ap (λ (k : ℕ). worst (blocks clientBlock f k l)) (sym y))
 
   pub worst-end : (i c r : ℕ) → i ≤ c → c ≤ i → r ≡ worst (blocks clientBlock f i l) → r ≡ worst (blocks clientBlock f c l)
@@ -126,8 +126,15 @@ module _ (w : List ℕ) where
   parts-of : Facts w → inParts ≡ true
   unfolding partsValid blocksValid view
   parts-of f =
-      rw (f .clients, f .noClients, f .servers, f .noServers, f .transit, le-leb (mostOf w) (settingOf w .n) (f .few),
-          le-leb (worst (blocks clientBlock clientPlace (settingOf w .clients) (clientWords w))) (mostOf w) (f .noted))
+      rw (
+        f .clients,
+        f .noClients,
+        f .servers,
+        f .noServers,
+        f .transit,
+        le-leb (mostOf w) (settingOf w .n) (f .few),
+        le-leb (worst (blocks clientBlock clientPlace (settingOf w .clients) (clientWords w))) (mostOf w) (f .noted),
+      )
 
   facts-of : length w ≡ simulationSize → inRangeUpTo systemServers (settingOf w .n) (settingOf w .m) (settingOf w .f) ≡ true
       → within (settingOf w .clients) systemClients ≡ true → inParts ≡ true → Facts w
@@ -138,10 +145,10 @@ module _ (w : List ℕ) where
       let b = both _ (validSlots (settingOf w .n) (settingOf w .clients) (sentOf w) (lengthOf w) (transitWords w)) (c .0) in
       let e = both _ (blank (drop (settingOf w .n * serverBlock) (serverWords w))) (b .0) in
       let f = both _ (validFrom (λ (i : ℕ). validServerBlock (settingOf w .n) (settingOf w .clients) (serverNo i)) 1
-          (blocks serverBlock itself (settingOf w .n) (serverWords w))) (e .0) in
+      (blocks serverBlock itself (settingOf w .n) (serverWords w))) (e .0) in
       let g = both (validFrom (λ (i : ℕ). validClientBlock (settingOf w .n) (settingOf w .m) (settingOf w .clients) (clientNo i)) 1
-          (blocks clientBlock itself (settingOf w .clients) (clientWords w))) (blank
-          (drop (settingOf w .clients * clientBlock) (clientWords w))) (f .0) in
+      (blocks clientBlock itself (settingOf w .clients) (clientWords w))) (blank
+      (drop (settingOf w .clients * clientBlock) (clientWords w))) (f .0) in
       record {
         long = l;
         range = r;

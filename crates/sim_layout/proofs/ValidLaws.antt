@@ -100,10 +100,10 @@ facts w h =
     let g = both _ (validSlots (settingOf w .n) (settingOf w .clients) (sentOf w) (lengthOf w) (transitWords w)) (i .0) in
     let f = both _ (blank (drop (settingOf w .n * serverBlock) (serverWords w))) (g .0) in
     let e = both _ (validFrom (λ (i : ℕ). validServerBlock (settingOf w .n) (settingOf w .clients) (serverNo i)) 1
-        (blocks serverBlock itself (settingOf w .n) (serverWords w))) (f .0) in
+    (blocks serverBlock itself (settingOf w .n) (serverWords w))) (f .0) in
     let d = both _ (blank (drop (settingOf w .clients * clientBlock) (clientWords w))) (e .0) in
     let c = both _ (validFrom (λ (i : ℕ). validClientBlock (settingOf w .n) (settingOf w .m) (settingOf w .clients) (clientNo i)) 1
-        (blocks clientBlock itself (settingOf w .clients) (clientWords w))) (d .0) in
+    (blocks clientBlock itself (settingOf w .clients) (clientWords w))) (d .0) in
     let b = both _ (within (settingOf w .clients) systemClients) (c .0) in
     let a = both (eqb (length w) simulationSize) (inRangeUpTo systemServers (settingOf w .n) (settingOf w .m) (settingOf w .f)) (b .0) in
     record {
@@ -122,5 +122,15 @@ facts w h =
 pub from-facts : (w : List ℕ) → Facts w → valid w ≡ true
 unfolding valid
 from-facts w f =
-    rw (eq-eqb (length w) simulationSize (f .long), f .range, f .some, f .clients, f .noClients, f .servers, f .noServers, f .transit,
-        le-leb (mostOf w) (settingOf w .n) (f .few), le-leb (worst (view w .clients)) (mostOf w) (f .noted))
+    rw (
+      eq-eqb (length w) simulationSize (f .long),
+      f .range,
+      f .some,
+      f .clients,
+      f .noClients,
+      f .servers,
+      f .noServers,
+      f .transit,
+      le-leb (mostOf w) (settingOf w .n) (f .few),
+      le-leb (worst (view w .clients)) (mostOf w) (f .noted),
+    )

@@ -90,10 +90,17 @@ client-stored w i a vs lt few h =
     let within : i * clientBlock + a + length vs ≤ clientsSize = omega arith in
     let s = setting-kept w (clientsFrom + (i * clientBlock + a)) vs (omega arith) in
     let head : (j : ℕ) → j < clientsFrom → getD (sets w (clientsFrom + (i * clientBlock + a)) vs) j 0 ≡ getD w j 0 = λ j q. head-kept w
-        (clientsFrom + (i * clientBlock + a)) vs j (omega arith) in
-    rw (s, in-clients w (i * clientBlock + a) vs within, clients-servers w (i * clientBlock + a) vs within,
-        clients-transit w (i * clientBlock + a) vs within, head 4 (omega arith), head 5 (omega arith), head 6 (omega arith),
-        block-stored clientBlock clientPlace (settingOf w .clients) i (clientWords w) a vs lt h)
+    (clientsFrom + (i * clientBlock + a)) vs j (omega arith) in
+    rw (
+      s,
+      in-clients w (i * clientBlock + a) vs within,
+      clients-servers w (i * clientBlock + a) vs within,
+      clients-transit w (i * clientBlock + a) vs within,
+      head 4 (omega arith),
+      head 5 (omega arith),
+      head 6 (omega arith),
+      block-stored clientBlock clientPlace (settingOf w .clients) i (clientWords w) a vs lt h,
+    )
 
 -- server block i, counted from 0
 pub server-stored : (w : List ℕ) (i a : ℕ) (vs : List ℕ) → i < settingOf w .n → settingOf w .n ≤ systemServers → a + length vs ≤ serverBlock →
@@ -110,7 +117,14 @@ server-stored w i a vs lt few h =
     let within : i * serverBlock + a + length vs ≤ serversSize = omega arith in
     let s = setting-kept w (serversFrom + (i * serverBlock + a)) vs (omega arith) in
     let head : (j : ℕ) → j < clientsFrom → getD (sets w (serversFrom + (i * serverBlock + a)) vs) j 0 ≡ getD w j 0 = λ j q. head-kept w
-        (serversFrom + (i * serverBlock + a)) vs j (omega arith) in
-    rw (s, servers-clients w (i * serverBlock + a) vs within, in-servers w (i * serverBlock + a) vs within,
-        servers-transit w (i * serverBlock + a) vs within, head 4 (omega arith), head 5 (omega arith), head 6 (omega arith),
-        block-stored serverBlock serverPlace (settingOf w .n) i (serverWords w) a vs lt h)
+    (serversFrom + (i * serverBlock + a)) vs j (omega arith) in
+    rw (
+      s,
+      servers-clients w (i * serverBlock + a) vs within,
+      in-servers w (i * serverBlock + a) vs within,
+      servers-transit w (i * serverBlock + a) vs within,
+      head 4 (omega arith),
+      head 5 (omega arith),
+      head 6 (omega arith),
+      block-stored serverBlock serverPlace (settingOf w .n) i (serverWords w) a vs lt h,
+    )

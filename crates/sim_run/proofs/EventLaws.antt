@@ -33,7 +33,7 @@ counted-accepted c r sent holders k e q = rw (e, q)
 -- from the outcome to the run after it
 outcome : (s : Setting) (u v : System) (o : Result) → v ≡ after u o → (c d : Counts) → d ≡ counted c (replyOf u o) →
     _≡_ {A = Run} (record { setting = s; system = v; accepted = d .accepted; holding = d .holding })
-        (moved (record { setting = s; system = u; accepted = c .accepted; holding = c .holding }) o)
+    (moved (record { setting = s; system = u; accepted = c .accepted; holding = c .holding }) o)
 unfolding moved counted replyOf after
 outcome s u v (refused x) p c d q = rw (p, q)
 outcome s u v (stepped t) p c d q = rw (p, q)
@@ -42,7 +42,7 @@ module _ (c : Counts) (w : List ℕ) (e : Event) (w′ : List ℕ) (reply : Repl
   pub goes : (d : Counts) → d ≡ counted c reply → Goes c w e w′ (record { counts = d; reply = reply })
   goes d q =
       let t : _≡_ {A = Run} (runIn d w′) (record { setting = settingOf w; system = view w′; accepted = d .accepted; holding = d .holding }) =
-          λ i. record { setting = h .0 .setting i; system = view w′; accepted = d .accepted; holding = d .holding } in
+      λ i. record { setting = h .0 .setting i; system = view w′; accepted = d .accepted; holding = d .holding } in
       record {
         run = t ∙ outcome (settingOf w) (view w) (view w′) (happens w e) (h .0 .system) c d (q ∙ ap (counted c) (h .1));
         reply = h .1;

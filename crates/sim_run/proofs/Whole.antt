@@ -60,8 +60,12 @@ module _ (r : Run) where
         let k : ℕ = mostHolders (happens (r .setting)) w es in
         let x : r .accepted + b + n ≡ r .accepted + (b + n) = omega arith in
         let y : max (max (r .holding) (holders w)) k ≡ max (r .holding) (max (holders (r .system)) k) = omega (arith, h, most-least (r .setting) w es) in
-        rw (moved-setting o, moved-system o, moved-accepted o,
-            moved-holding o) (λ i. record { setting = r .setting; system = runBy (happens (r .setting)) w es; accepted = x i; holding = y i })
+        rw (
+          moved-setting o,
+          moved-system o,
+          moved-accepted o,
+          moved-holding o,
+        ) (λ i. record { setting = r .setting; system = runBy (happens (r .setting)) w es; accepted = x i; holding = y i })
 
 pub plays-ahead : (es : List Event) (r : Run) → holders (r .system) ≤ r .holding → plays r es ≡ ahead r es
 unfolding plays acceptedEvents mostHolders runBy
@@ -75,8 +79,12 @@ plays-ahead (e ∷ es) r h =
     plays-ahead es (next r e) k ∙ by-counts r h e es
 
 -- The whole run of a setting: the events accepted, and the most living holders at once.
-pub plays-counted : (s : Setting) (es : List Event) → plays (started s) es ≡ record { setting = s; system = runBy (happens s) (fresh s) es;
-    accepted = acceptedEvents (happens s) (fresh s) es; holding = mostHolders (happens s) (fresh s) es }
+pub plays-counted : (s : Setting) (es : List Event) → plays (started s) es ≡ record {
+  setting = s;
+  system = runBy (happens s) (fresh s) es;
+  accepted = acceptedEvents (happens s) (fresh s) es;
+  holding = mostHolders (happens s) (fresh s) es;
+}
 plays-counted s es =
     let y : max (holders (fresh s)) (mostHolders (happens s) (fresh s) es) ≡ mostHolders (happens s) (fresh s) es = omega (arith, most-least s (fresh s) es) in
     let x : 0 + acceptedEvents (happens s) (fresh s) es ≡ acceptedEvents (happens s) (fresh s) es = omega arith in

@@ -43,7 +43,7 @@ module _ (t t′ : List ℕ) (i k : ℕ) (size : length t ≡ transitSize) (size
       → slotAt t′ i .number ≡ slotAt t i .number → Known n clients sent (i + suc k) t′
   changed-known n clients sent K v e =
       let f : every (validSlot n clients) (rows i t ++ (take slotSize (drop (slotSize * i) t) ∷ rows k (drop (slotSize * suc i) t))) ≡ true =
-          rw (rows-around i k t) at (K .fit) in
+      rw (rows-around i k t) at (K .fit) in
       let (p, q) = every-parts (validSlot n clients) (rows i t) (take slotSize (drop (slotSize * i) t) ∷ rows k (drop (slotSize * suc i) t)) f in
       let r = both (validSlot n clients (take slotSize (drop (slotSize * i) t))) (every (validSlot n clients) (rows k (drop (slotSize * suc i) t))) q .1 in
       let q′ : every (validSlot n clients) (take slotSize (drop (slotSize * i) t′) ∷ rows k (drop (slotSize * suc i) t)) ≡ true = rw v r in
@@ -83,7 +83,7 @@ module _ (t : List ℕ) (i : ℕ) (size : length t ≡ transitSize) (used : i < 
     marked-known : Valid n clients sent len (set t (slotSize * i + 1) 1)
     marked-known =
         let v : validSlot n clients (take slotSize (drop (slotSize * i) (set t (slotSize * i + 1) 1))) ≡ true = rw (store-here t i 1)
-            (marked-valid n clients (row-seven t i size used) its-slot) in
+        (marked-valid n clients (row-seven t i size used) its-slot) in
         let l : length (set t (slotSize * i + 1) 1) ≡ transitSize = length-set t (slotSize * i + 1) 1 ∙ size in
         let K = its-known in
         rw e (known-valid n clients sent (i + suc k) (set t (slotSize * i + 1) 1)

@@ -51,7 +51,7 @@ rows-joined zero t = refl
 rows-joined (suc k) t =
     let z : slotSize * suc k ≡ slotSize + slotSize * k = omega arith in
     let e : joined (rows k (drop slotSize t)) ++ drop (slotSize + slotSize * k) t ≡ drop slotSize t = rw
-        (← drop-drop (slotSize * k) slotSize t) (rows-joined k (drop slotSize t)) in
+    (← drop-drop (slotSize * k) slotSize t) (rows-joined k (drop slotSize t)) in
     rw (z, append-assoc (take slotSize t) (joined (rows k (drop slotSize t))) (drop (slotSize + slotSize * k) t), e) (take-append-drop slotSize t)
 
 zeros-same : (a b : List ℕ) → length a ≡ length b → every (eqb 0) a ≡ true → every (eqb 0) b ≡ true → a ≡ b
@@ -72,5 +72,5 @@ same-words n clients sent n′ clients′ sent′ len s t ok ok′ e =
     let b = rows-again n′ clients′ len t (omega (arith, L .size, L .few)) (L .fit) in
     let r : rows len s ≡ rows len t = sym a ∙ (ap (map slotWords) e ∙ b) in
     let d : drop (slotSize * len) s ≡ drop (slotSize * len) t = zeros-same (drop (slotSize * len) s) (drop (slotSize * len) t)
-        (omega (arith, length-drop (slotSize * len) s, length-drop (slotSize * len) t, K .size, L .size)) (K .rest) (L .rest) in
+    (omega (arith, length-drop (slotSize * len) s, length-drop (slotSize * len) t, K .size, L .size)) (K .rest) (L .rest) in
     sym (rows-joined len s) ∙ (rw (r, d) (rows-joined len t))

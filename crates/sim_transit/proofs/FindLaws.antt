@@ -42,8 +42,12 @@ module _ (sent : ℕ) where
       omega (arith, number-at t 0, climbs (slotOf (take slotSize t) .number) k (drop slotSize t) (r .others) m (omega arith), number-behind t m)
   in-order last (suc k) t e (suc i) (suc m) h g =
       let r = rising sent last (slotOf (take slotSize t)) (slots k (drop slotSize t)) (rw (slots-cons k t) at e) in
-      omega (arith, in-order (slotOf (take slotSize t) .number) k (drop slotSize t) (r .others) i m (omega arith) (omega arith),
-          number-behind t i, number-behind t m)
+      omega (
+        arith,
+        in-order (slotOf (take slotSize t) .number) k (drop slotSize t) (r .others) i m (omega arith) (omega arith),
+        number-behind t i,
+        number-behind t m,
+      )
 
 -- the numbers of a valid list of slots ascend
 pub valid-ordered : (n clients sent len : ℕ) (t : List ℕ) → validSlots n clients sent len t ≡ true → Ordered len t
@@ -61,8 +65,14 @@ pub record Searching (number len : ℕ) (t : List ℕ) (low high : ℕ) : Type 0
 module _ (number len : ℕ) (t : List ℕ) where
   pub searching-none : Sized len t → Searching number len t 0 len
   searching-none s =
-      record { middle = omega arith; within = omega arith; size = s .size; few = s .few; below = λ o i h. absurd (omega arith);
-          above = λ o i h g. absurd (omega arith) }
+      record {
+        middle = omega arith;
+        within = omega arith;
+        size = s .size;
+        few = s .few;
+        below = λ o i h. absurd (omega arith);
+        above = λ o i h g. absurd (omega arith);
+      }
 
   module _ (low high : ℕ) (S : Searching number len t low high) where
     pub searching-up : (m : ℕ) → low ≤ m → m < high → getD t (slotSize * m) 0 < number → Searching number len t (m + 1) high
@@ -212,8 +222,12 @@ module _ (number len : ℕ) (t : List ℕ) (r : ℕ) (B : Bound number len t r) 
       from-here = rw (z, slots-around r k t) (pending-past number r t (slotAt t r ∷ slots k (drop (slotSize * suc r) t)) (none-before o))
 
       present-here : present number (slots len t) ≡ true
-      present-here = rw (z, slots-around r k t, present-past number r t (slotAt t r ∷ slots k (drop (slotSize * suc r) t)) (none-before o),
-          eq-eqb (slotAt t r .number) number its-number)
+      present-here = rw (
+        z,
+        slots-around r k t,
+        present-past number r t (slotAt t r ∷ slots k (drop (slotSize * suc r) t)) (none-before o),
+        eq-eqb (slotAt t r .number) number its-number,
+      )
 
     flag : slotAt t r .delivered ≡ eqb (getD t (slotSize * r + 1) 0) 1
     unfolding slotOf
@@ -252,6 +266,6 @@ module _ (number len : ℕ) (t : List ℕ) (r : ℕ) (B : Bound number len t r) 
           isPending = λ h. d;
           found = λ n clients sent ok h.
               from-here (valid-ordered n clients sent len t ok) (len - suc r) (omega arith) ∙
-                  pending-here number (slotAt t r) (slots (len - suc r) (drop (slotSize * suc r) t)) its-number d;
+              pending-here number (slotAt t r) (slots (len - suc r) (drop (slotSize * suc r) t)) its-number d;
           missing = λ n clients sent ok h. absurd (omega arith);
         }

@@ -56,8 +56,13 @@ module _ (n clients : ℕ) (m : Message) where
   unfolding names
   named-names d =
       let f : Fields = fieldsOf m in
-      rw (le-leb 1 (f .client) (d .some-client), le-leb (f .client) clients (d .client), le-leb 1 (f .server) (d .some-server),
-          le-leb (f .server) n (d .server), le-leb (f .owner) clients (d .owner))
+      rw (
+        le-leb 1 (f .client) (d .some-client),
+        le-leb (f .client) clients (d .client),
+        le-leb 1 (f .server) (d .some-server),
+        le-leb (f .server) n (d .server),
+        le-leb (f .owner) clients (d .owner),
+      )
 
 row-kept : (n clients sent : ℕ) (ws : List ℕ) → validSlot n clients ws ≡ true → 1 ≤ slotOf ws .number → slotOf ws .number ≤ sent
     → Kept n clients sent (slotOf ws)
@@ -74,7 +79,7 @@ kept-from n clients sent last (suc k) t v e =
     let (a, b) = both (validSlot n clients (take slotSize t)) (every (validSlot n clients) (rows k (drop slotSize t))) v in
     let r = rising sent last (slotOf (take slotSize t)) (slots k (drop slotSize t)) e in
     more {x = slotOf (take slotSize t)} (row-kept n clients sent (take slotSize t) a (omega (arith, r .above)) (r .sent-by))
-        (kept-from n clients sent (slotOf (take slotSize t) .number) k (drop slotSize t) b (r .others))
+    (kept-from n clients sent (slotOf (take slotSize t) .number) k (drop slotSize t) b (r .others))
 
 all-middle : {P : InTransit → Type 0} (a : List InTransit) (x : InTransit) (b : List InTransit) → All P (a ++ x ∷ b) → P x
 all-middle [] x b (more h g) = h
@@ -113,7 +118,7 @@ module _ (n clients sent len : ℕ) (t : List ℕ) (ok : Valid n clients sent le
   valid-later sent′ h =
       let K = known n clients sent len t ok in
       known-valid n clients sent′ len t
-          (record { size = K .size; few = K .few; fit = K .fit; ordered = ascends-later sent sent′ 0 (slots len t) h (K .ordered); rest = K .rest })
+      (record { size = K .size; few = K .few; fit = K .fit; ordered = ascends-later sent sent′ 0 (slots len t) h (K .ordered); rest = K .rest })
 
   -- no number stands twice
   pub valid-unique : (i k : ℕ) → i < k → k < len → slotAt t i .number < slotAt t k .number

@@ -41,8 +41,12 @@ unfolding messagesIn bytesOfAll
 messages-read [] rest v = refl
 messages-read (m ∷ l) rest v =
     let (a, b) = both (valid m) (every valid l) v in
-    rw (append-assoc (bytesOf m) (bytesOfAll l) rest, written-is-read m (bytesOfAll l ++ rest) a,
-        drop-at (bytesOf m) (bytesOfAll l ++ rest) (sizeOf m) (length-bytesOf m), messages-read l rest b)
+    rw (
+      append-assoc (bytesOf m) (bytesOfAll l) rest,
+      written-is-read m (bytesOfAll l ++ rest) a,
+      drop-at (bytesOf m) (bytesOfAll l ++ rest) (sizeOf m) (length-bytesOf m),
+      messages-read l rest b,
+    )
 
 -- the same in a buffer that had room for them
 pub messages-read-buffer : (l : List Message) (buffer : List ℕ) → every valid l ≡ true → sizeOfAll l ≤ length buffer
@@ -138,14 +142,18 @@ module _ (t t′ : List ℕ) (i : ℕ) (x : InTransit) (size : length t ≡ tran
   new-here : take slotSize (drop (slotSize * i) t′) ≡ slotWords x
   new-here =
       let d : drop (slotSize * i) t′ ≡ slotWords x ++ drop (slotSize * suc i) t = rw
-          (parts, append-assoc (take (slotSize * i) t) (slotWords x) (drop (slotSize * suc i) t))
-          (drop-at (take (slotSize * i) t) (slotWords x ++ drop (slotSize * suc i) t) (slotSize * i) before-length) in
+      (parts, append-assoc (take (slotSize * i) t) (slotWords x) (drop (slotSize * suc i) t))
+      (drop-at (take (slotSize * i) t) (slotWords x ++ drop (slotSize * suc i) t) (slotSize * i) before-length) in
       rw d (take-at (slotWords x) (drop (slotSize * suc i) t) slotSize seven-long)
 
   new-behind : drop (slotSize * suc i) t′ ≡ drop (slotSize * suc i) t
   new-behind =
-      let l : length (take (slotSize * i) t ++ slotWords x) ≡ slotSize * suc i = omega (arith,
-          length-append (take (slotSize * i) t) (slotWords x), before-length, seven-long) in
+      let l : length (take (slotSize * i) t ++ slotWords x) ≡ slotSize * suc i = omega (
+        arith,
+        length-append (take (slotSize * i) t) (slotWords x),
+        before-length,
+        seven-long,
+      ) in
       rw parts (drop-at (take (slotSize * i) t ++ slotWords x) (drop (slotSize * suc i) t) (slotSize * suc i) l)
 
   new-rows : rows (suc i) t′ ≡ rows i t ++ (slotWords x ∷ [])
@@ -259,14 +267,14 @@ module _ (len sent count : ℕ) (bytes o : List ℕ) where
         others =
             let z : count - (i + 1) ≡ count - suc i = omega arith in
             let a : drop (i + 1) (messagesIn count bytes) ≡ drop 1 (m ∷ messagesIn (count - suc i) (drop used (drop from bytes))) = sym
-                (drop-drop 1 i (messagesIn count bytes)) ∙ ap (drop 1) split in
+            (drop-drop 1 i (messagesIn count bytes)) ∙ ap (drop 1) split in
             rw (z, Q .behind m used read, ← drop-drop used from bytes) a
 
         one-more : take (i + 1) (messagesIn count bytes) ≡ take i (messagesIn count bytes) ++ (m ∷ [])
         one-more =
             let z : i + 0 ≡ i = omega arith in
             let g : getD (messagesIn count bytes) (i + 0) noMessage ≡ m = sym (getD-drop i (messagesIn count bytes) 0 noMessage) ∙
-                ap (λ (l : List Message). getD l 0 noMessage) split in
+            ap (λ (l : List Message). getD l 0 noMessage) split in
             let g′ : getD (messagesIn count bytes) i noMessage ≡ m = rw z at g in
             rw (add-one, take-suc (messagesIn count bytes) i noMessage (omega (arith, P .whole)), g′)
 
@@ -290,7 +298,7 @@ module _ (len sent count : ℕ) (bytes o : List ℕ) where
             let q = both (names n clients m) (every (names n clients) (messagesIn (count - suc i) (drop used (drop from bytes)))) g′ .0 in
             let K = known n clients (sent + i) (len + i) t (P .valid n clients ok nm) in
             rw (y, z) (known-valid n clients (suc (sent + i)) (suc (len + i)) t′
-                (new-known t t′ (len + i) posted long free stored in-range n clients (sent + i) K q its-number))
+            (new-known t t′ (len + i) posted long free stored in-range n clients (sent + i) K q its-number))
 
         pub posting-next : Posting len sent count bytes o t′ (number + 1) from′ (i + 1)
         posting-next =

@@ -79,34 +79,34 @@ module _ (t t₁ t₂ : List ℕ) (i k : ℕ) (size : length t ≡ transitSize) 
       let h : slotSize * i ≤ length t = omega arith in
       let fits : slotSize * i + slotSize * k + slotSize ≤ length t₁ = omega (arith, size₁) in
       let p : take (slotSize * i + slotSize * k) t₁ ≡ take (slotSize * i) t ++ take (slotSize * k) (drop (slotSize * i + slotSize) t) = rw
-          e₁ (take-paste t (slotSize * i) (drop (slotSize * i + slotSize) t) (slotSize * k) h room) in
+      e₁ (take-paste t (slotSize * i) (drop (slotSize * i + slotSize) t) (slotSize * k) h room) in
       let d : drop (slotSize * i + slotSize * k) t₁ ≡ drop (slotSize * i + slotSize * k) t = rw e₁
-          (drop-paste t (slotSize * i) (drop (slotSize * i + slotSize) t) (slotSize * k) h room) in
+      (drop-paste t (slotSize * i) (drop (slotSize * i + slotSize) t) (slotSize * k) h room) in
       let z : slotSize * (i + suc k) ≡ slotSize * i + slotSize * k + slotSize = omega arith in
       let q : drop (slotSize * i + slotSize * k + slotSize) t₁ ≡ drop (slotSize * i + slotSize * k + slotSize) t = sym
-          (drop-drop slotSize (slotSize * i + slotSize * k) t₁) ∙
-          (ap (drop slotSize) d ∙ drop-drop slotSize (slotSize * i + slotSize * k) t) in
+      (drop-drop slotSize (slotSize * i + slotSize * k) t₁) ∙
+      (ap (drop slotSize) d ∙ drop-drop slotSize (slotSize * i + slotSize * k) t) in
       let s = sets-eq (replicate slotSize 0) t₁ (slotSize * i + slotSize * k) fits in
       e₂ ∙ (s ∙ rw (p, q, z) (append-assoc (take (slotSize * i) t ++ take (slotSize * k) (drop (slotSize * i + slotSize) t))
-          (replicate slotSize 0) (drop (slotSize * i + slotSize * k + slotSize) t)))
+      (replicate slotSize 0) (drop (slotSize * i + slotSize * k + slotSize) t)))
 
   rows-removed : rows (i + k) t₂ ≡ rows i t ++ rows k (drop (slotSize * suc i) t)
   rows-removed =
       let z : slotSize * suc i ≡ slotSize * i + slotSize = omega arith in
       let c : t₂ ≡ take (slotSize * i) t ++ (take (slotSize * k) (drop (slotSize * i + slotSize) t) ++ (replicate slotSize 0 ++ drop
-          (slotSize * (i + suc k)) t)) = parts ∙ append-assoc (take (slotSize * i) t) (take (slotSize * k) (drop (slotSize * i + slotSize)
-          t)) (replicate slotSize 0 ++ drop (slotSize * (i + suc k)) t) in
+      (slotSize * (i + suc k)) t)) = parts ∙ append-assoc (take (slotSize * i) t) (take (slotSize * k) (drop (slotSize * i + slotSize)
+      t)) (replicate slotSize 0 ++ drop (slotSize * (i + suc k)) t) in
       let f : rows i t₂ ≡ rows i t = rw c (rows-front i (take (slotSize * i) t)
-          (take (slotSize * k) (drop (slotSize * i + slotSize) t) ++ (replicate slotSize 0 ++ drop (slotSize * (i + suc k)) t))
-          (omega (arith, length-kept)) ∙ rows-take i t (omega arith)) in
+      (take (slotSize * k) (drop (slotSize * i + slotSize) t) ++ (replicate slotSize 0 ++ drop (slotSize * (i + suc k)) t))
+      (omega (arith, length-kept)) ∙ rows-take i t (omega arith)) in
       let d : drop (slotSize * i) t₂ ≡ take (slotSize * k) (drop (slotSize * i + slotSize) t) ++ (replicate slotSize 0 ++ drop
-          (slotSize * (i + suc k)) t) = rw c (drop-at (take (slotSize * i) t)
-          (take (slotSize * k) (drop (slotSize * i + slotSize) t) ++ (replicate slotSize 0 ++ drop (slotSize * (i + suc k)) t))
-          (slotSize * i) length-kept) in
+      (slotSize * (i + suc k)) t) = rw c (drop-at (take (slotSize * i) t)
+      (take (slotSize * k) (drop (slotSize * i + slotSize) t) ++ (replicate slotSize 0 ++ drop (slotSize * (i + suc k)) t))
+      (slotSize * i) length-kept) in
       let g : rows k (take (slotSize * k) (drop (slotSize * i + slotSize) t) ++ (replicate slotSize 0 ++ drop (slotSize * (i + suc k)) t)) ≡ rows
-          k (drop (slotSize * i + slotSize) t) = rows-front k (take (slotSize * k) (drop (slotSize * i + slotSize) t))
-          (replicate slotSize 0 ++ drop (slotSize * (i + suc k)) t) (omega (arith, length-moved)) ∙ rows-take k
-          (drop (slotSize * i + slotSize) t) room in
+      k (drop (slotSize * i + slotSize) t) = rows-front k (take (slotSize * k) (drop (slotSize * i + slotSize) t))
+      (replicate slotSize 0 ++ drop (slotSize * (i + suc k)) t) (omega (arith, length-moved)) ∙ rows-take k
+      (drop (slotSize * i + slotSize) t) room in
       rw (z, rows-split i k t₂, f, d, g)
 
   slots-removed : slots (i + k) t₂ ≡ slots i t ++ slots k (drop (slotSize * suc i) t)
@@ -115,10 +115,14 @@ module _ (t t₁ t₂ : List ℕ) (i k : ℕ) (size : length t ≡ transitSize) 
 
   rest-removed : drop (slotSize * (i + k)) t₂ ≡ replicate slotSize 0 ++ drop (slotSize * (i + suc k)) t
   rest-removed =
-      let l : length (take (slotSize * i) t ++ take (slotSize * k) (drop (slotSize * i + slotSize) t)) ≡ slotSize * (i + k) = omega (arith,
-          length-append (take (slotSize * i) t) (take (slotSize * k) (drop (slotSize * i + slotSize) t)), length-kept, length-moved) in
+      let l : length (take (slotSize * i) t ++ take (slotSize * k) (drop (slotSize * i + slotSize) t)) ≡ slotSize * (i + k) = omega (
+        arith,
+        length-append (take (slotSize * i) t) (take (slotSize * k) (drop (slotSize * i + slotSize) t)),
+        length-kept,
+        length-moved,
+      ) in
       rw parts (drop-at (take (slotSize * i) t ++ take (slotSize * k) (drop (slotSize * i + slotSize) t))
-          (replicate slotSize 0 ++ drop (slotSize * (i + suc k)) t) (slotSize * (i + k)) l)
+      (replicate slotSize 0 ++ drop (slotSize * (i + suc k)) t) (slotSize * (i + k)) l)
 
   module _ (n clients sent : ℕ) (K : Known n clients sent (i + suc k) t) where
     removed-ordered : ascending 0 sent (slots i t ++ (slotAt t i ∷ slots k (drop (slotSize * suc i) t))) ≡ true
@@ -127,7 +131,7 @@ module _ (t t₁ t₂ : List ℕ) (i k : ℕ) (size : length t ≡ transitSize) 
     pub removed-known : Known n clients sent (i + k) t₂
     removed-known =
         let f : every (validSlot n clients) (rows i t ++ (take slotSize (drop (slotSize * i) t) ∷ rows k (drop (slotSize * suc i) t))) ≡ true =
-            rw (rows-around i k t) at (K .fit) in
+        rw (rows-around i k t) at (K .fit) in
         let (p, q) = every-parts (validSlot n clients) (rows i t) (take slotSize (drop (slotSize * i) t) ∷ rows k (drop (slotSize * suc i) t)) f in
         let r = both (validSlot n clients (take slotSize (drop (slotSize * i) t))) (every (validSlot n clients) (rows k (drop (slotSize * suc i) t))) q .1 in
         record {

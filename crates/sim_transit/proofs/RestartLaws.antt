@@ -44,8 +44,15 @@ pub record Restarting (j : ServerId) (o : List ℕ) (len : ℕ) (t : List ℕ) (
 module _ (j : ServerId) (o : List ℕ) (len : ℕ) where
   pub restarting-none : Sized len o → Restarting j o len o 0
   unfolding slots rows
-  restarting-none s = record { within = omega arith; few = s .few; whole = s .size; size = refl; rest = refl;
-      valid = λ n clients sent ok. ok; done = λ n clients sent ok. refl }
+  restarting-none s = record {
+    within = omega arith;
+    few = s .few;
+    whole = s .size;
+    size = refl;
+    rest = refl;
+    valid = λ n clients sent ok. ok;
+    done = λ n clients sent ok. refl;
+  }
 
   module _ (t : List ℕ) (i : ℕ) (R : Restarting j o len t i) where
     module _ (h : i < len) (w : ℕ) (e : w ≡ againWord (j .0) (getD t (slotSize * i + 1) 0) (getD t (slotSize * i + 2) 0) (getD t (slotSize * i + 4) 0)) where
@@ -61,7 +68,7 @@ module _ (j : ServerId) (o : List ℕ) (len : ℕ) where
           let b = word-at t i 2 (omega arith) in
           let c = word-at t i 4 (omega arith) in
           let f : w ≡ againWord (j .0) (getD (take slotSize (drop (slotSize * i) t)) 1 0) (getD (take slotSize (drop (slotSize * i) t)) 2 0)
-              (getD (take slotSize (drop (slotSize * i) t)) 4 0) = rw (a, b, c) e in
+          (getD (take slotSize (drop (slotSize * i) t)) 4 0) = rw (a, b, c) e in
           store-here t i w ∙ ap (set (take slotSize (drop (slotSize * i) t)) 1) f
 
       module _ (n clients sent : ℕ) (ok : Valid n clients sent len o) where
@@ -74,7 +81,7 @@ module _ (j : ServerId) (o : List ℕ) (len : ℕ) where
         still-valid : (k : ℕ) → len ≡ i + suc k → Valid n clients sent len (set t (slotSize * i + 1) w)
         still-valid k z =
             let v : validSlot n clients (take slotSize (drop (slotSize * i) (set t (slotSize * i + 1) w))) ≡ true = rw here
-                (restarted-valid n clients j seven-words valid-here) in
+            (restarted-valid n clients j seven-words valid-here) in
             let l : length (set t (slotSize * i + 1) w) ≡ transitSize = length-set t (slotSize * i + 1) w ∙ long in
             let K : Known n clients sent (i + suc k) t = rw z at (known n clients sent len t (R .valid n clients sent ok)) in
             rw z (known-valid n clients sent (i + suc k) (set t (slotSize * i + 1) w)
@@ -87,8 +94,16 @@ module _ (j : ServerId) (o : List ℕ) (len : ℕ) where
             let l′ : slotSize * i ≤ length t = omega (arith, long, R .few) in
             let p : slots i (set t (slotSize * i + 1) w) ≡ slots i t = slots-same i (set t (slotSize * i + 1) w) t l l′ (store-before t i w) in
             let q : slotAt t i ≡ slotAt o i = ap (λ (s : List ℕ). slotOf (take slotSize s)) (R .rest) in
-            rw (add-one, slots-next i (set t (slotSize * i + 1) w), slots-next i o, map-append (again j) (slots i o) (slotAt o i ∷ []), p,
-                R .done n clients sent ok, slot-here, q)
+            rw (
+              add-one,
+              slots-next i (set t (slotSize * i + 1) w),
+              slots-next i o,
+              map-append (again j) (slots i o) (slotAt o i ∷ []),
+              p,
+              R .done n clients sent ok,
+              slot-here,
+              q,
+            )
 
       pub restarting-more : Restarting j o len (set t (slotSize * i + 1) w) (i + 1)
       restarting-more =

@@ -37,7 +37,7 @@ rows-front (suc k) a b h =
 pub rows-take : (k : ℕ) (t : List ℕ) → slotSize * k ≤ length t → rows k (take (slotSize * k) t) ≡ rows k t
 rows-take k t h =
     let a : rows k (take (slotSize * k) t ++ drop (slotSize * k) t) ≡ rows k (take (slotSize * k) t) = rows-front k (take (slotSize * k) t)
-        (drop (slotSize * k) t) (omega (arith, length-take-le (slotSize * k) t h)) in
+    (drop (slotSize * k) t) (omega (arith, length-take-le (slotSize * k) t h)) in
     sym (rw take-append-drop at a)
 
 pub rows-same : (k : ℕ) (s t : List ℕ) → slotSize * k ≤ length s → slotSize * k ≤ length t → take (slotSize * k) s ≡ take (slotSize * k) t → rows k s ≡ rows k t

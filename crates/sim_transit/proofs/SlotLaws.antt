@@ -126,7 +126,7 @@ module _ (n clients : ℕ) where
   marked-valid (seven a b c d e f g) h =
       let F = slot-fitting n clients (a ∷ (b ∷ (c ∷ (d ∷ (e ∷ (f ∷ (g ∷ []))))))) h in
       fitting-slot n clients (a ∷ (1 ∷ (c ∷ (d ∷ (e ∷ (f ∷ (g ∷ [])))))))
-          (record { flag = omega arith; crosses = F .crosses; range = F .range; named = F .named })
+      (record { flag = omega arith; crosses = F .crosses; range = F .range; named = F .named })
 
 -- where a slot's words stand
 pub number-at : (t : List ℕ) (i : ℕ) → slotAt t i .number ≡ getD t (slotSize * i) 0
@@ -254,8 +254,8 @@ module _ (n clients : ℕ) (j : ServerId) where
       let v : validFields (record { kind = c; client = d; server = e; timestamp = f; owner = g }) ≡ true = F .range in
       let r = for-server j c d e f g (known-kind (record { kind = c; client = d; server = e; timestamp = f; owner = g }) v) in
       let w : eqb (if leb c 4 && eqb e (j .0) then 0 else b) 1 ≡ (if isFor j
-          (messageOf (record { kind = c; client = d; server = e; timestamp = f; owner = g })) then false else eqb b 1) = rw r (go
-          (leb c 4 && eqb e (j .0))) in
+      (messageOf (record { kind = c; client = d; server = e; timestamp = f; owner = g })) then false else eqb b 1) = rw r (go
+      (leb c 4 && eqb e (j .0))) in
       λ i. record { number = a; delivered = w i; message = messageOf (record { kind = c; client = d; server = e; timestamp = f; owner = g }) }
     where
       go : (x : Bool) → eqb (if x then 0 else b) 1 ≡ (if x then false else eqb b 1)
@@ -268,7 +268,7 @@ module _ (n clients : ℕ) (j : ServerId) where
       let F = slot-fitting n clients (a ∷ (b ∷ (c ∷ (d ∷ (e ∷ (f ∷ (g ∷ []))))))) h in
       let w : ℕ = if leb c 4 && eqb e (j .0) then 0 else b in
       fitting-slot n clients (a ∷ (w ∷ (c ∷ (d ∷ (e ∷ (f ∷ (g ∷ [])))))))
-          (record { flag = go (leb c 4 && eqb e (j .0)) (F .flag); crosses = F .crosses; range = F .range; named = F .named })
+      (record { flag = go (leb c 4 && eqb e (j .0)) (F .flag); crosses = F .crosses; range = F .range; named = F .named })
     where
       go : (x : Bool) → b ≤ 1 → (if x then 0 else b) ≤ 1
       go true h = omega arith

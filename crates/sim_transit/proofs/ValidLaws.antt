@@ -119,8 +119,10 @@ module _ (sent : ℕ) (t : List ℕ) (len : ℕ) where
 
       pub climbing-more : last < getD t (slotSize * i) 0 → getD t (slotSize * i) 0 ≤ sent → Climbing sent t len (getD t (slotSize * i) 0) (i + 1)
       unfolding ascending
-      climbing-more p q = record { within = omega arith;
-          same = rw (C .same, slots-here t len i h, number-at t i, lt-ltb last (getD t (slotSize * i) 0) p, le-leb (getD t (slotSize * i) 0) sent q) }
+      climbing-more p q = record {
+        within = omega arith;
+        same = rw (C .same, slots-here t len i h, number-at t i, lt-ltb last (getD t (slotSize * i) 0) p, le-leb (getD t (slotSize * i) 0) sent q);
+      }
 
     pub climbing-all : len ≤ i → true ≡ ascending 0 sent (slots len t)
     unfolding ascending slots rows
@@ -189,4 +191,4 @@ pub message-found : (t : List ℕ) (i : ℕ) → length t ≡ transitSize → i 
 message-found t i size used m e n clients sent len ok h =
     let F = slot-fitting n clients (take slotSize (drop (slotSize * i) t)) (slot-valid-at n clients sent len t ok i h) in
     e ∙ (ap (λ (ws : List ℕ). messageOr (messageIn ws)) (sym (message-words t i size used)) ∙
-        fitting-message n clients (take slotSize (drop (slotSize * i) t)) F)
+    fitting-message n clients (take slotSize (drop (slotSize * i) t)) F)

@@ -39,8 +39,11 @@ module _ (s : Setting) (w : List ℕ) where
     module _ (t : not a ≡ false) (b : Bool) (q : b ≡ within (s .clients) systemClients) where
       wrong-clients : not b ≡ true → opens (length w) s ≡ false
       unfolding opens
-      wrong-clients u = rw (eq-eqb (length w) simulationSize l, holds a (inRangeUpTo systemServers (s .n) (s .m) (s .f)) p t,
-          fails b (within (s .clients) systemClients) q u)
+      wrong-clients u = rw (
+        eq-eqb (length w) simulationSize l,
+        holds a (inRangeUpTo systemServers (s .n) (s .m) (s .f)) p t,
+        fails b (within (s .clients) systemClients) q u,
+      )
 
       pub new-clients : not b ≡ true → NewLeaves s w w × (moved.Refused ParameterOutOfRange ≡ newReply (opens (length w) s))
       new-clients u = refuses (wrong-clients u)
@@ -51,8 +54,11 @@ module _ (s : Setting) (w : List ℕ) where
 
       all-right : not b ≡ false → opens (length w) s ≡ true
       unfolding opens
-      all-right u = rw (eq-eqb (length w) simulationSize l, holds a (inRangeUpTo systemServers (s .n) (s .m) (s .f)) p t,
-          holds b (within (s .clients) systemClients) q u)
+      all-right u = rw (
+        eq-eqb (length w) simulationSize l,
+        holds a (inRangeUpTo systemServers (s .n) (s .m) (s .f)) p t,
+        holds b (within (s .clients) systemClients) q u,
+      )
 
       pub new-starts : not b ≡ false → (w′ : List ℕ) → Starts s w′ → NewLeaves s w w′ × (moved.Sent 0 ≡ newReply (opens (length w) s))
       unfolding newReply

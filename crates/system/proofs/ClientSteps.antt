@@ -105,8 +105,12 @@ pub requests-none : (p : Request) (j : ℕ) (k : ClientId) (s : Timestamp) (n : 
 unfolding toAll
 requests-none p j k s zero = refl
 requests-none p j k s (suc n) =
-    omega (arith, sum-append (token p j) (toAll (λ i. REQUEST k i s) n) (REQUEST k (record { 0 = suc n }) s ∷ []), requests-none p j k s n,
-        if-zero (eqb (suc n) j))
+    omega (
+      arith,
+      sum-append (token p j) (toAll (λ i. REQUEST k i s) n) (REQUEST k (record { 0 = suc n }) s ∷ []),
+      requests-none p j k s n,
+      if-zero (eqb (suc n) j),
+    )
 
 -- a round of yields
 module _ (r : Request) where
@@ -193,7 +197,7 @@ module _ (r : Request) where
   unfolding heard
   heard-shows l j i o pos =
       branch (λ (m : List Owner). shows r m i ≤ (if eqb (j .0) i then bit (isRequest r o) else 0) + shows r l i)
-          (not (isRequest r (responseOf l j)) && current r o)
+      (not (isRequest r (responseOf l j)) && current r o)
       (λ e. respond-shows l (j .0) i o pos) (λ e. omega arith)
 
   current-mine : (o : Owner) → current r o ≡ true → Mine r o

@@ -177,7 +177,7 @@ module _ (n : ℕ) (wins : Quorum) (k : ℕ) (t : Timestamp) (d : List ℕ) wher
 
   hear-client : (l : List Owner) {b : List Bool} (j : ℕ) (js : List ℕ) → 0 < j → at Nobody l j ≡ Nobody → Own (put l j (Of (pair k t))) b js → Tips wins b js →
       responds wins n (clientNo k) (serverNo j) (Of (pair k t)) (record { section = Trying; timestamp = t; responses = l }) ≡ stay
-          (Place t js (put l j (Of (pair k t))) d .state)
+      (Place t js (put l j (Of (pair k t))) d .state)
   unfolding responds judge
   hear-client l j [] pos e o tips = rw (hear l j pos e, o .fills, o .own, tips)
   hear-client l j (i ∷ js) pos e o tips = rw (hear l j pos e, o .fills, o .own, tips .0)
@@ -222,7 +222,7 @@ module _ (n : ℕ) (wins : Quorum) (k : ℕ) (t : Timestamp) (d : List ℕ) wher
       let o′ = own-put out o in
       let e = hear-event w (suc i) j js here (a .0) (hear-client l j js pos (o .blank j (mem-head j j js refl)) o′ (tips .1)) in
       let hd : Heard w (suc i) (Place t js (put l j (Of (pair k t))) d) (next n wins w (takes (suc i))) = heard-by w (suc i) _
-          (ap (λ (c : ClientPlace). c .living) here) e in
+      (ap (λ (c : ClientPlace). c .living) here) e in
       lead-cons (rw e)
       (lead-map (hears (suc i) df o′ (tips .1) (hd .clients .here) (answers-later k t w _ (suc i) js (λ x m lt. hd .waits x m (λ q. omega arith)) (a .1)))
       (λ u z. record {
@@ -287,8 +287,12 @@ module _ (n : ℕ) (wins : Quorum) where
     answered z no-more pos tips = absurd (omega arith)
     answered z (another {j = j} {js = js} p q out df) pos tips =
         lead-map (hears n wins k (coming w k) (downFrom 1 (w .servers)) (w .sent + n) (another p q out df)
-        (record { fills = map-replicate filled n Nobody; own = map-replicate (isRequest (pair k (coming w k))) n Nobody; blank = λ i m.
-        at-replicate Nobody (λ o. o ≡ Nobody) n i Nobody refl refl })
+        (record {
+          fills = map-replicate filled n Nobody;
+          own = map-replicate (isRequest (pair k (coming w k))) n Nobody;
+          blank = λ i m.
+              at-replicate Nobody (λ o. o ≡ Nobody) n i Nobody refl refl;
+        })
         tips (rw (z .clients) (tr .clients .here)) (rw (tr .sent) at (z .responses)))
         (λ u y. record {
           holds = rw (y .here);

@@ -133,8 +133,10 @@ module _ (n : ℕ) (wins : Quorum) where
           nest = nest-client (new-client (k .0) _ lives) (s .nest) (λ ep. absurd (false≢true ep));
         }
     good (sinks {j = j} up) =
-        record { sound = sound-down n wins j (counts-down j (w .clients)) (new-server (j .0) _ up) (s .sound);
-            nest = nest-down j (counts-down j (w .clients)) (newly-down (w .servers) (j .0) _) (s .nest) }
+        record {
+          sound = sound-down n wins j (counts-down j (w .clients)) (new-server (j .0) _ up) (s .sound);
+          nest = nest-down j (counts-down j (w .clients)) (newly-down (w .servers) (j .0) _) (s .nest);
+        }
     good (rises {j = j} there) =
         record {
           sound = sound-server n wins j (stay (serverAt w j .state)) (numbered-from (w .servers) (j .0) there)
@@ -178,10 +180,13 @@ module _ (n : ℕ) (wins : Quorum) where
   unfolding start
   inv-start clients =
       let quiet : (k : ℕ)
-          → inEpoch (clientAt (start n wins clients) (clientNo k)) ≡ false = λ k. at-replicate noClient (λ c. inEpoch c ≡ false) clients k _ refl refl in
+      → inEpoch (clientAt (start n wins clients) (clientNo k)) ≡ false = λ k. at-replicate noClient (λ c. inEpoch c ≡ false) clients k _ refl refl in
       let rest : (k : ℕ) (c : ClientState) → isRemainder (c .section) ≡ true → isCritical (c .section) ≡ false → Fine n wins (id k) c = λ k c e h.
-      record { mine = λ b. clash (isRemainder (c .section)) e b; sized = λ b. clash (isRemainder (c .section)) e b;
-          won = λ b. clash (isCritical (c .section)) b h } in
+      record {
+        mine = λ b. clash (isRemainder (c .section)) e b;
+        sized = λ b. clash (isRemainder (c .section)) e b;
+        won = λ b. clash (isCritical (c .section)) b h;
+      } in
       record {
         safe = record {
           sound = record {

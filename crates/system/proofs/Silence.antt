@@ -176,7 +176,7 @@ module _ (n : ℕ) (wins : Quorum) (d : List ℕ) where
         }
     silent inv a (serverTakes {i = i} tag k j t e up) =
         silent-server j _ up (delivery-delivered stills-keeping (i .0) e)
-            (fair-receive {P = Any} {R = None} tag _ (λ p b. absurd b) tt (any-server (serverAt w j .state)) .from)
+        (fair-receive {P = Any} {R = None} tag _ (λ p b. absurd b) tt (any-server (serverAt w j .state)) .from)
     silent inv a (clientTakes {i = i} {k = k} {j = j} {o = o} e lives) =
         silent-calm k (i .0) (RESPONSE k j o) _ e lives
         (calm-respond n wins k j o (pending-all (Past (last (at noClient (w .clients)))) (i .0) e (inv .safe .sound .mail) .0) (inv .safe .sound .fine (k .0)))

@@ -127,8 +127,11 @@ token-worth p j (m ∷ l) = omega (arith, go (eqb (serverOf m .0) j), token-wort
 -- no message has a token of a request that is still to come
 pub fresh : (t : ℕ → ℕ) (p : Request) (j : ℕ) {l : List InTransit} → t (p .client .0) < p .timestamp .0 → All (Posted (Past t)) l → weight p j l ≡ 0
 fresh t p j lt empty = refl
-fresh t p j lt (more {x = x} {l = l} h g) = rw (none-worth (x .message) h, if-zero (eqb (serverOf (x .message) .0) j),
-    if-zero (x .delivered)) (omega (arith, fresh t p j lt g))
+fresh t p j lt (more {x = x} {l = l} h g) = rw (
+  none-worth (x .message) h,
+  if-zero (eqb (serverOf (x .message) .0) j),
+  if-zero (x .delivered),
+) (omega (arith, fresh t p j lt g))
   where
     none-same : (r : Request) → Old t r → same r p ≡ false
     none-same r o = differ r p (λ e. omega (arith, ap (λ (y : Request). t (y .client .0)) e, ap (λ (y : Request). y .timestamp .0) e))

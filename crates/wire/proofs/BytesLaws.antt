@@ -50,8 +50,13 @@ unfolding encode decode
 decode-encode rest done = refl
 decode-encode rest (next {w} {x} {ws} {xs} h r) =
     let t : List ℕ = encode ws xs ++ rest in
-    rw (append-assoc, take-at (littleEndian w x) t w (length-littleEndian w x), drop-at (littleEndian w x) t w (length-littleEndian w x),
-        number-littleEndian w x h, decode-encode rest r)
+    rw (
+      append-assoc,
+      take-at (littleEndian w x) t w (length-littleEndian w x),
+      drop-at (littleEndian w x) t w (length-littleEndian w x),
+      number-littleEndian w x h,
+      decode-encode rest r,
+    )
 
 pub encode-decode : (ws : List ℕ) {s : List ℕ} → AllBytes s → total ws ≤ length s → encode ws (decode ws s) ≡ take (total ws) s
 unfolding encode decode

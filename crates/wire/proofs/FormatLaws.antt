@@ -120,7 +120,7 @@ front-response f e = simp (eq-eqb (f .kind) 5 e)
 pub front-stored : (f : Fields) (at n : ℕ) (l₀ l₁ l₂ l₃ l₄ l₅ : List ℕ) → n ≡ lengthOf (f .kind) → l₁ ≡ sets l₀ at (littleEndian 2 n)
     → l₂ ≡ sets l₁ (at + 2) (littleEndian 2 (f .kind))
     → l₃ ≡ sets l₂ (at + 4) (littleEndian 2 (f .client)) → l₄ ≡ sets l₃ (at + 6) (littleEndian 2 (f .server))
-        → l₅ ≡ sets l₄ (at + 8) (littleEndian 4 (f .timestamp)) → l₅ ≡ sets l₀ at (front f)
+    → l₅ ≡ sets l₄ (at + 8) (littleEndian 4 (f .timestamp)) → l₅ ≡ sets l₀ at (front f)
 unfolding front encode
 front-stored f at n l₀ l₁ l₂ l₃ l₄ l₅ h p₁ p₂ p₃ p₄ p₅ =
     let n₁ : List ℕ = littleEndian 2 (lengthOf (f .kind)) in

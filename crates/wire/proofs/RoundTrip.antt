@@ -76,8 +76,17 @@ written-is-read m rest v =
     let s = valid-sound m v in
     let enough : lengthOf (f .kind) ≤ length (bytesOfFields f ++ rest) = omega (arith, length-append (bytesOfFields f) rest, length-fields f) in
     let four : 4 ≤ length (bytesOfFields f ++ rest) = omega (arith, at-least (f .kind)) in
-    simp (le-ltb _ _ four, kind-read f s rest, s .kind, length-read f s rest, eq-eqb (lengthOf (f .kind)) (lengthOf (f .kind)) refl,
-        le-ltb _ _ enough, fields-read f s rest, message-fields maxServers m v, v)
+    simp (
+      le-ltb _ _ four,
+      kind-read f s rest,
+      s .kind,
+      length-read f s rest,
+      eq-eqb (lengthOf (f .kind)) (lengthOf (f .kind)) refl,
+      le-ltb _ _ enough,
+      fields-read f s rest,
+      message-fields maxServers m v,
+      v,
+    )
 
 -- no two different messages have the same bytes, nor does one begin with another's
 pub bytes-differ : (m m′ : Message) (s s′ : List ℕ) → valid m ≡ true → valid m′ ≡ true → bytesOf m ++ s ≡ bytesOf m′ ++ s′ → m ≡ m′

@@ -47,9 +47,11 @@ module _ (ws : List ℕ) where
       unfolding fits
       cross-small =
           let t : x ≡ true = not-false x n in
-          let (k,
-              r₁) = both (leb (getD ws 0 0) maxShort) (leb (getD ws 1 0) maxShort && (leb (getD ws 2 0) maxShort && leb (getD ws 4 0) maxShort)) (sym f ∙
-              t) in
+          let (
+            k,
+            r₁,
+          ) = both (leb (getD ws 0 0) maxShort) (leb (getD ws 1 0) maxShort && (leb (getD ws 2 0) maxShort && leb (getD ws 4 0) maxShort)) (sym f ∙
+          t) in
           let (a, r₂) = both (leb (getD ws 1 0) maxShort) (leb (getD ws 2 0) maxShort && leb (getD ws 4 0) maxShort) r₁ in
           let (b, c) = both (leb (getD ws 2 0) maxShort) (leb (getD ws 4 0) maxShort) r₂ in
           (leb-true _ _ k, leb-true _ _ a, leb-true _ _ b, leb-true _ _ c)

@@ -37,7 +37,7 @@ module _ (s : Server) (v : server.valid s ≡ true) where
       let (l, h) = within-range (s .head .n) maxServers a in
       let (k, m) = within-range (s .head .id .0) (s .head .n) b in
       head-fits (s .head .n) (s .head .id .0) (ownerClient (s .head .votes .owner)) (omega arith) (omega arith)
-          (owner-small (s .head .votes .owner) (view-good maxServers s v .1 .owner))
+      (owner-small (s .head .votes .owner) (view-good maxServers s v .1 .owner))
 
   pub server-read-back : length (s .row) ≡ server.rowWords → serverIn (serverWords s) ≡ some s
   unfolding holdsServer serverHeadFrom serverHeadWords serverWords

@@ -34,7 +34,7 @@ module _ (c : tie.After-client-step) where
       let t = tested loaded in
       let e = entry loaded in
       client-storable _ _ (t .before .holds-client .ensures) (t .if1 .left) _ (loaded .client-head .ensures) (e .args .call)
-          (now (e .args .out)) (now (e .args .sent)) _ _ _ (c .client-step .ensures)
+      (now (e .args .out)) (now (e .args .sent)) _ _ _ (c .client-step .ensures)
 
 client-head-requires : tie.Need-client-head-requires
 client-head-requires c κs = client-held _ (is-client _ _ (c .before .before .holds-client .ensures) (c .before .if1 .left)) .head

@@ -7,8 +7,10 @@ use Rattle.capi.proofs.server_finish.Statement.{statement}
 use Rattle.capi.proofs.server_finish.Tie as tie
 
 server-send-requires : tie.Need-server-send-requires
-server-send-requires c κs = let e = c .before .before .before .before .before .before .before .before .before in (e .pre .0,
-    e .pre .1 (c .before .before .before .enum-told .given .1))
+server-send-requires c κs = let e = c .before .before .before .before .before .before .before .before .before in (
+  e .pre .0,
+  e .pre .1 (c .before .before .before .enum-told .given .1),
+)
 
 returns : tie.Need-returns
 returns c = let told = c .before .before .before .before .before .before in rw (told .before .before .before .before .enum-told .given .1)

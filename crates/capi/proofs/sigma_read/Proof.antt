@@ -19,7 +19,7 @@ returns-2 : tie.Need-returns-2
 returns-2 c =
     let b = c .before .before .before .before in
     read-done _ _ _ (b .before .before .before .before .read-fields .ensures) _ _ (b .before .before .p .given .1) _ (b .if1 .left)
-        (c .before .before .put-words .ensures)
+    (c .before .before .put-words .ensures)
 
 returns-3 : tie.Need-returns-3
 returns-3 c = read-refused _ _ _ (c .before .before .before .before .read-fields .ensures) _ _ (c .before .before .p2 .given .1) (c .code-of2 .ensures)

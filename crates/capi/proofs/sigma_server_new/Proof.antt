@@ -17,7 +17,7 @@ returns-2 c =
     let asked = c .before .before in
     let tested = asked .before in
     server-new-wide _ _ (now (tested .before .before .args .state)) (tested .if1 .left) _ _ (asked .fits-head .ensures)
-        (c .before .if2 .taken) (c .code-of2 .ensures)
+    (c .before .if2 .taken) (c .code-of2 .ensures)
 
 cast-new : tie.Need-cast-new
 cast-new c = let (a, b, d) = head-small _ _ _ (sym (c .before .fits-head .ensures) ∙ not-false _ (c .if2 .left)) in omega arith
@@ -34,7 +34,7 @@ returns-3 c =
     let new = made .before .before in
     let tested = new .before .before .before in
     server-new-done _ _ (now (tested .before .before .args .state)) (tested .if1 .left) _ _ _ (new .new .ensures)
-        (made .server-made .ensures .0) (made .server-made .ensures .1)
+    (made .server-made .ensures .0) (made .server-made .ensures .1)
 
 pub sigma-server-new-spec : {M : Type 1} → statement M
 sigma-server-new-spec =

@@ -8,7 +8,7 @@ returns : tie.Need-returns
 returns c =
     let b = c .before .before .before .before .before .before in
     write-numbers _ _ _ (b .before .before .cross .ensures) _ _ _ _ (b .g .given .1) (c .before .before .before .write-fields .ensures .0)
-        (c .before .before .before .write-fields .ensures .1) (c .written-code .ensures)
+    (c .before .before .before .write-fields .ensures .1) (c .written-code .ensures)
 
 returns-2 : tie.Need-returns-2
 returns-2 c = write-large _ _ _ (c .before .before .before .cross .ensures) _ (c .before .enum-told .given .1) (c .code-of .ensures)

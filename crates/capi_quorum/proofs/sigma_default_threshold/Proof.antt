@@ -10,7 +10,7 @@ returns c =
     let d = c .before .before .before .before .before in
     let a = d .before .before .args in
     threshold-short (a .n) (now (a .words)) _ (d .default-threshold .ensures) _ _ (c .before .before .before .t .given .1)
-        (c .before .if1 .taken) (c .code-of .ensures)
+    (c .before .if1 .taken) (c .code-of .ensures)
 
 returns-2 : tie.Need-returns-2
 returns-2 c =

@@ -11,8 +11,8 @@ returns c =
     let d = c .before .before .before .before .before .before .before .before .before in
     let a = d .before .before .args in
     event-given (a .n) (a .m) (a .f) (a .i) (now (a .words)) _ _ _ (d .run-event .ensures) _ _ _
-        (c .before .before .before .before .before .before .before .a .given .1) (c .before .before .before .before .kind-of .ensures)
-        (c .before .before .before .number-of .ensures) (c .before .before .put-two .ensures)
+    (c .before .before .before .before .before .before .before .a .given .1) (c .before .before .before .before .kind-of .ensures)
+    (c .before .before .before .number-of .ensures) (c .before .before .put-two .ensures)
 
 returns-2 : tie.Need-returns-2
 returns-2 c =

@@ -16,7 +16,7 @@ returns-4 c =
     let s = t .before .before in
     let v = tested s in
     rw (begin-tries _ _ _ (v .before .valid-row .ensures) _ (v .if1 .left) (s .before .is-remainder .ensures) (s .if2 .left) (t .if3 .left))
-        (a .attempt .ensures)
+    (a .attempt .ensures)
 
 pub begin-row-spec : {M : Type 1} → statement M
 begin-row-spec =

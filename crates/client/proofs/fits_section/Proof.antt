@@ -29,14 +29,14 @@ returns-3 c =
     let t = c .before .before in
     let f = t .before .before in
     rw (t .enum-told3 .given .1)
-        (section-critical (entry f .args .m) (entry f .args .r) (heard f) _ (f .filled-count .ensures) _ (c .before .enough-own .ensures) (c .if1 .taken))
+    (section-critical (entry f .args .m) (entry f .args .r) (heard f) _ (f .filled-count .ensures) _ (c .before .enough-own .ensures) (c .if1 .taken))
 
 returns-4 : tie.Need-returns-4
 returns-4 c =
     let t = c .before .before in
     let f = t .before .before in
     rw (t .enum-told3 .given .1)
-        (section-few (entry f .args .m) (entry f .args .r) (heard f) _ (f .filled-count .ensures) _ (c .before .enough-own .ensures) (c .if1 .left))
+    (section-few (entry f .args .m) (entry f .args .r) (heard f) _ (f .filled-count .ensures) _ (c .before .enough-own .ensures) (c .if1 .left))
 
 pub fits-section-spec : {M : Type 1} → statement M
 fits-section-spec =

@@ -27,7 +27,7 @@ module _ (c : tie.After-hear) where
   heard =
       let s = begun tries in
       respond-heard _ _ (s .pre .0) _ _ _ (tries .before .is-trying .ensures) (s .pre .1) (s .pre .2) (s .pre .3) (tries .if1 .left) _ _ _
-          (c .before .before .request-of .ensures) (c .hear .ensures .0) (c .hear .ensures .1)
+      (c .before .before .request-of .ensures) (c .hear .ensures .0) (c .hear .ensures .1)
 
 -- the row is judged
 module _ (c : tie.After-judge) where
@@ -61,13 +61,13 @@ returns-2 c =
     let t = p .before .before .before in
     let a = judged (t .before) in
     respond-undone _ _ _ _ _ _ (heard (hearing a)) _ _ (now (begun (tries (hearing a)) .args .out)) _ (a .judge .ensures) _
-        (t .before .is-refused .ensures) _ (t .if2 .taken) (p .put-request .ensures)
+    (t .before .is-refused .ensures) _ (t .if2 .taken) (p .put-request .ensures)
 
 returns-3 : tie.Need-returns-3
 returns-3 c =
     let a = judged (c .before) in
     respond-kept _ _ _ _ _ _ (heard (hearing a)) _ _ (now (begun (tries (hearing a)) .args .out)) _ (a .judge .ensures) _
-        (c .before .is-refused .ensures) (c .if2 .left)
+    (c .before .is-refused .ensures) (c .if2 .left)
 
 pub respond-row-spec : {M : Type 1} → statement M
 respond-row-spec =

@@ -9,7 +9,7 @@ returns-3 c =
     let d = c .before .before .before in
     let a = d .before .args in
     faults-decide (a .limit) (a .n) (a .m) (a .f) _ (d .within-limit .ensures) _ (c .before .before .if1 .left)
-        (c .before .within-limit2 .ensures) (c .if2 .left)
+    (c .before .within-limit2 .ensures) (c .if2 .left)
 
 pub in-range-up-to-spec : {M : Type 1} → statement M
 in-range-up-to-spec =

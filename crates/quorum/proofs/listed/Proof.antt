@@ -9,7 +9,7 @@ event-at-requires c κs =
     let d = c .before .before .before in
     let a = d .before .args in
     event-bounds (a .n) (a .m) (a .f) (a .i) (d .before .pre) (d .if1 .left) _ (c .before .before .events .ensures) _
-        (c .before .within-limit .ensures) (c .if2 .left)
+    (c .before .within-limit .ensures) (c .if2 .left)
 
 pub listed-spec : {M : Type 1} → statement M
 listed-spec =

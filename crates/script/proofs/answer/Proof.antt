@@ -1,7 +1,7 @@
 -- `script::answer` meets its contract: what the parser said of the line decides, and after a million lines nothing is done.
 use denote.Ref.{now}
 use mathlib.Core.Path.{sym, _∙_}
-use Rattle.script.specs.Calls.{Ready, Reads}
+use Rattle.script.specs.Inner.{Ready, Reads}
 use Rattle.script.proofs.StepLaws.{unread-does, reading, bad-does, unknown-does, event-does}
 use borrow.Author.Needs.{needs}
 use Rattle.script.proofs.answer.Statement.{statement}

@@ -4,7 +4,8 @@ use native.Mathlib.Omega.{arith}
 use mathlib.Core.Path.{_≡_, _∙_}
 use Prim.Native.Nat.{_-_}
 use lib.ListN.{take, drop}
-use Rattle.script_lines.specs.Printed.{names, wordOf}
+use Rattle.script_lines.specs.Printed.{wordOf}
+use Rattle.script_lines.specs.Inner.{names}
 use Rattle.script_lines.proofs.WordLaws.{cut-word}
 use Rattle.script_lines.proofs.PrintedLaws.{word-room, number-room, put-line}
 use borrow.Author.Needs.{needs}

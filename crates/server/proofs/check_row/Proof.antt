@@ -25,7 +25,7 @@ returns-2 c =
     let none = c .before .before in
     let v = none .before .before .before .before in
     check-idle (from v .args .h) _ _ _ (v .before .valid-row .ensures) (v .if1 .left) (padded v) _ (none .enum-told .given .1)
-        (c .before .still .ensures) (c .done .ensures)
+    (c .before .still .ensures) (c .done .ensures)
 
 returns-3 : tie.Need-returns-3
 returns-3 c =
@@ -33,7 +33,7 @@ returns-3 c =
     let owned = told .before .before .before .before in
     let v = owned .before .before .before .before in
     check-asked (from v .args .h) _ _ _ (v .before .valid-row .ensures) (v .if1 .left) (padded v) _ (owned .owner .given .1) _
-        (told .telling .ensures) (c .done2 .ensures)
+    (told .telling .ensures) (c .done2 .ensures)
 
 pub check-row-spec : {M : Type 1} → statement M
 check-row-spec =

@@ -46,8 +46,8 @@ returns-3 c =
     let told = did .before .before .before in
     let w = told .before .before in
     message-taken (from (one w) .args .h) _ _ _ (one w .before .valid-row .ensures) (one w .if1 .left) _ _
-        (w .before .valid-message .ensures) (w .if2 .left) _ _
-        (ap (received (serverOf (from (one w) .args .h) (now (from (one w) .args .row)))) (told .m .given .1)) (did .take-row .ensures)
+    (w .before .valid-message .ensures) (w .if2 .left) _ _
+    (ap (received (serverOf (from (one w) .args .h) (now (from (one w) .args .row)))) (told .m .given .1)) (did .take-row .ensures)
 
 returns-4 : tie.Need-returns-4
 returns-4 c =
@@ -55,8 +55,8 @@ returns-4 c =
     let told = did .before .before .before in
     let w = told .before .before in
     message-taken (from (one w) .args .h) _ _ _ (one w .before .valid-row .ensures) (one w .if1 .left) _ _
-        (w .before .valid-message .ensures) (w .if2 .left) _ _
-        (ap (received (serverOf (from (one w) .args .h) (now (from (one w) .args .row)))) (told .m2 .given .1)) (did .take-row2 .ensures)
+    (w .before .valid-message .ensures) (w .if2 .left) _ _
+    (ap (received (serverOf (from (one w) .args .h) (now (from (one w) .args .row)))) (told .m2 .given .1)) (did .take-row2 .ensures)
 
 returns-5 : tie.Need-returns-5
 returns-5 c =
@@ -64,8 +64,8 @@ returns-5 c =
     let told = did .before .before .before in
     let w = told .before .before in
     message-taken (from (one w) .args .h) _ _ _ (one w .before .valid-row .ensures) (one w .if1 .left) _ _
-        (w .before .valid-message .ensures) (w .if2 .left) _ _
-        (ap (received (serverOf (from (one w) .args .h) (now (from (one w) .args .row)))) (told .m3 .given .1)) (did .take-row3 .ensures)
+    (w .before .valid-message .ensures) (w .if2 .left) _ _
+    (ap (received (serverOf (from (one w) .args .h) (now (from (one w) .args .row)))) (told .m3 .given .1)) (did .take-row3 .ensures)
 
 returns-6 : tie.Need-returns-6
 returns-6 c =
@@ -73,22 +73,22 @@ returns-6 c =
     let told = did .before .before .before in
     let w = told .before .before in
     message-taken (from (one w) .args .h) _ _ _ (one w .before .valid-row .ensures) (one w .if1 .left) _ _
-        (w .before .valid-message .ensures) (w .if2 .left) _ _
-        (ap (received (serverOf (from (one w) .args .h) (now (from (one w) .args .row)))) (told .m4 .given .1)) (did .take-row4 .ensures)
+    (w .before .valid-message .ensures) (w .if2 .left) _ _
+    (ap (received (serverOf (from (one w) .args .h) (now (from (one w) .args .row)))) (told .m4 .given .1)) (did .take-row4 .ensures)
 
 returns-7 : tie.Need-returns-7
 returns-7 c =
     let w = c .before .before .before in
     message-not (from (one w) .args .h) _ _ _ (one w .before .valid-row .ensures) (one w .if1 .left) _ _ (w .before .valid-message .ensures)
-        (w .if2 .left) (ap (received (serverOf (from (one w) .args .h) (now (from (one w) .args .row)))) (c .before .enum-told .given .1))
-        (c .refuse3 .ensures)
+    (w .if2 .left) (ap (received (serverOf (from (one w) .args .h) (now (from (one w) .args .row)))) (c .before .enum-told .given .1))
+    (c .refuse3 .ensures)
 
 returns-8 : tie.Need-returns-8
 returns-8 c =
     let w = c .before .before .before in
     message-not (from (one w) .args .h) _ _ _ (one w .before .valid-row .ensures) (one w .if1 .left) _ _ (w .before .valid-message .ensures)
-        (w .if2 .left) (ap (received (serverOf (from (one w) .args .h) (now (from (one w) .args .row)))) (c .before .enum-told2 .given .1))
-        (c .refuse4 .ensures)
+    (w .if2 .left) (ap (received (serverOf (from (one w) .args .h) (now (from (one w) .args .row)))) (c .before .enum-told2 .given .1))
+    (c .refuse4 .ensures)
 
 pub message-row-spec : {M : Type 1} → statement M
 message-row-spec =

@@ -9,14 +9,20 @@ put-mail-requires : tie.Need-put-mail-requires
 put-mail-requires c κs = omega (arith, three-size (c .before .before .args .first) (c .before .before .args .second) (c .before .before .args .third))
 
 put-mail-requires-2 : tie.Need-put-mail-requires-2
-put-mail-requires-2 c κs = omega (arith, three-size (c .before .before .before .before .before .before .args .first)
-    (c .before .before .before .before .before .before .args .second) (c .before .before .before .before .before .before .args .third))
+put-mail-requires-2 c κs = omega (
+  arith,
+  three-size (c .before .before .before .before .before .before .args .first)
+      (c .before .before .before .before .before .before .args .second) (c .before .before .before .before .before .before .args .third),
+)
 
 put-mail-requires-3 : tie.Need-put-mail-requires-3
-put-mail-requires-3 c κs = omega (arith, three-size
-    (c .before .before .before .before .before .before .before .before .before .before .args .first)
-    (c .before .before .before .before .before .before .before .before .before .before .args .second)
-    (c .before .before .before .before .before .before .before .before .before .before .args .third))
+put-mail-requires-3 c κs = omega (
+  arith,
+  three-size
+      (c .before .before .before .before .before .before .before .before .before .before .args .first)
+      (c .before .before .before .before .before .before .before .before .before .before .args .second)
+      (c .before .before .before .before .before .before .before .before .before .before .args .third),
+)
 
 returns : tie.Need-returns
 returns c = three-put _ _ _ _ _ _ _ _ _

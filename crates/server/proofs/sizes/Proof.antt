@@ -9,12 +9,18 @@ add-result : tie.Need-add-result
 add-result c = omega (arith, mail-small (c .before .before .args .first), mail-small (c .before .before .args .second))
 
 add-result-2 : tie.Need-add-result-2
-add-result-2 c = omega (arith, mail-small (c .before .before .before .args .first), mail-small (c .before .before .before .args .second),
-    mail-small (c .before .before .before .args .third))
+add-result-2 c = omega (
+  arith,
+  mail-small (c .before .before .before .args .first),
+  mail-small (c .before .before .before .args .second),
+  mail-small (c .before .before .before .args .third),
+)
 
 returns : tie.Need-returns
-returns c = omega (arith,
-    three-size (c .before .before .before .args .first) (c .before .before .before .args .second) (c .before .before .before .args .third))
+returns c = omega (
+  arith,
+  three-size (c .before .before .before .args .first) (c .before .before .before .args .second) (c .before .before .before .args .third),
+)
 
 pub sizes-spec : {M : Type 1} → statement M
 sizes-spec =

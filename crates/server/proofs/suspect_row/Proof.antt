@@ -29,7 +29,7 @@ returns-3 c =
     let owned = gone .before .before .before in
     let v = owned .before .before .before .before in
     suspect-done (from v .args .h) _ _ _ (v .before .valid-row .ensures) (v .if1 .left) (padded v) _ (owned .owner .given .1) _ _
-        (gone .delete .ensures) (c .done .ensures)
+    (gone .delete .ensures) (c .done .ensures)
 
 pub suspect-row-spec : {M : Type 1} → statement M
 suspect-row-spec =

@@ -30,7 +30,7 @@ returns-2 c =
     let gone = acted .before .before .before .before in
     let e = from gone in
     compares-newer _ (e .args .tag) (e .args .r) (e .args .v) _ (e .pre .0) _ _ _ (gone .delete .ensures) _ _ _ (e .pre .1)
-        (newer gone .if2 .taken) (acted .act .ensures) (c .joined .ensures)
+    (newer gone .if2 .taken) (acted .act .ensures) (c .joined .ensures)
 
 pub compare-spec : {M : Type 1} → statement M
 compare-spec =

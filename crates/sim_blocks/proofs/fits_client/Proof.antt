@@ -45,7 +45,7 @@ returns-3 : tie.Need-returns-3
 returns-3 c =
     let v = c .before .before .before .before .before in
     threshold-differs _ _ _ _ _ _ (its v) _ (v .valid-row .ensures) (c .before .before .before .before .if1 .left)
-        (c .before .before .if2 .left) (c .if3 .taken)
+    (c .before .before .if2 .left) (c .if3 .taken)
 
 shared-slice-read-if4 : tie.Need-shared-slice-read-if4
 shared-slice-read-if4 c = omega (arith, long (entry (c .before .before .before .before .before .before)))
@@ -60,15 +60,19 @@ returns-4 c =
     let t = c .before .before .before in
     let v = tested t in
     number-differs _ _ _ _ _ _ (its v) _ (v .valid-row .ensures) (t .before .before .before .before .if1 .left)
-        (t .before .before .if2 .left) (t .if3 .left) (c .if4 .taken)
+    (t .before .before .if2 .left) (t .if3 .left) (c .if4 .taken)
 
 requests-named-requires : tie.Need-requests-named-requires
 requests-named-requires c κs =
     let t = c .before .before .before in
     let v = tested t in
     let a = entry v .args in
-    omega (arith, long (entry v), servers-few (a .n) (a .m) (a .clients) (a .k) _ _ (its v) _ (v .valid-row .ensures)
-        (t .before .before .before .before .if1 .left) (t .before .before .if2 .left))
+    omega (
+      arith,
+      long (entry v),
+      servers-few (a .n) (a .m) (a .clients) (a .k) _ _ (its v) _ (v .valid-row .ensures)
+          (t .before .before .before .before .if1 .left) (t .before .before .if2 .left),
+    )
 
 returns-5 : tie.Need-returns-5
 returns-5 c =
@@ -76,7 +80,7 @@ returns-5 c =
     let t = e .before .before .before in
     let v = tested t in
     named-decides _ _ _ _ _ _ (its v) _ (v .valid-row .ensures) (t .before .before .before .before .if1 .left)
-        (t .before .before .if2 .left) (t .if3 .left) (e .if4 .left) _ (c .requests-named .ensures)
+    (t .before .before .if2 .left) (t .if3 .left) (e .if4 .left) _ (c .requests-named .ensures)
 
 pub fits-client-spec : {M : Type 1} → statement M
 fits-client-spec =

@@ -85,7 +85,7 @@ returns-5 c =
     let e = good t in
     let v = tested e in
     queue-decides _ _ _ _ _ (its v) _ (v .valid-row .ensures) (e .if1 .left) (t .before .before .before .if2 .left) (t .if3 .left)
-        (u .if4 .left) _ (c .requests-named .ensures)
+    (u .if4 .left) _ (c .requests-named .ensures)
 
 pub fits-server-spec : {M : Type 1} → statement M
 fits-server-spec =

@@ -17,8 +17,12 @@ abbrev μ-loop : tie.MeasureT-loop
 μ-loop words count₀ i₀ count i = systemServers - i
 
 add-count : tie.Need-add-count Inv-loop μ-loop
-add-count c = omega (arith, c .before .before .before .loop .inv .few, c .before .before .before .loop .inv .within,
-    one-at-most (getD (now (c .before .before .before .before .before .args .words)) (c .before .before .before .loop .i) 0) _ (c .bit-of .ensures))
+add-count c = omega (
+  arith,
+  c .before .before .before .loop .inv .few,
+  c .before .before .before .loop .inv .within,
+  one-at-most (getD (now (c .before .before .before .before .before .args .words)) (c .before .before .before .loop .i) 0) _ (c .bit-of .ensures),
+)
 
 pub flags-set-spec : {M : Type 1} → statement M
 flags-set-spec =

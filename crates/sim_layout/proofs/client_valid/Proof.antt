@@ -10,7 +10,7 @@ returns : tie.Need-returns
 returns c =
     let a = c .before .before .before .before .args in
     client-read (now (a .w)) (a .k) (c .before .before .before .before .pre) (λ b. validClientBlock (a .n) (a .m) (a .clients) (a .k) b) _
-        (c .valid-client-block .ensures)
+    (c .valid-client-block .ensures)
 
 pub client-valid-spec : {M : Type 1} → statement M
 client-valid-spec =

@@ -23,7 +23,7 @@ returns c =
     let d = c .before .before .before .before .before .before in
     let a = d .args in
     client-written (now (a .w)) (a .k) (d .pre .0) (λ b. if inEpoch (clientPlace b) then set b (clientSize + a .j .0) 1 else b) _
-        (λ l. length-either (inEpoch (clientPlace l)) l (clientSize + a .j .0)) (c .before .before .mark-down .ensures)
+    (λ l. length-either (inEpoch (clientPlace l)) l (clientSize + a .j .0)) (c .before .before .mark-down .ensures)
 
 pub mark-client-spec : {M : Type 1} → statement M
 mark-client-spec =

@@ -10,8 +10,8 @@ returns-4 c =
     let d = c .before .before .before .before .before .before .before .before in
     let a = d .args in
     most-noted (a .n) (a .m) (a .clients) (now (a .w)) _ (c .before .before .before .before .before .before .blocks-valid .ensures)
-        (c .before .before .before .before .before .if1 .left) _ (c .before .before .before .before .transit-valid .ensures)
-        (c .before .before .before .if2 .left) _ (c .before .if3 .left) (c .worst-down .ensures)
+    (c .before .before .before .before .before .if1 .left) _ (c .before .before .before .before .transit-valid .ensures)
+    (c .before .before .before .if2 .left) _ (c .before .if3 .left) (c .worst-down .ensures)
 
 pub parts-valid-spec : {M : Type 1} → statement M
 parts-valid-spec =

@@ -13,7 +13,7 @@ returns c =
     let d = c .before .before .before .before .before .before .before in
     let a = d .args in
     client-written (now (a .w)) (a .k) (d .pre .0) (λ b. sets b 1 (clientWords (clientOf (a .h) (now (a .row))))) _
-        (λ l. length-sets l 1 (clientWords (clientOf (a .h) (now (a .row))))) (c .before .before .put-client .ensures)
+    (λ l. length-sets l 1 (clientWords (clientOf (a .h) (now (a .row))))) (c .before .before .put-client .ensures)
 
 pub put-client-spec : {M : Type 1} → statement M
 put-client-spec =

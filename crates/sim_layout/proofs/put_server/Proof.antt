@@ -13,7 +13,7 @@ returns c =
     let d = c .before .before .before .before .before .before .before in
     let a = d .args in
     server-written (now (a .w)) (a .j) (d .pre .0) (λ b. sets b 1 (serverWords (serverOf (a .h) (now (a .row))))) _
-        (λ l. length-sets l 1 (serverWords (serverOf (a .h) (now (a .row))))) (c .before .before .put-server .ensures)
+    (λ l. length-sets l 1 (serverWords (serverOf (a .h) (now (a .row))))) (c .before .before .put-server .ensures)
 
 pub put-server-spec : {M : Type 1} → statement M
 put-server-spec =

@@ -12,8 +12,11 @@ add-result c =
     let p = c .before .before .before .before .before in
     let r = p .before .before in
     let e = r .before .before .before .before in
-    omega (arith, fitting-inside (e .args .at) (e .args .number) (e .args .from) (now (e .args .bytes)) (now (e .args .t))
-    _ (read-rest (now (e .args .bytes)) (e .args .from) _ (r .read-fields .ensures)) (e .pre .1) _ _ (p .p .given .1))
+    omega (
+      arith,
+      fitting-inside (e .args .at) (e .args .number) (e .args .from) (now (e .args .bytes)) (now (e .args .t))
+          _ (read-rest (now (e .args .bytes)) (e .args .from) _ (r .read-fields .ensures)) (e .pre .1) _ _ (p .p .given .1),
+    )
 
 pub post-one-spec : {M : Type 1} → statement M
 post-one-spec =

@@ -29,7 +29,7 @@ returns-2 c =
     let d = c .before .before .before .before .before .before .before .before in
     let a = d .args in
     event-valid (now (a .w)) (a .e) _ (c .before .before .before .before .before .valid .ensures)
-        (c .before .before .before .before .if1 .left) _ _ (c .before .before .happen .ensures)
+    (c .before .before .before .before .if1 .left) _ _ (c .before .before .happen .ensures)
 
 pub event-spec : {M : Type 1} → statement M
 event-spec =

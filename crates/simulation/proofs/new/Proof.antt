@@ -22,24 +22,24 @@ returns-3 c =
     let d = c .before .before .before .before .before .before in
     let a = d .args in
     new-clients (a .s) (now (a .w)) (c .before .before .before .before .if1 .left) _ (c .before .before .before .in-range-up-to .ensures)
-        (c .before .before .if2 .left) _ (c .before .within-limit .ensures) (c .if3 .taken)
+    (c .before .before .if2 .left) _ (c .before .within-limit .ensures) (c .if3 .taken)
 
 start-requires : tie.Need-start-requires
 start-requires c κs =
     let d = c .before .before .before .before .before .before .before in
     let a = d .args in
     new-asks (a .s) (now (a .w)) (c .before .before .before .before .before .if1 .left) _
-        (c .before .before .before .before .in-range-up-to .ensures) (c .before .before .before .if2 .left) _
-        (c .before .before .within-limit .ensures) (c .before .if3 .left)
+    (c .before .before .before .before .in-range-up-to .ensures) (c .before .before .before .if2 .left) _
+    (c .before .before .within-limit .ensures) (c .before .if3 .left)
 
 returns-4 : tie.Need-returns-4
 returns-4 c =
     let d = c .before .before .before .before .before .before .before .before .before .before in
     let a = d .args in
     new-starts (a .s) (now (a .w)) (c .before .before .before .before .before .before .before .before .if1 .left) _
-        (c .before .before .before .before .before .before .before .in-range-up-to .ensures)
-        (c .before .before .before .before .before .before .if2 .left) _ (c .before .before .before .before .before .within-limit .ensures)
-        (c .before .before .before .before .if3 .left) _ (c .before .before .start .ensures)
+    (c .before .before .before .before .before .before .before .in-range-up-to .ensures)
+    (c .before .before .before .before .before .before .if2 .left) _ (c .before .before .before .before .before .within-limit .ensures)
+    (c .before .before .before .before .if3 .left) _ (c .before .before .start .ensures)
 
 pub new-spec : {M : Type 1} → statement M
 new-spec =

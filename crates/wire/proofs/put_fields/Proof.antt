@@ -7,9 +7,10 @@ use Rattle.wire.proofs.put_fields.Tie as tie
 
 returns : tie.Need-returns
 returns c =
-    let b = c .before .before .before .before in
-    (omega (arith, length-response _ (b .if1 .taken)),
-    stored-response _ _ _ _ _ (b .if1 .taken) (b .before .before .before .before .put-front .ensures) (c .before .before .put16 .ensures))
+    let b = c .before .before .before .before in (
+      omega (arith, length-response _ (b .if1 .taken)),
+      stored-response _ _ _ _ _ (b .if1 .taken) (b .before .before .before .before .put-front .ensures) (c .before .before .put16 .ensures),
+    )
 
 pub put-fields-spec : {M : Type 1} → statement M
 put-fields-spec =

@@ -12,7 +12,7 @@ returns c =
     let p₂ = p₃ .before .before .before .before in
     let p₁ = p₂ .before .before .before .before in
     front-stored (p₁ .before .before .before .before .args .f) _ _ _ _ _ _ _ _ (p₁ .before .length-of .ensures) (p₁ .put16 .ensures)
-        (p₂ .put162 .ensures) (p₃ .put163 .ensures) (p₄ .put164 .ensures) (p₅ .put32 .ensures)
+    (p₂ .put162 .ensures) (p₃ .put163 .ensures) (p₄ .put164 .ensures) (p₅ .put32 .ensures)
 
 pub put-front-spec : {M : Type 1} → statement M
 put-front-spec =

@@ -16,14 +16,14 @@ returns-3 : tie.Need-returns-3
 returns-3 c =
     let k = c .before .before .before in
     ap numbersOf (read-wrong _ _ _ (k .before .before .before .if1 .left) (k .before .before .get16 .ensures) (k .before .is-kind .ensures)
-        _ _ (not-false _ (k .if2 .left)) (c .before .before .length-of .ensures) (c .before .get162 .ensures) (c .if3 .taken))
+    _ _ (not-false _ (k .if2 .left)) (c .before .before .length-of .ensures) (c .before .get162 .ensures) (c .if3 .taken))
 
 returns-4 : tie.Need-returns-4
 returns-4 c =
     let k = c .before .before .before .before in
     ap numbersOf (read-cut _ _ _ (k .before .before .before .if1 .left) (k .before .before .get16 .ensures) (k .before .is-kind .ensures) _
-        _ (not-false _ (k .if2 .left)) (c .before .before .before .length-of .ensures) (c .before .before .get162 .ensures)
-        (c .before .if3 .left) (c .if4 .taken))
+    _ (not-false _ (k .if2 .left)) (c .before .before .before .length-of .ensures) (c .before .before .get162 .ensures)
+    (c .before .if3 .left) (c .if4 .taken))
 
 fields-in-requires : tie.Need-fields-in-requires
 fields-in-requires c κs =
@@ -35,8 +35,8 @@ returns-5 c =
     let d = c .before .before .before in
     let k = d .before .before .before .before in
     ap numbersOf (read-invalid _ _ _ (k .before .before .before .if1 .left) (k .before .before .get16 .ensures)
-        (k .before .is-kind .ensures) _ _ (not-false _ (k .if2 .left)) (d .before .before .before .length-of .ensures)
-        (d .before .before .get162 .ensures)
+    (k .before .is-kind .ensures) _ _ (not-false _ (k .if2 .left)) (d .before .before .before .length-of .ensures)
+    (d .before .before .get162 .ensures)
     (d .before .if3 .left) _ _ (d .if4 .left) (c .before .before .fields-in .ensures) (c .before .valid-fields .ensures) (not-true _ (c .if5 .taken)))
 
 returns-6 : tie.Need-returns-6
@@ -44,7 +44,7 @@ returns-6 c =
     let d = c .before .before .before in
     let k = d .before .before .before .before in
     read-accepted _ _ _ (k .before .before .before .if1 .left) (k .before .before .get16 .ensures) (k .before .is-kind .ensures) _ _
-        (not-false _ (k .if2 .left)) (d .before .before .before .length-of .ensures) (d .before .before .get162 .ensures)
+    (not-false _ (k .if2 .left)) (d .before .before .before .length-of .ensures) (d .before .before .get162 .ensures)
     (d .before .if3 .left) _ _ (d .if4 .left) (c .before .before .fields-in .ensures) (c .before .valid-fields .ensures) (not-false _ (c .if5 .left))
 
 pub read-fields-spec : {M : Type 1} → statement M

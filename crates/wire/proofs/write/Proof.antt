@@ -9,7 +9,7 @@ returns-2 : tie.Need-returns-2
 returns-2 c =
     let b = c .before .before .before .before in
     write-laid _ _ _ (b .before .before .valid-message .ensures) (not-false _ (b .before .if1 .left)) _ _ _ (b .fields-of .ensures)
-        (c .before .before .lay .ensures .0) (c .before .before .lay .ensures .1)
+    (c .before .before .lay .ensures .0) (c .before .before .lay .ensures .1)
 
 pub write-spec : {M : Type 1} → statement M
 write-spec =

@@ -9,7 +9,7 @@ returns-2 : tie.Need-returns-2
 returns-2 c =
     let b = c .before .before .before .before in
     numbers-laid _ _ _ (b .before .valid-fields .ensures) (not-false _ (b .if1 .left)) _ _ (c .before .before .lay .ensures .0)
-        (c .before .before .lay .ensures .1)
+    (c .before .before .lay .ensures .1)
 
 pub write-fields-spec : {M : Type 1} → statement M
 write-fields-spec =

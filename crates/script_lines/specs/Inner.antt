@@ -1,12 +1,16 @@
--- How the code says what a definition of this crate gives or lacks.
+-- Definitions that only the contracts of private functions cite: no promise rests on them.
 use Prim.Native.Nat.{ℕ, _+_}
 use mathlib.Core.List.{List}
+use Rattle.script_numbers.specs.Decimals.{number}
+use Rattle.script_lines.specs.Words.{text, word, rest}
 use lib.ListN.{length, drop}
 use Rattle.ids.specs.Choice.{maybe}
-use Rattle.script_numbers.specs.Decimals.{number}
-use Rattle.script_lines.specs.Words.{word, rest}
 use Rattle.script_lines.specs.declared.Field.{Field}
 use Rattle.script_lines.specs.declared.Field.the-variants.{Number as Ended, Nothing as NoField}
+
+-- the commands one after another, as the code holds them
+abbrev pub names : List ℕ
+names = text "try exit fall down up take drop miss check"
 
 -- the number that stands before the first space from place `at` on, with the place behind that space
 unfoldable pub fieldAt : List ℕ → ℕ → Field
