@@ -191,7 +191,7 @@ closed-words : (w₁ w₂ : List ℕ) → Sound w₁ → w₂ ≡ set (set w₁ 
     → (view w₂ ≡ record { stage = closed; line = [] }) × (valid w₂ ≡ true)
 unfolding stageOf
 closed-words w₁ w₂ K p =
-    let I = store-length (store-stage (itself-is w₁ (K .long)) 2) 0 in
+    let I = store-length (store-stage (itself-is w₁ (K .long)) stageClosed) 0 in
     let F = known w₁ (K .valid) in
     rw p (view-is I, valid-is I ∙ from-facts _ (keptIn w₁) (simulationIn w₁) (omega arith) (omega arith) (F .bytes) (λ q. absurd (omega (arith, q))))
 

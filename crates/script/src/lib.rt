@@ -407,6 +407,7 @@ fn seal(w: &mut [u32])
     w[LENGTH] = 0;
 }
 
+// The script ends: what stands of a line counts as the last one, the end is printed behind it, and the state is closed.
 fn close(w: &mut [u32], out: &mut [u8]) -> usize
     requires { ⌜ Sound (now w) × (maxEnding ≤ length (now out)) ⌝ }
     ensures { λ r. ⌜ Closes (now (w .entry)) (now (out .entry)) (now (w .exit)) (now (out .exit)) r ⌝ }

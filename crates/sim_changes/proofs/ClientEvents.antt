@@ -355,27 +355,31 @@ module _ (w : List ℕ) (k : ClientId) (a : ClientAct) (M : ClientMay w k a) (li
   pub client-called : (count size : ℕ) → r .answer ≡ answer.Sent count size → ClientCalled w k a r row′ bytes′
   client-called count size f = called-by (verdict w k lives a M) count size f
 
--- the laws of each way out: g messages are gone, words w₁ have the client's record, and words w₂ its messages
-module _ {w : List ℕ} {k : ClientId} {a : ClientAct} {r : Turned} {row bytes : List ℕ} (C : ClientCalled w k a r row bytes)
-    (count size : ℕ) (f : r .answer ≡ answer.Sent count size) where
-  pub client-few : count ≤ systemServers
-  client-few = call-few (C .call) count size f
+-- Its answer counts so many messages, and b says whether there is room for them.
+pub record ClientTested (w : List ℕ) (k : ClientId) (a : ClientAct) (r : Turned) (row bytes : List ℕ) (count : ℕ) (b : Bool) : Type 0 where
+  pub called : ClientCalled w k a r row bytes
+  pub size : ℕ
+  pub answered : r .answer ≡ answer.Sent count size
+  pub room : b ≡ hasRoom w (clientGone a) count
 
-  module _ (g : ℕ) (e : g ≡ clientGone a) (b : Bool) (h : b ≡ hasRoom w g count) where
-    room : b ≡ hasRoom w (clientGone a) count
-    room = rw e at h
+pub client-few : {w : List ℕ} {k : ClientId} {a : ClientAct} {r : Turned} {row bytes : List ℕ} → ClientCalled w k a r row bytes
+    → (count size : ℕ) → r .answer ≡ answer.Sent count size → count ≤ systemServers
+client-few C count size f = call-few (C .call) count size f
 
-    pub client-full : not b ≡ true → Leaves w (clientEvent w k a) w × (Refused SystemFull ≡ movedOf (happens w (clientEvent w k a)))
-    client-full t = call-full (C .call) count size f b room t
+-- the laws of each way out: words w₁ have the client's record, and words w₂ its messages
+module _ {w : List ℕ} {k : ClientId} {a : ClientAct} {r : Turned} {row bytes : List ℕ} {count : ℕ} {b : Bool}
+    (T : ClientTested w k a r row bytes count b) where
+  pub client-full : not b ≡ true → Leaves w (clientEvent w k a) w × (Refused SystemFull ≡ movedOf (happens w (clientEvent w k a)))
+  client-full t = call-full (T .called .call) count (T .size) (T .answered) b (T .room) t
 
-    module _ (t : not b ≡ false) (w₁ : List ℕ) (B : Becomes w w₁ (clientStored w k a)) where
-      pub client-sendable : Sendable w₁ count bytes
-      client-sendable = call-sendable (C .call) count size f b room t w₁ _ B (C .all) refl
+  module _ (t : not b ≡ false) (w₁ : List ℕ) (B : Becomes w w₁ (clientStored w k a)) where
+    pub client-sendable : Sendable w₁ count bytes
+    client-sendable = call-sendable (T .called .call) count (T .size) (T .answered) b (T .room) t w₁ _ B (T .called .all) refl
 
-      pub client-sent : (w₂ : List ℕ) → Becomes w₁ w₂ (sending (view w₁) (messagesIn count bytes))
-          → Leaves w (clientEvent w k a) w₂ × (Sent count ≡ movedOf (happens w (clientEvent w k a)))
-      unfolding after
-      client-sent w₂ D = call-noted (C .call) count size f b room t w₁ w₂ _ B D refl
+    pub client-sent : (w₂ : List ℕ) → Becomes w₁ w₂ (sending (view w₁) (messagesIn count bytes))
+        → Leaves w (clientEvent w k a) w₂ × (Sent count ≡ movedOf (happens w (clientEvent w k a)))
+    unfolding after
+    client-sent w₂ D = call-noted (T .called .call) count (T .size) (T .answered) b (T .room) t w₁ w₂ _ B D refl
 
 -- The record is stored, with what the act changes beside it. Valid words have the most noted.
 noted : {w w′ : List ℕ} (u : System) → Becomes w w′ u → Becomes w w′ (withClients u (u .clients))

@@ -1,12 +1,12 @@
--- What `read` and `write` answer at each of their returns, from the tests that led there.
+-- What reading a message's numbers, `read` and `write` answer at each of their returns, by the facts that led there.
 use Prim.Native.Nat.{ℕ, _+_, _<_, _≤_}
 use native.Mathlib.Omega.{arith}
 use mathlib.Core.Path.{refl, _≡_, sym, _∙_}
-use mathlib.Core.Bool.{Bool, true, false}
+use mathlib.Core.Bool.{Bool, true, false, not}
 use mathlib.Core.List.{List}
 use lib.ListN.{length, take, drop}
 use lib.Seq.{sets}
-use borrow.Author.Tests.{lt-ltb, le-ltb, eq-eqb, ne-eqb, le-leb, lt-leb}
+use borrow.Author.Tests.{lt-ltb, le-ltb, eq-eqb, ne-eqb, le-leb, lt-leb, not-true, not-false}
 use Rattle.ids.specs.Limits.{maxServers}
 use Rattle.ids.specs.declared.Refusal.{Refusal}
 use Rattle.ids.specs.declared.Refusal.the-variants.{HeaderShort, KindUnknown, LengthWrong, MessageCut, NumberOutOfRange, RoomShort}
@@ -25,59 +25,59 @@ use Rattle.wire.proofs.NumbersLaws.{fields-again, fields-valid, message
 use Rattle.wire.proofs.RoundTrip.{took}
 use Rattle.wire.proofs.FormatLaws.{length-in, kind-in}
 
+-- reading, by its tests in their order: the bytes hold a header, it names a kind, the length is the kind's, the message is whole, its numbers
+-- are in range
 module _ (s : List ℕ) where
-  pub read-short : length s < 4 → NotRead HeaderShort ≡ readOf s
+  pub read-short : length s < 4 → NoNumbers HeaderShort ≡ numbersOf (readOf s)
   unfolding readUpTo
   read-short h = simp (lt-ltb _ _ h)
 
-  module _ (kind : ℕ) (ok : Bool) (h : 4 ≤ length s) (k : kind ≡ number (take 2 (drop 2 s))) (o : ok ≡ known kind) where
+  module _ (kind : ℕ) (ok : Bool) (header : 4 ≤ length s) (its : kind ≡ number (take 2 (drop 2 s))) (tested : ok ≡ known kind) where
     its-kind : kindIn s ≡ kind
-    its-kind = sym (kind-in s) ∙ sym k
+    its-kind = sym (kind-in s) ∙ sym its
 
-    pub read-unknown : ok ≡ false → NotRead KindUnknown ≡ readOf s
+    pub read-unknown : not ok ≡ true → NoNumbers KindUnknown ≡ numbersOf (readOf s)
     unfolding readUpTo
-    read-unknown f = let e : known kind ≡ false = cc in simp (le-ltb _ _ h, its-kind, e)
+    read-unknown f = let e : known kind ≡ false = sym tested ∙ not-true ok f in simp (le-ltb _ _ header, its-kind, e)
 
-    module _ (size len : ℕ) (t : ok ≡ true) (z : size ≡ lengthOf kind) (l : len ≡ number (take 2 (drop 0 s))) where
+    module _ (size len : ℕ) (passed : not ok ≡ false) (full : size ≡ lengthOf kind) (said : len ≡ number (take 2 (drop 0 s))) where
+      is-known : known kind ≡ true
+      is-known = sym tested ∙ not-false ok passed
+
       its-length : lengthIn s ≡ len
-      its-length = sym (length-in s) ∙ sym l
+      its-length = sym (length-in s) ∙ sym said
 
-      pub read-wrong : (len ≡ size → ⊥) → NotRead LengthWrong ≡ readOf s
+      pub read-wrong : (len ≡ size → ⊥) → NoNumbers LengthWrong ≡ numbersOf (readOf s)
       unfolding readUpTo
-      read-wrong n = let e : known kind ≡ true = cc in simp (le-ltb _ _ h, its-kind, e, its-length, ← z, ne-eqb _ _ n)
+      read-wrong n = simp (le-ltb _ _ header, its-kind, is-known, its-length, ← full, ne-eqb _ _ n)
 
-      module _ (n : len ≡ size) where
-        pub read-cut : length s < size → NotRead MessageCut ≡ readOf s
+      module _ (right : len ≡ size) where
+        pub read-cut : length s < size → NoNumbers MessageCut ≡ numbersOf (readOf s)
         unfolding readUpTo
-        read-cut c = let e : known kind ≡ true = cc in simp (le-ltb _ _ h, its-kind, e, its-length, ← z, eq-eqb _ _ n, lt-ltb _ _ c)
+        read-cut c = simp (le-ltb _ _ header, its-kind, is-known, its-length, ← full, eq-eqb _ _ right, lt-ltb _ _ c)
 
-        module _ (f : Fields) (v : Bool) (c : size ≤ length s) (p : f ≡ fieldsIn s) (w : v ≡ validFields f) where
-          in-range : v ≡ valid (messageOf (fieldsIn s))
+        module _ (f : Fields) (valid-numbers : Bool) (whole : size ≤ length s) (held : f ≡ fieldsIn s) (judged : valid-numbers ≡ validFields f) where
+          known-in : known (kindIn s) ≡ true
+          known-in = rw its-kind is-known
+
+          in-range : valid-numbers ≡ valid (messageOf (fieldsIn s))
           unfolding validFieldsUpTo fieldsIn
-          in-range =
-              let e : known kind ≡ true = cc in
-              let q : known (kindIn s) ≡ true = rw its-kind e in
-              rw (p, q) at w ∙ valid-message (fieldsIn s) maxServers q (alone-in s)
+          in-range = rw (held, known-in) at judged ∙ valid-message (fieldsIn s) maxServers known-in (alone-in s)
 
-          pub read-invalid : v ≡ false → NotRead NumberOutOfRange ≡ readOf s
+          pub read-invalid : not valid-numbers ≡ true → NoNumbers NumberOutOfRange ≡ numbersOf (readOf s)
           unfolding readUpTo
           read-invalid b =
-              let e : known kind ≡ true = cc in
-              let i : valid (messageOf (fieldsIn s)) ≡ false = cc in-range in
-              simp (le-ltb _ _ h, its-kind, e, its-length, ← z, eq-eqb _ _ n, le-ltb _ _ c, i)
+              let i : valid (messageOf (fieldsIn s)) ≡ false = sym in-range ∙ not-true valid-numbers b in
+              simp (le-ltb _ _ header, its-kind, is-known, its-length, ← full, eq-eqb _ _ right, le-ltb _ _ whole, i)
 
-          accepted : v ≡ true → readOf s ≡ Accepted (messageOf (fieldsIn s)) size
+          accepted : valid-numbers ≡ true → readOf s ≡ Accepted (messageOf (fieldsIn s)) size
           unfolding readUpTo
           accepted b =
-              let e : known kind ≡ true = cc in
-              let i : valid (messageOf (fieldsIn s)) ≡ true = cc in-range in
-              simp (le-ltb _ _ h, its-kind, e, its-length, ← z, eq-eqb _ _ n, le-ltb _ _ c, i)
+              let i : valid (messageOf (fieldsIn s)) ≡ true = sym in-range ∙ b in
+              simp (le-ltb _ _ header, its-kind, is-known, its-length, ← full, eq-eqb _ _ right, le-ltb _ _ whole, i)
 
-          pub read-accepted : v ≡ true → Fitting f size ≡ numbersOf (readOf s)
-          read-accepted b =
-              let e : known kind ≡ true = cc in
-              let q : known (kindIn s) ≡ true = rw its-kind e in
-              rw (accepted b, fields-of-message s q, p)
+          pub read-accepted : not valid-numbers ≡ false → Fitting f size ≡ numbersOf (readOf s)
+          read-accepted b = rw (accepted (not-false valid-numbers b), fields-of-message s known-in, held)
 
 -- what `read` makes of the numbers
 module _ (s : List ℕ) (p : Numbers) where

@@ -2,11 +2,12 @@
 -- A section for each place on the way says what holds there; the needs below it cite these.
 use denote.Ref.{now}
 use native.Mathlib.Omega.{arith}
-use Prim.Native.Nat.{ℕ, zero-le}
+use Prim.Native.Nat.{ℕ, _≤_, zero-le}
 use mathlib.Core.Path.{_≡_}
 use mathlib.Core.List.{List}
 use Rattle.server.specs.Record.{serverOf}
 use Rattle.words.specs.Records.{serverFrom}
+use Rattle.system.specs.Limits.{systemServers}
 use Rattle.sim_blocks.specs.Blocks.{serverRecord}
 use Rattle.sim_layout.specs.Parts.{serverBlockOf}
 use Rattle.sim_changes.specs.Changes.{HasServer}
@@ -56,6 +57,9 @@ module _ (c : tie.After-counts) where
   abbrev made : tie.After-call-server
   made = c .before .before .before .before
 
+  few : c .counts .result ≤ systemServers
+  few = ruled-few (called made .ruled) _ (c .counts .ensures)
+
 -- there is room
 module _ (c : tie.Else1) where
   abbrev counted : tie.After-counts
@@ -88,7 +92,7 @@ call-server-requires c κs =
 has-room-requires : tie.Need-has-room-requires
 has-room-requires c κs =
     let n = c .before in
-    (there (start (made n)) .valid, zero-le, omega (arith, ruled-few (called (made n) .ruled) _ (n .counts .ensures)))
+    (there (start (made n)) .valid, zero-le, omega (arith, few n))
 
 returns : tie.Need-returns
 returns c =
@@ -108,7 +112,7 @@ send-mails-requires c κs =
 cast-t35 : tie.Need-cast-t35
 cast-t35 c =
     let n = counted (roomy (stored (c .before .before))) in
-    record { fits = omega (arith, ruled-few (called (made n) .ruled) _ (n .counts .ensures)) }
+    record { fits = omega (arith, few n) }
 
 returns-2 : tie.Need-returns-2
 returns-2 c = ruled-refused (called (c .before .before .before .before) .ruled) _ (c .before .ruling .given .1)
