@@ -26,19 +26,4 @@ unfolding before equal timestampIn insert enqueue without promote delete inform 
     samples example twoHolders yieldRound redelivery ownerlessAnswer lostRelease fallenOwner epochs refusals empty firstLineEmpty
     firstLineUnknown firstLineShort firstLineZeroLed firstLinePast32Bits firstLineOf40Bytes firstLineOf41Bytes servers0 servers32 threshold0
     thresholdAboveN faultsAboveN clients0 clients17 noLastNewline emptyLastLine stallingSetting
-samples-print = (
-  refl,
-  (
-    refl,
-    (
-      refl,
-      (
-        refl,
-        (
-          refl,
-          (refl, (refl, (refl, (refl, (refl, (refl, (refl, (refl, (refl, (refl, (refl, (refl, (refl, (refl, (refl, (refl, (refl, (refl, (refl, (refl, (refl, (refl, tt)))))))))))))))))))))),
-        ),
-      ),
-    ),
-  ),
-)
+samples-print = (refl, (refl, (refl, (refl, (refl, (refl, (refl, (refl, (refl, (refl, (refl, (refl, (refl, (refl, (refl, (refl, (refl, (refl, (refl, (refl, (refl, (refl, (refl, (refl, (refl, (refl, (refl, tt)))))))))))))))))))))))))))

@@ -3,11 +3,14 @@ use Prim.Native.Nat.{ℕ}
 use mathlib.Core.Path.{_≡_, refl, sym, ap, _∙_}
 use mathlib.Core.Bool.{Bool, true, false, not}
 use mathlib.Core.List.{List}
+use native.Mathlib.Omega.{arith}
 use borrow.Author.Tests.{le-ltb, not-true, not-false}
 use Rattle.ids.specs.Limits.{within, maxServers}
 use Rattle.ids.specs.Requests.{byOwner}
 use Rattle.ids.specs.declared.Refusal.the-variants.{InvalidRecord, NumberOutOfRange, NotForServer, NoOwner, ParameterOutOfRange}
+use Rattle.ids.specs.declared.ClientId.{ClientId}
 use Rattle.ids.specs.declared.ServerId.{ServerId}
+use Rattle.ids.specs.declared.Timestamp.{Timestamp}
 use Rattle.ids.specs.declared.Request.{Request}
 use Rattle.ids.specs.declared.Owner.{Owner}
 use Rattle.ids.specs.declared.Owner.the-variants.{Nobody, Of}
@@ -17,21 +20,42 @@ use Rattle.wire.specs.Format as format
 use Rattle.wire.specs.Step.{Outcome, refused, stepped, stay, tell}
 use Rattle.wire.specs.declared.Message.{Message}
 use Rattle.wire.specs.declared.Message.the-variants.{Check}
+use Rattle.wire.specs.declared.Message.the-variants as message
 use Rattle.wire.specs.declared.Answer.the-variants.{Sent, Refused}
 use Rattle.server_votes.specs.declared.Moved.{Moved}
+use Rattle.server_votes.specs.declared.Tag.{Tag}
 use Rattle.server_votes.specs.Figure1.{State, delete, suspect, check}
 use Rattle.server_votes.specs.Places.{MovesOne, still, telling}
 use Rattle.server_votes.proofs.ActLaws.{stays, delete-fits}
 use Rattle.server_votes.proofs.MoveLaws.{moves-telling}
+use Rattle.server.specs.declared.Asked.{Asked}
+use Rattle.server.specs.declared.Asked.the-variants.{Step, Nothing as NoStep}
 use Rattle.server.specs.declared.Head.{Head}
 use Rattle.server.specs.declared.Server.{Server}
 use Rattle.server.specs.declared.Stepped.{Stepped}
 use Rattle.server.specs.declared.Turned.{Turned}
 use Rattle.server.specs.Record.{valid, serverOf, view}
-use Rattle.server.specs.Inner.{refusing, doing}
-use Rattle.server.specs.Calls.{emptyServer, blank, newResult, received, messageOutcomeUpTo, messageOutcome, suspectOutcome, checkOutcome}
+use Rattle.server.specs.Inner.{refusing, doing, askedBy}
+use Rattle.server.specs.Calls.{emptyServer, blank, newResult, taken, received, messageOutcomeUpTo, messageOutcome, suspectOutcome, checkOutcome}
 use Rattle.server.specs.Rows.{Turns}
 use Rattle.server.proofs.TurnLaws.{turns-refused, turns-done}
+
+-- what is received, by what the message asks of a server
+asks-step : (s : Server) (m : Message) (x : Tag) (k : ClientId) (j : ServerId) (t : Timestamp) → askedBy m ≡ Step x k j t → received s m ≡ taken s x k j t
+asks-step s (message.Request k′ j′ t′) x k j t e = cc
+asks-step s (message.Yield k′ j′ t′) x k j t e = cc
+asks-step s (message.Release k′ j′ t′) x k j t e = cc
+asks-step s (message.Inquiry k′ j′ t′) x k j t e = cc
+asks-step s (message.Response k′ j′ o) x k j t e = let z : _≡_ {A = ℕ} 0 1 = cc in absurd (omega arith)
+asks-step s (message.Check k′ j′ t′) x k j t e = let z : _≡_ {A = ℕ} 0 1 = cc in absurd (omega arith)
+
+asks-nothing : (s : Server) (m : Message) → askedBy m ≡ NoStep → received s m ≡ refused NotForServer
+asks-nothing s (message.Request k j t) e = let z : _≡_ {A = ℕ} 0 1 = cc in absurd (omega arith)
+asks-nothing s (message.Yield k j t) e = let z : _≡_ {A = ℕ} 0 1 = cc in absurd (omega arith)
+asks-nothing s (message.Release k j t) e = let z : _≡_ {A = ℕ} 0 1 = cc in absurd (omega arith)
+asks-nothing s (message.Inquiry k j t) e = let z : _≡_ {A = ℕ} 0 1 = cc in absurd (omega arith)
+asks-nothing s (message.Response k j o) e = refl
+asks-nothing s (message.Check k j t) e = refl
 
 module _ (h : Head) (row : List ℕ) (r : Turned) (b : Bool) (e : b ≡ valid (serverOf h row)) where
   abbrev s : Server
@@ -69,11 +93,14 @@ module _ (h : Head) (row : List ℕ) (r : Turned) (b : Bool) (e : b ≡ valid (s
         unfolding messageOutcomeUpTo
         its-kind = let z : format.valid m ≡ true = sym f ∙ not-false v t in rw (sound n, z)
 
-        pub message-not : received s m ≡ refused NotForServer → r ≡ refusing h NotForServer → Turns h row (messageOutcome s m) r row
-        message-not q p = turns-refused h row (messageOutcome s m) r NotForServer (its-kind ∙ q) p
+        -- by what the message asks of a server
+        module _ (a : Asked) (d : a ≡ askedBy m) where
+          pub message-not : a ≡ NoStep → r ≡ refusing h NotForServer → Turns h row (messageOutcome s m) r row
+          message-not q p = turns-refused h row (messageOutcome s m) r NotForServer (its-kind ∙ asks-nothing s m (sym d ∙ q)) p
 
-        pub message-taken : (w : Outcome State) (after : List ℕ) → received s m ≡ w → Turns h row w r after → Turns h row (messageOutcome s m) r after
-        message-taken w after q p = rw (its-kind, q) p
+          pub message-taken : (x : Tag) (k : ClientId) (j : ServerId) (u : Timestamp) (after : List ℕ) → a ≡ Step x k j u
+              → Turns h row (taken s x k j u) r after → Turns h row (messageOutcome s m) r after
+          message-taken x k j u after q p = rw (its-kind, asks-step s m x k j u (sym d ∙ q)) p
 
     -- 15, and then the owner's place goes on
     pub suspect-nobody : h .votes .owner ≡ Nobody → r ≡ refusing h NoOwner → Turns h row (suspectOutcome s) r row

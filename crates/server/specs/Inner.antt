@@ -10,11 +10,15 @@ use Rattle.ids.specs.declared.Refusal.{Refusal}
 use Rattle.ids.specs.Choice.{maybe}
 use Rattle.ids.specs.Requests.{byOwner}
 use Rattle.ids.specs.declared.Owner.{Owner}
-use Rattle.ids.specs.declared.Request.{Request}
+use Rattle.ids.specs.declared.Request.{Request as Pair}
 use Rattle.rows.specs.Queue.{timestampIn}
 use Rattle.wire.specs.declared.Message.{Message}
+use Rattle.wire.specs.declared.Message.the-variants.{Request, Yield, Release, Inquiry, Response, Check}
 use Rattle.server_votes.specs.declared.Mail.the-variants.{Nothing}
+use Rattle.server_votes.specs.declared.Tag.the-variants.{Request as REQUEST, Yield as YIELD, Release as RELEASE, Inquiry as INQUIRY}
 use Rattle.server_votes.specs.declared.Moved.{Moved}
+use Rattle.server.specs.declared.Asked.{Asked}
+use Rattle.server.specs.declared.Asked.the-variants.{Step, Nothing as NoStep}
 use Rattle.server.specs.declared.Head.{Head}
 use Rattle.server.specs.declared.Server.{Server}
 use Rattle.server.specs.declared.Stepped.{Stepped}
@@ -50,10 +54,19 @@ keeping s h row (Refused e) = record { server = s; answer = Refused e }
 keeping s h row (Sent k n) = record { server = record { head = h; row = row }; answer = Sent k n }
 
 -- the first client of the list stands in it again
-abbrev pub repeats : List Request → Bool
+abbrev pub repeats : List Pair → Bool
 repeats [] = false
 repeats (x ∷ l) = maybe (timestampIn (x .client) l) false (λ t. true)
 
 -- a queue only behind an owner, and the owner's client not in it
-abbrev pub fitsOwner : Owner → List Request → Bool
+abbrev pub fitsOwner : Owner → List Pair → Bool
 fitsOwner o l = byOwner o (eqb (length l) 0) (λ r. not (repeats (r ∷ l)))
+
+-- what a message asks of a server
+abbrev pub askedBy : Message → Asked
+askedBy (Request k j t) = Step REQUEST k j t
+askedBy (Yield k j t) = Step YIELD k j t
+askedBy (Release k j t) = Step RELEASE k j t
+askedBy (Inquiry k j t) = Step INQUIRY k j t
+askedBy (Response k j o) = NoStep
+askedBy (Check k j t) = NoStep

@@ -13,7 +13,7 @@ ghost use Rattle.server_votes.specs.Queues.{view as votesView};
 ghost use Rattle.server_votes.specs.Places.{mails};
 ghost use Rattle.server.specs.Record.{ordered, once, validState, serverOf, valid};
 ghost use Rattle.server.specs.Parts.{threeMails, sentAnswer, sentBuffer};
-ghost use Rattle.server.specs.Inner.{refusing, doing, answering, buffering, keeping, repeats, fitsOwner};
+ghost use Rattle.server.specs.Inner.{refusing, doing, answering, buffering, keeping, repeats, fitsOwner, askedBy};
 ghost use Rattle.server.specs.Calls.{result, taken, emptyServer, blank, newResult, messageOutcome, suspectOutcome, checkOutcome};
 ghost use Rattle.server.specs.Rows.{Turns};
 use ids::ClientId;
@@ -51,6 +51,12 @@ pub struct Server {
 pub struct Stepped {
     pub server: Server,
     pub answer: Answer,
+}
+
+// What a message asks of a server: a step by its tag, or nothing, where it goes to a client.
+pub enum Asked {
+    Step(Tag, ClientId, ServerId, Timestamp),
+    Nothing,
 }
 
 pub enum Ruling {
@@ -290,6 +296,20 @@ pub fn valid_row(h: Head, row: &[u32]) -> bool
     valid_votes(v, row)
 }
 
+// What the message asks of a server.
+fn asks(m: Message) -> Asked
+    ensures { λ r. ⌜ r ≡ askedBy m ⌝ }
+{
+    match m {
+        Message::Request(k, j, t) => Asked::Step(Tag::Request, k, j, t),
+        Message::Yield(k, j, t) => Asked::Step(Tag::Yield, k, j, t),
+        Message::Release(k, j, t) => Asked::Step(Tag::Release, k, j, t),
+        Message::Inquiry(k, j, t) => Asked::Step(Tag::Inquiry, k, j, t),
+        Message::Response(_, _, _) => Asked::Nothing,
+        Message::Check(_, _, _) => Asked::Nothing,
+    }
+}
+
 // Lines 26 to 45: a REQUEST, YIELD, RELEASE or INQUIRY. Refused 21, 5, 13, 14.
 pub fn message_row(h: Head, row: &mut [u32], m: Message) -> Turned
     ensures { λ r. ⌜ Turns h (now (row .entry)) (messageOutcome (serverOf h (now (row .entry))) m) r (now (row .exit)) ⌝ }
@@ -300,13 +320,10 @@ pub fn message_row(h: Head, row: &mut [u32], m: Message) -> Turned
     if !wire::valid_message(m) {
         return refuse(h, Refusal::NumberOutOfRange);
     }
-    match m {
-        Message::Request(k, j, t) => take_row(h, row, Tag::Request, k, j, t),
-        Message::Yield(k, j, t) => take_row(h, row, Tag::Yield, k, j, t),
-        Message::Release(k, j, t) => take_row(h, row, Tag::Release, k, j, t),
-        Message::Inquiry(k, j, t) => take_row(h, row, Tag::Inquiry, k, j, t),
-        Message::Response(_, _, _) => refuse(h, Refusal::NotForServer),
-        Message::Check(_, _, _) => refuse(h, Refusal::NotForServer),
+    let a = asks(m);
+    match a {
+        Asked::Step(tag, k, j, t) => take_row(h, row, tag, k, j, t),
+        Asked::Nothing => refuse(h, Refusal::NotForServer),
     }
 }
 

@@ -17,30 +17,4 @@ unfolding before same timestampIn insert enqueue without promote delete inform a
     reply round judge responds checked added numbered pending replaced downFrom worst deliver event after start runBy acceptedEvents
     mostHolders played scripts example twoHolders yieldRound redelivery ownerlessAnswer lostRelease oldTimestampAnswer lateRequest
     inquiryOrRequest earlierTimestampFirst fallenOwner requestOfTheFallen epochs downAtTheStart stallingSetting refusals
-scripts-play = (
-  record { answers = refl; events = refl; most = refl; down = refl },
-  (
-    record {
-      answers = refl;
-      events = refl;
-      most = refl;
-      down = refl;
-    },
-    (
-      record { answers = refl; events = refl; most = refl; down = refl },
-      (
-        record {
-          answers = refl;
-          events = refl;
-          most = refl;
-          down =
-              refl;
-        },
-        (
-          record { answers = refl; events = refl; most = refl; down = refl },
-          (record { answers = refl; events = refl; most = refl; down = refl }, (record { answers = refl; events = refl; most = refl; down = refl }, (record { answers = refl; events = refl; most = refl; down = refl }, (record { answers = refl; events = refl; most = refl; down = refl }, (record { answers = refl; events = refl; most = refl; down = refl }, (record { answers = refl; events = refl; most = refl; down = refl }, (record { answers = refl; events = refl; most = refl; down = refl }, (record { answers = refl; events = refl; most = refl; down = refl }, (record { answers = refl; events = refl; most = refl; down = refl }, (record { answers = refl; events = refl; most = refl; down = refl }, (record { answers = refl; events = refl; most = refl; down = refl }, tt))))))))))),
-        ),
-      ),
-    ),
-  ),
-)
+scripts-play = (refl, (refl, (refl, (refl, (refl, (refl, (refl, (refl, (refl, (refl, (refl, (refl, (refl, (refl, (refl, (refl, tt))))))))))))))))

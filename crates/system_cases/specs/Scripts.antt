@@ -49,11 +49,23 @@ played n m w ((e ⇒ a) ∷ l) = (e ⇒ said w (event n (enough m) w e)) ∷ pla
 abbrev pub eventOf : Line → Event
 eventOf (e ⇒ a) = e
 
-pub record Plays (s : Script) : Type 0 where
-  pub answers : played (s .n) (s .m) (start (s .n) (enough (s .m)) (s .clients)) (s .lines) ≡ s .lines
-  pub events : acceptedEvents (event (s .n) (enough (s .m))) (start (s .n) (enough (s .m)) (s .clients)) (map eventOf (s .lines)) ≡ s .accepted
-  pub most : mostHolders (event (s .n) (enough (s .m))) (start (s .n) (enough (s .m)) (s .clients)) (map eventOf (s .lines)) ≡ s .holding
-  pub down : run (s .n) (enough (s .m)) (s .clients) (map eventOf (s .lines)) .most ≡ s .downs
+-- the script with the answers and counts that the definitions give
+abbrev pub replayed : Script → Script
+replayed s =
+    let fresh : System = start (s .n) (enough (s .m)) (s .clients) in
+    record {
+      n = s .n;
+      m = s .m;
+      clients = s .clients;
+      lines = played (s .n) (s .m) fresh (s .lines);
+      accepted = acceptedEvents (event (s .n) (enough (s .m))) fresh (map eventOf (s .lines));
+      holding = mostHolders (event (s .n) (enough (s .m))) fresh (map eventOf (s .lines));
+      downs = run (s .n) (enough (s .m)) (s .clients) (map eventOf (s .lines)) .most;
+    }
+
+-- played again, it is the script that was worked out by hand
+abbrev pub Plays : Script → Type 0
+Plays s = replayed s ≡ s
 
 abbrev pub AllPlay : List Script → Type 0
 AllPlay [] = Unit {0}
