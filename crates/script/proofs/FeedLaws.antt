@@ -6,7 +6,7 @@ use native.Mathlib.Omega.{arith}
 use mathlib.Core.Bool.{Bool, true, false, not, _&&_}
 use mathlib.Core.List.{List, [], _∷_, _++_, append-nil, append-assoc}
 use lib.Dec.{leb}
-use lib.ListN.{length, getD, set, drop, length-append}
+use lib.ListN.{length, getD, set, drop, replicate, length-append}
 use lib.Seq.{sets, drop-cons, drop-length, length-sets}
 use borrow.Author.Tests.{lt-ltb, le-ltb, le-leb, lt-leb}
 use Rattle.ids.proofs.Choice.{clash, fails, holds}
@@ -15,11 +15,11 @@ use Rattle.wire.proofs.BytesLaws.{stored-on}
 use Rattle.script.specs.declared.Progress.{Progress}
 use Rattle.script.specs.declared.Progress.the-variants.{Took, Refused}
 use Rattle.script_output.specs.Reader.{closed, Reader, Printed, taken, Fed, maxPrinted, followed, fedWithin, ended, lastLine, finished, maxKept}
-use Rattle.script.specs.State.{stageClosed, stageAt, lengthAt, keptIn, simulationIn, stageOf, view, valid, stateSize}
+use Rattle.script.specs.State.{stageClosed, stageAt, lengthAt, view, valid, stateSize}
 use Rattle.script.specs.Calls.{feedAnswer, Leaves, FeedLeaves, finishAnswer, FinishLeaves, maxEnding}
 use Rattle.script.specs.Inner.{Sound, Ready, Prints, Does, Takes, FedAs, Closes}
-use Rattle.script.proofs.StateLaws.{itself-is, view-is, valid-is, store-stage, store-length, from-facts}
-use Rattle.script.proofs.LineLaws.{known, sound}
+use Rattle.script.proofs.LineLaws.{sound}
+use Rattle.script.proofs.NewLaws.{closed-reader, closed-valid}
 
 -- behind what is printed and used so far
 abbrev follows : List ℕ → ℕ → Fed → Fed
@@ -186,15 +186,6 @@ module _ (w input out : List ℕ) (x : Bool) (e : x ≡ valid w) where
       done-leaves w out maxPrinted _ _ good h w′ out′ (A .reader) (A .again) (A .bytes) (A .within),
     )
 
--- a script that has ended
-closed-words : (w₁ w₂ : List ℕ) → Sound w₁ → w₂ ≡ set (set w₁ stageAt stageClosed) lengthAt 0
-    → (view w₂ ≡ record { stage = closed; line = [] }) × (valid w₂ ≡ true)
-unfolding stageOf
-closed-words w₁ w₂ K p =
-    let I = store-length (store-stage (itself-is w₁ (K .long)) stageClosed) 0 in
-    let F = known w₁ (K .valid) in
-    rw p (view-is I, valid-is I ∙ from-facts _ (keptIn w₁) (simulationIn w₁) (omega arith) (omega arith) (F .bytes) (λ q. absurd (omega (arith, q))))
-
 module _ (w out : List ℕ) (S : Sound w) (room : maxEnding ≤ length out) where
   pub closing-ready : Ready w out 0
   closing-ready = record { valid = S .valid; long = S .long; short = S .short; room = omega arith }
@@ -216,16 +207,15 @@ module _ (w out : List ℕ) (S : Sound w) (room : maxEnding ≤ length out) wher
 
     -- what the end printed, and the words closed
     pub closing : (out₂ : List ℕ) (r : ℕ) → Prints out₁ at (ended (view w₁ .stage)) out₂ r → (w₂ : List ℕ)
-        → w₂ ≡ set (set w₁ stageAt stageClosed) lengthAt 0 → Closes w out w₂ out₂ r
+        → w₂ ≡ set (replicate stateSize 0) stageAt stageClosed → Closes w out w₂ out₂ r
     unfolding finished
     closing out₂ r P w₂ p =
         let last : List ℕ = lastLine (view w) .out in
         let end : List ℕ = ended (lastLine (view w) .now) in
         let E : Prints out₁ at end out₂ r = rw (D .stage) at P in
-        let K = closed-words w₁ w₂ (sound w₁ (D .again)) p in
         record {
-          reader = K .0;
-          again = K .1;
+          reader = ap view p ∙ closed-reader;
+          again = ap valid p ∙ closed-valid;
           place = omega (arith, E .place, its-place, length-append last end);
           bytes = stored-on out out₁ out₂ last end 0 at (D .prints .bytes) (E .bytes) (D .prints .place);
           within = omega (arith, room, D .prints .few, E .few, length-append last end);

@@ -5,19 +5,20 @@ use native.Mathlib.Numerals.{add-one}
 use native.Mathlib.Omega.{arith}
 use mathlib.Core.Bool.{true, false}
 use mathlib.Core.List.{List, [], _∷_, _++_}
-use lib.ListN.{length, getD, set, take, drop, length-take, length-drop, length-set}
-use lib.Seq.{sets, sets-eq, take-all, take-suc, take-set-le, getD-set-same, getD-take, getD-drop, length-take-le}
+use lib.ListN.{length, getD, set, take, drop, replicate, length-take, length-drop, length-set, length-replicate}
+use lib.Seq.{sets, sets-eq, take-all, take-suc, take-set-le, getD-set-same, getD-take, getD-drop, length-take-le, drop-set-lt, drop-drop}
 use borrow.Author.Tests.{eqb-true, le-leb, lt-leb, leb-true}
 use Rattle.ids.specs.Lists.{every}
-use Rattle.ids.proofs.ListLaws.{every-set, every-at}
+use Rattle.ids.proofs.ListLaws.{every-set, every-at, every-drop, every-append, every-same}
 use Rattle.ids.proofs.Choice.{both}
 use lib.Dec.{eqb}
-use Rattle.sim_blocks.proofs.Fronts.{Passing, passing-none, passing-failed, passing-more, passing-all}
+use Rattle.sim_blocks.proofs.Fronts.{Passing, passing-none, passing-failed, passing-more, passing-all, Clearing, clearing-all}
+use Rattle.sim_layout.specs.Layout.{blank}
 use Rattle.script_lines.proofs.PutLaws.{Copied, copied-more, copied-all}
 use Rattle.script_output.specs.Reader.{maxKept, behind}
-use Rattle.script.specs.State.{lengthAt, lineFrom, stateSize, Head, headIn, keptIn, simulationIn, stageOf, view, validRun, byteWord, validParts, valid}
-use Rattle.script.specs.Inner.{Sound}
-use Rattle.script.proofs.StateLaws.{Is, itself-is, kept-long, view-is, valid-is, store-kept, store-length, Facts, facts, from-facts}
+use Rattle.script.specs.State.{lengthAt, lineFrom, stateSize, Head, headIn, keptIn, simulationIn, stageOf, view, validRun, validIdle, byteWord, validParts, valid}
+use Rattle.script.specs.Inner.{Sound, withoutLine}
+use Rattle.script.proofs.StateLaws.{Is, itself-is, kept-long, view-is, valid-is, store-kept, store-front, store-length, LineFacts, Facts, facts, from-facts}
 
 -- what a valid state is handed on as
 valid-sized : (w : List ℕ) → valid w ≡ true → (length w ≡ stateSize) × (validParts (headIn w) (keptIn w) (simulationIn w) ≡ true)
@@ -29,15 +30,21 @@ known w e = facts (headIn w) (keptIn w) (simulationIn w) (valid-sized w e .1)
 
 pub sound : (w : List ℕ) → valid w ≡ true → Sound w
 unfolding headIn
-sound w e = record { valid = e; long = valid-sized w e .0; short = known w e .few }
+sound w e = record { valid = e; long = valid-sized w e .0; short = known w e .line .few }
 
 -- a validity that only the line's part changes
-still-valid : (w w′ : List ℕ) (h′ : Head) (l′ : List ℕ) → valid w ≡ true → Is w′ h′ l′ (simulationIn w) → h′ .stage ≡ headIn w .stage
-    → validRun h′ (simulationIn w) ≡ validRun (headIn w) (simulationIn w) →
-    h′ .length ≤ maxKept → every byteWord l′ ≡ true → valid w′ ≡ true
-still-valid w w′ h′ l′ v p e r few bytes =
+pub still-valid : (w w′ : List ℕ) (h′ : Head) (l′ : List ℕ) → valid w ≡ true → Is w′ h′ l′ (simulationIn w) → h′ .stage ≡ headIn w .stage
+    → validRun h′ (simulationIn w) ≡ validRun (headIn w) (simulationIn w) → validIdle h′ (simulationIn w) ≡ validIdle (headIn w) (simulationIn w)
+    → LineFacts (h′ .length) l′ → valid w′ ≡ true
+still-valid w w′ h′ l′ v p e r i line =
     let f = known w v in
-    valid-is p ∙ from-facts h′ l′ (simulationIn w) (omega (arith, e, f .stage)) few bytes (λ q. r ∙ f .runs (sym e ∙ q))
+    valid-is p ∙ from-facts h′ l′ (simulationIn w)
+    (record {
+      stage = omega (arith, e, f .stage);
+      line = line;
+      runs = λ q. r ∙ f .runs (sym e ∙ q);
+      idles = λ q. i ∙ f .idles (λ z. q (e ∙ z));
+    })
 
 -- a full line keeps no more
 take-left : (n : ℕ) (a r : List ℕ) → n ≤ length a → take n (a ++ r) ≡ take n a
@@ -57,6 +64,45 @@ behind-more l i b lt e =
     ap (λ (n : ℕ). take n (set l i b)) (add-one i) ∙
     (a ∙ sym (take-all maxKept (take i l ++ (b ∷ [])) (omega (arith, ap length (sym a), length-take (suc i) (set l i b)))))
 
+-- one more byte: behind it all is 0 as before
+line-longer : (l : List ℕ) (i b : ℕ) → LineFacts i l → i < maxKept → b ≤ 255 → LineFacts (i + 1) (set l i b)
+line-longer l i b F lt small =
+    let z : drop (i + 1) (set l i b) ≡ drop 1 (drop i l) = drop-set-lt (i + 1) l i b (omega arith) ∙ sym (drop-drop 1 i l) in
+    record {
+      few = omega arith;
+      bytes = every-set byteWord l i b (F .bytes) (le-leb b 255 small);
+      behind = rw z (every-drop (eqb 0) 1 (drop i l) (F .behind));
+    }
+
+-- and none: all is 0
+blank-bytes : (l : List ℕ) → blank l ≡ true → every byteWord l ≡ true
+blank-bytes [] e = refl
+blank-bytes (x ∷ l) e = let (a, b) = both (eqb 0 x) (blank l) e in rw (← eqb-true 0 x a, blank-bytes l b)
+
+pub line-none : (l : List ℕ) → blank l ≡ true → LineFacts 0 l
+line-none l e = record { few = omega arith; bytes = blank-bytes l e; behind = e }
+
+line-cleared : (l : List ℕ) (i : ℕ) → LineFacts i l → length l ≡ maxKept → blank (sets l 0 (replicate i 0)) ≡ true
+line-cleared l i F e =
+    let z : 0 + length (replicate {A = ℕ} i 0) ≡ i = omega (arith, length-replicate {A = ℕ} i 0) in
+    rw (sets-eq (replicate i 0) l 0 (omega (arith, e, F .few, z)), z) (every-append (eqb 0) (replicate i 0) (drop i l) (every-same (eqb 0) i 0 refl) (F .behind))
+
+-- the line is done with
+pub line-off : (w₀ w : List ℕ) (len i : ℕ) → (len ≡ getD w₀ lengthAt 0) → Clearing w₀ lineFrom len w i → len ≤ i → set w lengthAt 0 ≡ withoutLine w₀
+line-off w₀ w len i e S h =
+    ap (λ (l : List ℕ). set l lengthAt 0) (clearing-all w₀ lineFrom len w i S h ∙ ap (λ (n : ℕ). sets w₀ lineFrom (replicate n 0)) e)
+
+pub line-gone : (w : List ℕ) (S : Sound w) → (view (withoutLine w) ≡ record { stage = view w .stage; line = [] }) × (valid (withoutLine w) ≡ true)
+unfolding view headIn stageOf validRun validIdle
+line-gone w S =
+    let i : ℕ = getD w lengthAt 0 in
+    let few : length (replicate {A = ℕ} i 0) ≤ maxKept = omega (arith, length-replicate {A = ℕ} i 0, S .short) in
+    let p = store-length (store-front (itself-is w (S .long)) (replicate i 0) few) 0 in
+    let F = known w (S .valid) .line in (
+      view-is p,
+      still-valid w _ _ _ (S .valid) p refl refl refl (line-none _ (line-cleared (keptIn w) i F (kept-long w (S .long)))),
+    )
+
 module _ (w : List ℕ) (b : ℕ) (S : Sound w) where
   abbrev Keeps : List ℕ → Type 0
   Keeps w′ = (view w′ ≡ record { stage = view w .stage; line = behind (view w .line) b }) × (valid w′ ≡ true)
@@ -70,13 +116,13 @@ module _ (w : List ℕ) (b : ℕ) (S : Sound w) where
       ((λ i. record { stage = stageOf (headIn w) (simulationIn w); line = sym z i }), S .valid)
 
   pub keep-more : getD w lengthAt 0 < maxKept → b ≤ 255 → Keeps (set (set w (lineFrom + getD w lengthAt 0) b) lengthAt (getD w lengthAt 0 + 1))
-  unfolding view headIn stageOf validRun
+  unfolding view headIn stageOf validRun validIdle
   keep-more h small =
       let i : ℕ = getD w lengthAt 0 in
       let p = store-length (store-kept (itself-is w (S .long)) i b (omega (arith, h))) (i + 1) in
       let z : take (i + 1) (set (keptIn w) i b) ≡ behind (take i (keptIn w)) b = behind-more (keptIn w) i b (omega (arith, h)) (kept-long w (S .long)) in (
         view-is p ∙ (λ j. record { stage = stageOf (headIn w) (simulationIn w); line = z j }),
-        still-valid w _ _ _ (S .valid) p refl refl (omega (arith, h)) (every-set byteWord (keptIn w) i b (known w (S .valid) .bytes) (le-leb b 255 small)),
+        still-valid w _ _ _ (S .valid) p refl refl refl (line-longer (keptIn w) i b (known w (S .valid) .line) (omega (arith, h)) small),
       )
 
 -- the words of the line, tested one by one
@@ -115,7 +161,7 @@ module _ (w : List ℕ) (S : Sound w) where
       let e : getD (take maxKept (drop lineFrom w)) i 0 ≡ getD w (lineFrom + i) 0 = getD-take maxKept (drop lineFrom w) i 0
       (omega (arith, lt, S .short)) ∙ getD-drop lineFrom w i 0 in
       let t : byteWord (getD (take maxKept (drop lineFrom w)) i 0) ≡ true = every-at byteWord 0 (take maxKept (drop lineFrom w)) i
-      (known w (S .valid) .bytes) (omega (arith, lt, S .short, kept-long w (S .long))) in
+      (known w (S .valid) .line .bytes) (omega (arith, lt, S .short, kept-long w (S .long))) in
       leb-true (getD w (lineFrom + i) 0) 255 (rw e at t)
 
   pub copy-more : (o l : List ℕ) (i : ℕ) → Copied o l 0 (view w .line) i → i < getD w lengthAt 0

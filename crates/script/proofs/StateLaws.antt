@@ -2,24 +2,24 @@
 use mathlib.Core.Path.{_≡_, refl, sym, ap, _∙_}
 use Prim.Native.Nat.{ℕ, _+_, _≤_, _<_}
 use native.Mathlib.Omega.{arith}
-use mathlib.Core.Bool.{true, _&&_}
+use mathlib.Core.Bool.{Bool, true, _&&_}
 use mathlib.Core.List.{List}
 use lib.Dec.{eqb, leb}
 use lib.ListN.{length, getD, set, take, drop, length-set, length-drop}
 use lib.Seq.{sets, length-sets, length-take-le, getD-set-same, getD-set-other, getD-take, take-set-lt, drop-set-lt, drop-set-add}
-use borrow.Author.Tests.{eqb-true, eq-eqb, leb-true, le-leb}
+use borrow.Author.Tests.{eqb-true, eqb-false, eq-eqb, ne-eqb, leb-true, le-leb}
 use Rattle.ids.specs.Choice.{if_then_else_}
 use Rattle.ids.specs.Lists.{every}
 use Rattle.ids.proofs.Choice.{both, decided, Test}
 use mathlib.Core.Logic.{inl, inr}
-use Rattle.sim_blocks.proofs.RegionLaws.{region-inside, region-behind, take-sets-after}
+use Rattle.sim_blocks.proofs.RegionLaws.{region-inside, region-before, region-behind, take-sets-after}
 use Rattle.sim_blocks.proofs.BlockParts.{covered}
 use Rattle.sim_layout.specs.Layout as layout
 use Rattle.system.specs.Limits.{systemClients}
 use Rattle.system.specs.Places.{holders}
 use Rattle.script_output.specs.Output.{maxLines}
 use Rattle.script_output.specs.Reader.{maxKept}
-use Rattle.script.specs.State.{stageRunning, stageClosed, stageAt, answeredAt, acceptedAt, holdingAt, lengthAt, lineFrom, stateSize, Head, headIn, keptIn, simulationIn, stageOf, lineOf, view, validRun, byteWord, validParts, valid, stateHead}
+use Rattle.script.specs.State.{stageRunning, stageClosed, stageAt, answeredAt, acceptedAt, holdingAt, lengthAt, lineFrom, stateSize, Head, headIn, keptIn, simulationIn, stageOf, lineOf, view, validRun, validIdle, byteWord, validLine, validParts, valid, stateHead}
 use Rattle.sim_layout.specs.Layout.{simulationSize}
 
 -- w is these parts
@@ -158,13 +158,13 @@ module _ {w : List ℕ} {h : Head} {l s : List ℕ} (p : Is w h l s) where
             (lineFrom + i) v (omega arith);
       }
 
-  -- the simulation, stored whole
-  store-head : (v : List ℕ) → headIn (sets w stateHead v) ≡ h
+  -- stores behind the head leave it
+  head-behind : (from : ℕ) (v : List ℕ) → lineFrom ≤ from → headIn (sets w from v) ≡ h
   unfolding headIn
-  store-head v =
-      let word : (i : ℕ) → i < stateHead → getD (sets w stateHead v) i 0 ≡ getD w i 0 = λ i lt.
-      sym (getD-take stateHead (sets w stateHead v) i 0 lt) ∙
-      (ap (λ (x : List ℕ). getD x i 0) (take-sets-after stateHead w stateHead v (omega arith)) ∙ getD-take stateHead w i 0 lt) in
+  head-behind from v later =
+      let word : (i : ℕ) → i < lineFrom → getD (sets w from v) i 0 ≡ getD w i 0 = λ i lt.
+      sym (getD-take lineFrom (sets w from v) i 0 lt) ∙
+      (ap (λ (x : List ℕ). getD x i 0) (take-sets-after lineFrom w from v later) ∙ getD-take lineFrom w i 0 lt) in
       let a = word stageAt (omega arith) in
       let b = word answeredAt (omega arith) in
       let c = word acceptedAt (omega arith) in
@@ -172,6 +172,25 @@ module _ {w : List ℕ} {h : Head} {l s : List ℕ} (p : Is w h l s) where
       let f = word lengthAt (omega arith) in
       (λ i. record { stage = a i; answered = b i; accepted = c i; holding = d i; length = f i }) ∙ p .head
 
+  -- several words of the line at once, from its first on
+  front-kept : (v : List ℕ) → length v ≤ maxKept → keptIn (sets w lineFrom v) ≡ sets l 0 v
+  unfolding keptIn
+  front-kept v few = region-inside lineFrom maxKept w 0 v (omega (arith, few)) ∙ ap (λ (x : List ℕ). sets x 0 v) (p .kept)
+
+  front-simulation : (v : List ℕ) → length v ≤ maxKept → simulationIn (sets w lineFrom v) ≡ s
+  unfolding simulationIn
+  front-simulation v few = region-before stateHead simulationSize w lineFrom v (omega (arith, few)) ∙ p .simulation
+
+  pub store-front : (v : List ℕ) → length v ≤ maxKept → Is (sets w lineFrom v) h (sets l 0 v) s
+  store-front v few =
+      record {
+        long = length-sets w lineFrom v ∙ p .long;
+        head = head-behind lineFrom v (omega arith);
+        kept = front-kept v few;
+        simulation = front-simulation v few;
+      }
+
+  -- the simulation, stored whole
   store-line : (v : List ℕ) → keptIn (sets w stateHead v) ≡ l
   unfolding keptIn
   store-line v = region-behind lineFrom maxKept w 0 v ∙ p .kept
@@ -184,23 +203,52 @@ module _ {w : List ℕ} {h : Head} {l s : List ℕ} (p : Is w h l s) where
 
   pub store-simulation : (v : List ℕ) → length v ≡ simulationSize → Is (sets w stateHead v) h l v
   store-simulation v e =
-      record { long = length-sets w stateHead v ∙ p .long; head = store-head v; kept = store-line v; simulation = store-all v e }
+      record { long = length-sets w stateHead v ∙ p .long; head = head-behind stateHead v (omega arith); kept = store-line v; simulation = store-all v e }
 
 -- what a valid state says of its parts
+pub record LineFacts (len : ℕ) (l : List ℕ) : Type 0 where
+  pub few : len ≤ maxKept
+  pub bytes : every byteWord l ≡ true
+  pub behind : layout.blank (drop len l) ≡ true
+
 pub record Facts (h : Head) (l s : List ℕ) : Type 0 where
   pub stage : h .stage ≤ stageClosed
-  pub few : h .length ≤ maxKept
-  pub bytes : every byteWord l ≡ true
+  pub line : LineFacts (h .length) l
   pub runs : h .stage ≡ stageRunning → validRun h s ≡ true
+  pub idles : (h .stage ≡ stageRunning → ⊥) → validIdle h s ≡ true
+
+line-facts : (len : ℕ) (l : List ℕ) → validLine len l ≡ true → LineFacts len l
+unfolding validLine
+line-facts len l e =
+    let (a, x) = both (leb len maxKept) (every byteWord l && layout.blank (drop len l)) e in
+    let (b, c) = both (every byteWord l) (layout.blank (drop len l)) x in
+    record { few = leb-true _ _ a; bytes = b; behind = c }
+
+from-line : (len : ℕ) (l : List ℕ) → LineFacts len l → validLine len l ≡ true
+unfolding validLine
+from-line len l f = rw (le-leb len maxKept (f .few), f .bytes, f .behind)
 
 pub facts : (h : Head) (l s : List ℕ) → validParts h l s ≡ true → Facts h l s
 unfolding validParts
 facts h l s e =
-    let (a, x) = both (leb (h .stage) stageClosed)
-    (leb (h .length) maxKept && (every byteWord l && (if eqb (h .stage) stageRunning then validRun h s else true))) e in
-    let (b, y) = both (leb (h .length) maxKept) (every byteWord l && (if eqb (h .stage) stageRunning then validRun h s else true)) x in
-    let (c, z) = both (every byteWord l) (if eqb (h .stage) stageRunning then validRun h s else true) y in
-    record { stage = leb-true _ _ a; few = leb-true _ _ b; bytes = c; runs = λ q. rw (eq-eqb (h .stage) stageRunning q) at z }
+    let rest : Bool = if eqb (h .stage) stageRunning then validRun h s else validIdle h s in
+    let (a, x) = both (leb (h .stage) stageClosed) (validLine (h .length) l && rest) e in
+    let (b, y) = both (validLine (h .length) l) rest x in
+    record {
+      stage = leb-true _ _ a;
+      line = line-facts (h .length) l b;
+      runs = λ q. rw (eq-eqb (h .stage) stageRunning q) at y;
+      idles = λ q. rw (ne-eqb (h .stage) stageRunning q) at y;
+    }
+
+pub from-facts : (h : Head) (l s : List ℕ) → Facts h l s → validParts h l s ≡ true
+unfolding validParts
+from-facts h l s f =
+    rw (le-leb (h .stage) stageClosed (f .stage), from-line (h .length) l (f .line)) (by-stage (decided (eqb (h .stage) stageRunning)))
+  where
+    by-stage : Test (eqb (h .stage) stageRunning) → (if eqb (h .stage) stageRunning then validRun h s else validIdle h s) ≡ true
+    by-stage (inl e) = rw e (f .runs (eqb-true (h .stage) stageRunning e))
+    by-stage (inr e) = rw e (f .idles (eqb-false (h .stage) stageRunning e))
 
 pub record RunFacts (h : Head) (s : List ℕ) : Type 0 where
   pub simulation : layout.valid s ≡ true
@@ -232,12 +280,3 @@ from-run h s f =
           (h .holding) (f .holding),
       le-leb (h .holding) systemClients (f .few),
     )
-
-pub from-facts : (h : Head) (l s : List ℕ) → h .stage ≤ stageClosed → h .length ≤ maxKept → every byteWord l ≡ true
-    → (h .stage ≡ stageRunning → validRun h s ≡ true) → validParts h l s ≡ true
-unfolding validParts
-from-facts h l s a b c d = rw (le-leb (h .stage) stageClosed a, le-leb (h .length) maxKept b, c) (by-stage (decided (eqb (h .stage) stageRunning)))
-  where
-    by-stage : Test (eqb (h .stage) stageRunning) → (if eqb (h .stage) stageRunning then validRun h s else true) ≡ true
-    by-stage (inl e) = rw e (d (eqb-true (h .stage) stageRunning e))
-    by-stage (inr e) = rw e

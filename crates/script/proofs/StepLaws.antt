@@ -7,9 +7,9 @@ use mathlib.Core.Bool.{Bool, true, false}
 use mathlib.Core.List.{List, [], _∷_, map}
 use mathlib.Core.Option.{Option, none, some}
 use lib.Dec.{leb}
-use lib.ListN.{length, getD, set, take, drop, replicate, length-map, length-set}
+use lib.ListN.{length, getD, set, take, drop, replicate, length-map, length-set, length-replicate}
 use lib.Seq.{sets, length-sets}
-use borrow.Rule.Slice.PartMut.{putMid}
+use borrow.Rule.Slice.PartMut.{putMid, put-same}
 use borrow.Author.Tests.{eq-eqb, ne-eqb, le-leb, lt-leb, leb-false, lt-ltb, le-ltb}
 use Rattle.ids.specs.Choice.{if_then_else_}
 use Rattle.ids.specs.Limits.{within, maxShort}
@@ -38,7 +38,8 @@ use Rattle.script_lines.specs.Words.{newline}
 use Rattle.script_lines.specs.Lines.{eventIn, sixteenBits, lineOf, firstOf, settingIn as line-setting}
 use Rattle.script_lines.specs.Printed.{headerLine, noLine, okLine, endLine, refusedLine}
 use Rattle.script_lines.proofs.PrintedLaws.{Small, no-short, ok-short, header-short, end-short, refused-short}
-use Rattle.sim_blocks.proofs.Fronts.{Clearing, clearing-more}
+use Rattle.sim_blocks.proofs.Fronts.{Clearing, clearing-more, clearing-all}
+use Rattle.sim_blocks.proofs.BlockParts.{covered}
 use Rattle.sim_layout.specs.Layout as layout
 use Rattle.sim_layout.proofs.ValidLaws as layout-laws
 use Rattle.sim_layout.proofs.LendLaws.{came-back}
@@ -57,13 +58,13 @@ use Rattle.sim_run.specs.Calls.{maxAccepted, runIn, countsOf, newAnswer, NewLea
 use Rattle.sim_run.proofs.Whole.{moved-system, moved-accepted, moved-holding}
 use Rattle.script_output.specs.Output.{maxLines, answerLine}
 use Rattle.script_output.specs.Reader.{Script, Stage, opening, running, closed, Reader, Printed, unanswered, opened, onward, lineTaken, worked, behind, taken, ended, lastLine, maxKept, maxPrinted}
-use Rattle.script.specs.State.{stageOpening, stageRunning, stageClosed, stageAt, answeredAt, acceptedAt, holdingAt, lengthAt, stateSize, Head, headIn, keptIn, simulationIn, countsIn, scriptIn, stageOf, view, validRun, valid, stateHead}
+use Rattle.script.specs.State.{stageOpening, stageRunning, stageClosed, stageAt, answeredAt, acceptedAt, holdingAt, lengthAt, stateSize, Head, headIn, keptIn, simulationIn, countsIn, scriptIn, stageOf, view, validRun, validIdle, valid, stateHead}
 use Rattle.script.specs.declared.Progress.the-variants.{Took, Refused}
 use Rattle.script.specs.Calls.{newAnswer as newScript, newWords}
-use Rattle.script.specs.Inner.{Sound, Ready, Reads, Prints, Does, Takes, happened, passing, replyLine, withCounts}
-use Rattle.script.proofs.StateLaws.{Is, itself-is, view-is, valid-is, store-length, store-stage, store-answered, store-accepted, store-holding, store-simulation, Facts, RunFacts, run-facts, from-run, from-facts}
+use Rattle.script.specs.Inner.{Sound, Ready, Reads, Prints, Does, Takes, happened, passing, replyLine, withCounts, withoutLine}
+use Rattle.script.proofs.StateLaws.{Is, itself-is, view-is, valid-is, store-stage, store-answered, store-accepted, store-holding, store-simulation, Facts, RunFacts, run-facts, from-run, from-facts}
 use Rattle.script.proofs.TestLaws.{few-clients, part-long}
-use Rattle.script.proofs.LineLaws.{known, sound, line-long, line-parsed}
+use Rattle.script.proofs.LineLaws.{known, sound, line-long, line-parsed, line-gone}
 use Rattle.system.specs.Limits.{systemClients, systemServers}
 use Rattle.sim_layout.specs.Layout.{simulationSize}
 
@@ -128,17 +129,6 @@ module _ (out out′ : List ℕ) (at r i : ℕ) (p : Reply) (small : i ≤ large
   unfolding replyLine
   replied-ok sent k hs hk e b = rw e (prints b (omega (arith, ok-short i sent k small hs hk)))
 
-stage-without : (w : List ℕ)
-    → stageOf (record {
-      stage = getD w stageAt 0;
-      answered = getD w answeredAt 0;
-      accepted = getD w acceptedAt 0;
-      holding = getD w holdingAt 0;
-      length = 0;
-    }) (simulationIn w) ≡ view w .stage
-unfolding view stageOf headIn
-stage-without w = refl
-
 -- words that are these parts: the line of w, and a stage and a simulation that are valid
 module _ (w out : List ℕ) (at : ℕ) (R : Ready w out at) where
   its : Facts (headIn w) (keptIn w) (simulationIn w)
@@ -146,25 +136,25 @@ module _ (w out : List ℕ) (at : ℕ) (R : Ready w out at) where
 
   -- the general form: h has the length of w's line
   pub does : (p : Printed Stage) (w′ : List ℕ) (h : Head) (s : List ℕ) → Is w′ h (keptIn w) s → h .length ≡ headIn w .length → stageOf h s ≡ p .now →
-      h .stage ≤ stageClosed → (h .stage ≡ stageRunning → validRun h s ≡ true) → (out′ : List ℕ) (r : ℕ) → Prints out at (p .out) out′ r
-      → Does w out at p w′ out′ r
+      h .stage ≤ stageClosed → (h .stage ≡ stageRunning → validRun h s ≡ true) → ((h .stage ≡ stageRunning → ⊥) → validIdle h s ≡ true)
+      → (out′ : List ℕ) (r : ℕ) → Prints out at (p .out) out′ r → Does w out at p w′ out′ r
   unfolding view
-  does p w′ h s I e q few run out′ r b =
+  does p w′ h s I e q few run idle out′ r b =
       record {
         stage = ap (λ (x : Reader). x .stage) (view-is I) ∙ q;
         line = ap (λ (x : Reader). x .line) (view-is I) ∙ ap (λ (n : ℕ). take n (keptIn w)) e;
-        again = valid-is I ∙ from-facts h (keptIn w) s few (omega (arith, e, its .few)) (its .bytes) run;
+        again = valid-is I ∙ from-facts h (keptIn w) s (record { stage = few; line = rw e (its .line); runs = run; idles = idle });
         prints = b;
       }
 
   -- the first line is refused
-  pub refused-does : (x : Refusal) (out′ : List ℕ) (r : ℕ) → Put out at (refusedLine x) out′ r →
+  pub refused-does : getD w stageAt 0 ≡ stageOpening → (x : Refusal) (out′ : List ℕ) (r : ℕ) → Put out at (refusedLine x) out′ r →
       Does w out at (record { now = closed; out = refusedLine x }) (set w stageAt stageClosed) out′ r
-  unfolding stageOf
-  refused-does x out′ r b =
+  unfolding stageOf validIdle headIn
+  refused-does zeroth x out′ r b =
       does (record { now = closed; out = refusedLine x }) (set w stageAt stageClosed) _ (simulationIn w)
-      (store-stage (itself-is w (R .long)) 2) refl refl (omega arith) (λ e. absurd (omega (arith, e)))
-      out′ r (prints b (omega (arith, refused-short x)))
+      (store-stage (itself-is w (R .long)) stageClosed) refl refl (omega arith) (λ e. absurd (omega (arith, e)))
+      (λ _. its .idles (λ e. absurd (omega (arith, zeroth, e)))) out′ r (prints b (omega (arith, refused-short x)))
 
   -- nothing is done and nothing printed
   pub stays : (p : Printed Stage) → p .now ≡ view w .stage → p .out ≡ [] → Does w out at p w out at
@@ -205,7 +195,7 @@ module _ (w out : List ℕ) (at : ℕ) (R : Ready w out at) where
           holding = F .holding;
           few = F .few;
         }))
-        out′ r (rw z at P)
+        (λ ne. absurd (ne (N .runs))) out′ r (rw z at P)
 
     -- an event, which left the simulation s′ and these counts
     module _ (e : Event) (s′ : List ℕ) (went : Went) (G : Goes (countsIn (headIn w)) (simulationIn w) e s′ went) where
@@ -262,7 +252,7 @@ module _ (w out : List ℕ) (at : ℕ) (R : Ready w out at) where
       unfolding stageOf headIn
       happened-does w′ I out′ r b =
           does (happened (scriptIn (headIn w) (simulationIn w)) e) w′ head s′ I refl (rw (N .runs) (ap running went-on)) (omega (arith, N .runs))
-          (λ q. from-run head s′ counts-in-range) out′ r (rw answered-line at b)
+          (λ q. from-run head s′ counts-in-range) (λ ne. absurd (ne (N .runs))) out′ r (rw answered-line at b)
 
 pub end-valid : (w : List ℕ) → valid w ≡ true → getD w stageAt 0 ≡ stageRunning → layout.valid (take simulationSize (drop stateHead w)) ≡ true
 unfolding simulationIn headIn
@@ -312,9 +302,12 @@ module _ (w : List ℕ) (at : ℕ) (o : List ℕ) where
 pub cleared-more : (o l : List ℕ) (n i : ℕ) → Clearing o 0 n l i → i < n → Clearing o 0 n (set l i 0) (i + 1)
 cleared-more o l n i S h = let z : 0 + i ≡ i = omega arith in rw z at (clearing-more o 0 n l i S h)
 
-pub newly : (w w′ : List ℕ) → length w ≡ stateSize → w′ ≡ sets w 0 (replicate stateHead 0) → w′ ≡ newWords w
+pub newly : (w w′ : List ℕ) → length w ≡ stateSize → w′ ≡ replicate stateSize 0 → w′ ≡ newWords w
 unfolding newWords
 newly w w′ e p = rw (eq-eqb (length w) stateSize e) p
+
+pub all-cleared : (o l : List ℕ) (i : ℕ) → length o ≡ stateSize → Clearing o 0 stateSize l i → stateSize ≤ i → l ≡ replicate stateSize 0
+all-cleared o l i e S h = clearing-all o 0 stateSize l i S h ∙ covered o (replicate stateSize 0) (length-replicate {A = ℕ} stateSize 0 ∙ sym e)
 
 pub newly-answered : (w : List ℕ) → length w ≡ stateSize → Took 0 0 ≡ newScript w
 unfolding newScript
@@ -354,31 +347,11 @@ begun-run true s c e = (refl, (cc))
 begun-run false s c e = let z : _≡_ {A = ℕ} 0 1 = cc in absurd (omega arith)
 
 module _ (w out : List ℕ) (at : ℕ) (R : Ready w out at) (zeroth : getD w stageAt 0 ≡ stageOpening) where
-  module _ (s′ : List ℕ) (long : length s′ ≡ simulationSize) where
-    lent-is : Is (sets w stateHead s′) (headIn w) (keptIn w) s′
-    lent-is = store-simulation (itself-is w (R .long)) s′ long
-
-    -- before the first line the simulation's words do not matter
-    pub lent-ready : Ready (sets w stateHead s′) out at
-    unfolding headIn
-    lent-ready =
-        let K = known w (R .valid) in
-        let v : valid (sets w stateHead s′) ≡ true = valid-is lent-is ∙ from-facts (headIn w) (keptIn w) s′ (K .stage) (K .few) (K .bytes)
-        (λ e. absurd (omega (arith, zeroth, e))) in
-        let S = sound (sets w stateHead s′) v in
-        record { valid = v; long = S .long; short = S .short; room = R .room }
-
-    pub lent-line : view (sets w stateHead s′) .line ≡ view w .line
-    unfolding view
-    lent-line = ap (λ (x : Reader). x .line) (view-is lent-is)
-
   -- the setting is out of range
-  pub open-refused : (s : Setting) (s′ : List ℕ) → length s′ ≡ simulationSize → inRange s ≡ false → (x : Refusal) → x ≡ ParameterOutOfRange
-      → (w′ out′ : List ℕ) (r : ℕ) →
-      Does (sets w stateHead s′) out at (record { now = closed; out = refusedLine x }) w′ out′ r → Does w out at (opened (some s)) w′ out′ r
+  pub open-refused : (s : Setting) → inRange s ≡ false → (x : Refusal) → x ≡ ParameterOutOfRange → (w′ out′ : List ℕ) (r : ℕ) →
+      Does w out at (record { now = closed; out = refusedLine x }) w′ out′ r → Does w out at (opened (some s)) w′ out′ r
   unfolding opened
-  open-refused s s′ long out-of x q w′ out′ r D =
-      rw (out-of, ← q) (record { stage = D .stage; line = D .line ∙ lent-line s′ long; again = D .again; prints = D .prints })
+  open-refused s out-of x q w′ out′ r D = rw (out-of, ← q) D
 
   -- the setting is in range: the script runs
   pub open-running : (s : Setting) (s′ : List ℕ) → inRange s ≡ true → runIn (countsOf (started s)) s′ ≡ started s → layout.valid s′ ≡ true
@@ -387,7 +360,8 @@ module _ (w out : List ℕ) (at : ℕ) (R : Ready w out at) (zeroth : getD w sta
       → Does w out at (opened (some s)) (withCounts (set (sets w stateHead s′) stageAt stageRunning) 0 (countsOf (started s))) out′ r
   unfolding opened stageOf
   open-running s s′ in-it u v long out′ r b =
-      let I = store-holding (store-accepted (store-answered (store-stage (lent-is s′ long) 1) 0) 0) (holders (fresh s)) in
+      let lent = store-simulation (itself-is w (R .long)) s′ long in
+      let I = store-holding (store-accepted (store-answered (store-stage lent stageRunning) 0) 0) (holders (fresh s)) in
       let k : holders (layout.view s′) ≡ holders (fresh s) = ap (λ (x : Run). holders (x .system)) u in
       let q : _≡_ {A = Script} (unanswered (runIn (countsOf (started s)) s′)) (unanswered (started s)) = ap unanswered u in
       rw in-it
@@ -399,7 +373,7 @@ module _ (w out : List ℕ) (at : ℕ) (R : Ready w out at) (zeroth : getD w sta
         holding = omega (arith, k);
         few = omega (arith, k, few-holders s′ v);
       }))
-      out′ r (prints b (omega (arith, header-short s (in-range-small s in-it)))))
+      (λ ne. absurd (ne refl)) out′ r (prints b (omega (arith, header-short s (in-range-small s in-it)))))
 
 -- the line by its stage ----------------------------------------------------------------------------------------------------------
 
@@ -571,18 +545,19 @@ module _ (w out : List ℕ) (at : ℕ) (R : Ready w out at) (zeroth : getD w sta
     refusing : (opens-it ≡ false) × (x ≡ ParameterOutOfRange)
     refusing = begun-refused opens-it s x (sym e ∙ N .1)
 
-    kept-long′ : length s′ ≡ simulationSize
-    kept-long′ = ap length (N .0 .kept (refusing .0)) ∙ lent-long
+    -- the words come back as they were lent
+    same-words : putMid stateHead simulationSize w s′ ≡ w
+    same-words =
+        ap (putMid stateHead simulationSize w) (N .0 .kept (refusing .0)) ∙
+        put-same stateHead simulationSize w
 
-    pub begin-ready : Ready (putMid stateHead simulationSize w s′) out at
-    begin-ready = rw (back w s′ (R .long) kept-long′) (lent-ready w out at R zeroth s′ kept-long′)
+    pub begin-ready : Ready (putMid stateHead simulationSize w s′) out at × (getD (putMid stateHead simulationSize w s′) stageAt 0 ≡ stageOpening)
+    begin-ready = rw same-words (R, zeroth)
 
     pub begin-refused : (w′ out′ : List ℕ) (r : ℕ)
         → Does (putMid stateHead simulationSize w s′) out at (record { now = closed; out = refusedLine x }) w′ out′ r
         → Does w out at (opened (some s)) w′ out′ r
-    begin-refused w′ out′ r D =
-        open-refused w out at R zeroth s s′ kept-long′ (sym as-range ∙ refusing .0) x (refusing .1) w′ out′ r
-        (rw (back w s′ (R .long) kept-long′) at D)
+    begin-refused w′ out′ r D = open-refused w out at R zeroth s (sym as-range ∙ refusing .0) x (refusing .1) w′ out′ r (rw same-words at D)
 
   module _ (c : Counts) (e : made ≡ begun.Run c) where
     running-it : (opens-it ≡ true) × (c ≡ countsOf (started s))
@@ -672,29 +647,12 @@ module _ (w out : List ℕ) (at : ℕ) (R : Ready w out at) where
   -- a byte ----------------------------------------------------------------------------------------------------------------------------
 
   pub line-taken : (b : ℕ) → b ≡ newline → (w′ out′ : List ℕ) (r : ℕ) → Does w out at (worked (view w .stage) (view w .line)) w′ out′ r
-      → Takes out at (taken (view w) b) (set w′ lengthAt 0) out′ r
-  unfolding taken headIn validRun
-  line-taken b e w′ out′ r D =
-      let S = sound w′ (D .again) in
-      let I = store-length (itself-is w′ (S .long)) 0 in
-      rw (eq-eqb b newline e)
-      (record {
-        reader = view-is I ∙ (λ i. record { stage = kept-stage i; line = [] });
-        again =
-            valid-is I ∙ from-facts _ (keptIn w′) (simulationIn w′) (known w′ (D .again) .stage) (omega arith) (known w′ (D .again) .bytes)
-            (known w′ (D .again) .runs);
-        prints = D .prints;
-      })
-    where
-      kept-stage : stageOf (record {
-        stage = getD w′ stageAt 0;
-        answered = getD w′ answeredAt 0;
-        accepted = getD w′ acceptedAt 0;
-        holding = getD w′
-            holdingAt 0;
-        length = 0;
-      }) (simulationIn w′) ≡ worked (view w .stage) (view w .line) .now
-      kept-stage = stage-without w′ ∙ D .stage
+      → (w″ : List ℕ) → w″ ≡ withoutLine w′ → Takes out at (taken (view w) b) w″ out′ r
+  unfolding taken
+  line-taken b e w′ out′ r D w″ p =
+      let G = line-gone w′ (sound w′ (D .again)) in
+      rw (eq-eqb b newline e, p)
+      (record { reader = G .0 ∙ (λ i. record { stage = D .stage i; line = [] }); again = G .1; prints = D .prints })
 
   pub byte-taken : (b : ℕ) → (b ≡ newline → ⊥) → (w′ : List ℕ)
       → (view w′ ≡ record { stage = view w .stage; line = behind (view w .line) b }) × (valid w′ ≡ true) → Takes out at (taken (view w) b) w′ out at

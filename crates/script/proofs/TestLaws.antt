@@ -1,10 +1,12 @@
 -- The test whether words are a script's state: each return is one case of the definition.
-use mathlib.Core.Path.{_≡_, sym, _∙_}
-use Prim.Native.Nat.{ℕ, _≤_, _<_}
+use mathlib.Core.Path.{_≡_, sym, ap, _∙_}
+use Prim.Native.Nat.{ℕ, _+_, _-_, _≤_, _<_}
 use native.Mathlib.Omega.{arith}
 use mathlib.Core.Bool.{Bool, true, false, not}
 use mathlib.Core.List.{List}
 use lib.Dec.{leb}
+use lib.Seq.{drop-drop}
+use Rattle.sim_blocks.proofs.BlockParts.{drop-take}
 use lib.ListN.{length, getD, take, drop}
 use borrow.Author.Tests.{le-leb, lt-leb, eq-eqb, ne-eqb, not-true, not-false}
 use Rattle.ids.specs.Lists.{every}
@@ -12,7 +14,7 @@ use Rattle.ids.proofs.LimitsLaws.{within-range}
 use Rattle.system.specs.Places.{holders}
 use Rattle.sim_layout.specs.Layout as layout
 use Rattle.sim_layout.proofs.ValidLaws as layout-laws
-use Rattle.script.specs.State.{stageRunning, stageClosed, stageAt, answeredAt, acceptedAt, holdingAt, lengthAt, stateSize, headIn, keptIn, simulationIn, validRun, byteWord, validParts, valid, stateHead}
+use Rattle.script.specs.State.{stageRunning, stageClosed, stageAt, answeredAt, acceptedAt, holdingAt, lengthAt, stateSize, headIn, keptIn, simulationIn, validRun, validIdle, byteWord, validLine, validParts, valid, stateHead, lineFrom}
 use Rattle.script.proofs.StateLaws.{simulation-long}
 use Rattle.system.specs.Limits.{systemClients}
 use Rattle.sim_layout.specs.Layout.{simulationSize}
@@ -70,6 +72,59 @@ module _ (w : List ℕ) (long : length w ≡ stateSize) where
                     (holders (layout.view (take simulationSize (drop stateHead w)))) (getD w holdingAt 0) (omega (arith, g, q)),
               ) p
 
+-- the words of the line
+module _ (w : List ℕ) (long : length w ≡ stateSize) where
+  abbrev line-says : Bool → Type 0
+  line-says r = r ≡ validLine (getD w lengthAt 0) (keptIn w)
+
+  pub line-long : maxKept < getD w lengthAt 0 → line-says false
+  unfolding validLine
+  line-long g = rw (lt-leb (getD w lengthAt 0) maxKept g)
+
+  module _ (b : getD w lengthAt 0 ≤ maxKept) (x : Bool) (e : x ≡ every byteWord (keptIn w)) where
+    pub bytes-wrong : not x ≡ true → line-says false
+    unfolding validLine
+    bytes-wrong n = rw (le-leb (getD w lengthAt 0) maxKept b, sym e ∙ not-true x n)
+
+    -- what is tested behind the line is the rest of its words
+    rest-of-line : take (stateHead - (lineFrom + getD w lengthAt 0)) (drop (lineFrom + getD w lengthAt 0) w) ≡ drop (getD w lengthAt 0) (keptIn w)
+    unfolding keptIn
+    rest-of-line =
+        let i : ℕ = getD w lengthAt 0 in
+        let z : maxKept ≡ i + (stateHead - (lineFrom + i)) = omega (arith, b) in
+        ap (take (stateHead - (lineFrom + i))) (sym (drop-drop i lineFrom w)) ∙
+        (sym (drop-take i (stateHead - (lineFrom + i)) (drop lineFrom w)) ∙ ap (λ (k : ℕ). drop i (take k (drop lineFrom w))) (sym z))
+
+    pub rest-decides : not x ≡ false → (r : Bool) → r ≡ layout.blank (take (stateHead - (lineFrom + getD w lengthAt 0)) (drop (lineFrom + getD w lengthAt 0) w))
+        → line-says r
+    unfolding validLine
+    rest-decides n r p = rw (le-leb (getD w lengthAt 0) maxKept b, sym e ∙ not-false x n) (p ∙ ap layout.blank rest-of-line)
+
+-- the words of a script that does not run
+module _ (w : List ℕ) where
+  abbrev idle-says : Bool → Type 0
+  idle-says r = r ≡ validIdle (headIn w) (simulationIn w)
+
+  pub idle-answered : (getD w answeredAt 0 ≡ 0 → ⊥) → idle-says false
+  unfolding validIdle headIn
+  idle-answered ne = rw (ne-eqb (getD w answeredAt 0) 0 ne)
+
+  module _ (a : getD w answeredAt 0 ≡ 0) where
+    pub idle-accepted : (getD w acceptedAt 0 ≡ 0 → ⊥) → idle-says false
+    unfolding validIdle headIn
+    idle-accepted ne = rw (eq-eqb (getD w answeredAt 0) 0 a, ne-eqb (getD w acceptedAt 0) 0 ne)
+
+    module _ (b : getD w acceptedAt 0 ≡ 0) where
+      pub idle-holding : (getD w holdingAt 0 ≡ 0 → ⊥) → idle-says false
+      unfolding validIdle headIn
+      idle-holding ne = rw (eq-eqb (getD w answeredAt 0) 0 a, eq-eqb (getD w acceptedAt 0) 0 b, ne-eqb (getD w holdingAt 0) 0 ne)
+
+      pub idle-decides : getD w holdingAt 0 ≡ 0 → (r : Bool) → r ≡ layout.blank (take (stateSize - stateHead) (drop stateHead w)) → idle-says r
+      unfolding validIdle headIn simulationIn
+      idle-decides c r p =
+          let z : stateSize - stateHead ≡ simulationSize = omega arith in
+          rw (eq-eqb (getD w answeredAt 0) 0 a, eq-eqb (getD w acceptedAt 0) 0 b, eq-eqb (getD w holdingAt 0) 0 c) (p ∙ ap (λ (k : ℕ). layout.blank (take k (drop stateHead w))) z)
+
 -- the whole
 module _ (w : List ℕ) where
   pub size-wrong : (length w ≡ stateSize → ⊥) → false ≡ valid w
@@ -81,38 +136,28 @@ module _ (w : List ℕ) where
     unfolding valid validParts headIn
     stage-wrong g = rw (eq-eqb (length w) stateSize long, lt-leb (getD w stageAt 0) stageClosed g)
 
-    module _ (a : getD w stageAt 0 ≤ stageClosed) where
-      pub line-wrong : maxKept < getD w lengthAt 0 → false ≡ valid w
+    module _ (a : getD w stageAt 0 ≤ stageClosed) (x : Bool) (e : x ≡ validLine (getD w lengthAt 0) (keptIn w)) where
+      pub line-wrong : not x ≡ true → false ≡ valid w
       unfolding valid validParts headIn
-      line-wrong g = rw (eq-eqb (length w) stateSize long, le-leb (getD w stageAt 0) stageClosed a, lt-leb (getD w lengthAt 0) maxKept g)
+      line-wrong n = rw (eq-eqb (length w) stateSize long, le-leb (getD w stageAt 0) stageClosed a, sym e ∙ not-true x n)
 
-      module _ (b : getD w lengthAt 0 ≤ maxKept) (x : Bool) (e : x ≡ every byteWord (keptIn w)) where
-        pub bytes-wrong : not x ≡ true → false ≡ valid w
+      module _ (n : not x ≡ false) where
+        pub run-decides : getD w stageAt 0 ≡ stageRunning → (r : Bool) → r ≡ validRun (headIn w) (simulationIn w) → r ≡ valid w
         unfolding valid validParts headIn
-        bytes-wrong n =
-            rw (eq-eqb (length w) stateSize long, le-leb (getD w stageAt 0) stageClosed a, le-leb (getD w lengthAt 0) maxKept b, sym e ∙ not-true x n)
+        run-decides q r p =
+            rw (
+              eq-eqb (length w) stateSize long,
+              le-leb (getD w stageAt 0) stageClosed a,
+              sym e ∙ not-false x n,
+              eq-eqb (getD w stageAt 0) stageRunning q,
+            ) p
 
-        module _ (n : not x ≡ false) where
-          pub no-run : (getD w stageAt 0 ≡ stageRunning → ⊥) → true ≡ valid w
-          unfolding valid validParts headIn
-          no-run ne =
-              rw (
-                eq-eqb (length w) stateSize long,
-                le-leb (getD w stageAt 0) stageClosed a,
-                le-leb (getD w lengthAt 0) maxKept b,
-                sym e ∙ not-false x
-                    n,
-                ne-eqb (getD w stageAt 0) stageRunning ne,
-              )
-
-          pub run-decides : getD w stageAt 0 ≡ stageRunning → (r : Bool) → r ≡ validRun (headIn w) (simulationIn w) → r ≡ valid w
-          unfolding valid validParts headIn
-          run-decides q r p =
-              rw (
-                eq-eqb (length w) stateSize long,
-                le-leb (getD w stageAt 0) stageClosed a,
-                le-leb (getD w lengthAt 0) maxKept b,
-                sym e ∙ not-false x
-                    n,
-                eq-eqb (getD w stageAt 0) stageRunning q,
-              ) p
+        pub idle-decides-all : (getD w stageAt 0 ≡ stageRunning → ⊥) → (r : Bool) → r ≡ validIdle (headIn w) (simulationIn w) → r ≡ valid w
+        unfolding valid validParts headIn
+        idle-decides-all q r p =
+            rw (
+              eq-eqb (length w) stateSize long,
+              le-leb (getD w stageAt 0) stageClosed a,
+              sym e ∙ not-false x n,
+              ne-eqb (getD w stageAt 0) stageRunning q,
+            ) p

@@ -12,14 +12,14 @@ use Rattle.script.specs.declared.Progress.{Progress}
 use Rattle.script.specs.declared.Progress.the-variants.{Took, Refused}
 use Rattle.sim_changes.specs.declared.Reply.the-variants as reply
 use Rattle.script_output.specs.Reader.{closed, Reader, maxPrinted, fedWithin, finished}
-use Rattle.script.specs.State.{stateSize, view, valid, stateHead}
+use Rattle.script.specs.State.{stateSize, view, valid}
 
 -- a new script: 7 if the words are too few or too many
 unfoldable pub newAnswer : List ℕ → Progress
 newAnswer w = if eqb (length w) stateSize then Took 0 0 else Refused ParameterOutOfRange
 
 unfoldable pub newWords : List ℕ → List ℕ
-newWords w = if eqb (length w) stateSize then sets w 0 (replicate stateHead 0) else w
+newWords w = if eqb (length w) stateSize then replicate stateSize 0 else w
 
 -- 21 an invalid state, 6 no room for a line
 unfoldable pub feedAnswer : List ℕ → List ℕ → ℕ → Progress

@@ -3,7 +3,7 @@ use Prim.Native.Nat.{ℕ, suc, _+_, _≤_, _<_}
 use mathlib.Core.Path.{_≡_}
 use mathlib.Core.Bool.{true}
 use mathlib.Core.List.{List, []}
-use lib.ListN.{length, getD, set}
+use lib.ListN.{length, getD, set, replicate}
 use lib.Seq.{sets}
 use Rattle.ids.specs.declared.Refusal.{Refusal}
 use Rattle.script.specs.declared.Progress.{Progress}
@@ -16,7 +16,7 @@ use Rattle.sim_run.specs.Run.{happens, next}
 use Rattle.script_lines.specs.Printed.{noLine, okLine}
 use Rattle.script_output.specs.Output.{answerLine, maxLines}
 use Rattle.script_output.specs.Reader.{Script, Stage, running, closed, Reader, Printed, onward, maxPrinted, fedWithin, finished, maxKept}
-use Rattle.script.specs.State.{stageRunning, stageAt, answeredAt, acceptedAt, holdingAt, lengthAt, stateSize, view, valid}
+use Rattle.script.specs.State.{stageRunning, stageAt, answeredAt, acceptedAt, holdingAt, lengthAt, lineFrom, stateSize, view, valid}
 
 -- Inside, what a valid state gives is handed on: its length, and the length of the line.
 pub record Sound (w : List ℕ) : Type 0 where
@@ -36,6 +36,10 @@ pub record Reads (w : List ℕ) : Type 0 where
   pub runs : getD w stageAt 0 ≡ stageRunning
   pub more : getD w answeredAt 0 < maxLines
   pub fewer : getD w acceptedAt 0 ≤ getD w answeredAt 0
+
+-- the words without the line so far
+abbrev pub withoutLine : List ℕ → List ℕ
+withoutLine w = set (sets w lineFrom (replicate (getD w lengthAt 0) 0)) lengthAt 0
 
 -- these bytes, no more than a line has, were printed from place `at` on, and r is the place behind them
 pub record Prints (out : List ℕ) (at : ℕ) (l out′ : List ℕ) (r : ℕ) : Type 0 where

@@ -2,10 +2,10 @@
 -- First the head: the stage, the event lines answered, those accepted, the most holders at once, and the bytes of the line so far.
 -- Then those bytes, a word for each, and the simulation's words.
 use Prim.Native.Nat.{ℕ, _+_}
-use mathlib.Core.Bool.{Bool, true, _&&_}
+use mathlib.Core.Bool.{Bool, _&&_}
 use mathlib.Core.List.{List}
 use lib.Dec.{eqb, leb}
-use lib.ListN.{length, getD, take}
+use lib.ListN.{length, getD, take, drop}
 use Rattle.ids.specs.Choice.{if_then_else_}
 use Rattle.ids.specs.Lists.{every}
 use Rattle.sim_blocks.specs.Regions.{region}
@@ -93,19 +93,29 @@ lineOf h l = take (h .length) l
 unfoldable pub view : List ℕ → Reader
 view w = record { stage = stageOf (headIn w) (simulationIn w); line = lineOf (headIn w) (keptIn w) }
 
--- valid: the words are there, each word of the line is a byte, and a script that runs has a valid simulation and counts in range
+-- a script that runs has a valid simulation, and counts in range
 unfoldable pub validRun : Head → List ℕ → Bool
 validRun h s =
     layout.valid s
     && (leb (h .answered) maxLines
     && (leb (h .accepted) (h .answered) && (leb (holders (layout.view s)) (h .holding) && leb (h .holding) systemClients)))
 
+-- one that does not run has none of it: its counts and the simulation's words are 0
+unfoldable pub validIdle : Head → List ℕ → Bool
+validIdle h s = eqb (h .answered) 0 && (eqb (h .accepted) 0 && (eqb (h .holding) 0 && layout.blank s))
+
+-- the line's words are bytes, and those behind the line so far are 0
 abbrev pub byteWord : ℕ → Bool
 byteWord x = leb x 255
 
+unfoldable pub validLine : ℕ → List ℕ → Bool
+validLine len l = leb len maxKept && (every byteWord l && layout.blank (drop len l))
+
 unfoldable pub validParts : Head → List ℕ → List ℕ → Bool
 validParts h l s =
-    leb (h .stage) stageClosed && (leb (h .length) maxKept && (every byteWord l && (if eqb (h .stage) stageRunning then validRun h s else true)))
+    leb (h .stage) stageClosed && (validLine (h .length) l && (if eqb (h .stage) stageRunning then validRun h s else validIdle h s))
 
+-- valid: the words are there and are these parts. So each word is one that the reader has or 0, and the reader determines all of them
+-- (proofs/Determined).
 unfoldable pub valid : List ℕ → Bool
 valid w = eqb (length w) stateSize && validParts (headIn w) (keptIn w) (simulationIn w)

@@ -12,9 +12,9 @@ ghost use Rattle.ids.specs.Lists.{every};
 ghost use Rattle.script_lines.specs.Lines.{eventIn, lineOf, settingIn, firstOf};
 ghost use Rattle.script_lines.specs.Printed.{refusedLine};
 ghost use Rattle.script_output.specs.Reader.{closed, opened, worked, behind, taken, ended, lastLine, finished, maxKept, maxPrinted};
-ghost use Rattle.script.specs.State.{headIn, keptIn, simulationIn, countsIn, scriptIn, byteWord, validRun, view, valid as isValid, stateSize, stateHead, stageAt, lengthAt, stageOpening, stageRunning, stageClosed};
+ghost use Rattle.script.specs.State.{headIn, keptIn, simulationIn, countsIn, scriptIn, byteWord, validLine, validRun, validIdle, view, valid as isValid, stateSize, stageAt, lengthAt, stageOpening, stageRunning, stageClosed};
 ghost use Rattle.script.specs.Calls.{newAnswer, newWords, feedAnswer, FeedLeaves, finishAnswer, FinishLeaves, maxEnding};
-ghost use Rattle.script.specs.Inner.{Sound, Ready, Reads, Prints, Does, Takes, FedAs, Closes, happened, passing, withCounts, replyLine};
+ghost use Rattle.script.specs.Inner.{Sound, Ready, Reads, Prints, Does, Takes, FedAs, Closes, happened, passing, withCounts, withoutLine, replyLine};
 use ids::Refusal;
 use script_lines::First;
 use script_lines::Line;
@@ -82,6 +82,21 @@ fn bytes_valid(w: &[u32]) -> bool
     true
 }
 
+// Whether the words of the line are bytes, and 0 behind the line so far.
+fn line_valid(w: &[u32]) -> bool
+    requires { ⌜ length (now w) ≡ stateSize ⌝ }
+    ensures { λ r. ⌜ r ≡ validLine (getD (now (w .entry)) lengthAt 0) (keptIn (now (w .entry))) ⌝ }
+{
+    let len = w[LENGTH];
+    if MAX_KEPT < len {
+        return false;
+    }
+    if !bytes_valid(w) {
+        return false;
+    }
+    sim_layout::is_blank(w, LINE_FROM + len as usize, STATE_HEAD)
+}
+
 // Whether the simulation and the counts are those of a script that runs.
 fn run_valid(w: &[u32]) -> bool
     requires { ⌜ length (now w) ≡ stateSize ⌝ }
@@ -103,6 +118,23 @@ fn run_valid(w: &[u32]) -> bool
     w[HOLDING] <= system::MAX_CLIENTS
 }
 
+// Whether they are those of one that does not: all 0.
+fn idle_valid(w: &[u32]) -> bool
+    requires { ⌜ length (now w) ≡ stateSize ⌝ }
+    ensures { λ r. ⌜ r ≡ validIdle (headIn (now (w .entry))) (simulationIn (now (w .entry))) ⌝ }
+{
+    if w[ANSWERED] != 0 {
+        return false;
+    }
+    if w[ACCEPTED] != 0 {
+        return false;
+    }
+    if w[HOLDING] != 0 {
+        return false;
+    }
+    sim_layout::is_blank(w, STATE_HEAD, STATE_WORDS)
+}
+
 // Whether the words are the state of a script.
 pub fn valid(w: &[u32]) -> bool
     ensures { λ r. ⌜ r ≡ isValid (now (w .entry)) ⌝ }
@@ -113,16 +145,13 @@ pub fn valid(w: &[u32]) -> bool
     if CLOSED < w[STAGE] {
         return false;
     }
-    if MAX_KEPT < w[LENGTH] {
+    if !line_valid(w) {
         return false;
     }
-    if !bytes_valid(w) {
-        return false;
+    if w[STAGE] == RUNNING {
+        return run_valid(w);
     }
-    if w[STAGE] != RUNNING {
-        return true;
-    }
-    run_valid(w)
+    idle_valid(w)
 }
 
 // A byte behind the line so far.
@@ -137,6 +166,20 @@ fn keep(w: &mut [u32], b: u8)
     let at = LINE_FROM + len as usize;
     w[at] = b as u32;
     w[LENGTH] = len + 1;
+}
+
+// The line is done with.
+fn clear_line(w: &mut [u32])
+    requires { ⌜ Sound (now w) ⌝ }
+    ensures { λ _. ⌜ now (w .exit) ≡ withoutLine (now (w .entry)) ⌝ }
+{
+    let len = w[LENGTH] as usize;
+    let mut i: usize = 0;
+    while i < len {
+        w[LINE_FROM + i] = 0;
+        i += 1;
+    }
+    w[LENGTH] = 0;
 }
 
 // The line so far, as bytes at the start of the buffer.
@@ -174,7 +217,7 @@ fn read_event(w: &[u32]) -> Line
 
 // The first line is refused.
 fn refuse(w: &mut [u32], out: &mut [u8], at: usize, x: Refusal) -> usize
-    requires { ⌜ Ready (now w) (now out) at ⌝ }
+    requires { ⌜ Ready (now w) (now out) at × (getD (now w) stageAt 0 ≡ stageOpening) ⌝ }
     ensures { λ r. ⌜ Does (now (w .entry)) (now (out .entry)) at (record { now = closed; out = refusedLine x }) (now (w .exit)) (now (out .exit)) r ⌝ }
 {
     w[STAGE] = CLOSED;
@@ -308,7 +351,7 @@ fn take(w: &mut [u32], out: &mut [u8], at: usize, b: u8) -> usize
 {
     if b == b'\n' {
         let end = work(w, out, at);
-        w[LENGTH] = 0;
+        clear_line(w);
         return end;
     }
     keep(w, b);
@@ -328,10 +371,10 @@ pub fn new(w: &mut [u32]) -> Progress
 
 fn clear(w: &mut [u32])
     requires { ⌜ length (now w) ≡ stateSize ⌝ }
-    ensures { λ _. ⌜ now (w .exit) ≡ sets (now (w .entry)) 0 (replicate stateHead 0) ⌝ }
+    ensures { λ _. ⌜ now (w .exit) ≡ replicate stateSize 0 ⌝ }
 {
     let mut i: usize = 0;
-    while i < STATE_HEAD {
+    while i < STATE_WORDS {
         w[i] = 0;
         i += 1;
     }
@@ -401,10 +444,10 @@ fn end(w: &[u32], out: &mut [u8], at: usize) -> usize
 // Nothing is read or printed any more.
 fn seal(w: &mut [u32])
     requires { ⌜ length (now w) ≡ stateSize ⌝ }
-    ensures { λ _. ⌜ now (w .exit) ≡ set (set (now (w .entry)) stageAt stageClosed) lengthAt 0 ⌝ }
+    ensures { λ _. ⌜ now (w .exit) ≡ set (replicate stateSize 0) stageAt stageClosed ⌝ }
 {
+    clear(w);
     w[STAGE] = CLOSED;
-    w[LENGTH] = 0;
 }
 
 // The script ends: what stands of a line counts as the last one, the end is printed behind it, and the state is closed.

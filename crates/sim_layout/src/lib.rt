@@ -193,8 +193,8 @@ pub fn rise_server(w: &mut [u32], j: ServerId)
     sim_blocks::rise(&mut w[a..e]);
 }
 
-// Whether the words from `from` to `to` are all 0.
-fn is_blank(w: &[u32], from: usize, to: usize) -> bool
+// Whether the words from `from` to `to` are all 0. For the tests of words here and in `script`, which know that they are there.
+pub fn is_blank(w: &[u32], from: usize, to: usize) -> bool
     requires { ⌜ (from ≤ to) × (to ≤ length (now w)) ⌝ }
     ensures { λ r. ⌜ r ≡ blank (take (to - from) (drop from (now (w .entry)))) ⌝ }
 {

@@ -11,14 +11,14 @@ returns : tie.Need-returns
 returns c =
     let d = c .before .before .before .before .before .before in
     let a = d .args in
-    refused-does (now (a .w)) (now (a .out)) (a .at) (d .pre) (a .x) _ _ (c .before .before .put-refused .ensures)
+    refused-does (now (a .w)) (now (a .out)) (a .at) (d .pre .0) (d .pre .1) (a .x) _ _ (c .before .before .put-refused .ensures)
 
 pub refuse-spec : {M : Type 1} → statement M
 refuse-spec =
     tie.close
     (tie.spec
     (λ c. search needs)
-    (λ c κs. let d = c .before .before .before in omega (arith, refused-short (d .args .x), d .pre .room))
+    (λ c κs. let d = c .before .before .before in omega (arith, refused-short (d .args .x), d .pre .0 .room))
     (λ c. search needs)
     (λ c. search needs)
     returns)
