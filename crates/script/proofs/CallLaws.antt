@@ -35,8 +35,11 @@ module _ (w input out w′ out′ : List ℕ) (p : Progress) (v : valid w ≡ tr
   fed-valid = f .1 .again feeds
 
   module _ (u k : ℕ) (t : p ≡ Took u k) where
+    pub took-used : u ≡ fed-all .used
+    took-used = cc (sym t ∙ fed-took)
+
     pub fed-used : u ≤ length input
-    fed-used = let e : u ≡ fed-all .used = cc (sym t ∙ fed-took) in omega (arith, e, used-few (length out) (view w) input)
+    fed-used = omega (arith, took-used, used-few (length out) (view w) input)
 
     pub fed-wrote : k ≤ length out′
     fed-wrote =

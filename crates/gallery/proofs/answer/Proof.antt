@@ -4,7 +4,7 @@ use denote.Ref.{now}
 use native.Mathlib.Omega.{arith}
 use mathlib.Core.Bool.{false≢true}
 use Rattle.console.proofs.InputLaws.{fits-bytes}
-use Rattle.script_stream.proofs.ReadLaws.{answered}
+use Rattle.script_stream.proofs.ReadLaws.{answered, answered-taken}
 use borrow.Author.Needs.{needs}
 use Rattle.gallery.proofs.answer.Statement.{statement}
 use Rattle.gallery.proofs.answer.Tie as tie
@@ -20,7 +20,7 @@ returns-3 c =
     let i = p .before .before .before .before .before in
     let a = entry i .args in
     let s = p .answer-part .ensures in
-    (s .0, λ z. answered (now (a .w)) (now (a .part)) _ (a .input) _ (i .input .given .1) (s .1 z))
+    (s .again, λ z. answered (now (a .w)) (now (a .part)) _ (a .input) _ (i .input .given .1) (answered-taken s z))
 
 pub answer-spec : {M : Type 1} → statement M
 answer-spec =

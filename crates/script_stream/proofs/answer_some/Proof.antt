@@ -1,11 +1,8 @@
--- `script_stream::answer_some` meets its contract: the call is not refused, so what it wrote lies within the buffer.
+-- `script_stream::answer_some` meets its contract: the call is not refused, so what it wrote lies within the buffer; what it leaves does not
+-- hang on the writing.
 use denote.Ref.{now}
-use mathlib.Core.Path.{_≡_}
-use mathlib.Core.Bool.{true}
 use native.Mathlib.Omega.{arith}
-use Rattle.script.specs.State.{valid}
-use Rattle.script.proofs.CallLaws.{fed-valid, fed-used, fed-wrote}
-use Rattle.script_stream.proofs.ReadLaws.{fed-taken}
+use Rattle.script.proofs.CallLaws.{fed-used, fed-wrote, took-used}
 use borrow.Author.Needs.{needs}
 use Rattle.script_stream.proofs.answer_some.Statement.{statement}
 use Rattle.script_stream.proofs.answer_some.Tie as tie
@@ -14,11 +11,6 @@ use Rattle.script_stream.proofs.answer_some.Tie as tie
 module _ (c : tie.After-feed) where
   abbrev entry : tie.Start
   entry = c .before .before .before .before .before .before
-
-  again : valid (c .feed .last .0) ≡ true
-  again =
-      let a = entry .args in
-      fed-valid (now (a .w)) (now (a .part)) (now (a .out)) _ _ _ (entry .pre .0) (entry .pre .1) (c .feed .ensures)
 
 -- and not refused
 module _ (c : tie.After-p) where
@@ -40,8 +32,8 @@ returns c =
     let d = entry f in
     let a = d .args in (
       fed-used (now (a .w)) (now (a .part)) (now (a .out)) _ _ _ (d .pre .0) (d .pre .1) (f .feed .ensures) _ _ (p .p .given .1),
-      again f,
-      λ z. fed-taken (now (a .w)) (now (a .part)) (now (a .out)) _ _ _ (d .pre .0) (d .pre .1) (f .feed .ensures) _ _ (p .p .given .1),
+      f .feed .ensures .1,
+      λ z. took-used (now (a .w)) (now (a .part)) (now (a .out)) _ _ _ (d .pre .0) (d .pre .1) (f .feed .ensures) _ _ (p .p .given .1),
     )
 
 pub answer-some-spec : {M : Type 1} → statement M
@@ -60,7 +52,7 @@ answer-some-spec =
     returns
     (λ c. search needs)
     (λ c. search needs)
-    (λ c. (omega arith, again (c .before .before .before .before .before .before), λ z. absurd (omega (arith, z))))
+    (λ c. (omega arith, c .before .before .before .before .before .before .feed .ensures .1, λ z. absurd (omega (arith, z))))
     (λ c. search needs)
     (λ c. search needs)
-    (λ c. (omega arith, again (fed (c .before .before .before .before .before)), λ z. absurd (omega (arith, z)))))
+    (λ c. (omega arith, fed (c .before .before .before .before .before) .feed .ensures .1, λ z. absurd (omega (arith, z)))))

@@ -12,7 +12,7 @@ module _ (c : tie.After-finish) where
   abbrev entry : tie.Start
   entry = c .before .before .before .before .before
 
-  ended : Ended (c .finish .last .0)
+  ended : Ended (now (entry .args .w)) (now (entry .args .out)) (c .finish .last .0) (c .finish .last .1 .0)
   ended = script-ended (now (entry .args .w)) (now (entry .args .out)) _ _ (entry .pre .0) (entry .pre .1) (c .finish .ensures .1)
 
 part-write-out-end : tie.Need-part-write-out-end

@@ -7,6 +7,7 @@ use native.Mathlib.Omega.{arith}
 use Rattle.script.specs.State.{valid}
 use Rattle.script.proofs.LineLaws.{sound}
 use Rattle.script_stream.specs.Taken.{Taken}
+use Rattle.script_stream.proofs.ReadLaws.{answered-taken}
 use borrow.Author.Tests.{not-false}
 use borrow.Author.Needs.{needs}
 use Rattle.slips.proofs.answer_line.Statement.{statement}
@@ -18,7 +19,7 @@ module _ (c : tie.After-answer-part) where
   entry = c .before .before .before .before .before .before .before
 
   again : valid (c .answer-part .last .0) ≡ true
-  again = c .answer-part .ensures .0
+  again = c .answer-part .ensures .again
 
 -- and answered
 module _ (c : tie.Else1) where
@@ -26,7 +27,7 @@ module _ (c : tie.Else1) where
   fed = c .before .before .before .before .before
 
   taken : Taken (now (entry fed .args .w)) (now (entry fed .args .line)) (fed .answer-part .last .0)
-  taken = fed .answer-part .ensures .1 (not-false _ (c .if1 .left))
+  taken = answered-taken (fed .answer-part .ensures) (not-false _ (c .if1 .left))
 
 pub answer-line-spec : {M : Type 1} → statement M
 answer-line-spec =
