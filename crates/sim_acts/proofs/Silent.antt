@@ -31,7 +31,9 @@ use Rattle.sim_blocks.proofs.ClientLaws.{ClientIs}
 use Rattle.sim_blocks.proofs.ServerLaws.{ServerIs, rise-block, sink-block}
 use Rattle.sim_blocks.proofs.EpochLaws.{fall-block}
 use Rattle.sim_transit.specs.Slots.{slots, slotAt}
-use Rattle.sim_transit.specs.Calls.{Valid, FindsPresent}
+use Rattle.sim_transit.specs.Calls.{firstSlot, isNumbered}
+use Rattle.sim_transit.proofs.Means.{FindsPresent}
+use Rattle.sim_transit.proofs.FindLaws.{finds-present}
 use Rattle.sim_layout.specs.Layout.{settingOf, lengthOf, sentOf, transitWords, view, valid, clientsFrom, serversFrom}
 use Rattle.sim_layout.proofs.ValidLaws.{facts}
 use Rattle.sim_layout.specs.Parts.{clientBlockOf, serverBlockOf, ServerIn}
@@ -142,20 +144,20 @@ below r n h ne =
     ⊎-elim (λ (t : ltb r n ≡ true). ltb-true r n t) (λ (t : ltb r n ≡ false). absurd (ne (omega (arith, ltb-false r n t)))) (decided (ltb r n))
 
 -- drop: r is what `find_present` gave, and s how many messages are in transit
-module _ (w : List ℕ) (i : MessageNumber) {r s : ℕ} (ok : valid w ≡ true) (F : FindsPresent (i .0) (lengthOf w) (transitWords w) r) (g : s ≡ lengthOf w) where
+module _ (w : List ℕ) (i : MessageNumber) {r s : ℕ} (ok : valid w ≡ true) (at : r ≡ firstSlot (isNumbered (i .0)) (view w .transit)) (g : s ≡ lengthOf w) where
+  F : FindsPresent (i .0) (lengthOf w) (transitWords w) r
+  unfolding view
+  F = finds-present (i .0) (lengthOf w) (transitWords w) r at
+
   there-is : (b : Bool) → present (i .0) (slots (lengthOf w) (transitWords w)) ≡ b → present (i .0) (view w .transit) ≡ b
   unfolding transitWords
   there-is b e = rw (← its-transit w ok) e
-
-  in-words : Valid (settingOf w .n) (settingOf w .clients) (sentOf w) (lengthOf w) (transitWords w)
-  unfolding transitWords
-  in-words = facts w ok .transit
 
   pub drop-missing : r ≡ s → Leaves w (Drop i) w × (Refused NoSuchParty ≡ movedOf (happens w (Drop i)))
   drop-missing e =
       leaves-refused w (Drop i) NoSuchParty ok
       (drops-nothing (settingOf w .n) (enough (settingOf w .m)) (view w) i
-      (there-is false (F .missing (settingOf w .n) (settingOf w .clients) (sentOf w) in-words (e ∙ g))))
+      (there-is false (F .missing (e ∙ g))))
 
   module _ (ne : r ≡ s → ⊥) where
     pub used : r < lengthOf w
@@ -170,5 +172,5 @@ module _ (w : List ℕ) (i : MessageNumber) {r s : ℕ} (ok : valid w ≡ true) 
     drop-leaves {w′} B =
         leaves-quiet w (Drop i) (dropped (view w) (i .0)) refl
         (drops (settingOf w .n) (enough (settingOf w .m)) (view w) i
-        (there-is true (F .found (settingOf w .n) (settingOf w .clients) (sentOf w) in-words used)))
+        (there-is true (F .found used)))
         refl w′ (rw numbered-is at B)

@@ -10,7 +10,11 @@ use borrow.Rule.Slice.PartMut.{putMid}
 use Rattle.ids.specs.declared.ServerId.{ServerId}
 use Rattle.system.specs.Transit.{replaced, keeping, gone, again}
 use Rattle.sim_transit.specs.Slots.{slots, slotAt, transitSize}
-use Rattle.sim_transit.specs.Calls.{Sized, Valid, Marks, Removes, Restarts}
+use Rattle.sim_transit.specs.Calls.{Sized, Valid, marked, removed, pendingAgain}
+use Rattle.sim_transit.proofs.Means.{Marks, Removes, Restarts}
+use Rattle.sim_transit.proofs.ChangeLaws.{marks}
+use Rattle.sim_transit.proofs.RemoveLaws.{removes}
+use Rattle.sim_transit.proofs.RestartLaws.{restarts}
 use Rattle.sim_transit.proofs.Kept.{valid-sized}
 use Rattle.sim_layout.specs.Layout.{settingOf, lengthOf, sentOf, transitWords, view, valid, transitFrom, simulationSize}
 use Rattle.sim_layout.proofs.ValidLaws.{facts}
@@ -39,33 +43,41 @@ module _ (w : List ℕ) (ok : valid w ≡ true) where
   stored t len ok′ = came-back w transitFrom transitSize t (valid-sized (settingOf w .n) (settingOf w .clients) (sentOf w) len t ok′ .size)
       (omega (arith, facts w ok .long))
 
-  pub restart-becomes : (j : ServerId) (t : List ℕ) → Restarts (lengthOf w) j (take transitSize (drop transitFrom w)) t
+  pub restart-becomes : (j : ServerId) (t : List ℕ) → t ≡ pendingAgain (lengthOf w) j (take transitSize (drop transitFrom w))
       → Becomes w (putMid transitFrom transitSize w t) (withTransit (view w) (map (again j) (view w .transit)))
   unfolding transitWords
-  restart-becomes j t R =
+  restart-becomes j t p =
+      let R : Restarts (lengthOf w) j (transitWords w) t = rw p (restarts j (transitWords w) (lengthOf w) lent-sized) in
       let ok′ = R .valid (settingOf w .n) (settingOf w .clients) (sentOf w) old in
       let e = R .after (settingOf w .n) (settingOf w .clients) (sentOf w) old in
       rw (stored t (lengthOf w) ok′, ← its-transit, ← e) (transit-becomes w ok t ok′)
 
-  pub mark-becomes : (i : ℕ) (t : List ℕ) → i < lengthOf w → Marks i (take transitSize (drop transitFrom w)) t
+  pub mark-becomes : (i : ℕ) (t : List ℕ) → i < lengthOf w → t ≡ marked i (take transitSize (drop transitFrom w))
       → Becomes w (putMid transitFrom transitSize w t) (withTransit (view w) (replaced (slotAt (transitWords w) i .number) keeping (view w .transit)))
   unfolding transitWords
-  mark-becomes i t h M =
+  mark-becomes i t h p =
+      let M : Marks i (transitWords w) t = rw p (marks (transitWords w) i (lent-sized .size) (omega (arith, h, lent-sized .few))) in
       let ok′ = M .valid (settingOf w .n) (settingOf w .clients) (sentOf w) (lengthOf w) old h in
       let e = M .after (settingOf w .n) (settingOf w .clients) (sentOf w) (lengthOf w) old h in
       rw (stored t (lengthOf w) ok′, ← its-transit, ← e) (transit-becomes w ok t ok′)
 
-  pub remove-becomes : (i : ℕ) (t : List ℕ) → Removes (lengthOf w) i (take transitSize (drop transitFrom w)) t
+  its-removal : (i : ℕ) (t : List ℕ) → i < lengthOf w → t ≡ removed (lengthOf w) i (take transitSize (drop transitFrom w))
+      → Removes (lengthOf w) i (transitWords w) t
+  unfolding transitWords
+  its-removal i t h p = rw p (removes (transitWords w) (lengthOf w) i (lent-sized .size) (lent-sized .few) h)
+
+  pub remove-becomes : (i : ℕ) (t : List ℕ) → i < lengthOf w → t ≡ removed (lengthOf w) i (take transitSize (drop transitFrom w))
       → Becomes w (set (putMid transitFrom transitSize w t) 4 (lengthOf w - 1))
       (withTransit (view w) (replaced (slotAt (transitWords w) i .number) gone (view w .transit)))
   unfolding transitWords
-  remove-becomes i t R =
+  remove-becomes i t h p =
+      let R = its-removal i t h p in
       let ok′ = R .valid (settingOf w .n) (settingOf w .clients) (sentOf w) old in
       let e = R .after (settingOf w .n) (settingOf w .clients) (sentOf w) old in
       rw (stored t (lengthOf w - 1) ok′, ← its-transit, ← e) (length-becomes w ok t (lengthOf w - 1) ok′)
 
-  pub removed-long : (i : ℕ) (t : List ℕ) → Removes (lengthOf w) i (take transitSize (drop transitFrom w)) t
+  pub removed-long : (i : ℕ) (t : List ℕ) → i < lengthOf w → t ≡ removed (lengthOf w) i (take transitSize (drop transitFrom w))
       → length (putMid transitFrom transitSize w t) ≡ simulationSize
   unfolding transitWords
-  removed-long i t R = ap length (stored t (lengthOf w - 1) (R .valid (settingOf w .n) (settingOf w .clients) (sentOf w) old))
+  removed-long i t h p = ap length (stored t (lengthOf w - 1) (its-removal i t h p .valid (settingOf w .n) (settingOf w .clients) (sentOf w) old))
       ∙ (length-sets w transitFrom t ∙ facts w ok .long)

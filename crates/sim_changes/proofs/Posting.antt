@@ -22,7 +22,8 @@ use Rattle.server.specs.Parts.{threeMails}
 use Rattle.system.specs.Places.{System}
 use Rattle.system.specs.Transit.{numbered}
 use Rattle.sim_transit.specs.Slots.{names, transitSize}
-use Rattle.sim_transit.specs.Calls.{Sized, Valid, Posts}
+use Rattle.sim_transit.specs.Calls.{Sized, Valid}
+use Rattle.sim_transit.proofs.Means.{Posts}
 use Rattle.sim_transit.proofs.Kept.{valid-sized, length-slots}
 use Rattle.sim_layout.specs.Layout.{settingOf, lengthOf, sentOf, transitWords, view, valid, transitFrom, simulationSize}
 use Rattle.sim_layout.proofs.ValidLaws.{facts}

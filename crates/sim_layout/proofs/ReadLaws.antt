@@ -1,8 +1,8 @@
 -- What other crates ask of a valid simulation: its words are all there, its counts are in range, and the slots that are lent are its messages in transit.
 use Prim.Native.Nat.{ℕ, _<_, _≤_}
 use native.Mathlib.Omega.{arith}
-use mathlib.Core.Path.{_≡_, refl}
-use mathlib.Core.Bool.{true}
+use mathlib.Core.Path.{_≡_, refl, _∙_}
+use mathlib.Core.Bool.{Bool, true}
 use mathlib.Core.List.{List, map}
 use lib.ListN.{length, getD, take, drop}
 use Rattle.ids.proofs.LimitsLaws.{within-range}
@@ -13,9 +13,12 @@ use Rattle.system.specs.Places.{isInside, holders}
 use Rattle.sim_blocks.specs.Regions.{blocks}
 use Rattle.sim_blocks.specs.Blocks.{clientBlock, clientPlace}
 use Rattle.quorum.proofs.CheckLaws.{range}
-use Rattle.sim_transit.specs.Slots.{slotAt, transitSize}
-use Rattle.sim_transit.specs.Calls.{Sized, IsAt}
+use Rattle.sim_transit.specs.Slots.{slotAt, slots, transitSize}
+use Rattle.sim_transit.specs.Calls.{Sized, Ordered, firstSlot, messageAt}
+use Rattle.sim_transit.proofs.FindLaws.{valid-ordered}
 use Rattle.sim_transit.proofs.Kept.{valid-sized}
+use Rattle.sim_transit.proofs.ValidLaws.{message-found}
+use Rattle.system.specs.Transit.{InTransit}
 use Rattle.sim_layout.specs.Layout.{simulationSize, transitFrom, settingOf, lengthOf, sentOf, clientWords, transitWords, view, valid}
 use Rattle.sim_layout.proofs.ValidLaws.{facts}
 
@@ -56,14 +59,19 @@ module _ (w : List ℕ) (ok : valid w ≡ true) where
   pub slot-lent : (i : ℕ) → i < lengthOf w → (length (take transitSize (drop transitFrom w)) ≡ transitSize) × (i < systemMessages)
   slot-lent i h = (lent-sized .size, omega (arith, lent-sized .few))
 
-  pub message-read : (i : ℕ) (m : Message) → i < lengthOf w → IsAt i (take transitSize (drop transitFrom w)) m → m ≡ slotAt (transitWords w) i .message
+  pub lent-ordered : Sized (lengthOf w) (take transitSize (drop transitFrom w)) × Ordered (lengthOf w) (take transitSize (drop transitFrom w))
   unfolding transitWords
-  message-read i m h A = A (settingOf w .n) (settingOf w .clients) (sentOf w) (lengthOf w) (facts w ok .transit) h
+  lent-ordered = (lent-sized, valid-ordered (settingOf w .n) (settingOf w .clients) (sentOf w) (lengthOf w) (transitWords w) (facts w ok .transit))
 
--- what is said of the words that are lent is said of the messages in transit
-pub lent-said : (w : List ℕ) (P : List ℕ → Type 0) → P (take transitSize (drop transitFrom w)) → P (transitWords w)
-unfolding transitWords
-lent-said w P p = p
+  pub message-read : (i : ℕ) (m : Message) → i < lengthOf w → m ≡ messageAt (take transitSize (drop transitFrom w)) i → m ≡ slotAt (transitWords w) i .message
+  unfolding transitWords
+  message-read i m h e = e ∙ message-found (settingOf w .n) (settingOf w .clients) (sentOf w) (lengthOf w) (transitWords w) (facts w ok .transit) i h
+
+-- what is found in the words that are lent is found in the messages in transit
+pub found-lent : (w : List ℕ) (f : InTransit → Bool) (r : ℕ) → r ≡ firstSlot f (slots (lengthOf w) (take transitSize (drop transitFrom w)))
+    → r ≡ firstSlot f (view w .transit)
+unfolding view transitWords
+found-lent w f r e = e
 
 pub number-said : (w : List ℕ) (i : ℕ) → slotAt (take transitSize (drop transitFrom w)) i .number ≡ slotAt (transitWords w) i .number
 unfolding transitWords

@@ -16,7 +16,7 @@ ghost use Rattle.words.specs.Records.{recordHead, maxWord, clientHeadFrom, serv
 ghost use Rattle.sim_blocks.specs.Blocks.{clientPlace, serverPlace, clientRecord, serverRecord, cleared, emptied, validClientBlock, validServerBlock, clientBlock, serverBlock};
 ghost use Rattle.sim_blocks.specs.Regions.{blocks};
 ghost use Rattle.sim_layout.specs.Layout.{clientWords as clientsPart, serverWords as serversPart, transitWords, settingOf, lengthOf, sentOf, view, validFrom, itself, blank, valid as isValid, serversFrom, simulationSize};
-ghost use Rattle.sim_transit.specs.Calls.{FindsPending, FindsPresent};
+ghost use Rattle.sim_transit.specs.Calls.{firstSlot, isPending, isNumbered};
 ghost use Rattle.sim_transit.specs.Slots.{slotAt, validSlots};
 ghost use Rattle.sim_layout.specs.Parts.{clientBlockOf, serverBlockOf, withClientBlock, withServerBlock, ClientIn, ServerIn};
 ghost use Rattle.sim_layout.specs.Inner.{blocksValid, partsValid};
@@ -439,7 +439,7 @@ pub fn in_transit(w: &[u32]) -> usize
 // The slot of the pending message with this number, or of the message whether pending or delivered; where there is none, how many are in transit.
 pub fn find_pending(w: &[u32], number: MessageNumber) -> usize
     requires { ⌜ isValid (now w) ≡ true ⌝ }
-    ensures { λ r. ⌜ FindsPending (number .0) (lengthOf (now (w .entry))) (transitWords (now (w .entry))) r ⌝ }
+    ensures { λ r. ⌜ r ≡ firstSlot (isPending (number .0)) (view (now (w .entry)) .transit) ⌝ }
 {
     let len = w[LENGTH] as usize;
     sim_transit::find_pending(&w[TRANSIT_FROM..SIMULATION_WORDS], len, number)
@@ -447,7 +447,7 @@ pub fn find_pending(w: &[u32], number: MessageNumber) -> usize
 
 pub fn find_present(w: &[u32], number: MessageNumber) -> usize
     requires { ⌜ isValid (now w) ≡ true ⌝ }
-    ensures { λ r. ⌜ FindsPresent (number .0) (lengthOf (now (w .entry))) (transitWords (now (w .entry))) r ⌝ }
+    ensures { λ r. ⌜ r ≡ firstSlot (isNumbered (number .0)) (view (now (w .entry)) .transit) ⌝ }
 {
     let len = w[LENGTH] as usize;
     sim_transit::find_present(&w[TRANSIT_FROM..SIMULATION_WORDS], len, number)

@@ -16,7 +16,9 @@ use Rattle.system.specs.declared.MessageNumber.{MessageNumber}
 use Rattle.system.specs.declared.Event.the-variants.{Take}
 use Rattle.system.specs.Transit.{pending}
 use Rattle.sim_transit.specs.Slots.{slotAt}
-use Rattle.sim_transit.specs.Calls.{FindsPending}
+use Rattle.sim_transit.specs.Calls.{firstSlot, isPending}
+use Rattle.sim_transit.proofs.Means.{FindsPending}
+use Rattle.sim_transit.proofs.FindLaws.{finds-pending}
 use Rattle.sim_layout.specs.Layout.{settingOf, lengthOf, sentOf, transitWords, view, valid}
 use Rattle.sim_layout.proofs.ValidLaws.{facts}
 use Rattle.sim_changes.specs.declared.Moved.{Moved}
@@ -31,10 +33,14 @@ below a b h n =
     ⊎-elim (λ (t : ltb a b ≡ true). ltb-true a b t) (λ (t : ltb a b ≡ false). absurd (n (omega (arith, ltb-false a b t)))) (decided (ltb a b))
 
 -- the message with a number is found
-module _ (w : List ℕ) (number : MessageNumber) (ok : valid w ≡ true) (i : ℕ) (F : FindsPending (number .0) (lengthOf w) (transitWords w) i) where
+module _ (w : List ℕ) (number : MessageNumber) (ok : valid w ≡ true) (i : ℕ) (at : i ≡ firstSlot (isPending (number .0)) (view w .transit)) where
+  F : FindsPending (number .0) (lengthOf w) (transitWords w) i
+  unfolding view
+  F = finds-pending (number .0) (lengthOf w) (transitWords w) i at
+
   none-found : i ≡ lengthOf w → pending (number .0) (view w .transit) ≡ none
   unfolding view
-  none-found e = F .missing (settingOf w .n) (settingOf w .clients) (sentOf w) (facts w ok .transit) e
+  none-found e = F .missing e
 
   pub take-nothing : i ≡ lengthOf w → Leaves w (Take number) w × (Refused NoSuchParty ≡ movedOf (happens w (Take number)))
   take-nothing e = leaves-refused w (Take number) NoSuchParty ok (takes-nothing (settingOf w .n) (enough (settingOf w .m)) (view w) number (none-found e))
@@ -49,8 +55,7 @@ module _ (w : List ℕ) (number : MessageNumber) (ok : valid w ≡ true) (i : �
     pub take-pends : (m : Message) → m ≡ slotAt (transitWords w) i .message → (m′ : Message) → m ≡ m′ → Pends w i m′
     unfolding view
     take-pends m h m′ e =
-        let v = facts w ok .transit in
-        let p = F .found (settingOf w .n) (settingOf w .clients) (sentOf w) v take-used in
+        let p = F .found take-used in
         let q = F .numbered take-used in
         record { slot = record { valid = ok; used = take-used }; holds = sym h ∙ e; waits = rw (q, ← e, h) p }
 

@@ -10,7 +10,8 @@ use lib.Seq.{sets, drop-drop, take-set-le, take-set-lt, drop-set-lt, drop-set-ad
 use Rattle.ids.specs.Lists.{every}
 use Rattle.system.specs.Transit.{InTransit, replaced, keeping}
 use Rattle.sim_transit.specs.Slots.{slotOf, slotAt, rows, slots, validSlot, ascending, transitSize, slotSize}
-use Rattle.sim_transit.specs.Calls.{Valid, Marks}
+use Rattle.sim_transit.specs.Calls.{Valid, marked}
+use Rattle.sim_transit.proofs.Means.{Marks}
 use Rattle.ids.proofs.Choice.{both}
 use Rattle.sim_transit.proofs.RowsLaws.{rows-around, rows-same}
 use Rattle.sim_transit.proofs.NumbersLaws.{ascends-changed, replaced-there}
@@ -99,7 +100,7 @@ module _ (t : List ℕ) (i : ℕ) (size : length t ≡ transitSize) (used : i < 
         let q = replaced-there sent keeping 0 (slots i t) (slotAt t i) (slots k (drop (slotSize * suc i) t)) o in
         rw (e, p, now-slot, slots-around i k t, q)
 
-  pub marks : Marks i t (set t (slotSize * i + 1) 1)
+  pub marks : Marks i t (marked i t)
   marks =
       record {
         valid = λ n clients sent len ok h. marked-known n clients sent len (len - suc i) (omega arith) ok;

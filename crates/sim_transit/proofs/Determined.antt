@@ -16,8 +16,7 @@ use Rattle.wire.specs.declared.Fields.{Fields}
 use Rattle.wire.proofs.NumbersLaws.{fields-again}
 use Rattle.ids.specs.Lists.{every}
 use Rattle.sim_transit.specs.Slots.{slotOf, rows, slots, validSlot, slotSize}
-use Rattle.sim_transit.specs.Inner.{slotWords}
-use Rattle.sim_transit.specs.Calls.{Valid}
+use Rattle.sim_transit.specs.Calls.{Valid, slotWords}
 use Rattle.sim_transit.proofs.SlotLaws.{Seven, seven, sevens, slot-fitting}
 use Rattle.sim_transit.proofs.ValidLaws.{known}
 

@@ -3,6 +3,7 @@ pub mod NumbersLaws
 pub mod SlotLaws
 pub mod ValidLaws
 pub mod ChangeLaws
+pub mod Means
 pub mod RemoveLaws
 pub mod RestartLaws
 pub mod FindLaws

@@ -1,5 +1,5 @@
 -- Messages posted: each stands in the next slot under the next number. What is decoded from the bytes that messages were written to are these messages.
-use Prim.Native.Nat.{ℕ, suc, _+_, _-_, _*_, _<_, _≤_}
+use Prim.Native.Nat.{ℕ, zero, suc, _+_, _-_, _*_, _<_, _≤_}
 use native.Mathlib.Numerals.{add-one}
 use native.Mathlib.Omega.{arith}
 use mathlib.Core.Path.{_≡_, refl, sym, ap, _∙_}
@@ -20,14 +20,16 @@ use Rattle.wire.specs.declared.Numbers.the-variants.{Fitting, Refused as NoNumb
 use Rattle.wire.specs.declared.Parsed.{Parsed}
 use Rattle.wire.specs.declared.Parsed.the-variants.{Accepted, Refused as NotRead}
 use Rattle.ids.specs.declared.Refusal.{Refusal}
+use Rattle.wire.proofs.BytesLaws.{stored-on}
 use Rattle.wire.proofs.FormatLaws.{length-bytesOf}
 use Rattle.wire.proofs.RoundTrip.{written-is-read, took}
 use Rattle.wire.proofs.Sequence.{length-bytesOfAll}
 use Rattle.words.specs.Messages.{noMessage}
 use Rattle.system.specs.Transit.{InTransit, numbered}
 use Rattle.sim_transit.specs.Slots.{slotOf, slotAt, rows, slots, names, validSlot, ascending, andThen, messagesIn, transitSize, slotSize}
-use Rattle.sim_transit.specs.Inner.{slotWords, PostsOne}
-use Rattle.sim_transit.specs.Calls.{Sized, Valid, Posts}
+use Rattle.sim_transit.specs.Inner.{PostsOne}
+use Rattle.sim_transit.specs.Calls.{Sized, Valid, slotWords, slotsWords, posted as postedWords}
+use Rattle.sim_transit.proofs.Means.{Posts}
 use Rattle.sim_transit.proofs.RowsLaws.{rows-next, rows-same}
 use Rattle.sim_transit.proofs.NumbersLaws.{ascends, ascends-append}
 use Rattle.sim_transit.proofs.SlotLaws.{slot-again, words-valid}
@@ -180,6 +182,11 @@ module _ (t t′ : List ℕ) (i : ℕ) (x : InTransit) (size : length t ≡ tran
           rest = rw (new-behind, z, ← drop-drop slotSize (slotSize * i) t) (every-drop (eqb 0) slotSize (drop (slotSize * i) t) (K .rest));
         }
 
+length-numbered : (i : ℕ) (l : List Message) → length (numbered i l) ≡ length l
+unfolding numbered
+length-numbered i [] = refl
+length-numbered i (m ∷ l) = ap suc (length-numbered (suc i) l)
+
 numbered-more : (i : ℕ) (l : List Message) (m : Message)
     → numbered i (l ++ m ∷ []) ≡ numbered i l ++ (record { number = suc (i + length l); delivered = false; message = m } ∷ [])
 unfolding numbered
@@ -188,21 +195,79 @@ numbered-more i (x ∷ l) m =
     let z : i + suc (length l) ≡ suc i + length l = omega arith in
     rw (z, numbered-more (suc i) l m)
 
--- one message stored behind the others
-pub one-post : (len sent : ℕ) (m : Message) (t t′ : List ℕ) → Sized (len + 1) t → valid m ≡ true
-    → t′ ≡ sets t (slotSize * len) ((sent + 1) ∷ (0 ∷ words (fieldsOf m))) → Posts len sent (m ∷ []) t t′
-unfolding slotWords numbered
-one-post len sent m t t′ S v e =
-    let z : sent + 1 ≡ suc sent = omega arith in
-    let y : len + 1 ≡ suc len = omega arith in
+-- the words of slots one after another
+length-slot : (x : InTransit) → length (slotWords x) ≡ slotSize
+unfolding slotWords
+length-slot x = refl
+
+length-slots : (l : List InTransit) → length (slotsWords l) ≡ slotSize * length l
+unfolding slotsWords
+length-slots [] = refl
+length-slots (x ∷ l) = omega (arith, length-append (slotWords x) (slotsWords l), length-slot x, length-slots l)
+
+slots-more : (l : List InTransit) (x : InTransit) → slotsWords (l ++ (x ∷ [])) ≡ slotsWords l ++ slotWords x
+unfolding slotsWords
+slots-more [] x = append-nil (slotWords x)
+slots-more (y ∷ l) x = ap (λ (r : List ℕ). slotWords y ++ r) (slots-more l x) ∙ sym (append-assoc (slotWords y) (slotsWords l) (slotWords x))
+
+-- the first of the messages, and then the others
+posted-first : (len sent : ℕ) (m : Message) (l : List Message) (t : List ℕ) → Sized (len + suc (length l)) t
+    → postedWords len sent (m ∷ l) t ≡ postedWords (suc len) (suc sent) l (sets t (slotSize * len) (slotWords (record { number = suc sent; delivered = false; message = m })))
+unfolding numbered slotsWords
+posted-first len sent m l t s =
     let x : InTransit = record { number = suc sent; delivered = false; message = m } in
-    let s : t′ ≡ sets t (slotSize * len) (suc sent ∷ (0 ∷ words (fieldsOf m))) = rw z at e in
-    record {
-      valid = λ n clients ok nm. rw (y, z)
-          (known-valid n clients (suc sent) (suc len) t′ (new-known t t′ len x (S .size) (omega (arith, S .few)) s v n clients sent
-          (known n clients sent len t ok) (both (names n clients m) true nm .0) refl));
-      after = rw y (new-slots t t′ len x (S .size) (omega (arith, S .few)) s v);
-    }
+    let z : slotSize * suc len ≡ slotSize * len + length (slotWords x) = omega (arith, length-slot x) in
+    sym (stored-on t (sets t (slotSize * len) (slotWords x)) _ (slotWords x) (slotsWords (numbered (suc sent) l)) (slotSize * len) (slotSize * suc len) refl refl z)
+
+-- what they mean: the messages follow those that are kept
+pub posts : (l : List Message) (len sent : ℕ) (t : List ℕ) → Sized (len + length l) t → every valid l ≡ true → Posts len sent l t (postedWords len sent l t)
+unfolding numbered slotsWords
+posts [] len sent t s v =
+    let z : len + 0 ≡ len = omega arith in
+    let y : sent + 0 ≡ sent = omega arith in
+    record { valid = λ n clients ok nm. rw (z, y) ok; after = rw (z, append-nil) }
+posts (m ∷ l) len sent t s v =
+    let (a, b) = both (valid m) (every valid l) v in
+    let x : InTransit = record { number = suc sent; delivered = false; message = m } in
+    let t₁ : List ℕ = sets t (slotSize * len) (slotWords x) in
+    let free : len < systemMessages = omega (arith, s .few) in
+    let s₁ : Sized (suc len + length l) t₁ = record { size = new-size t t₁ len x (s .size) free refl; few = omega (arith, s .few) } in
+    let P = posts l (suc len) (suc sent) t₁ s₁ b in
+    let z : len + suc (length l) ≡ suc len + length l = omega arith in
+    let y : sent + suc (length l) ≡ suc sent + length l = omega arith in
+    rw (posted-first len sent m l t s)
+    (record {
+      valid = λ n clients ok nm.
+          let (p, q) = both (names n clients m) (every (names n clients) l) nm in
+          rw (z, y) (P .valid n clients
+          (known-valid n clients (suc sent) (suc len) t₁ (new-known t t₁ len x (s .size) free refl a n clients sent (known n clients sent len t ok) p refl)) q);
+      after = rw (z, P .after, new-slots t t₁ len x (s .size) free refl a) (append-assoc (slots len t) (x ∷ []) (numbered (suc sent) l));
+    })
+
+-- what bytes decode to are messages in range
+messages-valid : (count : ℕ) (s : List ℕ) → every valid (messagesIn count s) ≡ true
+unfolding messagesIn
+messages-valid zero s = refl
+messages-valid (suc count) s = go (readOf s) refl (messages-valid count)
+  where
+    go : (p : Parsed) → readOf s ≡ p → ((r : List ℕ) → every valid (messagesIn count r) ≡ true) → every valid (andThen s p (messagesIn count)) ≡ true
+    go (NotRead e) q more = refl
+    go (Accepted m used) q more = rw (took maxServers s m used q .range, more (drop used s))
+
+pub posts-read : (len sent count : ℕ) (bytes t t′ : List ℕ) → Sized (len + count) t → length (messagesIn count bytes) ≡ count
+    → t′ ≡ postedWords len sent (messagesIn count bytes) t → Posts len sent (messagesIn count bytes) t t′
+posts-read len sent count bytes t t′ s w e =
+    rw e (posts (messagesIn count bytes) len sent t (record { size = s .size; few = omega (arith, s .few, w) }) (messages-valid count bytes))
+
+pub posts-one : (len sent : ℕ) (m : Message) (t t′ : List ℕ) → Sized (len + 1) t → valid m ≡ true → t′ ≡ postedWords len sent (m ∷ []) t
+    → Posts len sent (m ∷ []) t t′
+posts-one len sent m t t′ s v e = rw e (posts (m ∷ []) len sent t s (rw v))
+
+-- one message stored behind the others
+pub one-post : (len sent : ℕ) (m : Message) (t t′ : List ℕ) → t′ ≡ sets t (slotSize * len) ((sent + 1) ∷ (0 ∷ words (fieldsOf m)))
+    → t′ ≡ postedWords len sent (m ∷ []) t
+unfolding slotWords slotsWords numbered
+one-post len sent m t t′ e = rw add-one at e
 
 -- what `post` knows before message i of M: those before it stand in the slots, and the bytes from `from` on are the others
 pub record Posting (len sent count : ℕ) (bytes o t : List ℕ) (number from i : ℕ) : Type 0 where
@@ -213,15 +278,12 @@ pub record Posting (len sent count : ℕ) (bytes o t : List ℕ) (number from i 
   pub last : number ≡ sent + i
   pub inside : from ≤ length bytes
   pub rest : drop i (messagesIn count bytes) ≡ messagesIn (count - i) (drop from bytes)
-  pub valid : (n clients : ℕ) → Valid n clients sent len o → every (names n clients) (messagesIn count bytes) ≡ true → Valid n clients (sent + i) (len + i) t
-  pub done : slots (len + i) t ≡ slots len o ++ numbered sent (take i (messagesIn count bytes))
+  pub done : t ≡ postedWords len sent (take i (messagesIn count bytes)) o
 
 module _ (len sent count : ℕ) (bytes o : List ℕ) where
   pub posting-none : Sized (len + count) o → length (messagesIn count bytes) ≡ count → Posting len sent count bytes o o sent 0 0
-  unfolding numbered
+  unfolding numbered slotsWords
   posting-none s w =
-      let z : len + 0 ≡ len = omega arith in
-      let y : sent + 0 ≡ sent = omega arith in
       let x : count - 0 ≡ count = omega arith in
       record {
         within = omega arith;
@@ -231,8 +293,7 @@ module _ (len sent count : ℕ) (bytes o : List ℕ) where
         last = omega arith;
         inside = omega arith;
         rest = rw x;
-        valid = λ n clients ok h. rw (y, z) ok;
-        done = rw (z, append-nil);
+        done = refl;
       }
 
   module _ (t : List ℕ) (number from i : ℕ) (P : Posting len sent count bytes o t number from i) where
@@ -247,15 +308,6 @@ module _ (len sent count : ℕ) (bytes o : List ℕ) where
           (split : drop i (messagesIn count bytes) ≡ m ∷ messagesIn (count - suc i) (drop used (drop from bytes))) where
         abbrev posted : InTransit
         posted = record { number = number + 1; delivered = false; message = m }
-
-        in-range : valid m ≡ true
-        in-range = took maxServers (drop from bytes) m used read .range
-
-        long : length t ≡ transitSize
-        long = P .size ∙ P .room .size
-
-        free : len + i < systemMessages
-        free = omega (arith, P .room .few)
 
         its-number : number + 1 ≡ suc (sent + i)
         its-number = omega (arith, P .last)
@@ -278,27 +330,16 @@ module _ (len sent count : ℕ) (bytes o : List ℕ) where
             let g′ : getD (messagesIn count bytes) i noMessage ≡ m = rw z at g in
             rw (add-one, take-suc (messagesIn count bytes) i noMessage (omega (arith, P .whole)), g′)
 
-        all-done : slots (len + (i + 1)) t′ ≡ slots len o ++ numbered sent (take (i + 1) (messagesIn count bytes))
+        all-done : t′ ≡ postedWords len sent (take (i + 1) (messagesIn count bytes)) o
         all-done =
-            let z : len + (i + 1) ≡ suc (len + i) = omega arith in
             let l : length (take i (messagesIn count bytes)) ≡ i = length-take-le i (messagesIn count bytes) (omega (arith, P .whole)) in
-            let a = new-slots t t′ (len + i) posted long free stored in-range in
-            rw (z, a, P .done, one-more, numbered-more sent (take i (messagesIn count bytes)) m, l, its-number)
-            (append-assoc (slots len o) (numbered sent (take i (messagesIn count bytes)))
-            (record { number = suc (sent + i); delivered = false; message = m } ∷ []))
-
-        still-valid : (n clients : ℕ) → Valid n clients sent len o → every (names n clients) (messagesIn count bytes) ≡ true
-            → Valid n clients (sent + (i + 1)) (len + (i + 1)) t′
-        still-valid n clients ok nm =
-            let z : len + (i + 1) ≡ suc (len + i) = omega arith in
-            let y : sent + (i + 1) ≡ suc (sent + i) = omega arith in
-            let f : every (names n clients) (take i (messagesIn count bytes) ++ drop i (messagesIn count bytes)) ≡ true = rw take-append-drop nm in
-            let g = every-parts (names n clients) (take i (messagesIn count bytes)) (drop i (messagesIn count bytes)) f .1 in
-            let g′ : every (names n clients) (m ∷ messagesIn (count - suc i) (drop used (drop from bytes))) ≡ true = rw split at g in
-            let q = both (names n clients m) (every (names n clients) (messagesIn (count - suc i) (drop used (drop from bytes)))) g′ .0 in
-            let K = known n clients (sent + i) (len + i) t (P .valid n clients ok nm) in
-            rw (y, z) (known-valid n clients (suc (sent + i)) (suc (len + i)) t′
-            (new-known t t′ (len + i) posted long free stored in-range n clients (sent + i) K q its-number))
+            let before : List InTransit = numbered sent (take i (messagesIn count bytes)) in
+            let x : InTransit = record { number = suc (sent + i); delivered = false; message = m } in
+            let q : posted ≡ x = ap (λ (n : ℕ). record { number = n; delivered = false; message = m }) its-number in
+            let g : slotSize * (len + i) ≡ slotSize * len + length (slotsWords before) =
+            omega (arith, length-slots before, length-numbered sent (take i (messagesIn count bytes)), l) in
+            rw (one-more, numbered-more sent (take i (messagesIn count bytes)) m, l, slots-more before x)
+            (stored-on o t t′ (slotsWords before) (slotWords x) (slotSize * len) (slotSize * (len + i)) (P .done) (rw q at stored) g)
 
         pub posting-next : Posting len sent count bytes o t′ (number + 1) from′ (i + 1)
         posting-next =
@@ -310,19 +351,11 @@ module _ (len sent count : ℕ) (bytes o : List ℕ) where
               last = omega (arith, P .last);
               inside = Q .inside;
               rest = others;
-              valid = still-valid;
               done = all-done;
             }
 
       pub posting-more : Posting len sent count bytes o t′ (number + 1) from′ (i + 1)
       posting-more = let N = its-next in posting-next (N .message) (N .used) (N .read) (left ∙ N .others)
 
-    pub posting-all : count ≤ i → Posts len sent (messagesIn count bytes) o t
-    posting-all h =
-        let a : sent + length (messagesIn count bytes) ≡ sent + i = omega (arith, P .within, P .whole) in
-        let b : len + length (messagesIn count bytes) ≡ len + i = omega (arith, P .within, P .whole) in
-        let d : take i (messagesIn count bytes) ≡ messagesIn count bytes = take-all i (messagesIn count bytes) (omega (arith, P .whole)) in
-        record {
-          valid = λ n clients ok nm. rw (a, b) (P .valid n clients ok nm);
-          after = rw b (P .done ∙ ap (λ (l : List Message). slots len o ++ numbered sent l) d);
-        }
+    pub posting-all : count ≤ i → t ≡ postedWords len sent (messagesIn count bytes) o
+    posting-all h = P .done ∙ ap (λ (l : List Message). postedWords len sent l o) (take-all i (messagesIn count bytes) (omega (arith, P .whole)))

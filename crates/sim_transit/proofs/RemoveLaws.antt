@@ -10,7 +10,8 @@ use lib.Seq.{sets, paste, sets-eq, length-sets, drop-drop, length-take-le, paste
 use Rattle.ids.specs.Lists.{every}
 use Rattle.system.specs.Transit.{replaced, gone}
 use Rattle.sim_transit.specs.Slots.{slotOf, slotAt, rows, slots, validSlot, ascending, slotSize, transitSize}
-use Rattle.sim_transit.specs.Calls.{Removes}
+use Rattle.sim_transit.specs.Calls.{removed}
+use Rattle.sim_transit.proofs.Means.{Removes}
 use Rattle.ids.proofs.Choice.{both}
 use Rattle.sim_transit.proofs.RowsLaws.{rows-around, rows-split, rows-front, rows-take}
 use Rattle.sim_transit.proofs.NumbersLaws.{ascends-without, replaced-there}
@@ -147,14 +148,18 @@ module _ (t t₁ t₂ : List ℕ) (i k : ℕ) (size : length t ≡ transitSize) 
         let q = replaced-there sent gone 0 (slots i t) (slotAt t i) (slots k (drop (slotSize * suc i) t)) removed-ordered in
         rw (slots-removed, slots-around i k t, q)
 
-pub removes : (t t₁ t₂ : List ℕ) (len i : ℕ) → length t ≡ transitSize → len ≤ systemMessages → i < len
+-- what the code stores is that
+pub removed-is : (t t₁ t₂ : List ℕ) (len i : ℕ)
     → t₁ ≡ paste t (slotSize * i) (drop (slotSize * i + slotSize) t) (slotSize * (len - 1 - i))
-    → t₂ ≡ sets t₁ (slotSize * i + slotSize * (len - 1 - i)) (replicate slotSize 0) → Removes len i t t₂
-removes t t₁ t₂ len i size few h e₁ e₂ =
+    → t₂ ≡ sets t₁ (slotSize * i + slotSize * (len - 1 - i)) (replicate slotSize 0) → t₂ ≡ removed len i t
+removed-is t t₁ t₂ len i e₁ e₂ = e₂ ∙ ap (λ (l : List ℕ). sets l (slotSize * i + slotSize * (len - 1 - i)) (replicate slotSize 0)) e₁
+
+pub removes : (t : List ℕ) (len i : ℕ) → length t ≡ transitSize → len ≤ systemMessages → i < len → Removes len i t (removed len i t)
+removes t len i size few h =
     let z : len ≡ i + suc (len - 1 - i) = omega arith in
     let y : len - 1 ≡ i + (len - 1 - i) = omega arith in
     let used : i + suc (len - 1 - i) ≤ systemMessages = omega arith in
-    go t t₁ t₂ len i (len - 1 - i) size z y used e₁ e₂
+    go t _ (removed len i t) len i (len - 1 - i) size z y used refl refl
   where
     go : (t t₁ t₂ : List ℕ) (len i k : ℕ) → length t ≡ transitSize → len ≡ i + suc k → len - 1 ≡ i + k → i + suc k ≤ systemMessages
         → t₁ ≡ paste t (slotSize * i) (drop (slotSize * i + slotSize) t) (slotSize * k)

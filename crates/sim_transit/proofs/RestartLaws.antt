@@ -1,8 +1,8 @@
 -- A server gone down: what was delivered to it is pending again, slot by slot. Only the four kinds that go to a server can be.
-use Prim.Native.Nat.{ℕ, suc, _+_, _-_, _*_, _<_, _≤_}
+use Prim.Native.Nat.{ℕ, zero, suc, _+_, _-_, _*_, _<_, _≤_}
 use native.Mathlib.Numerals.{add-one}
 use native.Mathlib.Omega.{arith}
-use mathlib.Core.Path.{_≡_, refl, ap, _∙_}
+use mathlib.Core.Path.{_≡_, refl, sym, ap, subst, _∙_}
 use mathlib.Core.Bool.{true}
 use mathlib.Core.List.{List, [], _∷_, map, map-append}
 use lib.ListN.{length, getD, set, take, drop, length-set}
@@ -11,8 +11,8 @@ use borrow.Author.Tests.{le-leb, lt-leb, ne-eqb, eq-eqb}
 use Rattle.ids.specs.declared.ServerId.{ServerId}
 use Rattle.system.specs.Transit.{InTransit, again}
 use Rattle.sim_transit.specs.Slots.{slotOf, slotAt, rows, slots, validSlot, transitSize, slotSize}
-use Rattle.sim_transit.specs.Calls.{Sized, Valid, Restarts}
-use Rattle.sim_transit.specs.Inner.{againWord}
+use Rattle.sim_transit.specs.Calls.{Sized, Valid, againWord, pendingAgain}
+use Rattle.sim_transit.proofs.Means.{Restarts}
 use Rattle.sim_transit.proofs.SlotLaws.{Seven, row-seven, word-at, restarted, slot-restarted, restarted-valid}
 use Rattle.sim_transit.proofs.ValidLaws.{Known, known, known-valid, slots-next, slots-same, slot-valid-at}
 use Rattle.sim_transit.proofs.ChangeLaws.{changed-known, store-before, store-behind, store-here}
@@ -31,8 +31,8 @@ module _ (j delivered kind server : ℕ) where
   unfolding againWord
   again-down h e = rw (le-leb kind 4 h, eq-eqb server j e)
 
--- what `restart` knows before slot i: the slots before it are done, those from it on are as they were
-pub record Restarting (j : ServerId) (o : List ℕ) (len : ℕ) (t : List ℕ) (i : ℕ) : Type 0 where
+-- after i slots: those before slot i are done, those from it on are as they were
+record Restarting (j : ServerId) (o : List ℕ) (len : ℕ) (t : List ℕ) (i : ℕ) : Type 0 where
   pub within : i ≤ len
   pub few : len ≤ systemMessages
   pub whole : length o ≡ transitSize
@@ -42,7 +42,7 @@ pub record Restarting (j : ServerId) (o : List ℕ) (len : ℕ) (t : List ℕ) (
   pub done : (n clients sent : ℕ) → Valid n clients sent len o → slots i t ≡ map (again j) (slots i o)
 
 module _ (j : ServerId) (o : List ℕ) (len : ℕ) where
-  pub restarting-none : Sized len o → Restarting j o len o 0
+  restarting-none : Sized len o → Restarting j o len o 0
   unfolding slots rows
   restarting-none s = record {
     within = omega arith;
@@ -105,7 +105,7 @@ module _ (j : ServerId) (o : List ℕ) (len : ℕ) where
               q,
             )
 
-      pub restarting-more : Restarting j o len (set t (slotSize * i + 1) w) (i + 1)
+      restarting-more : Restarting j o len (set t (slotSize * i + 1) w) (i + 1)
       restarting-more =
           let z : slotSize * (i + 1) ≡ slotSize * suc i = omega arith in
           let y : slotSize * suc i ≡ slotSize * i + slotSize = omega arith in
@@ -119,7 +119,50 @@ module _ (j : ServerId) (o : List ℕ) (len : ℕ) where
             done = λ n clients sent ok. one-more n clients sent ok;
           }
 
-    pub restarting-all : len ≤ i → Restarts len j o t
+    restarting-all : len ≤ i → Restarts len j o t
     restarting-all h =
         let z : i ≡ len = omega (arith, R .within) in
         record { valid = R .valid; after = λ n clients sent ok. rw z at (R .done n clients sent ok) }
+
+  restarting : Sized len o → (i : ℕ) → i ≤ len → Restarting j o len (pendingAgain i j o) i
+  unfolding pendingAgain
+  restarting s zero h = restarting-none s
+  restarting s (suc i) h = 
+      let z : i + 1 ≡ suc i = add-one i in
+      let R = restarting-more (pendingAgain i j o) i (restarting s i (omega arith)) (omega arith)
+      (againWord (j .0) (getD (pendingAgain i j o) (slotSize * i + 1) 0) (getD (pendingAgain i j o) (slotSize * i + 2) 0)
+      (getD (pendingAgain i j o) (slotSize * i + 4) 0)) refl in
+      subst (λ (k : ℕ). Restarting j o len (pendingAgain (suc i) j o) k) z R
+
+  pub restarts : Sized len o → Restarts len j o (pendingAgain len j o)
+  restarts s = restarting-all (pendingAgain len j o) len (restarting s len (omega arith)) (omega arith)
+
+-- what the loop knows before slot i
+pub record Doing (j : ServerId) (o : List ℕ) (len : ℕ) (t : List ℕ) (i : ℕ) : Type 0 where
+  pub within : i ≤ len
+  pub few : len ≤ systemMessages
+  pub size : length t ≡ transitSize
+  pub done : t ≡ pendingAgain i j o
+
+module _ (j : ServerId) (o : List ℕ) (len : ℕ) where
+  pub doing-none : Sized len o → Doing j o len o 0
+  unfolding pendingAgain
+  doing-none s = record { within = omega arith; few = s .few; size = s .size; done = refl }
+
+  module _ (t : List ℕ) (i : ℕ) (D : Doing j o len t i) where
+    pub doing-more : i < len → (w : ℕ) → w ≡ againWord (j .0) (getD t (slotSize * i + 1) 0) (getD t (slotSize * i + 2) 0) (getD t (slotSize * i + 4) 0)
+        → Doing j o len (set t (slotSize * i + 1) w) (i + 1)
+    unfolding pendingAgain
+    doing-more h w e =
+        let z : i + 1 ≡ suc i = add-one i in
+        let step : List ℕ → List ℕ = λ (u : List ℕ).
+        set u (slotSize * i + 1) (againWord (j .0) (getD u (slotSize * i + 1) 0) (getD u (slotSize * i + 2) 0) (getD u (slotSize * i + 4) 0)) in
+        record {
+          within = omega arith;
+          few = D .few;
+          size = length-set t (slotSize * i + 1) w ∙ D .size;
+          done = ap (set t (slotSize * i + 1)) e ∙ (ap step (D .done) ∙ ap (λ (k : ℕ). pendingAgain k j o) (sym z));
+        }
+
+    pub doing-all : len ≤ i → t ≡ pendingAgain len j o
+    doing-all h = let z : i ≡ len = omega (arith, D .within) in rw z at (D .done)

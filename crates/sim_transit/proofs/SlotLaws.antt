@@ -25,7 +25,8 @@ use Rattle.words.specs.declared.Crossed.{Crossed}
 use Rattle.words.specs.declared.Crossed.the-variants.{Numbers, TooLarge}
 use Rattle.system.specs.Transit.{InTransit, isFor, again}
 use Rattle.sim_transit.specs.Slots.{slotOf, slotAt, names, validSlot, slotSize, transitSize}
-use Rattle.sim_transit.specs.Inner.{slotWords, againWord, namedFields}
+use Rattle.sim_transit.specs.Inner.{namedFields}
+use Rattle.sim_transit.specs.Calls.{slotWords, againWord}
 use Rattle.system.specs.Limits.{systemMessages}
 
 -- seven words

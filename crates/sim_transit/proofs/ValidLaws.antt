@@ -14,7 +14,7 @@ use Rattle.ids.proofs.Choice.{both}
 use Rattle.ids.specs.Lists.{every}
 use Rattle.sim_transit.specs.Slots.{slotOf, slotAt, rows, slots, validSlot, ascending, validSlots, transitSize, slotSize}
 use Rattle.sim_transit.proofs.RowsLaws.{rows-around, rows-next, rows-same}
-use Rattle.sim_transit.specs.Calls.{IsAt}
+use Rattle.sim_transit.specs.Calls.{messageAt, Valid}
 use Rattle.sim_transit.proofs.SlotLaws.{number-at, slot-fitting, fitting-message, message-words}
 use Rattle.words.specs.Messages.{messageIn, messageOr}
 use Rattle.wire.specs.declared.Message.{Message}
@@ -186,9 +186,12 @@ module _ (n clients sent len : ℕ) (t : List ℕ) (ok : validSlots n clients se
       let (p, q) = every-parts (validSlot n clients) (rows i t) (take slotSize (drop (slotSize * i) t) ∷ rows k (drop (slotSize * suc i) t)) e′ in
       both (validSlot n clients (take slotSize (drop (slotSize * i) t))) (every (validSlot n clients) (rows k (drop (slotSize * suc i) t))) q .0
 
-pub message-found : (t : List ℕ) (i : ℕ) → length t ≡ transitSize → i < systemMessages → (m : Message)
-    → m ≡ messageOr (messageIn (take (slotSize * i + slotSize - (slotSize * i + 2)) (drop (slotSize * i + 2) t))) → IsAt i t m
-message-found t i size used m e n clients sent len ok h =
-    let F = slot-fitting n clients (take slotSize (drop (slotSize * i) t)) (slot-valid-at n clients sent len t ok i h) in
-    e ∙ (ap (λ (ws : List ℕ). messageOr (messageIn ws)) (sym (message-words t i size used)) ∙
-    fitting-message n clients (take slotSize (drop (slotSize * i) t)) F)
+pub message-lent : (t : List ℕ) (i : ℕ) → length t ≡ transitSize → i < systemMessages → (m : Message)
+    → m ≡ messageOr (messageIn (take (slotSize * i + slotSize - (slotSize * i + 2)) (drop (slotSize * i + 2) t))) → m ≡ messageAt t i
+message-lent t i size used m e = e ∙ ap (λ (ws : List ℕ). messageOr (messageIn ws)) (sym (message-words t i size used))
+
+-- in a system's words it is the slot's message
+pub message-found : (n clients sent len : ℕ) (t : List ℕ) → Valid n clients sent len t → (i : ℕ) → i < len → messageAt t i ≡ slotAt t i .message
+message-found n clients sent len t ok i h =
+    fitting-message n clients (take slotSize (drop (slotSize * i) t))
+    (slot-fitting n clients (take slotSize (drop (slotSize * i) t)) (slot-valid-at n clients sent len t ok i h))

@@ -1,16 +1,20 @@
--- What the calls on the messages in transit give and leave: each is one of the system's definitions, for the words of any system.
-use Prim.Native.Nat.{ℕ, _+_, _-_, _<_, _≤_}
+-- What the calls on the messages in transit give and leave: equations, for all words that they accept. That on the words of a system each is one
+-- of the system's definitions is proofs/Means.
+use Prim.Native.Nat.{ℕ, zero, suc, _+_, _-_, _*_, _<_, _≤_}
 use mathlib.Core.Path.{_≡_}
-use mathlib.Core.Bool.{true, false}
-use mathlib.Core.List.{List, _++_, map}
-use mathlib.Core.Option.{none, some}
-use lib.ListN.{length}
+use mathlib.Core.Bool.{Bool, true, not, _&&_}
+use mathlib.Core.List.{List, [], _∷_, _++_}
+use lib.Dec.{eqb, leb}
+use lib.ListN.{length, getD, set, take, drop, replicate}
+use lib.Seq.{sets, paste}
+use Rattle.ids.specs.Choice.{if_then_else_}
 use Rattle.ids.specs.declared.ServerId.{ServerId}
+use Rattle.wire.specs.Format.{words, fieldsOf}
 use Rattle.wire.specs.declared.Message.{Message}
-use Rattle.ids.specs.Lists.{every}
-use Rattle.system.specs.Transit.{numbered, pending, present, replaced, gone, keeping, again}
-use Rattle.sim_transit.specs.Slots.{slots, slotAt, names, validSlots, transitSize}
+use Rattle.words.specs.Messages.{messageIn, messageOr}
+use Rattle.system.specs.Transit.{InTransit, numbered}
 use Rattle.system.specs.Limits.{systemMessages}
+use Rattle.sim_transit.specs.Slots.{validSlots, transitSize, slotSize}
 
 -- all slots are there, and so many are used
 pub record Sized (len : ℕ) (t : List ℕ) : Type 0 where
@@ -21,41 +25,55 @@ pub record Sized (len : ℕ) (t : List ℕ) : Type 0 where
 abbrev pub Valid : ℕ → ℕ → ℕ → ℕ → List ℕ → Type 0
 Valid n clients sent len t = validSlots n clients sent len t ≡ true
 
--- r is the slot of the pending message with this number, or len where there is none
-pub record FindsPending (number len : ℕ) (t : List ℕ) (r : ℕ) : Type 0 where
-  pub within : r ≤ len
-  pub numbered : r < len → slotAt t r .number ≡ number
-  pub isPending : r < len → slotAt t r .delivered ≡ false
-  pub found : (n clients sent : ℕ) → Valid n clients sent len t → r < len → pending number (slots len t) ≡ some (slotAt t r .message)
-  pub missing : (n clients sent : ℕ) → Valid n clients sent len t → r ≡ len → pending number (slots len t) ≡ none
+-- the numbers of the used slots ascend
+abbrev pub Ordered : ℕ → List ℕ → Type 0
+Ordered len t = (i k : ℕ) → i < k → k < len → getD t (slotSize * i) 0 < getD t (slotSize * k) 0
 
--- r is the slot of the message with this number, pending or delivered, or len where there is none
-pub record FindsPresent (number len : ℕ) (t : List ℕ) (r : ℕ) : Type 0 where
-  pub within : r ≤ len
-  pub numbered : r < len → slotAt t r .number ≡ number
-  pub found : (n clients sent : ℕ) → Valid n clients sent len t → r < len → present number (slots len t) ≡ true
-  pub missing : (n clients sent : ℕ) → Valid n clients sent len t → r ≡ len → present number (slots len t) ≡ false
+-- the place of the first message that passes, counted from 0; where none does, how many there are
+unfoldable pub firstSlot : (InTransit → Bool) → List InTransit → ℕ
+firstSlot f [] = 0
+firstSlot f (x ∷ l) = if f x then 0 else suc (firstSlot f l)
 
--- m is the message in slot i
-abbrev pub IsAt : ℕ → List ℕ → Message → Type 0
-IsAt i t m = (n clients sent len : ℕ) → Valid n clients sent len t → i < len → m ≡ slotAt t i .message
+-- of the pending message with this number, and of the message whether pending or delivered
+abbrev pub isPending : ℕ → InTransit → Bool
+isPending number x = eqb (x .number) number && not (x .delivered)
 
--- in t′ the message of slot i is delivered
-pub record Marks (i : ℕ) (t t′ : List ℕ) : Type 0 where
-  pub valid : (n clients sent len : ℕ) → Valid n clients sent len t → i < len → Valid n clients sent len t′
-  pub after : (n clients sent len : ℕ) → Valid n clients sent len t → i < len → slots len t′ ≡ replaced (slotAt t i .number) keeping (slots len t)
+abbrev pub isNumbered : ℕ → InTransit → Bool
+isNumbered number x = eqb (x .number) number
 
--- in t′ the message of slot i is gone
-pub record Removes (len i : ℕ) (t t′ : List ℕ) : Type 0 where
-  pub valid : (n clients sent : ℕ) → Valid n clients sent len t → Valid n clients sent (len - 1) t′
-  pub after : (n clients sent : ℕ) → Valid n clients sent len t → slots (len - 1) t′ ≡ replaced (slotAt t i .number) gone (slots len t)
+-- the message in slot i; where its words are none, one that every call refuses
+abbrev pub messageAt : List ℕ → ℕ → Message
+messageAt t i = messageOr (messageIn (drop 2 (take slotSize (drop (slotSize * i) t))))
 
--- in t′ what was delivered to server j is pending again
-pub record Restarts (len : ℕ) (j : ServerId) (t t′ : List ℕ) : Type 0 where
-  pub valid : (n clients sent : ℕ) → Valid n clients sent len t → Valid n clients sent len t′
-  pub after : (n clients sent : ℕ) → Valid n clients sent len t → slots len t′ ≡ map (again j) (slots len t)
+-- the message in slot i is delivered
+abbrev pub marked : ℕ → List ℕ → List ℕ
+marked i t = set t (slotSize * i + 1) 1
 
--- in t′ the messages l follow, as sent after number `sent`
-pub record Posts (len sent : ℕ) (l : List Message) (t t′ : List ℕ) : Type 0 where
-  pub valid : (n clients : ℕ) → Valid n clients sent len t → every (names n clients) l ≡ true → Valid n clients (sent + length l) (len + length l) t′
-  pub after : slots (len + length l) t′ ≡ slots len t ++ numbered sent l
+-- the message in slot i of len is gone: the slots behind it move up by one, and the last of them is empty
+abbrev pub removed : ℕ → ℕ → List ℕ → List ℕ
+removed len i t =
+    let behind : ℕ = slotSize * (len - 1 - i) in
+    sets (paste t (slotSize * i) (drop (slotSize * i + slotSize) t) behind) (slotSize * i + behind) (replicate slotSize 0)
+
+-- the delivered word of a slot once server j has gone down, by the message's kind and server: a message for that server is pending
+unfoldable pub againWord : ℕ → ℕ → ℕ → ℕ → ℕ
+againWord j delivered kind server = if leb kind 4 && eqb server j then 0 else delivered
+
+-- in the first so many slots what was delivered to server j is pending again
+unfoldable pub pendingAgain : ℕ → ServerId → List ℕ → List ℕ
+pendingAgain zero j t = t
+pendingAgain (suc i) j t =
+    let u : List ℕ = pendingAgain i j t in
+    set u (slotSize * i + 1) (againWord (j .0) (getD u (slotSize * i + 1) 0) (getD u (slotSize * i + 2) 0) (getD u (slotSize * i + 4) 0))
+
+-- the words of a message's slot, and of slots one after another
+unfoldable pub slotWords : InTransit → List ℕ
+slotWords x = x .number ∷ ((if x .delivered then 1 else 0) ∷ words (fieldsOf (x .message)))
+
+unfoldable pub slotsWords : List InTransit → List ℕ
+slotsWords [] = []
+slotsWords (x ∷ l) = slotWords x ++ slotsWords l
+
+-- the messages l stand behind the len that are kept, as sent after number `sent`
+abbrev pub posted : ℕ → ℕ → List Message → List ℕ → List ℕ
+posted len sent l t = sets t (slotSize * len) (slotsWords (numbered sent l))

@@ -2,35 +2,22 @@
 use Prim.Native.Nat.{ℕ, _+_, _*_, _<_, _≤_}
 use mathlib.Core.Path.{_≡_}
 use mathlib.Core.Bool.{Bool, false, _&&_}
-use mathlib.Core.List.{List, _∷_}
-use lib.Dec.{eqb, leb}
+use mathlib.Core.List.{List}
+use lib.Dec.{leb}
 use lib.ListN.{length, getD, drop}
 use lib.Seq.{sets}
-use Rattle.ids.specs.Choice.{if_then_else_}
 use Rattle.ids.specs.Limits.{within}
 use Rattle.wire.specs.Calls.{readOf}
-use Rattle.wire.specs.Format.{validFields, words, fieldsOf}
+use Rattle.wire.specs.Format.{validFields}
 use Rattle.wire.specs.declared.Fields.{Fields}
 use Rattle.wire.specs.declared.Message.{Message}
 use Rattle.wire.specs.declared.Parsed.the-variants.{Accepted}
 use Rattle.sim_transit.specs.Slots.{slotSize}
-use Rattle.system.specs.Transit.{InTransit}
-
--- the words of a slot
-unfoldable pub slotWords : InTransit → List ℕ
-slotWords x = x .number ∷ ((if x .delivered then 1 else 0) ∷ words (fieldsOf (x .message)))
+use Rattle.sim_transit.specs.Calls.{Ordered, slotWords}
 
 -- a message's numbers, in range and of parties that are there
 unfoldable pub namedFields : ℕ → ℕ → Fields → Bool
 namedFields n clients f = validFields f && (within (f .client) clients && (within (f .server) n && leb (f .owner) clients))
-
--- the delivered word once server j has gone down, by the message's kind and server
-unfoldable pub againWord : ℕ → ℕ → ℕ → ℕ → ℕ
-againWord j delivered kind server = if leb kind 4 && eqb server j then 0 else delivered
-
--- the numbers of the slots ascend
-abbrev pub Ordered : ℕ → List ℕ → Type 0
-Ordered len t = (i k : ℕ) → i < k → k < len → getD t (slotSize * i) 0 < getD t (slotSize * k) 0
 
 -- r is the first slot with this number or one above it
 pub record Bound (number len : ℕ) (t : List ℕ) (r : ℕ) : Type 0 where

@@ -9,8 +9,8 @@ ghost use lib.Dec.{eqb};
 ghost use Rattle.ids.specs.Lists.{every};
 ghost use Rattle.wire.specs.Format.{words as wordsOf, valid as validMessage};
 ghost use Rattle.sim_transit.specs.Slots.{rows, slots, slotAt, validSlot, ascending, validSlots, messagesIn, transitSize, slotSize};
-ghost use Rattle.sim_transit.specs.Calls.{Sized, FindsPending, FindsPresent, IsAt, Marks, Removes, Restarts, Posts};
-ghost use Rattle.sim_transit.specs.Inner.{namedFields, againWord, Bound, PostsOne};
+ghost use Rattle.sim_transit.specs.Calls.{Sized, Ordered, firstSlot, isPending, isNumbered, messageAt, marked, removed, againWord, pendingAgain, posted};
+ghost use Rattle.sim_transit.specs.Inner.{namedFields, Bound, PostsOne};
 ghost use Rattle.system.specs.Limits.{systemMessages, lastNumber};
 use ids::ServerId;
 use system::MessageNumber;
@@ -145,8 +145,8 @@ fn search(t: &[u32], len: usize, number: u32) -> usize
 
 // The slot of the pending message with this number, or `len`. For the simulation, whose words are valid.
 pub fn find_pending(t: &[u32], len: usize, number: MessageNumber) -> usize
-    requires { ⌜ Sized len (now t) ⌝ }
-    ensures { λ r. ⌜ FindsPending (number .0) len (now (t .entry)) r ⌝ }
+    requires { ⌜ Sized len (now t) × Ordered len (now t) ⌝ }
+    ensures { λ r. ⌜ r ≡ firstSlot (isPending (number .0)) (slots len (now (t .entry))) ⌝ }
 {
     let i = search(t, len, number.0);
     if len <= i {
@@ -163,8 +163,8 @@ pub fn find_pending(t: &[u32], len: usize, number: MessageNumber) -> usize
 
 // The slot of the message with this number, pending or delivered, or `len`. For the simulation, whose words are valid.
 pub fn find_present(t: &[u32], len: usize, number: MessageNumber) -> usize
-    requires { ⌜ Sized len (now t) ⌝ }
-    ensures { λ r. ⌜ FindsPresent (number .0) len (now (t .entry)) r ⌝ }
+    requires { ⌜ Sized len (now t) × Ordered len (now t) ⌝ }
+    ensures { λ r. ⌜ r ≡ firstSlot (isNumbered (number .0)) (slots len (now (t .entry))) ⌝ }
 {
     let i = search(t, len, number.0);
     if len <= i {
@@ -195,7 +195,7 @@ pub fn is_delivered(t: &[u32], i: usize) -> bool
 // The message in slot `i`, a used one. For the simulation, whose words are valid.
 pub fn message_at(t: &[u32], i: usize) -> Message
     requires { ⌜ (length (now t) ≡ transitSize) × (i < systemMessages) ⌝ }
-    ensures { λ m. ⌜ IsAt i (now (t .entry)) m ⌝ }
+    ensures { λ m. ⌜ m ≡ messageAt (now (t .entry)) i ⌝ }
 {
     let from = SLOT * i + 2;
     let end = SLOT * i + SLOT;
@@ -205,7 +205,7 @@ pub fn message_at(t: &[u32], i: usize) -> Message
 // The message in slot `i`, a used one, is delivered and stays. For the simulation, whose words are valid.
 pub fn mark(t: &mut [u32], i: usize)
     requires { ⌜ (length (now t) ≡ transitSize) × (i < systemMessages) ⌝ }
-    ensures { λ _. ⌜ Marks i (now (t .entry)) (now (t .exit)) ⌝ }
+    ensures { λ _. ⌜ now (t .exit) ≡ marked i (now (t .entry)) ⌝ }
 {
     t[SLOT * i + 1] = 1;
 }
@@ -239,7 +239,7 @@ fn clear(t: &mut [u32], at: usize)
 // The message in slot `i` of the `len` used ones is gone: those behind it move up. For the simulation, whose words are valid.
 pub fn remove(t: &mut [u32], len: usize, i: usize)
     requires { ⌜ Sized len (now t) × (i < len) ⌝ }
-    ensures { λ _. ⌜ Removes len i (now (t .entry)) (now (t .exit)) ⌝ }
+    ensures { λ _. ⌜ now (t .exit) ≡ removed len i (now (t .entry)) ⌝ }
 {
     let behind = len - 1 - i;
     move_up(t, SLOT * i, SLOT * behind);
@@ -261,7 +261,7 @@ fn delivered_after(j: u32, delivered: u32, kind: u32, server: u32) -> u32
 // Server `j` has gone down: what was delivered to it is pending again. For the simulation, whose words are valid.
 pub fn restart(t: &mut [u32], len: usize, j: ServerId)
     requires { ⌜ Sized len (now t) ⌝ }
-    ensures { λ _. ⌜ Restarts len j (now (t .entry)) (now (t .exit)) ⌝ }
+    ensures { λ _. ⌜ now (t .exit) ≡ pendingAgain len j (now (t .entry)) ⌝ }
 {
     let down = j.0 as u32;
     let mut i: usize = 0;
@@ -304,7 +304,7 @@ fn post_one(t: &mut [u32], at: usize, number: u32, bytes: &[u8], from: usize) ->
 // The first `count` messages of the bytes join the `len` that are kept, as sent after number `sent`. For the simulation, which knows that they fit.
 pub fn post(t: &mut [u32], len: usize, sent: u32, bytes: &[u8], count: usize)
     requires { ⌜ Sized (len + count) (now t) × (sent + count ≤ lastNumber) × (length (messagesIn count (now bytes)) ≡ count) ⌝ }
-    ensures { λ _. ⌜ Posts len sent (messagesIn count (now (bytes .entry))) (now (t .entry)) (now (t .exit)) ⌝ }
+    ensures { λ _. ⌜ now (t .exit) ≡ posted len sent (messagesIn count (now (bytes .entry))) (now (t .entry)) ⌝ }
 {
     let mut number = sent;
     let mut from: usize = 0;
@@ -319,7 +319,7 @@ pub fn post(t: &mut [u32], len: usize, sent: u32, bytes: &[u8], count: usize)
 // The message joins the `len` that are kept, as number `sent` + 1. For the simulation, which knows that it fits.
 pub fn post_message(t: &mut [u32], len: usize, sent: u32, m: Message)
     requires { ⌜ Sized (len + 1) (now t) × (sent + 1 ≤ lastNumber) × (validMessage m ≡ true) ⌝ }
-    ensures { λ _. ⌜ Posts len sent (m ∷ []) (now (t .entry)) (now (t .exit)) ⌝ }
+    ensures { λ _. ⌜ now (t .exit) ≡ posted len sent (m ∷ []) (now (t .entry)) ⌝ }
 {
     let f = wire::fields_of(m);
     put_slot(t, SLOT * len, sent + 1, f);

@@ -41,13 +41,13 @@ slice-write-w : tie.Need-slice-write-w
 slice-write-w c =
     let d = c .before .before .before .before .before .before in
     let a = d .args in
-    omega (arith, removed-long (now (a .w)) (d .pre .valid) (a .i) _ (c .before .before .remove .ensures))
+    omega (arith, removed-long (now (a .w)) (d .pre .valid) (a .i) _ (d .pre .used) (c .before .before .remove .ensures))
 
 returns : tie.Need-returns
 returns c =
     let d = c .before .before .before .before .before .before in
     let a = d .args in
-    remove-becomes (now (a .w)) (d .pre .valid) (a .i) _ (c .before .before .remove .ensures)
+    remove-becomes (now (a .w)) (d .pre .valid) (a .i) _ (d .pre .used) (c .before .before .remove .ensures)
 
 pub remove-message-spec : {M : Type 1} → statement M
 remove-message-spec =

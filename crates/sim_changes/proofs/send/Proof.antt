@@ -5,11 +5,13 @@ use native.Mathlib.Omega.{arith}
 use Prim.Native.Nat.{ℕ, _+_, _≤_}
 use mathlib.Core.Path.{_≡_}
 use mathlib.Core.List.{List}
-use lib.ListN.{length}
+use lib.ListN.{length, take, drop}
 use Rattle.wire.specs.declared.Message.{Message}
 use Rattle.system.specs.Limits.{systemMessages, lastNumber}
-use Rattle.sim_transit.specs.Slots.{messagesIn}
-use Rattle.sim_layout.specs.Layout.{lengthOf, sentOf, simulationSize}
+use Rattle.sim_transit.specs.Slots.{messagesIn, transitSize}
+use Rattle.sim_layout.specs.Layout.{lengthOf, sentOf, transitFrom, simulationSize}
+use Rattle.sim_transit.proofs.Means.{Posts}
+use Rattle.sim_transit.proofs.PostLaws.{posts-read}
 use Rattle.sim_changes.proofs.Parties.{words-long}
 use Rattle.sim_changes.proofs.Posting.{transit-few, room-left, posted-long, counted-long, send-becomes, sized-with}
 use borrow.Author.Needs.{needs}
@@ -43,6 +45,14 @@ module _ (c : tie.After-slice-known4) where
   abbrev read : tie.After-slice-known3
   read = c .before .before .before .before
 
+  done : Posts (lengthOf (words (entry read))) (sentOf (words (entry read))) (new (entry read)) (take transitSize (drop transitFrom (words (entry read))))
+      (c .before .before .post .last .0)
+  done =
+      let d = entry read in
+      let p = d .pre in
+      posts-read _ _ (d .args .count) (now (d .args .bytes)) _ _
+      (sized-with (words d) (d .args .count) (new d) (p .valid) (p .whole) (p .room) (p .named) (room read .0)) (p .whole) (c .before .before .post .ensures)
+
 slice-read-len : tie.Need-slice-read-len
 slice-read-len c = omega (arith, long (c .before .before .before))
 
@@ -66,7 +76,7 @@ slice-write-w : tie.Need-slice-write-w
 slice-write-w c =
     let d = entry (read c) in
     let p = d .pre in
-    omega (arith, posted-long (words d) (d .args .count) (new d) (p .valid) (p .whole) (p .room) (p .named) _ (c .before .before .post .ensures))
+    omega (arith, posted-long (words d) (d .args .count) (new d) (p .valid) (p .whole) (p .room) (p .named) _ (done c))
 
 cast-w-2 : tie.Need-cast-w-2
 cast-w-2 c = let r = room (read c) in record { fits = omega (arith, r .0, r .1) }
@@ -80,7 +90,7 @@ slice-write-w-2 c =
     let p = d .pre in
     omega (
       arith,
-      counted-long (words d) (d .args .count) (new d) (p .valid) (p .whole) (p .room) (p .named) _ (c .before .before .post .ensures)
+      counted-long (words d) (d .args .count) (new d) (p .valid) (p .whole) (p .room) (p .named) _ (done c)
           (lengthOf (words d) + d .args .count),
     )
 
@@ -88,7 +98,7 @@ returns : tie.Need-returns
 returns c =
     let d = entry (read c) in
     let p = d .pre in
-    send-becomes (words d) (d .args .count) (new d) (p .valid) (p .whole) (p .room) (p .named) _ (c .before .before .post .ensures)
+    send-becomes (words d) (d .args .count) (new d) (p .valid) (p .whole) (p .room) (p .named) _ (done c)
 
 pub send-spec : {M : Type 1} → statement M
 send-spec =

@@ -6,12 +6,15 @@ use Prim.Native.Nat.{ℕ, _+_, _≤_}
 use mathlib.Core.Path.{_≡_, refl}
 use mathlib.Core.Bool.{true}
 use mathlib.Core.List.{List, [], _∷_}
-use lib.ListN.{length}
+use lib.ListN.{length, take, drop}
 use Rattle.ids.proofs.Choice.{both}
 use Rattle.wire.specs.Format as format
 use Rattle.wire.specs.declared.Message.{Message}
 use Rattle.system.specs.Limits.{systemMessages, lastNumber}
-use Rattle.sim_layout.specs.Layout.{lengthOf, sentOf, simulationSize}
+use Rattle.sim_transit.specs.Slots.{transitSize}
+use Rattle.sim_transit.proofs.Means.{Posts}
+use Rattle.sim_transit.proofs.PostLaws.{posts-one}
+use Rattle.sim_layout.specs.Layout.{lengthOf, sentOf, transitFrom, simulationSize}
 use Rattle.sim_changes.proofs.Parties.{words-long}
 use Rattle.sim_changes.proofs.Posting.{transit-few, room-left, posted-long, counted-long, send-becomes, sized-with}
 use borrow.Author.Needs.{needs}
@@ -45,6 +48,14 @@ module _ (c : tie.After-slice-known4) where
   abbrev read : tie.After-slice-known3
   read = c .before .before .before .before
 
+  done : Posts (lengthOf (words (entry read))) (sentOf (words (entry read))) (new (entry read)) (take transitSize (drop transitFrom (words (entry read))))
+      (c .before .before .post-message .last .0)
+  done =
+      let d = entry read in
+      let p = d .pre in
+      posts-one _ _ (d .args .m) _ _ (sized-with (words d) 1 (new d) (p .valid) refl (p .room) (p .named) (room read .0))
+      (both (format.valid (d .args .m)) true (p .range) .0) (c .before .before .post-message .ensures)
+
 slice-read-len : tie.Need-slice-read-len
 slice-read-len c = omega (arith, long (c .before .before))
 
@@ -68,7 +79,7 @@ slice-write-w : tie.Need-slice-write-w
 slice-write-w c =
     let d = entry (read c) in
     let p = d .pre in
-    omega (arith, posted-long (words d) 1 (new d) (p .valid) refl (p .room) (p .named) _ (c .before .before .post-message .ensures))
+    omega (arith, posted-long (words d) 1 (new d) (p .valid) refl (p .room) (p .named) _ (done c))
 
 add-w-2 : tie.Need-add-w-2
 add-w-2 c = let r = room (read c) in record { fits = omega (arith, r .0, r .1) }
@@ -79,7 +90,7 @@ slice-write-w-2 c =
     let p = d .pre in
     omega (
       arith,
-      counted-long (words d) 1 (new d) (p .valid) refl (p .room) (p .named) _ (c .before .before .post-message .ensures)
+      counted-long (words d) 1 (new d) (p .valid) refl (p .room) (p .named) _ (done c)
           (lengthOf (words d) + 1),
     )
 
@@ -87,7 +98,7 @@ returns : tie.Need-returns
 returns c =
     let d = entry (read c) in
     let p = d .pre in
-    send-becomes (words d) 1 (new d) (p .valid) refl (p .room) (p .named) _ (c .before .before .post-message .ensures)
+    send-becomes (words d) 1 (new d) (p .valid) refl (p .room) (p .named) _ (done c)
 
 pub send-message-spec : {M : Type 1} → statement M
 send-message-spec =

@@ -1,5 +1,4 @@
 -- `sim_transit::mark` meets its contract: one word is stored.
-use Rattle.sim_transit.proofs.ChangeLaws.{marks}
 use borrow.Author.Needs.{needs}
 use Rattle.sim_transit.proofs.mark.Statement.{statement}
 use Rattle.sim_transit.proofs.mark.Tie as tie
@@ -13,4 +12,4 @@ mark-spec =
     (λ c. search needs)
     (λ c. search needs)
     (λ c. search needs)
-    (λ c. search marks))
+    (λ c. search needs))

@@ -1,5 +1,5 @@
--- `sim_transit::message_at` meets its contract: the words are a message, for they are a valid slot's.
-use Rattle.sim_transit.proofs.ValidLaws.{message-found}
+-- `sim_transit::message_at` meets its contract: the words that are lent are the slot's last five.
+use Rattle.sim_transit.proofs.ValidLaws.{message-lent}
 use borrow.Author.Needs.{needs}
 use Rattle.sim_transit.proofs.message_at.Statement.{statement}
 use Rattle.sim_transit.proofs.message_at.Tie as tie
@@ -17,4 +17,4 @@ message-at-spec =
     (λ c. search needs)
     (λ c. search needs)
     (λ c κs. search needs)
-    (λ c. search message-found))
+    (λ c. search message-lent))

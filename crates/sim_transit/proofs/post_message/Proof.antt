@@ -16,7 +16,7 @@ returns : tie.Need-returns
 returns c =
     let d = c .before .before .before .before .before .before in
     let t = now (d .args .t) in
-    one-post (d .args .len) (d .args .sent) (d .args .m) t _ (d .pre .0) (d .pre .2)
+    one-post (d .args .len) (d .args .sent) (d .args .m) t _
     (c .before .before .put-slot .ensures ∙
     ap (λ (f : Fields). sets t (slotSize * d .args .len) ((d .args .sent + 1) ∷ (0 ∷ words f))) (c .before .before .before .before .fields-of .ensures))
 

@@ -1,5 +1,5 @@
 -- `sim_transit::remove` meets its contract: the slots behind slot i move up, and the last used one is emptied.
-use Rattle.sim_transit.proofs.RemoveLaws.{removes}
+use Rattle.sim_transit.proofs.RemoveLaws.{removed-is}
 use borrow.Author.Needs.{needs}
 use Rattle.sim_transit.proofs.remove.Statement.{statement}
 use Rattle.sim_transit.proofs.remove.Tie as tie
@@ -18,4 +18,4 @@ remove-spec =
     (λ c. search needs)
     (λ c κs. search needs)
     (λ c. search needs)
-    (λ c. search removes))
+    (λ c. search removed-is))
