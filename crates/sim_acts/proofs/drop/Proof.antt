@@ -1,5 +1,5 @@
 -- `sim_acts::drop` meets its contract: each return is one case of the event.
-use Rattle.sim_acts.proofs.Silent.{drop-missing, drop-leaves}
+use Rattle.sim_acts.proofs.Silent.{drop-missing, used, drop-leaves}
 use borrow.Author.Needs.{needs}
 use Rattle.sim_acts.proofs.drop.Statement.{statement}
 use Rattle.sim_acts.proofs.drop.Tie as tie
@@ -8,6 +8,12 @@ returns : tie.Need-returns
 returns c =
     let f = c .before .before .before in
     drop-missing _ _ (f .before .before .before .pre) (f .find-present .ensures) (c .before .in-transit .ensures) (c .if1 .taken)
+
+remove-requires : tie.Need-remove-message-requires
+remove-requires c κs =
+    let e = c .before in
+    let f = e .before .before .before in
+    record { valid = search needs; used = used _ _ (f .before .before .before .pre) (f .find-present .ensures) (e .before .in-transit .ensures) (e .if1 .left) }
 
 returns-2 : tie.Need-returns-2
 returns-2 c =
@@ -24,6 +30,6 @@ drop-spec =
     (λ c κs. search needs)
     (λ c. search needs)
     returns
-    (λ c κs. search needs)
+    remove-requires
     (λ c. search needs)
     returns-2)
