@@ -116,7 +116,7 @@ module _ (h : Head) (row : List ℕ) (r : Turned) (b : Bool) (e : b ≡ valid (s
       unfolding suspectOutcome
       suspect-steps = rw (sound n) (ap (λ (w : Owner). byOwner {B = Outcome State} w (refused NoOwner) (λ y. stepped (suspect (h .id) (view s)))) q)
 
-      pub suspect-done : (after : List ℕ) → MovesOne row after m (delete (h .id) x (view s)) → r ≡ doing h m → Turns h row (suspectOutcome s) r after
+      pub suspect-done : (after : List ℕ) → MovesOne (h .votes) row after m (delete (h .id) x (view s)) → r ≡ doing h m → Turns h row (suspectOutcome s) r after
       suspect-done after one a =
           let f : m .full ≡ false = one .moves .full ∙ le-ltb _ _ (delete-fits (h .votes) row good (h .id) x) in
           turns-done h row (suspectOutcome s) r after m _ (suspect-steps ∙ ap {B = Outcome State} stepped suspected) (one .moves) f a
@@ -129,7 +129,7 @@ module _ (h : Head) (row : List ℕ) (r : Turned) (b : Bool) (e : b ≡ valid (s
 
       pub check-asked : m ≡ telling (h .votes) (Check (x .client) (h .id) (x .timestamp)) → r ≡ doing h m → Turns h row (checkOutcome s) r row
       check-asked p a =
-          let one = moves-telling row row m (h .votes) (tell (view s) (Check (x .client) (h .id) (x .timestamp)))
+          let one = moves-telling {u = h .votes} row row m (h .votes) (tell (view s) (Check (x .client) (h .id) (x .timestamp)))
           (holds-still row (h .votes .len) good) refl _ p refl in
           turns-done h row (checkOutcome s) r row m _ check-asks (one .moves) (ap (λ (y : Moved). y .full) p) a
 

@@ -39,7 +39,7 @@ module _ (h : Head) (row : List ℕ) (o : Outcome State) (r : Turned) where
   unfolding threeMails
   turns-refused e p q = record { ruled = rw (q, p); head = rw (q, p); row = rw p; sent = rw (q, p) }
 
-  pub turns-done : (after : List ℕ) (m : Moved) (s : Step State) → o ≡ stepped s → Moves row after m s → m .full ≡ false → r ≡ doing h m → Turns h row o r after
+  pub turns-done : (after : List ℕ) (m : Moved) (s : Step State) → o ≡ stepped s → Moves (h .votes) row after m s → m .full ≡ false → r ≡ doing h m → Turns h row o r after
   unfolding threeMails
   turns-done after m s p M f q =
       let H = M .queue f in
@@ -60,10 +60,10 @@ module _ (h : Head) (row : List ℕ) (tag : Tag) (k : ClientId) (j : ServerId) (
   takes-not n p = turns-refused h row (taken (serverOf h row) tag k j t) r NotForServer (rw (ne-eqb _ _ n)) p
 
   module _ (after : List ℕ) (m : Moved) (same : j .0 ≡ h .id .0)
-      (M : Moves row after m (receive (h .id) tag (record { client = k; timestamp = t }) (view (h .votes) row))) where
+      (M : Moves (h .votes) row after m (receive (h .id) tag (record { client = k; timestamp = t }) (view (h .votes) row))) where
     pub takes-full : m .full ≡ true → r ≡ refusing h QueueFull → Turns h row (taken (serverOf h row) tag k j t) r after
     takes-full f p =
-        let e = M .kept f in
+        let e = M .kept f .0 in
         rw e (turns-refused h row (taken (serverOf h row) tag k j t) r QueueFull (rw (eq-eqb _ _ same, ← M .full, f)) p)
 
     pub takes : m .full ≡ false → r ≡ doing h m → Turns h row (taken (serverOf h row) tag k j t) r after

@@ -31,13 +31,13 @@ use Rattle.server_votes.specs.declared.Moved.{Moved}
 use Rattle.server_votes.specs.Figure1.{State, idle, enqueue, promote, delete}
 use Rattle.server_votes.specs.Queues.{view}
 use Rattle.server_votes.specs.Places.{mails, MovesOne, still, telling}
-use Rattle.server_votes.specs.Inner.{overflowing, leading, joining, informed}
+use Rattle.server_votes.specs.Inner.{MovesAny, overflowing, leading, joining, informed}
 use Rattle.server_votes.proofs.ListLaws.{timestamp-first, timestamp-none}
 
 -- nothing sent, and one message sent
-module _ (row after : List ℕ) (m : Moved) (v : Votes) (s : Step State) (H : Holds row after (v .len) (s .state .queue)) (o : v .owner ≡ s .state .owner) where
-  sends : (x : Mail) → m ≡ record { votes = v; full = false; first = x; second = Nothing; third = Nothing } → mails x ++ [] ++ [] ≡ s .sent
-      → MovesOne row after m s
+module _ {u : Votes} (row after : List ℕ) (m : Moved) (v : Votes) (s : Step State) (H : Holds row after (v .len) (s .state .queue)) (o : v .owner ≡ s .state .owner) where
+  pub sends : (x : Mail) → m ≡ record { votes = v; full = false; first = x; second = Nothing; third = Nothing } → mails x ++ [] ++ [] ≡ s .sent
+      → MovesOne u row after m s
   sends x e p =
       record {
         moves = record {
@@ -46,33 +46,37 @@ module _ (row after : List ℕ) (m : Moved) (v : Votes) (s : Step State) (H : Ho
           owner = λ f. rw e o;
           queue = λ f. rw e H;
           sent = rw e p;
+          one-first = λ _. rw e;
+          two-first = λ _. rw e;
         };
         second = rw e;
         third = rw e;
       }
 
-  pub moves-still : m ≡ still v → [] ≡ s .sent → MovesOne row after m s
+  pub moves-still : m ≡ still v → [] ≡ s .sent → MovesOne u row after m s
   moves-still e p = sends Nothing e p
 
-  pub moves-telling : (x : Message) → m ≡ telling v x → x ∷ [] ≡ s .sent → MovesOne row after m s
+  pub moves-telling : (x : Message) → m ≡ telling v x → x ∷ [] ≡ s .sent → MovesOne u row after m s
   moves-telling x e p = sends (One x) e p
 
 -- the row is too short, and stays
 pub moves-overflowing : (row : List ℕ) (m : Moved) (v : Votes) (s : Step State) (x : Message) → length row < 2 * length (s .state .queue)
-    → m ≡ overflowing v x → x ∷ [] ≡ s .sent → MovesOne row row m s
+    → m ≡ overflowing v x → x ∷ [] ≡ s .sent → MovesOne v row row m s
 moves-overflowing row m v s x h e p =
     let not-so : m .full ≡ false → ⊥ = λ f. false≢true (sym (rw e at f)) in
     record {
-      moves = record { full = rw (e, lt-ltb _ _ h); kept = λ f. refl; owner = λ f. absurd (not-so f); queue = λ f. absurd (not-so f); sent = rw e p };
+      moves = record { full = rw (e, lt-ltb _ _ h); kept = λ f. (refl, rw e); owner = λ f. absurd (not-so f); queue = λ f. absurd (not-so f); sent = rw e p; one-first = λ _. rw e; two-first = λ _. rw e };
       second = rw e;
       third = rw e;
     }
 
 pub moves-leading : (row after : List ℕ) (j : ServerId) (h : Request) (l : List Request) (m : Moved) (n : ℕ) → Holds row after n l
-    → m ≡ leading j h n → MovesOne row after m (promote j (h ∷ l))
+    → m ≡ leading j h n → MovesAny row after m (promote j (h ∷ l))
 unfolding promote
-moves-leading row after j h l m n H e = moves-telling row after m (record { owner = Of h; len = n }) (promote j (h ∷ l)) H refl
-    (Response (h .client) j (Of h)) e refl
+moves-leading row after j h l m n H e =
+    record {
+      from = λ u. moves-telling row after m (record { owner = Of h; len = n }) (promote j (h ∷ l)) H refl (Response (h .client) j (Of h)) e refl;
+    }
 
 module _ (row : List ℕ) (len : ℕ) (good : Padded row len) where
   empty : len ≡ 0 → Holds row row 0 []
@@ -86,12 +90,12 @@ module _ (row : List ℕ) (len : ℕ) (good : Padded row len) where
       drop-cons (queueOf row len) 0 noRequest z ∙ rw (getD-take len (requestsIn row) 0 noRequest o)
 
   module _ (j : ServerId) (m : Moved) where
-    pub promoted-none : len ≡ 0 → m ≡ still (record { owner = Nobody; len = 0 }) → MovesOne row row m (promote j (queueOf row len))
+    pub promoted-none : len ≡ 0 → m ≡ still (record { owner = Nobody; len = 0 }) → MovesAny row row m (promote j (queueOf row len))
     unfolding promote
-    promoted-none e p = rw e (moves-still row row m (record { owner = Nobody; len = 0 }) (stay idle) (empty e) refl p refl)
+    promoted-none e p = rw e (record { from = λ u. moves-still row row m (record { owner = Nobody; len = 0 }) (stay idle) (empty e) refl p refl })
 
     -- r joins an empty queue, and leads
-    pub rotated-alone : (r : Request) → len ≡ 0 → m ≡ leading j r 0 → MovesOne row row m (promote j (insert r (queueOf row len)))
+    pub rotated-alone : (r : Request) → len ≡ 0 → m ≡ leading j r 0 → MovesAny row row m (promote j (insert r (queueOf row len)))
     unfolding insert
     rotated-alone r e p = rw e (moves-leading row row j r [] m 0 (empty e) p)
 
@@ -100,8 +104,8 @@ module _ (row : List ℕ) (len : ℕ) (good : Padded row len) where
       whole = rw e (head-first n)
 
       pub promoted-head : (after : List ℕ) → Holds row after (len - 1) (drop 1 (queueOf row len)) → m ≡ leading j h (len - 1)
-          → MovesOne row after m (promote j (queueOf row len))
-      promoted-head after H p = subst (λ (t : List Request). MovesOne row after m (promote j t)) (sym whole)
+          → MovesAny row after m (promote j (queueOf row len))
+      promoted-head after H p = subst (λ (t : List Request). MovesAny row after m (promote j t)) (sym whole)
           (moves-leading row after j h (drop 1 (queueOf row len)) m (len - 1) H p)
 
       module _ (r : Request) (b : Bool) (o : b ≡ before r h) where
@@ -109,24 +113,24 @@ module _ (row : List ℕ) (len : ℕ) (good : Padded row len) where
         unfolding insert
         inserted-list x p = ap (insert r) whole ∙ rw p (ap (λ (t : List Request). if x then r ∷ t else h ∷ insert r (drop 1 (queueOf row len))) (sym whole))
 
-        pub rotated-first : b ≡ true → m ≡ leading j r len → MovesOne row row m (promote j (insert r (queueOf row len)))
+        pub rotated-first : b ≡ true → m ≡ leading j r len → MovesAny row row m (promote j (insert r (queueOf row len)))
         rotated-first t p = rw (inserted-list true (sym o ∙ t)) (moves-leading row row j r (queueOf row len) m len (holds-still row len good) p)
 
         pub rotated-behind : (mid after : List ℕ) (k : ℕ) → b ≡ false → Holds row mid (len - 1) (drop 1 (queueOf row len)) → k ≡ len - 1 + 1
             → Holds mid after (len - 1 + 1) (insert r (queueOf mid (len - 1)))
-            → m ≡ leading j h k → MovesOne row after m (promote j (insert r (queueOf row len)))
+            → m ≡ leading j h k → MovesAny row after m (promote j (insert r (queueOf row len)))
         rotated-behind mid after k f H q G p =
             rw (inserted-list false (sym o ∙ f)) (moves-leading row after j h (insert r (drop 1 (queueOf row len))) m k
             (rw q (holds-then row mid after (len - 1) (len - 1 + 1) _ (insert r) H G)) p)
 
 -- Delete: the owner's place goes to the head of the queue, any other's is closed
 module _ (j : ServerId) (r : Request) (v : Votes) (row after : List ℕ) (b : Bool) (o : b ≡ isRequest r (v .owner)) (m : Moved) where
-  pub deleted-owner : b ≡ true → MovesOne row after m (promote j (queueOf row (v .len))) → MovesOne row after m (delete j r (view v row))
+  pub deleted-owner : b ≡ true → MovesAny row after m (promote j (queueOf row (v .len))) → MovesOne v row after m (delete j r (view v row))
   unfolding delete
-  deleted-owner t p = let e : isRequest r (v .owner) ≡ true = cc in rw e p
+  deleted-owner t p = let e : isRequest r (v .owner) ≡ true = cc in rw e (p .from v)
 
   pub deleted-waiting : (n : ℕ) → b ≡ false → Holds row after n (without r (queueOf row (v .len)))
-      → m ≡ still (record { owner = v .owner; len = n }) → MovesOne row after m (delete j r (view v row))
+      → m ≡ still (record { owner = v .owner; len = n }) → MovesOne v row after m (delete j r (view v row))
   unfolding delete
   deleted-waiting n f H p =
       let e : isRequest r (v .owner) ≡ false = cc in
@@ -136,7 +140,7 @@ module _ (j : ServerId) (r : Request) (v : Votes) (row after : List ℕ) (b : Bo
 -- r waits, unless its client does already, or the row is too short
 module _ (j : ServerId) (r : Request) (v : Votes) (row : List ℕ) (good : Padded row (v .len)) (at : ℕ)
     (e : at ≡ first (at-client (r .client)) (queueOf row (v .len))) (m : Moved) where
-  pub joined-again : at < v .len → m ≡ telling v (Response (r .client) j (v .owner)) → MovesOne row row m (joining j r (view v row))
+  pub joined-again : at < v .len → m ≡ telling v (Response (r .client) j (v .owner)) → MovesOne v row row m (joining j r (view v row))
   unfolding enqueue
   joined-again l p =
       let n = length-queue row (v .len) good in
@@ -147,7 +151,7 @@ module _ (j : ServerId) (r : Request) (v : Votes) (row : List ℕ) (good : Padde
     new : timestampIn (r .client) (queueOf row (v .len)) ≡ none
     new = let n = length-queue row (v .len) good in timestamp-none (r .client) (queueOf row (v .len)) (omega arith)
 
-    pub joined-full : length row < 2 * v .len + 2 → m ≡ overflowing v (Response (r .client) j (v .owner)) → MovesOne row row m (joining j r (view v row))
+    pub joined-full : length row < 2 * v .len + 2 → m ≡ overflowing v (Response (r .client) j (v .owner)) → MovesOne v row row m (joining j r (view v row))
     unfolding enqueue
     joined-full l p =
         let n = length-queue row (v .len) good in
@@ -158,7 +162,7 @@ module _ (j : ServerId) (r : Request) (v : Votes) (row : List ℕ) (good : Padde
 
     pub joined-new : (after : List ℕ) (n : ℕ) → n ≡ v .len + 1 → Holds row after (v .len + 1) (insert r (queueOf row (v .len)))
         → m ≡ telling (record { owner = v .owner; len = n }) (Response (r .client) j (v .owner))
-        → MovesOne row after m (joining j r (view v row))
+        → MovesOne v row after m (joining j r (view v row))
     unfolding enqueue
     joined-new after n q H p =
         rw new

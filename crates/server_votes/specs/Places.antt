@@ -18,16 +18,19 @@ abbrev pub mails : Mail → List Message
 mails Nothing = []
 mails (One m) = m ∷ []
 
--- a part of the code's step does what the definition's step s does, unless the row is too short for its queue: then the row stays as it was
-pub record Moves (row after : List ℕ) (m : Moved) (s : Step State) : Type 0 where
+-- a part of the code's step, from votes v, does what the definition's step s does, unless the row is too short for its queue: then votes and row
+-- stay as they were. Its messages stand in the first places.
+pub record Moves (v : Votes) (row after : List ℕ) (m : Moved) (s : Step State) : Type 0 where
   pub full : m .full ≡ ltb (length row) (2 * length (s .state .queue))
-  pub kept : m .full ≡ true → after ≡ row
+  pub kept : m .full ≡ true → (after ≡ row) × (m .votes ≡ v)
   pub owner : m .full ≡ false → m .votes .owner ≡ s .state .owner
   pub queue : m .full ≡ false → Holds row after (m .votes .len) (s .state .queue)
   pub sent : mails (m .first) ++ mails (m .second) ++ mails (m .third) ≡ s .sent
+  pub one-first : m .first ≡ Nothing → m .second ≡ Nothing
+  pub two-first : m .second ≡ Nothing → m .third ≡ Nothing
 
-pub record MovesOne (row after : List ℕ) (m : Moved) (s : Step State) : Type 0 where
-  pub moves : Moves row after m s
+pub record MovesOne (v : Votes) (row after : List ℕ) (m : Moved) (s : Step State) : Type 0 where
+  pub moves : Moves v row after m s
   pub second : m .second ≡ Nothing
   pub third : m .third ≡ Nothing
 

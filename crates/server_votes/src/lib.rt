@@ -8,7 +8,7 @@ ghost use Rattle.rows.specs.Queue.{timestampIn, insert};
 ghost use Rattle.server_votes.specs.Figure1.{candidates, promote as promoteOf, delete as deleteOf, act as actOf, compare as compareOf, receive as receiveOf};
 ghost use Rattle.server_votes.specs.Queues.{view};
 ghost use Rattle.server_votes.specs.Places.{Moves, MovesOne, still as stillOf, telling as tellingOf, mails};
-ghost use Rattle.server_votes.specs.Inner.{MovesTwo, standingOf, informed, leading, overflowing as overflowingOf, joining, Followed, joined as joinedOf};
+ghost use Rattle.server_votes.specs.Inner.{MovesAny, MovesTwo, standingOf, informed, leading, overflowing as overflowingOf, joining, Informs, Followed, joined as joinedOf};
 use ids::ClientId;
 use ids::Owner;
 use ids::Request;
@@ -138,7 +138,7 @@ fn lead(j: ServerId, h: Request, len: usize) -> Moved
 // Lines 52 to 55: the head of the queue becomes owner; with an empty queue there is no owner.
 fn promote(j: ServerId, row: &mut [u32], len: usize) -> Moved
     requires { ⌜ Padded (now row) len ⌝ }
-    ensures { λ m. ⌜ MovesOne (now (row .entry)) (now (row .exit)) m (promoteOf j (queueOf (now (row .entry)) len)) ⌝ }
+    ensures { λ m. ⌜ MovesAny (now (row .entry)) (now (row .exit)) m (promoteOf j (queueOf (now (row .entry)) len)) ⌝ }
 {
     if len == 0 {
         let owner = Owner::Nobody;
@@ -152,7 +152,7 @@ fn promote(j: ServerId, row: &mut [u32], len: usize) -> Moved
 // Lines 38 to 40: `r` joins the queue, and the head of it becomes owner. A full row has room, since the head leaves it.
 fn rotate(j: ServerId, r: Request, row: &mut [u32], len: usize) -> Moved
     requires { ⌜ Padded (now row) len ⌝ }
-    ensures { λ m. ⌜ MovesOne (now (row .entry)) (now (row .exit)) m (promoteOf j (insert r (queueOf (now (row .entry)) len))) ⌝ }
+    ensures { λ m. ⌜ MovesAny (now (row .entry)) (now (row .exit)) m (promoteOf j (insert r (queueOf (now (row .entry)) len))) ⌝ }
 {
     if len == 0 {
         return lead(j, r, 0);
@@ -169,7 +169,7 @@ fn rotate(j: ServerId, r: Request, row: &mut [u32], len: usize) -> Moved
 // Lines 50 to 56. For the server's calls, which have tested the record.
 pub fn delete(j: ServerId, r: Request, v: Votes, row: &mut [u32]) -> Moved
     requires { ⌜ Padded (now row) (v .len) ⌝ }
-    ensures { λ m. ⌜ MovesOne (now (row .entry)) (now (row .exit)) m (deleteOf j r (view v (now (row .entry)))) ⌝ }
+    ensures { λ m. ⌜ MovesOne v (now (row .entry)) (now (row .exit)) m (deleteOf j r (view v (now (row .entry)))) ⌝ }
 {
     let owner = v.owner;
     let len = v.len;
@@ -207,7 +207,7 @@ fn overflowing(votes: Votes, message: Message) -> Moved
 // Lines 33 to 35 behind an owner: `r` waits, unless its client does already, and is told the owner.
 fn join(j: ServerId, r: Request, v: Votes, row: &mut [u32]) -> Moved
     requires { ⌜ Padded (now row) (v .len) ⌝ }
-    ensures { λ m. ⌜ MovesOne (now (row .entry)) (now (row .exit)) m (joining j r (view v (now (row .entry)))) ⌝ }
+    ensures { λ m. ⌜ MovesOne v (now (row .entry)) (now (row .exit)) m (joining j r (view v (now (row .entry)))) ⌝ }
 {
     let owner = v.owner;
     let len = v.len;
@@ -227,7 +227,7 @@ fn join(j: ServerId, r: Request, v: Votes, row: &mut [u32]) -> Moved
 // Lines 31 to 35.
 fn act_request(j: ServerId, r: Request, v: Votes, row: &mut [u32]) -> Moved
     requires { ⌜ Padded (now row) (v .len) ⌝ }
-    ensures { λ m. ⌜ MovesOne (now (row .entry)) (now (row .exit)) m (actOf j Tag.Request r (view v (now (row .entry)))) ⌝ }
+    ensures { λ m. ⌜ MovesOne v (now (row .entry)) (now (row .exit)) m (actOf j Tag.Request r (view v (now (row .entry)))) ⌝ }
 {
     let owner = v.owner;
     let client = r.client;
@@ -237,6 +237,21 @@ fn act_request(j: ServerId, r: Request, v: Votes, row: &mut [u32]) -> Moved
     match owner {
         Owner::Nobody => lead(j, r, v.len),
         Owner::Of(_) => join(j, r, v, row),
+    }
+}
+
+// The client is told the owner, unless it is the owner, and nothing changes.
+fn informing(j: ServerId, k: ClientId, votes: Votes) -> Moved
+    ensures { λ m. ⌜ Informs j k votes m ⌝ }
+{
+    let owner = votes.owner;
+    let first = inform(j, k, owner);
+    Moved {
+        votes,
+        full: false,
+        first,
+        second: Mail::Nothing,
+        third: Mail::Nothing,
     }
 }
 
@@ -260,7 +275,7 @@ fn followed(j: ServerId, k: ClientId, before: Moved) -> Moved
 // Lines 37 to 41.
 fn act_yield(j: ServerId, r: Request, v: Votes, row: &mut [u32]) -> Moved
     requires { ⌜ Padded (now row) (v .len) ⌝ }
-    ensures { λ m. ⌜ MovesTwo (now (row .entry)) (now (row .exit)) m (actOf j Tag.Yield r (view v (now (row .entry)))) ⌝ }
+    ensures { λ m. ⌜ MovesTwo v (now (row .entry)) (now (row .exit)) m (actOf j Tag.Yield r (view v (now (row .entry)))) ⌝ }
 {
     let owner = v.owner;
     let client = r.client;
@@ -268,26 +283,26 @@ fn act_yield(j: ServerId, r: Request, v: Votes, row: &mut [u32]) -> Moved
         let before = rotate(j, r, row, v.len);
         return followed(j, client, before);
     }
-    followed(j, client, still(v))
+    informing(j, client, v)
 }
 
 // Line 45.
 fn act_inquiry(j: ServerId, r: Request, v: Votes, row: &[u32]) -> Moved
     requires { ⌜ Padded (now row) (v .len) ⌝ }
-    ensures { λ m. ⌜ MovesTwo (now (row .entry)) (now (row .entry)) m (actOf j Tag.Inquiry r (view v (now (row .entry)))) ⌝ }
+    ensures { λ m. ⌜ MovesTwo v (now (row .entry)) (now (row .entry)) m (actOf j Tag.Inquiry r (view v (now (row .entry)))) ⌝ }
 {
     let owner = v.owner;
     let client = r.client;
     match owner {
         Owner::Nobody => still(v),
-        Owner::Of(_) => followed(j, client, still(v)),
+        Owner::Of(_) => informing(j, client, v),
     }
 }
 
 // Lines 30 to 45.
 fn act(j: ServerId, tag: Tag, r: Request, v: Votes, row: &mut [u32]) -> Moved
     requires { ⌜ Padded (now row) (v .len) ⌝ }
-    ensures { λ m. ⌜ MovesTwo (now (row .entry)) (now (row .exit)) m (actOf j tag r (view v (now (row .entry)))) ⌝ }
+    ensures { λ m. ⌜ MovesTwo v (now (row .entry)) (now (row .exit)) m (actOf j tag r (view v (now (row .entry)))) ⌝ }
 {
     match tag {
         Tag::Request => act_request(j, r, v, row),
@@ -301,23 +316,28 @@ fn act(j: ServerId, tag: Tag, r: Request, v: Votes, row: &mut [u32]) -> Moved
 fn joined(before: Moved, after: Moved) -> Moved
     ensures { λ m. ⌜ m ≡ joinedOf before after ⌝ }
 {
-    let votes = after.votes;
     let first = before.first;
-    let second = after.first;
-    let third = after.second;
-    Moved {
-        votes,
-        full: after.full,
-        first,
-        second,
-        third,
+    match first {
+        Mail::Nothing => after,
+        Mail::One(_) => {
+            let votes = after.votes;
+            let second = after.first;
+            let third = after.second;
+            Moved {
+                votes,
+                full: after.full,
+                first,
+                second,
+                third,
+            }
+        }
     }
 }
 
 // Lines 28 to 45, where the sender stands with timestamp `t`.
 fn compare(j: ServerId, tag: Tag, r: Request, v: Votes, row: &mut [u32], t: Timestamp) -> Moved
     requires { ⌜ Padded (now row) (v .len) × (timestampIn (r .client) (candidates (view v (now row))) ≡ some t) ⌝ }
-    ensures { λ m. ⌜ Moves (now (row .entry)) (now (row .exit)) m (compareOf j tag r (view v (now (row .entry))) t) ⌝ }
+    ensures { λ m. ⌜ Moves v (now (row .entry)) (now (row .exit)) m (compareOf j tag r (view v (now (row .entry))) t) ⌝ }
 {
     let now = r.timestamp;
     if now.0 < t.0 {
@@ -339,7 +359,7 @@ fn compare(j: ServerId, tag: Tag, r: Request, v: Votes, row: &mut [u32], t: Time
 // Lines 26 to 45. For the server's calls, which have tested the record.
 pub fn receive(j: ServerId, tag: Tag, r: Request, v: Votes, row: &mut [u32]) -> Moved
     requires { ⌜ Padded (now row) (v .len) ⌝ }
-    ensures { λ m. ⌜ Moves (now (row .entry)) (now (row .exit)) m (receiveOf j tag r (view v (now (row .entry)))) ⌝ }
+    ensures { λ m. ⌜ Moves v (now (row .entry)) (now (row .exit)) m (receiveOf j tag r (view v (now (row .entry)))) ⌝ }
 {
     let client = r.client;
     let s = standing_of(client, v, row);

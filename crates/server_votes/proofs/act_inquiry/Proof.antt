@@ -12,6 +12,5 @@ act-inquiry-spec =
     (λ c κs. search needs)
     (λ c. search needs)
     (λ c κs. search needs)
-    (λ c κs. search needs)
     (λ c. search inquires-nobody)
     (λ c. search inquires))

@@ -14,5 +14,4 @@ act-yield-spec =
     (λ c. search needs)
     (λ c. search yields)
     (λ c κs. search needs)
-    (λ c κs. search needs)
     (λ c. search yields-not))
