@@ -11,3 +11,4 @@ pub mod Pigeonhole
 pub mod ServerLaws
 pub mod ServerSteps
 pub mod EpochLaws
+pub mod Determined
