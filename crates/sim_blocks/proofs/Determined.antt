@@ -10,19 +10,14 @@ use lib.ListN.{length, getD, drop, length-take, length-drop, take-append-drop}
 use lib.Seq.{drop-cons, drop-drop, take-all}
 use borrow.Author.Tests.{leb-true, ne-eqb}
 use Rattle.ids.specs.Lists.{every}
-use Rattle.ids.specs.declared.ClientId.{ClientId}
-use Rattle.ids.specs.declared.ServerId.{ServerId}
 use Rattle.ids.specs.Limits.{maxServers}
 use Rattle.ids.proofs.Choice.{both}
 use Rattle.client.specs.Record as client
 use Rattle.client.specs.declared.Client.{Client}
-use Rattle.client.proofs.RecordLaws.{store-view}
-use Rattle.client.proofs.ValidLaws.{valid-padded}
-use Rattle.client_responses.specs.Figure1.{State as ClientState}
+use Rattle.client.proofs.KeepsValid.{stored-again}
 use Rattle.server.specs.Record as server
 use Rattle.server.specs.declared.Server.{Server}
 use Rattle.server.proofs.RecordLaws as server-laws
-use Rattle.server_votes.specs.Figure1.{State as ServerState}
 use Rattle.words.specs.Records.{clientWords, serverWords, clientFrom, serverFrom, clientSize, serverSize, recordHead}
 use Rattle.words.proofs.RecordsLaws.{client-held, server-held}
 use Rattle.words.proofs.RoundTrip.{client-words-again, server-words-again}
@@ -88,7 +83,7 @@ module _ (n m clients k : ℕ) (b : List ℕ) (ok : validClientBlock n m clients
       let B = client-facts n m clients k b ok in
       let c : Client = clientFrom (clientRecord b) in
       let long : length (c .row) ≡ client.rowWords = omega (arith, length-drop recordHead (clientRecord b), client-held (clientRecord b) (B .held) .size) in
-      let again = store-view c long (valid-padded c (B .valid)) in
+      let again = stored-again c (B .valid) long in
       sym (client-words-again (clientRecord b) (B .held)) ∙ ap clientWords
       (sym again ∙ (λ i. client.store (B .servers i) (B .threshold i) (B .number i) (client.view c)))
 
@@ -113,7 +108,7 @@ same-client n m clients k b b′ ok ok′ e =
     let first : getD b 0 0 ≡ getD b′ 0 0 = same-bit (getD b 0 0) (getD b′ 0 0) (B .bit) (B′ .bit) (ap (λ (p : ClientPlace). p .living) e) in
     let body : clientRecord b ≡ clientRecord b′ = client-record n m clients k b ok ∙
     (ap (λ (p : ClientPlace). clientWords (client.store n m (clientNo k) (p .state))) e ∙ sym (client-record n m clients k b′ ok′)) in
-    let size : length (flags b) ≡ length (flags b′) = rw (length-take, length-take, length-drop, length-drop, B .size, B′ .size) in
+    let size : length (flags b) ≡ length (flags b′) = simp (length-take, length-drop) (rw (B .size, B′ .size)) in
     let last : flags b ≡ flags b′ = same-flags 1 (flags b) (flags b′) size (B .bits) (B′ .bits) (ap (λ (p : ClientPlace). p .downs) e) in
     sym (client-parts b (B .size)) ∙ ((λ i. first i ∷ (body i ++ last i)) ∙ client-parts b′ (B′ .size))
 
