@@ -5,16 +5,15 @@ use mathlib.Core.Path.{_≡_, refl, ap, _∙_, sym}
 use mathlib.Core.Bool.{true, false}
 use mathlib.Core.List.{List}
 use lib.Dec.{eqb}
-use lib.ListN.{length, getD, take, set, replicate, length-take, length-drop, length-set}
+use lib.ListN.{length, getD, take, set, length-take, length-drop, length-set}
 use lib.Seq.{sets, length-sets, drop-set-lt, getD-set-same}
 use Rattle.ids.specs.Lists.{every}
-use Rattle.ids.specs.Limits.{maxServers, validOwner}
+use Rattle.ids.specs.Limits.{validOwner}
 use Rattle.rows.proofs.RowLaws.{length-row-of, row-of-none}
-use Rattle.wire.specs.Step.{stay}
 use Rattle.server_votes.specs.Figure1.{State, candidates, idle}
 use Rattle.server.specs.Record as server
 use Rattle.server.specs.declared.Server.{Server}
-use Rattle.server.proofs.KeepsValid.{Good, stored-valid}
+use Rattle.server.proofs.KeepsValid.{Good, store-valid}
 use Rattle.server.proofs.RecordLaws.{view-store}
 use Rattle.words.specs.Records.{holdsServer, serverFrom, serverWords, serverSize}
 use Rattle.words.proofs.RoundTrip.{server-read-back}
@@ -53,7 +52,7 @@ module _ (n clients j : ℕ) (b : List ℕ) (size : length b ≡ serverBlock) (b
     kept-row = length-row-of server.rowWords (q .queue) (omega arith)
 
     kept-valid : server.valid kept ≡ true
-    kept-valid = stored-valid maxServers (kept .head) (replicate server.rowWords 0) server.queuePlaces (stay q) sizes refl short g
+    kept-valid = store-valid n (serverNo j) q sizes short g
 
     words-held : (holdsServer (serverWords kept) ≡ true) × (serverFrom (serverWords kept) ≡ kept)
     words-held = read-in (holdsServer (serverWords kept)) (serverFrom (serverWords kept)) kept (server-read-back kept kept-valid kept-row)

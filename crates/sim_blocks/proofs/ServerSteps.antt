@@ -77,7 +77,7 @@ message-request Yields k j t w = stamped-request maxServers k j t w
 message-request Releases k j t w = stamped-request maxServers k j t w
 message-request Inquires k j t w = stamped-request maxServers k j t w
 
-received-as : (s : Server) (tag : Tag) (k : ClientId) (j : ServerId) (t : Timestamp) → received s (message tag k j t) ≡ taken s tag k j t
+pub received-as : (s : Server) (tag : Tag) (k : ClientId) (j : ServerId) (t : Timestamp) → received s (message tag k j t) ≡ taken s tag k j t
 received-as s Asks k j t = refl
 received-as s Yields k j t = refl
 received-as s Releases k j t = refl

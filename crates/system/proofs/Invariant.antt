@@ -106,7 +106,7 @@ module _ (n : ℕ) (wins : Quorum) where
     good : {e : Event} {o : Result} → Effect n wins w e o → Good o
     unfolding tries exits
     good refuses = tt
-    good (begins {k = k} lives _) =
+    good (begins {k = k} lives _ _) =
         let t : Timestamp = newer (clientAt w k .state .timestamp) in
         let gt = next-greater (clientAt w k .state .timestamp) in
         let r : Request = record { client = k; timestamp = t } in
