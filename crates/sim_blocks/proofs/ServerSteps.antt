@@ -3,7 +3,7 @@ use Prim.Native.Nat.{ℕ, _*_, _≤_}
 use native.Mathlib.Omega.{arith}
 use mathlib.Core.Path.{_≡_, refl, ap, _∙_}
 use mathlib.Core.Bool.{true, false}
-use mathlib.Core.List.{List, [], _∷_}
+use mathlib.Core.List.{List}
 use lib.Dec.{leb, ltb}
 use lib.ListN.{length, length-drop}
 use borrow.Author.Tests.{eq-eqb, le-ltb}
@@ -28,7 +28,7 @@ use Rattle.server.specs.Calls.{serverAfter, messageOutcome, messageOutcomeUpTo,
 use Rattle.server.proofs.KeepsValid.{Good, receive-good, suspect-good, check-good}
 use Rattle.words.specs.Records.{serverFrom}
 use Rattle.words.proofs.RecordsLaws.{server-held}
-use Rattle.system.proofs.Tokens.{message, worth, All, empty, more}
+use Rattle.system.proofs.Tokens.{message, worth, every-all, all-every}
 use Rattle.system.proofs.ServerSteps.{Holds, Fair, none-gained, fair-receive, fair-suspect, fair-check}
 use Rattle.sim_blocks.specs.Blocks.{serverRecord, serverPlace, namedPair, validServerBlock}
 use Rattle.sim_blocks.proofs.Facts.{ServerBlock, server-facts, server-good}
@@ -42,25 +42,17 @@ abbrev pub OfClients : ℕ → Request → Type 0
 OfClients clients r = leb (r .client .0) clients ≡ true
 
 module _ (clients : ℕ) where
-  all-of : (l : List Request) → every (namedPair clients) l ≡ true → All (OfClients clients) l
-  all-of [] h = empty
-  all-of (x ∷ l) h = let (a, g) = both (namedPair clients x) (every (namedPair clients) l) h in more a (all-of l g)
-
-  every-of : {l : List Request} → All (OfClients clients) l → every (namedPair clients) l ≡ true
-  every-of empty = refl
-  every-of (more a g) = rw a (every-of g)
-
   holds-by : (o : Owner) (l : List Request) → every (namedPair clients) (candidates (record { owner = o; queue = l })) ≡ true
       → Holds (OfClients clients) (record { owner = o; queue = l })
-  holds-by Nobody l h = record { owner = tt; queue = all-of l h }
+  holds-by Nobody l h = record { owner = tt; queue = every-all (namedPair clients) l h }
   holds-by (Of r) l h =
       let (a, g) = both (namedPair clients r) (every (namedPair clients) l) h in
-      record { owner = a; queue = all-of l g }
+      record { owner = a; queue = every-all (namedPair clients) l g }
 
   names-by : (o : Owner) (l : List Request) → Holds (OfClients clients) (record { owner = o; queue = l })
       → every (namedPair clients) (candidates (record { owner = o; queue = l })) ≡ true
-  names-by Nobody l h = every-of (h .queue)
-  names-by (Of r) l h = rw (h .owner) (every-of (h .queue))
+  names-by Nobody l h = all-every (namedPair clients) (h .queue)
+  names-by (Of r) l h = rw (h .owner) (all-every (namedPair clients) (h .queue))
 
   pub named-holds : (q : State) → every (namedPair clients) (candidates q) ≡ true → Holds (OfClients clients) q
   named-holds q h = holds-by (q .owner) (q .queue) h

@@ -19,6 +19,7 @@ use Rattle.ids.specs.declared.Request.{Request}
 use Rattle.ids.specs.declared.Owner.{Owner}
 use Rattle.ids.specs.declared.Owner.the-variants.{Nobody, Of}
 use Rattle.ids.proofs.Choice.{both}
+use Rattle.ids.proofs.ListLaws.{every-both}
 use Rattle.wire.specs.Format as format
 use Rattle.wire.specs.Format.{clientNamed, serverNamed, fieldsOf, validResponseUpTo}
 use Rattle.wire.specs.Step.{Step, stepped, refused}
@@ -46,7 +47,7 @@ use Rattle.system.specs.Runs.{after, runBy, start, next, runFrom, run}
 use Rattle.system.proofs.Effects.{Effect, refuses, begins, leaves, dies, sinks, rises, serverTakes, clientTakes, clientChecked, loses, suspects, asks, effect}
 use Rattle.system.proofs.PlaceLaws.{Changes, each, put-flagged, put-numbered, flagged-in, counts-down, at-replicate}
 use Rattle.system.proofs.ServerSteps.{Holds, fair-receive, fair-suspect, fair-check}
-use Rattle.system.proofs.Tokens.{message, All, empty, more, length-put}
+use Rattle.system.proofs.Tokens.{message, All, empty, every-all, all-every, length-put}
 use Rattle.system.proofs.TransitLaws.{Posted, Delivery, no-gain, posted, unchanged, stills-gone, stills-keeping, delivery-dropped, pending-all, again-all}
 use Rattle.sim_blocks.proofs.ServerSteps.{message-request}
 
@@ -82,21 +83,6 @@ there-parts n clients x h =
     let (v, r) = both (format.valid x) (between n clients x) h in
     let (a, b) = both (leb (clientNamed x .0) clients) (leb (serverNamed x .0) n) r in
     (v, a, b)
-
-every-all : {A : Type 0} (f : A → Bool) (l : List A) → every f l ≡ true → All (λ x. f x ≡ true) l
-every-all f [] h = empty
-every-all f (x ∷ l) h = let (a, g) = both (f x) (every f l) h in more a (every-all f l g)
-
-all-every : {A : Type 0} (f : A → Bool) {l : List A} → All (λ x. f x ≡ true) l → every f l ≡ true
-all-every f empty = refl
-all-every f (more a g) = rw a (all-every f g)
-
-every-both : {A : Type 0} (f g : A → Bool) (l : List A) → every f l ≡ true → every g l ≡ true → every (λ x. f x && g x) l ≡ true
-every-both f g [] p q = refl
-every-both f g (x ∷ l) p q =
-    let (a, p′) = both (f x) (every f l) p in
-    let (b, q′) = both (g x) (every g l) q in
-    rw (a, b) (every-both f g l p′ q′)
 
 -- a message to a server
 pub tagged-parts : (n clients : ℕ) (tag : Tag) (k : ClientId) (j : ServerId) (t : Timestamp) → There n clients (message tag k j t)

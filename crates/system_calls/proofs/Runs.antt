@@ -1,20 +1,23 @@
 -- Every run is a run of the calls: by the invariant (`Kept`) each record that a party is stored as is valid, and by what the calls do on such a record
 -- (`Outcomes`) each accepted event is the accepted call.
-use Prim.Native.Nat.{ℕ, _*_, _<_, _≤_}
+use Prim.Native.Nat.{ℕ, zero, suc, _≤_}
 use native.Mathlib.Omega.{arith}
 use mathlib.Core.Path.{_≡_, subst}
 use mathlib.Core.Bool.{true}
-use mathlib.Core.List.{List}
+use mathlib.Core.List.{List, []}
 use mathlib.Core.Option.{some}
 use lib.Dec.{ltb, leb}
-use lib.ListN.{length}
-use borrow.Author.Tests.{ltb-true, leb-true}
+use lib.ListN.{length, replicate, getD-replicate}
+use borrow.Author.Tests.{ltb-true, leb-true, le-leb}
+use Rattle.ids.specs.Limits.{within, maxClient, maxServers, validClient}
 use Rattle.ids.specs.declared.ClientId.{ClientId}
 use Rattle.ids.specs.declared.ServerId.{ServerId}
 use Rattle.ids.specs.declared.Timestamp.{Timestamp}
 use Rattle.ids.specs.declared.Request.{Request}
 use Rattle.ids.specs.declared.Owner.{Owner}
 use Rattle.ids.proofs.Choice.{both}
+use Rattle.ids.proofs.LimitsLaws.{within-range}
+use Rattle.rows.proofs.RowLaws.{row-of-none}
 use Rattle.wire.specs.Format.{sizeOfAll}
 use Rattle.wire.specs.Step.{Step, Outcome, refused, stepped}
 use Rattle.wire.specs.declared.Message.{Message}
@@ -24,22 +27,23 @@ use Rattle.server_votes.specs.declared.Tag.the-variants.{Request as Asks, Yield
 use Rattle.server_votes.specs.Figure1 as votes
 use Rattle.server.specs.Record as server
 use Rattle.server.specs.Calls as server-calls
-use Rattle.client_responses.specs.Figure1.{State, enough, tries, exits, responds, checked}
+use Rattle.client_responses.specs.Figure1.{State, fresh, enough, tries, exits, responds, checked}
 use Rattle.client.specs.Record as client
 use Rattle.client.specs.Calls as client-calls
 use Rattle.client.proofs.KeepsValid.{Fits, view-store, store-valid}
+use Rattle.client.proofs.ValidLaws.{sizes-range}
 use Rattle.sends.proofs.ClientSends.{tries-few, exits-few, responds-few, checked-few}
 use Rattle.sends.proofs.ServerSends.{size-few, receive-few, suspect-few, check-few}
 use Rattle.system.specs.Limits.{systemClients}
 use Rattle.system.specs.declared.Event.{Event}
-use Rattle.system.specs.Numbered.{has}
+use Rattle.system.specs.Numbered.{at, has}
 use Rattle.system.specs.Transit.{InTransit, pending, replaced, gone, keeping}
-use Rattle.system.specs.Places.{System, ClientPlace, ServerPlace, clientAt, serverAt}
+use Rattle.system.specs.Places.{System, noClient, noServer, clientAt, serverAt}
 use Rattle.system.specs.Events.{Result, clientMoves, serverMoves, event}
-use Rattle.system.specs.Runs.{run}
+use Rattle.system.specs.Runs.{start, run}
 use Rattle.system.proofs.Effects.{Effect, refuses, begins, leaves, dies, sinks, rises, serverTakes, clientTakes, clientChecked, loses, suspects, asks, effect}
 use Rattle.system.proofs.Tokens.{message}
-use Rattle.system_calls.specs.Calls.{clientRecord, serverRecord, Stored, clientRoom, serverMessages, serverRoom, ClientCalled, ServerCalled, TakenByCall, ByCalls, OnRecords}
+use Rattle.system_calls.specs.Calls.{clientRecord, serverRecord, Stored, clientRoom, serverMessages, serverRoom, ClientCalled, ServerCalled, TakenByCall, ByCalls, OnRecords, StartsByNew}
 use Rattle.system_calls.proofs.Kept.{Kept, has-client, has-server, new-client, new-server, arrived, server-sizes, kept-run}
 use Rattle.system_calls.proofs.Outcomes.{with-room, client-after, begin-outcome, exit-outcome, response-outcome, check-outcome, stored-server, shown-server, server-after, receive-outcome, suspect-outcome, check-call}
 
@@ -151,6 +155,23 @@ module _ (n m clients : ℕ) (z : client.validSizes n m ≡ true) (few : clients
 
   kept-calls : OnRecords n m w
   kept-calls = record { stored = stored; called = λ e s q. subst (By e) q (by (effect n (enough m) w e)) }
+
+at-start : {A : Type 0} (d v : A) (count i : ℕ) → within i count ≡ true → at d (replicate count v) i ≡ v
+at-start d v count zero h = absurd (omega (arith, within-range 0 count h))
+at-start d v count (suc i) h = getD-replicate count i v d (omega (arith, within-range (suc i) count h))
+
+pub starts-by-new : (n m clients : ℕ) → client.validSizes n m ≡ true → clients ≤ systemClients → StartsByNew n m clients
+unfolding start client-calls.newResult server-calls.newResult
+starts-by-new n m clients z few =
+    record {
+      client-new = λ k h.
+          let (a, b) = within-range (k .0) clients h in
+          let v : validClient k ≡ true = rw (le-leb 1 (k .0) a, le-leb (k .0) maxClient (omega arith)) in
+          rw (z, v, at-start noClient (record { living = true; state = fresh n; downs = [] }) clients (k .0) h);
+      server-new = λ j h.
+          let (a, b, c, d) = sizes-range n m z in
+          rw (le-leb 1 n a, le-leb n maxServers b, h, at-start noServer (record { up = true; state = votes.idle }) n (j .0) h, row-of-none server.rowWords 0 (omega arith));
+    }
 
 -- DEMAND 2 along a run: from a fresh start with n servers, a threshold m in range and at most as many clients as a simulation can have, after any
 -- events the system runs on its records.

@@ -4,10 +4,12 @@ use Prim.Native.Nat.{ℕ, _*_}
 use mathlib.Core.Path.{_≡_}
 use mathlib.Core.Bool.{true}
 use mathlib.Core.Option.{some}
+use Rattle.ids.specs.Limits.{within}
 use Rattle.ids.specs.declared.ClientId.{ClientId}
 use Rattle.ids.specs.declared.ServerId.{ServerId}
 use Rattle.wire.specs.Format.{messageBytes, responseBytes}
 use Rattle.wire.specs.Step.{Step, Outcome, stepped, withRoom}
+use Rattle.wire.specs.declared.Answer.the-variants.{Sent}
 use Rattle.wire.specs.declared.Message.{Message}
 use Rattle.wire.specs.declared.Message.the-variants.{Request as REQUEST, Yield as YIELD, Release as RELEASE, Inquiry as INQUIRY, Response as RESPONSE, Check as CHECK}
 use Rattle.server_votes.specs.Figure1 as votes
@@ -24,6 +26,7 @@ use Rattle.system.specs.Numbered.{has}
 use Rattle.system.specs.Transit.{pending}
 use Rattle.system.specs.Places.{System, clientAt, serverAt}
 use Rattle.system.specs.Events.{event}
+use Rattle.system.specs.Runs.{start}
 
 -- the record by value that client k is stored as, of a system with n servers and threshold m, and the one that server j is stored as
 abbrev pub clientRecord : ℕ → ℕ → System → ClientId → Client
@@ -60,14 +63,20 @@ pub record ServerCalled (n : ℕ) (w : System) (j : ServerId) (s : Step System) 
   pub accepted : withRoom serverRoom o ≡ stepped (record { state = serverAt (s .state) j .state; sent = s .sent })
   pub left : server-calls.serverAfter (serverRecord n w j) o ≡ serverRecord n (s .state) j
 
--- a message taken is its receiver's call `message`
+-- message x is taken by its receiver's call `message`
+abbrev pub AtServer : ℕ → System → Step System → ServerId → Message → Type 0
+AtServer n w s j x = ServerCalled n w j s (server-calls.messageOutcome (serverRecord n w j) x)
+
+abbrev pub AtClient : ℕ → ℕ → System → Step System → ClientId → Message → Type 0
+AtClient n m w s k x = ClientCalled n m w k s (client-calls.messageOutcome (clientRecord n m w k) x)
+
 abbrev pub TakenByCall : ℕ → ℕ → System → Step System → Message → Type 0
-TakenByCall n m w s (REQUEST k j t) = ServerCalled n w j s (server-calls.messageOutcome (serverRecord n w j) (REQUEST k j t))
-TakenByCall n m w s (YIELD k j t) = ServerCalled n w j s (server-calls.messageOutcome (serverRecord n w j) (YIELD k j t))
-TakenByCall n m w s (RELEASE k j t) = ServerCalled n w j s (server-calls.messageOutcome (serverRecord n w j) (RELEASE k j t))
-TakenByCall n m w s (INQUIRY k j t) = ServerCalled n w j s (server-calls.messageOutcome (serverRecord n w j) (INQUIRY k j t))
-TakenByCall n m w s (RESPONSE k j o) = ClientCalled n m w k s (client-calls.messageOutcome (clientRecord n m w k) (RESPONSE k j o))
-TakenByCall n m w s (CHECK k j t) = ClientCalled n m w k s (client-calls.messageOutcome (clientRecord n m w k) (CHECK k j t))
+TakenByCall n m w s (REQUEST k j t) = AtServer n w s j (REQUEST k j t)
+TakenByCall n m w s (YIELD k j t) = AtServer n w s j (YIELD k j t)
+TakenByCall n m w s (RELEASE k j t) = AtServer n w s j (RELEASE k j t)
+TakenByCall n m w s (INQUIRY k j t) = AtServer n w s j (INQUIRY k j t)
+TakenByCall n m w s (RESPONSE k j o) = AtClient n m w s k (RESPONSE k j o)
+TakenByCall n m w s (CHECK k j t) = AtClient n m w s k (CHECK k j t)
 
 -- An accepted event with step s is a call: a try `client::begin`, an exit `client::exit`, a take the receiver's `message`, a miss
 -- `server::suspect`, a check `server::check`. The other four events call no one.
@@ -87,3 +96,10 @@ ByCalls n m w (Check j) s = ServerCalled n w j s (server-calls.checkOutcome (ser
 pub record OnRecords (n m : ℕ) (w : System) : Type 0 where
   pub stored : Stored n m w
   pub called : (e : Event) (s : Step System) → event n (enough m) w e ≡ stepped s → ByCalls n m w e s
+
+-- a fresh start with so many clients has the records that the calls `new` give
+pub record StartsByNew (n m clients : ℕ) : Type 0 where
+  pub client-new : (k : ClientId) → within (k .0) clients ≡ true
+      → client-calls.newResult n m k ≡ record { client = clientRecord n m (start n (enough m) clients) k; answer = Sent 0 0 }
+  pub server-new : (j : ServerId) → within (j .0) n ≡ true
+      → server-calls.newResult n j ≡ record { server = serverRecord n (start n (enough m) clients) j; answer = Sent 0 0 }
