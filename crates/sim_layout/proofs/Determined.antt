@@ -1,22 +1,22 @@
 -- A simulation's setting and system determine its words: of the head's seven words four are the setting, one counts the messages in transit and
 -- two are the system's; each block is determined by its place, the messages by what is in transit, and behind them every word is 0.
-use Prim.Native.Nat.{ℕ, zero, suc, _+_, _*_, _<_, _≤_}
+use Prim.Native.Nat.{ℕ, zero, suc, _+_, _*_, _<_}
 use native.Mathlib.Omega.{arith}
-use mathlib.Core.Path.{_≡_, refl, sym, ap, _∙_}
+use mathlib.Core.Path.{_≡_, sym, ap, _∙_}
 use mathlib.Core.Bool.{Bool, true}
-use mathlib.Core.List.{List, _∷_, _++_}
+use mathlib.Core.List.{List, _++_}
 use lib.ListN.{length, getD, take, drop, length-drop, take-append-drop}
 use lib.Seq.{drop-drop, length-take-le, getD-take, ext-getD, take-all}
 use Rattle.ids.proofs.Choice.{both}
 use Rattle.system.specs.declared.Setting.{Setting}
 use Rattle.system.specs.Numbered.{clientNo, serverNo}
-use Rattle.system.specs.Places.{System, ClientPlace, ServerPlace}
+use Rattle.system.specs.Places.{System}
 use Rattle.sim_blocks.specs.Regions.{blocks}
 use Rattle.sim_blocks.specs.Blocks.{clientBlock, serverBlock, clientPlace, serverPlace, validClientBlock, validServerBlock}
 use Rattle.sim_blocks.proofs.Determined.{same-client, same-server}
-use Rattle.sim_transit.specs.Slots.{transitSize, validSlots, slots}
+use Rattle.sim_transit.specs.Slots.{transitSize, slots}
 use Rattle.sim_transit.proofs.Determined as transit
-use Rattle.sim_layout.specs.Layout.{clientsFrom, clientsSize, serversFrom, serversSize, transitFrom, simulationSize, settingOf, clientWords, serverWords, transitWords, lengthOf, sentOf, mostOf, view, validFrom, blank, itself, valid}
+use Rattle.sim_layout.specs.Layout.{clientsFrom, clientsSize, serversFrom, serversSize, transitFrom, simulationSize, settingOf, clientWords, serverWords, transitWords, lengthOf, sentOf, view, validFrom, blank, itself, valid}
 use Rattle.sim_layout.proofs.ValidLaws.{Facts, facts}
 
 -- blocks that are the same, one after another, and the same words behind them

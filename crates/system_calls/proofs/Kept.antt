@@ -1,16 +1,16 @@
 -- The invariant of every run: each client's state fits its numbers, each server's is good and knows only requests of clients that are there, and so does
 -- each message in transit, which is in range. Every event keeps it.
-use Prim.Native.Nat.{ℕ, zero, suc, _+_, _*_, _<_, _≤_}
+use Prim.Native.Nat.{ℕ, zero, suc, _≤_}
 use native.Mathlib.Omega.{arith}
-use mathlib.Core.Path.{_≡_, refl, sym, ap, subst, _∙_}
+use mathlib.Core.Path.{_≡_, refl, sym, subst, _∙_}
 use mathlib.Core.Bool.{Bool, true, _&&_}
-use mathlib.Core.List.{List, [], _∷_, _++_, map}
+use mathlib.Core.List.{List, [], _∷_}
 use mathlib.Core.Option.{some}
 use lib.Dec.{leb}
 use lib.ListN.{length, replicate, length-map, length-replicate, getD-replicate}
 use borrow.Author.Tests.{leb-true, le-leb}
 use Rattle.ids.specs.Lists.{every}
-use Rattle.ids.specs.Limits.{maxServers, maxClient, within, validServer, validRequest, validOwner, validStampedUpTo, validPartiesUpTo}
+use Rattle.ids.specs.Limits.{maxServers, maxClient, within, validServer, validRequest, validOwner, validPartiesUpTo}
 use Rattle.ids.specs.Requests.{byOwner}
 use Rattle.ids.specs.declared.ClientId.{ClientId}
 use Rattle.ids.specs.declared.ServerId.{ServerId}
@@ -30,7 +30,7 @@ use Rattle.server_votes.specs.declared.Tag.the-variants.{Request as Asks, Yield
 use Rattle.server_votes.specs.Figure1 as votes
 use Rattle.server.specs.Record as server
 use Rattle.server.proofs.KeepsValid.{Good, receive-good, suspect-good, check-good}
-use Rattle.client_responses.specs.Figure1.{State, fresh, enough, lastTry, mayTry, isRemainder, isCritical, tries, exits, responds, checked}
+use Rattle.client_responses.specs.Figure1.{State, fresh, enough, lastTry, mayTry, isCritical, tries, exits, responds, checked}
 use Rattle.client.specs.Record as client
 use Rattle.client.proofs.KeepsValid.{Fits, InRange, remainder-fits, tries-fits, exits-fits, responds-fits, checked-state}
 use Rattle.client.proofs.ValidLaws.{sizes-range}
@@ -38,9 +38,8 @@ use Rattle.sends.proofs.ClientSends as of-client
 use Rattle.sends.proofs.ServerSends as of-server
 use Rattle.sends.proofs.ServerSends.{Knows}
 use Rattle.system.specs.declared.Event.{Event}
-use Rattle.system.specs.Limits.{systemClients}
-use Rattle.system.specs.Numbered.{at, put, has, clientNo, serverNo}
-use Rattle.system.specs.Transit.{InTransit, pending, replaced, gone}
+use Rattle.system.specs.Numbered.{at, put, clientNo}
+use Rattle.system.specs.Transit.{InTransit, pending}
 use Rattle.system.specs.Places.{System, ClientPlace, ServerPlace, noClient, noServer, clientAt, serverAt, downed}
 use Rattle.system.specs.Events.{Result, clientMoves, serverMoves, event}
 use Rattle.system.specs.Runs.{after, runBy, start, next, runFrom, run}

@@ -1,12 +1,12 @@
 -- What each call does on the record that a fitting state is stored as: it is accepted, and leaves the record that the step's state is stored as.
 use Prim.Native.Nat.{ℕ, _*_, _≤_}
 use native.Mathlib.Omega.{arith}
-use mathlib.Core.Path.{_≡_, refl, ap, _∙_}
-use mathlib.Core.Bool.{true, false, _&&_}
-use mathlib.Core.List.{List, map}
+use mathlib.Core.Path.{_≡_, refl}
+use mathlib.Core.Bool.{true, false}
+use mathlib.Core.List.{map}
 use lib.Dec.{leb, ltb}
 use lib.ListN.{length, length-map}
-use borrow.Author.Tests.{le-leb, le-ltb, eq-eqb}
+use borrow.Author.Tests.{le-ltb, eq-eqb}
 use Rattle.ids.specs.Limits.{validRequest}
 use Rattle.ids.specs.declared.ClientId.{ClientId}
 use Rattle.ids.specs.declared.ServerId.{ServerId}
@@ -15,7 +15,6 @@ use Rattle.ids.specs.declared.Request.{Request}
 use Rattle.ids.specs.declared.Owner.{Owner}
 use Rattle.ids.specs.declared.Owner.the-variants.{Nobody, Of}
 use Rattle.ids.proofs.Choice.{both}
-use Rattle.rows.specs.Rows.{rowOf}
 use Rattle.rows.proofs.RowLaws.{length-row-of}
 use Rattle.wire.specs.Format as format
 use Rattle.wire.specs.Format.{sizeOfAll, fieldsOf}
@@ -33,7 +32,6 @@ use Rattle.client_responses.specs.Row.{place}
 use Rattle.client.specs.Record as client
 use Rattle.client.specs.Calls as client-calls
 use Rattle.client.specs.Calls.{forClient}
-use Rattle.client.specs.declared.Head.{Head}
 use Rattle.client.proofs.KeepsValid.{Fits, view-store, store-valid, after-stored}
 use Rattle.system.specs.Limits.{systemClients}
 use Rattle.system.proofs.ServerSteps.{Holds, Named}

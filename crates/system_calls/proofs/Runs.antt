@@ -14,7 +14,6 @@ use Rattle.ids.specs.declared.ClientId.{ClientId}
 use Rattle.ids.specs.declared.ServerId.{ServerId}
 use Rattle.ids.specs.declared.Timestamp.{Timestamp}
 use Rattle.ids.specs.declared.Request.{Request}
-use Rattle.ids.specs.declared.Owner.{Owner}
 use Rattle.ids.proofs.Choice.{both}
 use Rattle.ids.proofs.LimitsLaws.{within-range}
 use Rattle.rows.proofs.RowLaws.{row-of-none}
@@ -39,11 +38,11 @@ use Rattle.system.specs.declared.Event.{Event}
 use Rattle.system.specs.Numbered.{at, has}
 use Rattle.system.specs.Transit.{InTransit, pending, replaced, gone, keeping}
 use Rattle.system.specs.Places.{System, noClient, noServer, clientAt, serverAt}
-use Rattle.system.specs.Events.{Result, clientMoves, serverMoves, event}
+use Rattle.system.specs.Events.{Result, clientMoves, serverMoves}
 use Rattle.system.specs.Runs.{start, run}
 use Rattle.system.proofs.Effects.{Effect, refuses, begins, leaves, dies, sinks, rises, serverTakes, clientTakes, clientChecked, loses, suspects, asks, effect}
 use Rattle.system.proofs.Tokens.{message}
-use Rattle.system_calls.specs.Calls.{clientRecord, serverRecord, Stored, clientRoom, serverMessages, serverRoom, ClientCalled, ServerCalled, TakenByCall, ByCalls, OnRecords, StartsByNew}
+use Rattle.system_calls.specs.Calls.{serverRecord, Stored, clientRoom, serverMessages, serverRoom, ClientCalled, ServerCalled, TakenByCall, ByCalls, OnRecords, StartsByNew}
 use Rattle.system_calls.proofs.Kept.{Kept, has-client, has-server, new-client, new-server, arrived, server-sizes, kept-run}
 use Rattle.system_calls.proofs.Outcomes.{with-room, client-after, begin-outcome, exit-outcome, response-outcome, check-outcome, stored-server, shown-server, server-after, receive-outcome, suspect-outcome, check-call}
 
