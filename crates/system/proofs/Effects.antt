@@ -25,7 +25,7 @@ use Rattle.system.specs.Transit.{pending, present}
 use Rattle.system.specs.Places.{System, clientAt, serverAt}
 use Rattle.system.specs.Events.{Result, tried, exited, fallen, wentDown, cameUp, serverTook, responseTook, checkTook, dropped, suspected, asked, toServer, deliver, event}
 use Rattle.system.proofs.Branch.{branch, perhaps, owned}
-use Rattle.system.proofs.Tokens.{message}
+use Rattle.server_votes.proofs.Tagged.{message}
 
 module _ (n : ℕ) (wins : Quorum) (w : System) where
   pub data Effect : Event → Result → Type 0 where

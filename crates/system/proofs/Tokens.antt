@@ -9,9 +9,7 @@ use lib.ListN.{length, set, length-set}
 use Rattle.ids.specs.Choice.{if_then_else_}
 use Rattle.ids.specs.Lists.{every}
 use Rattle.ids.specs.Requests.{same}
-use Rattle.ids.specs.declared.ClientId.{ClientId}
 use Rattle.ids.specs.declared.ServerId.{ServerId}
-use Rattle.ids.specs.declared.Timestamp.{Timestamp}
 use Rattle.ids.specs.declared.Request.{Request}
 use Rattle.ids.specs.declared.Owner.the-variants.{Nobody, Of}
 use Rattle.ids.proofs.Choice.{both}
@@ -21,13 +19,6 @@ use Rattle.server_votes.specs.declared.Tag.{Tag}
 use Rattle.server_votes.specs.declared.Tag.the-variants.{Request as Asks, Yield as Yields, Release as Releases, Inquiry as Inquires}
 use Rattle.system.specs.Numbered.{put}
 use Rattle.system.proofs.Branch.{bit}
-
--- the message with a tag, client k's to server j
-abbrev pub message : Tag → ClientId → ServerId → Timestamp → Message
-message Asks k j t = REQUEST k j t
-message Yields k j t = YIELD k j t
-message Releases k j t = RELEASE k j t
-message Inquires k j t = INQUIRY k j t
 
 -- how much older than the client's last timestamp a message's timestamp is at least
 abbrev pub age : Tag → ℕ

@@ -46,9 +46,9 @@ use Rattle.system.specs.Runs.{after, runBy, start, next, runFrom, run}
 use Rattle.system.proofs.Effects.{Effect, refuses, begins, leaves, dies, sinks, rises, serverTakes, clientTakes, clientChecked, loses, suspects, asks, effect}
 use Rattle.system.proofs.PlaceLaws.{Changes, each, put-flagged, put-numbered, flagged-in, counts-down, at-replicate}
 use Rattle.system.proofs.ServerSteps.{Holds, fair-receive, fair-suspect, fair-check}
-use Rattle.system.proofs.Tokens.{message, All, empty, every-all, all-every, length-put}
+use Rattle.server_votes.proofs.Tagged.{message, message-request}
+use Rattle.system.proofs.Tokens.{All, empty, every-all, all-every, length-put}
 use Rattle.system.proofs.TransitLaws.{Posted, Delivery, no-gain, posted, unchanged, stills-gone, stills-keeping, delivery-dropped, pending-all, again-all}
-use Rattle.sim_blocks.proofs.ServerSteps.{message-request}
 
 -- a request in range of one of so many clients, and a message in range between one of them and one of n servers
 abbrev pub known : ℕ → Request → Bool

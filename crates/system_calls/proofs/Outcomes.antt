@@ -3,17 +3,18 @@ use Prim.Native.Nat.{ℕ, _*_, _≤_}
 use native.Mathlib.Omega.{arith}
 use mathlib.Core.Path.{_≡_, refl}
 use mathlib.Core.Bool.{true, false}
-use mathlib.Core.List.{map}
+use mathlib.Core.List.{List, [], _∷_, map}
 use lib.Dec.{leb, ltb}
 use lib.ListN.{length, length-map}
 use borrow.Author.Tests.{le-ltb, eq-eqb}
 use Rattle.ids.specs.Limits.{validRequest}
+use Rattle.ids.specs.Lists.{every}
 use Rattle.ids.specs.declared.ClientId.{ClientId}
 use Rattle.ids.specs.declared.ServerId.{ServerId}
 use Rattle.ids.specs.declared.Timestamp.{Timestamp}
 use Rattle.ids.specs.declared.Request.{Request}
 use Rattle.ids.specs.declared.Owner.{Owner}
-use Rattle.ids.specs.declared.Owner.the-variants.{Nobody, Of}
+use Rattle.ids.specs.declared.Owner.the-variants.{Of}
 use Rattle.ids.proofs.Choice.{both}
 use Rattle.rows.proofs.RowLaws.{length-row-of}
 use Rattle.wire.specs.Format as format
@@ -25,7 +26,9 @@ use Rattle.server_votes.specs.Figure1 as votes
 use Rattle.server_votes.specs.Figure1.{receive, suspect, check}
 use Rattle.server.specs.Record as server
 use Rattle.server.specs.Calls as server-calls
+use Rattle.server.proofs.CallLaws.{received-as}
 use Rattle.server.proofs.KeepsValid as server-laws
+use Rattle.server.proofs.Pigeonhole.{upTo, queue-fits}
 use Rattle.server.proofs.RecordLaws as server-records
 use Rattle.client_responses.specs.Figure1.{State, enough, mayTry, isRemainder, isCritical, tries, exits, responds, checked}
 use Rattle.client_responses.specs.Row.{place}
@@ -34,11 +37,9 @@ use Rattle.client.specs.Calls as client-calls
 use Rattle.client.specs.Calls.{forClient}
 use Rattle.client.proofs.KeepsValid.{Fits, view-store, store-valid, after-stored}
 use Rattle.system.specs.Limits.{systemClients}
-use Rattle.system.proofs.ServerSteps.{Holds, Named}
-use Rattle.system.proofs.Tokens.{message, all-map}
-use Rattle.sim_blocks.proofs.Pigeonhole.{queue-fits}
-use Rattle.sim_blocks.proofs.ServerSteps.{OfClients, holds-named, received-as}
-use Rattle.system_calls.proofs.Kept.{Known, There, there-parts, tagged-parts, message-known, ServerFits, receive-fits}
+use Rattle.system.proofs.ServerSteps.{holds-every}
+use Rattle.server_votes.proofs.Tagged.{message}
+use Rattle.system_calls.proofs.Kept.{known, There, there-parts, tagged-parts, message-known, ServerFits, receive-fits}
 
 -- with room for what is sent, a call's outcome stands
 pub with-room : {A : Type 0} (room : ℕ) (o : Outcome A) (s : Step A) → o ≡ stepped s → sizeOfAll (s .sent) ≤ room → withRoom room o ≡ stepped s
@@ -86,18 +87,14 @@ module _ (n m : ℕ) (k : ClientId) (s : State) (F : Fits n m k s) where
 
 -- so many clients, each once, fit a queue
 module _ (clients : ℕ) where
-  of-client : (r : Request) → Known clients r → OfClients clients r
-  of-client r h = both (validRequest r) (leb (r .client .0) clients) h .1
-
-  of-owner : (o : Owner) → Named (Known clients) o → Named (OfClients clients) o
-  of-owner Nobody h = tt
-  of-owner (Of r) h = of-client r h
-
-  of-clients : (q : votes.State) → Holds (Known clients) q → Holds (OfClients clients) q
-  of-clients q h = record { owner = of-owner (q .owner) (h .owner); queue = all-map of-client (h .queue) }
+  up-to : (l : List Request) → every (known clients) l ≡ true → every (upTo clients) l ≡ true
+  up-to [] h = refl
+  up-to (r ∷ l) h =
+      let (a, g) = both (known clients r) (every (known clients) l) h in
+      rw (both (validRequest r) (upTo clients r) a .1) (up-to l g)
 
   pub short-queue : clients ≤ systemClients → (q : votes.State) → ServerFits clients q → length (q .queue) ≤ server.queuePlaces
-  short-queue few q S = omega (arith, queue-fits clients q (S .good) (holds-named clients q (of-clients q (S .holds))))
+  short-queue few q S = omega (arith, queue-fits clients q (S .good) (up-to (votes.candidates q) (holds-every (known clients) q (S .holds))))
 
 -- server j's calls
 module _ (n clients : ℕ) (few : clients ≤ systemClients) (j : ServerId) (sizes : server.validSizes n j ≡ true) (q : votes.State) (S : ServerFits clients q) where

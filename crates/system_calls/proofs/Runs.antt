@@ -41,7 +41,7 @@ use Rattle.system.specs.Places.{System, noClient, noServer, clientAt, serverAt}
 use Rattle.system.specs.Events.{Result, clientMoves, serverMoves}
 use Rattle.system.specs.Runs.{start, run}
 use Rattle.system.proofs.Effects.{Effect, refuses, begins, leaves, dies, sinks, rises, serverTakes, clientTakes, clientChecked, loses, suspects, asks, effect}
-use Rattle.system.proofs.Tokens.{message}
+use Rattle.server_votes.proofs.Tagged.{message}
 use Rattle.system_calls.specs.Calls.{serverRecord, Stored, clientRoom, serverMessages, serverRoom, ClientCalled, ServerCalled, TakenByCall, ByCalls, OnRecords, StartsByNew}
 use Rattle.system_calls.proofs.Kept.{Kept, has-client, has-server, new-client, new-server, arrived, server-sizes, kept-run}
 use Rattle.system_calls.proofs.Outcomes.{with-room, client-after, begin-outcome, exit-outcome, response-outcome, check-outcome, stored-server, shown-server, server-after, receive-outcome, suspect-outcome, check-call}
