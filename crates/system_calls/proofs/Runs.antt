@@ -18,7 +18,7 @@ use Rattle.ids.proofs.Choice.{both}
 use Rattle.ids.proofs.LimitsLaws.{within-range}
 use Rattle.rows.proofs.RowLaws.{row-of-none}
 use Rattle.wire.specs.Format.{sizeOfAll}
-use Rattle.wire.specs.Step.{Step, Outcome, refused, stepped}
+use Rattle.wire.specs.Step.{Step, Outcome, refused, stepped, withRoom}
 use Rattle.wire.specs.declared.Message.{Message}
 use Rattle.wire.specs.declared.Message.the-variants.{Response as RESPONSE, Check as CHECK}
 use Rattle.server_votes.specs.declared.Tag.{Tag}
@@ -85,7 +85,8 @@ module _ (n m clients : ℕ) (z : client.validSizes n m ≡ true) (few : clients
         → ClientCalled n m w k (clientMoves w k l d p) o
     client-called l d p o e h =
         let ch = new-client n m clients w K k (record { living = true; state = p .state; downs = d }) lives in
-        record { accepted = rw (ch .here) (with-room (clientRoom n) o p e h); left = rw (ch .here, e) (client-after n m k its fits p) }
+        let r : (room : ℕ) → clientRoom n ≤ room → withRoom room o ≡ stepped p = λ room g. with-room room o p e (omega (arith, h, g)) in
+        record { accepted = λ room g. rw (ch .here) (r room g); left = λ room g. rw (ch .here, r room g) (client-after n m k its fits p) }
 
   -- a server's that is up
   module _ (j : ServerId) (up : serverAt w j .up ≡ true) where
@@ -99,9 +100,10 @@ module _ (n m clients : ℕ) (z : client.validSizes n m ≡ true) (few : clients
         → ServerCalled n w j (serverMoves w j l p) o
     server-called l p o e h =
         let ch = new-server n m clients w K j (record { up = true; state = p .state }) up in
+        let r : (room : ℕ) → serverRoom ≤ room → withRoom room o ≡ stepped p = λ room g. with-room room o p e (omega (arith, h, g, size-few (p .sent))) in
         record {
-          accepted = rw (ch .here) (with-room serverRoom o p e (omega (arith, size-few (p .sent))));
-          left = rw (ch .here, e) (server-after n clients few j sized held (K .server-fits (j .0)) p);
+          accepted = λ room g. rw (ch .here) (r room g);
+          left = λ room g. rw (ch .here, r room g) (server-after n clients few j sized held (K .server-fits (j .0)) p);
         }
 
   abbrev By : Event → Result → Type 0

@@ -1,6 +1,6 @@
 -- What a run has to do with the calls that a host makes: the record that each client and each server of a system is stored as, and the call that each
 -- accepted event is on such a record.
-use Prim.Native.Nat.{ℕ, _*_}
+use Prim.Native.Nat.{ℕ, _*_, _≤_}
 use mathlib.Core.Path.{_≡_}
 use mathlib.Core.Bool.{true}
 use mathlib.Core.Option.{some}
@@ -52,16 +52,16 @@ serverMessages = 3
 abbrev pub serverRoom : ℕ
 serverRoom = serverMessages * responseBytes
 
--- The event's step s is client k's call with outcome o: with room for `clientRoom` the call is accepted, it gives the client's new state and sends what
--- the event sends, and the record that it leaves is the one that the client is stored as afterwards.
+-- The event's step s is client k's call with outcome o, said as the call's contract says it: with a buffer of so many bytes or more the call is accepted,
+-- it gives the client's new state and sends what the event sends, and the record that it leaves is the one that the client is stored as afterwards.
 pub record ClientCalled (n m : ℕ) (w : System) (k : ClientId) (s : Step System) (o : Outcome State) : Type 0 where
-  pub accepted : withRoom (clientRoom n) o ≡ stepped (record { state = clientAt (s .state) k .state; sent = s .sent })
-  pub left : client-calls.clientAfter (clientRecord n m w k) o ≡ clientRecord n m (s .state) k
+  pub accepted : (room : ℕ) → clientRoom n ≤ room → withRoom room o ≡ stepped (record { state = clientAt (s .state) k .state; sent = s .sent })
+  pub left : (room : ℕ) → clientRoom n ≤ room → client-calls.clientAfter (clientRecord n m w k) (withRoom room o) ≡ clientRecord n m (s .state) k
 
 -- the same of server j's call
 pub record ServerCalled (n : ℕ) (w : System) (j : ServerId) (s : Step System) (o : Outcome votes.State) : Type 0 where
-  pub accepted : withRoom serverRoom o ≡ stepped (record { state = serverAt (s .state) j .state; sent = s .sent })
-  pub left : server-calls.serverAfter (serverRecord n w j) o ≡ serverRecord n (s .state) j
+  pub accepted : (room : ℕ) → serverRoom ≤ room → withRoom room o ≡ stepped (record { state = serverAt (s .state) j .state; sent = s .sent })
+  pub left : (room : ℕ) → serverRoom ≤ room → server-calls.serverAfter (serverRecord n w j) (withRoom room o) ≡ serverRecord n (s .state) j
 
 -- message x is taken by its receiver's call `message`
 abbrev pub AtServer : ℕ → System → Step System → ServerId → Message → Type 0
