@@ -24,6 +24,8 @@ use Rattle.wire.specs.declared.Message.the-variants as message
 use Rattle.wire.specs.declared.Answer.the-variants.{Sent, Refused}
 use Rattle.server_votes.specs.declared.Moved.{Moved}
 use Rattle.server_votes.specs.declared.Tag.{Tag}
+use Rattle.server_votes.specs.declared.Tag.the-variants.{Request as Asks, Yield as Yields, Release as Releases, Inquiry as Inquires}
+use Rattle.server_votes.proofs.Tagged as tagged
 use Rattle.server_votes.specs.Figure1.{State, delete, suspect, check}
 use Rattle.server_votes.specs.Places.{MovesOne, still, telling}
 use Rattle.server_votes.proofs.ActLaws.{stays, delete-fits}
@@ -56,6 +58,12 @@ asks-nothing s (message.Release k j t) e = let z : _≡_ {A = ℕ} 0 1 = cc in a
 asks-nothing s (message.Inquiry k j t) e = let z : _≡_ {A = ℕ} 0 1 = cc in absurd (omega arith)
 asks-nothing s (message.Response k j o) e = refl
 asks-nothing s (message.Check k j t) e = refl
+
+pub received-as : (s : Server) (x : Tag) (k : ClientId) (j : ServerId) (t : Timestamp) → received s (tagged.message x k j t) ≡ taken s x k j t
+received-as s Asks k j t = refl
+received-as s Yields k j t = refl
+received-as s Releases k j t = refl
+received-as s Inquires k j t = refl
 
 module _ (h : Head) (row : List ℕ) (r : Turned) (b : Bool) (e : b ≡ valid (serverOf h row)) where
   abbrev s : Server

@@ -7,7 +7,7 @@ use mathlib.Core.List.{List, [], _∷_}
 use mathlib.Core.Option.{Option, none, some}
 use mathlib.Core.Logic.{⊎-elim}
 use lib.Dec.{eqb, leb, ltb}
-use lib.ListN.{length}
+use lib.ListN.{length, replicate}
 use borrow.Author.Tests.{ltb-false, eqb-true, eqb-false, eq-eqb, ne-eqb}
 use Rattle.ids.specs.Choice.{if_then_else_, maybe}
 use Rattle.ids.specs.Order.{before}
@@ -43,7 +43,7 @@ use Rattle.server_votes.proofs.RoomLaws.{informed-state, length-deleted}
 use Rattle.ids.specs.Lists.{every}
 use Rattle.server.specs.declared.Head.{Head}
 use Rattle.server.specs.declared.Server.{Server}
-use Rattle.server.specs.Record.{ordered, once, behindOwner, validState, validSizesUpTo, validUpTo, valid, view}
+use Rattle.server.specs.Record.{queuePlaces, rowWords, ordered, once, behindOwner, validState, validSizesUpTo, validSizes, validUpTo, valid, view, store}
 use Rattle.server.specs.Calls.{held, taken, received, messageOutcomeUpTo, messageOutcome, suspectOutcome, checkOutcome, headAfter, rowAfter, serverAfter}
 use Rattle.server.proofs.RecordLaws.{valid-sized, valid-padded, valid-state}
 
@@ -362,6 +362,10 @@ stored-valid limit h row n p z e f g =
     let q = p .state in
     let H = row-of-holds row n (q .queue) e f (requests-fit (q .queue) (g .all)) in
     rw (z, padded-good (rowOf (length row) (q .queue)) (length (q .queue)) (H .good), H .list) (good-valid q g)
+
+-- so the record that a good state is stored as is valid
+pub store-valid : (n : ℕ) (j : ServerId) (q : State) → validSizes n j ≡ true → length (q .queue) ≤ queuePlaces → Good q → valid (store n j q) ≡ true
+store-valid n j q z short g = stored-valid maxServers (store n j q .head) (replicate rowWords 0) queuePlaces (stay q) z refl short g
 
 -- a valid record's state is good
 pub view-good : (limit : ℕ) (s : Server) → validUpTo limit s ≡ true → (validSizesUpTo limit (s .head .n) (s .head .id) ≡ true) × Good (view s)

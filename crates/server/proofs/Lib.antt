@@ -6,3 +6,4 @@ pub mod CallLaws
 pub mod KeepsValid
 pub mod OwnResponse
 pub mod QueueFull
+pub mod Pigeonhole

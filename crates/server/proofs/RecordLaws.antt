@@ -1,7 +1,7 @@
--- A valid record from its tests, and what a valid record is good for.
+-- A valid record from its tests, and what a valid record is good for; a record and the state it holds are one another.
 use Prim.Native.Nat.{ℕ, _<_, _≤_}
 use native.Mathlib.Omega.{arith}
-use mathlib.Core.Path.{_≡_, refl, sym, _∙_}
+use mathlib.Core.Path.{_≡_, refl, sym, ap, _∙_}
 use mathlib.Core.Bool.{Bool, true, false, not, _&&_}
 use mathlib.Core.List.{List, _∷_}
 use mathlib.Core.Logic.{⊎-elim}
@@ -12,22 +12,25 @@ use Rattle.ids.specs.Limits.{within, maxServers, validOwner, validRequest}
 use Rattle.ids.specs.Lists.{every}
 use Rattle.ids.specs.Requests.{byOwner}
 use Rattle.ids.specs.declared.Request.{Request}
+use Rattle.ids.specs.declared.ServerId.{ServerId}
 use Rattle.ids.specs.declared.Owner.{Owner}
 use Rattle.ids.specs.declared.Owner.the-variants.{Nobody, Of}
 use Rattle.ids.proofs.Choice.{both, decided}
-use Rattle.rows.specs.Rows.{queueOf, Padded}
+use Rattle.rows.specs.Rows.{queueOf, rowOf, Padded}
 use Rattle.rows.specs.Good.{goodRow}
 use Rattle.rows.specs.Queues.{isClient, first}
 use Rattle.rows.proofs.ListLaws.{first-within}
 use Rattle.rows.proofs.QueueLaws.{length-queue}
 use Rattle.rows.proofs.GoodLaws.{good-padded}
+use Rattle.rows.proofs.RowLaws.{row-kept, row-of-queue}
 use Rattle.server_votes.specs.declared.Votes.{Votes}
-use Rattle.server_votes.specs.Figure1.{candidates}
+use Rattle.server_votes.specs.Figure1.{State, candidates}
 use Rattle.server_votes.specs.Queues.{view}
 use Rattle.server_votes.proofs.ListLaws.{timestamp-first, timestamp-none}
 use Rattle.server.specs.declared.Head.{Head}
 use Rattle.server.specs.declared.Server.{Server}
-use Rattle.server.specs.Record.{ordered, once, validState, validSizesUpTo, serverOf, validUpTo, valid}
+use Rattle.server.specs.Record.{queuePlaces, rowWords, ordered, once, validState, validSizesUpTo, serverOf, store, validUpTo, valid}
+use Rattle.server.specs.Record.{view as record-view}
 use Rattle.server.specs.Inner.{repeats, fitsOwner}
 use Rattle.server.proofs.ValidLaws.{once-cons}
 
@@ -155,3 +158,13 @@ module _ (limit : ℕ) (x : Server) (v : validUpTo limit x ≡ true) where
 -- a valid server's row is in good order
 pub server-padded : (x : Server) (b : Bool) → b ≡ valid x → not b ≡ false → Padded (x .row) (x .head .votes .len)
 server-padded x b e n = valid-padded maxServers x (sym e ∙ not-false b n)
+
+-- a stored state is seen again, and storing what a record shows gives the record again
+pub view-store : (n : ℕ) (j : ServerId) (q : State) → length (q .queue) ≤ queuePlaces → record-view (store n j q) ≡ q
+view-store n j q h = let e = row-of-queue queuePlaces (q .queue) h in λ i. record { owner = q .owner; queue = e i }
+
+pub store-view : (s : Server) → length (s .row) ≡ rowWords → Padded (s .row) (s .head .votes .len) → store (s .head .n) (s .head .id) (record-view s) ≡ s
+store-view s long good =
+    let l = length-queue (s .row) (s .head .votes .len) good in
+    let r = ap (λ (size : ℕ). rowOf size (queueOf (s .row) (s .head .votes .len))) (sym long) ∙ row-kept (s .row) (s .head .votes .len) good in
+    λ i. serverOf (record { n = s .head .n; id = s .head .id; votes = record { owner = s .head .votes .owner; len = l i } }) (r i)

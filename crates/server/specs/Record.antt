@@ -4,6 +4,7 @@ use mathlib.Core.Bool.{Bool, true, false, _&&_}
 use mathlib.Core.List.{List, [], _∷_}
 use lib.Dec.{eqb}
 use lib.ListN.{length}
+use Rattle.rows.specs.Rows.{rowOf}
 use Rattle.ids.specs.Lists.{every}
 use Rattle.ids.specs.Choice.{maybe}
 use Rattle.ids.specs.Limits.{within, maxServers, validRequest, validOwner}
@@ -32,6 +33,10 @@ serverOf h row = record { head = h; row = row }
 -- the state that a record holds
 abbrev pub view : Server → State
 view s = votes.view (s .head .votes) (s .row)
+
+-- the record by value of server j of n that holds a state: the places behind its queue are empty
+abbrev pub store : ℕ → ServerId → State → Server
+store n j q = serverOf (record { n = n; id = j; votes = record { owner = q .owner; len = length (q .queue) } }) (rowOf rowWords (q .queue))
 
 -- server id of n, where so many servers are the most
 abbrev pub validSizesUpTo : ℕ → ℕ → ServerId → Bool

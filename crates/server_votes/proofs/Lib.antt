@@ -5,3 +5,4 @@ pub mod RoomLaws
 pub mod ActLaws
 pub mod OwnerLaws
 pub mod EveryLaws
+pub mod Tagged

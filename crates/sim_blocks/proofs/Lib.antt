@@ -7,7 +7,7 @@ pub mod FlagLaws
 pub mod Facts
 pub mod ClientLaws
 pub mod ClientSteps
-pub mod Pigeonhole
 pub mod ServerLaws
 pub mod ServerSteps
 pub mod EpochLaws
+pub mod Determined

@@ -5,17 +5,16 @@ use mathlib.Core.Path.{_≡_, refl, ap, _∙_, sym}
 use mathlib.Core.Bool.{true, false}
 use mathlib.Core.List.{List}
 use lib.Dec.{eqb}
-use lib.ListN.{length, getD, take, set, replicate, length-take, length-drop, length-set}
+use lib.ListN.{length, getD, take, set, length-take, length-drop, length-set}
 use lib.Seq.{sets, length-sets, drop-set-lt, getD-set-same}
 use Rattle.ids.specs.Lists.{every}
-use Rattle.ids.specs.Limits.{maxServers, validOwner}
-use Rattle.rows.specs.Rows.{rowOf}
-use Rattle.rows.proofs.RowLaws.{length-row-of, row-of-queue, row-of-none}
-use Rattle.wire.specs.Step.{stay}
+use Rattle.ids.specs.Limits.{validOwner}
+use Rattle.rows.proofs.RowLaws.{length-row-of, row-of-none}
 use Rattle.server_votes.specs.Figure1.{State, candidates, idle}
 use Rattle.server.specs.Record as server
 use Rattle.server.specs.declared.Server.{Server}
-use Rattle.server.proofs.KeepsValid.{Good, stored-valid}
+use Rattle.server.proofs.KeepsValid.{Good, store-valid}
+use Rattle.server.proofs.RecordLaws.{view-store}
 use Rattle.words.specs.Records.{holdsServer, serverFrom, serverWords, serverSize}
 use Rattle.words.proofs.RoundTrip.{server-read-back}
 use Rattle.sim_blocks.proofs.RegionLaws.{region-inside}
@@ -34,8 +33,7 @@ pub record ServerIs (n clients j : ℕ) (b : List ℕ) (p : ServerPlace) : Type 
 
 -- the record of server j of n in state q, and the block with it
 abbrev pub server-of : ℕ → ℕ → State → Server
-server-of n j q = server.serverOf (record { n = n; id = serverNo j; votes = record { owner = q .owner; len = length (q .queue) } })
-    (rowOf server.rowWords (q .queue))
+server-of n j q = server.store n (serverNo j) q
 
 abbrev pub server-written : ℕ → ℕ → List ℕ → State → List ℕ
 server-written n j b q = sets b 1 (serverWords (server-of n j q))
@@ -44,9 +42,6 @@ server-written n j b q = sets b 1 (serverWords (server-of n j q))
 pub empty-row : (n j : ℕ) → emptyServer n (serverNo j) ≡ server-of n j idle
 empty-row n j = let e = row-of-none server.rowWords 0 (omega arith) in λ i. server.serverOf
     (record { n = n; id = serverNo j; votes = record { owner = Nobody; len = 0 } }) (sym e i)
-
-view-again : (n j : ℕ) (q : State) → length (q .queue) ≤ server.queuePlaces → server.view (server-of n j q) ≡ q
-view-again n j q h = let e = row-of-queue server.queuePlaces (q .queue) h in λ i. record { owner = q .owner; queue = e i }
 
 module _ (n clients j : ℕ) (b : List ℕ) (size : length b ≡ serverBlock) (bit : getD b 0 0 ≤ 1) (sizes : server.validSizes n (record { 0 = j }) ≡ true) where
   module _ (q : State) (g : Good q) (names : every (namedPair clients) (candidates q) ≡ true) (short : length (q .queue) ≤ server.queuePlaces) where
@@ -57,7 +52,7 @@ module _ (n clients j : ℕ) (b : List ℕ) (size : length b ≡ serverBlock) (b
     kept-row = length-row-of server.rowWords (q .queue) (omega arith)
 
     kept-valid : server.valid kept ≡ true
-    kept-valid = stored-valid maxServers (kept .head) (replicate server.rowWords 0) server.queuePlaces (stay q) sizes refl short g
+    kept-valid = store-valid n (serverNo j) q sizes short g
 
     words-held : (holdsServer (serverWords kept) ≡ true) × (serverFrom (serverWords kept) ≡ kept)
     words-held = read-in (holdsServer (serverWords kept)) (serverFrom (serverWords kept)) kept (server-read-back kept kept-valid kept-row)
@@ -75,7 +70,7 @@ module _ (n clients j : ℕ) (b : List ℕ) (size : length b ≡ serverBlock) (b
     unfolding serverPlace
     stored-place =
         let a : getD (server-written n j b q) 0 0 ≡ getD b 0 0 = first-kept b 0 (serverWords kept) in
-        let v : server.view (serverFrom (serverRecord (server-written n j b q))) ≡ q = ap (λ (s : Server). server.view s) its-server ∙ view-again n j q short in
+        let v : server.view (serverFrom (serverRecord (server-written n j b q))) ≡ q = ap (λ (s : Server). server.view s) its-server ∙ view-store n (serverNo j) q short in
         λ i. record { up = eqb (a i) 1; state = v i }
 
     pub stored-record : ServerIs n clients j (server-written n j b q) (record { up = serverPlace b .up; state = q })

@@ -3,85 +3,41 @@ use Prim.Native.Nat.{ℕ, _*_, _≤_}
 use native.Mathlib.Omega.{arith}
 use mathlib.Core.Path.{_≡_, refl, ap, _∙_}
 use mathlib.Core.Bool.{true, false}
-use mathlib.Core.List.{List, [], _∷_}
+use mathlib.Core.List.{List}
 use lib.Dec.{leb, ltb}
 use lib.ListN.{length, length-drop}
 use borrow.Author.Tests.{eq-eqb, le-ltb}
 use Rattle.ids.specs.Lists.{every}
-use Rattle.ids.specs.Limits.{maxServers, validRequest}
+use Rattle.ids.specs.Limits.{validRequest}
 use Rattle.ids.specs.declared.ClientId.{ClientId}
 use Rattle.ids.specs.declared.ServerId.{ServerId}
 use Rattle.ids.specs.declared.Timestamp.{Timestamp}
 use Rattle.ids.specs.declared.Request.{Request}
-use Rattle.ids.specs.declared.Owner.{Owner}
-use Rattle.ids.specs.declared.Owner.the-variants.{Nobody, Of}
-use Rattle.ids.proofs.Choice.{both}
+use Rattle.ids.specs.declared.Owner.the-variants.{Of}
 use Rattle.wire.specs.Step.{Step, stepped}
-use Rattle.ids.proofs.LimitsLaws.{stamped-request}
 use Rattle.wire.specs.Format as format
 use Rattle.server_votes.specs.declared.Tag.{Tag}
-use Rattle.server_votes.specs.declared.Tag.the-variants.{Request as Asks, Yield as Yields, Release as Releases, Inquiry as Inquires}
 use Rattle.server_votes.specs.Figure1.{State, candidates, receive, suspect, check}
 use Rattle.server.specs.Record as server
 use Rattle.server.specs.declared.Server.{Server}
-use Rattle.server.specs.Calls.{serverAfter, messageOutcome, messageOutcomeUpTo, received, suspectOutcome, checkOutcome, taken}
+use Rattle.server.specs.Calls.{serverAfter, messageOutcome, messageOutcomeUpTo, suspectOutcome, checkOutcome}
+use Rattle.server.proofs.CallLaws.{received-as}
+use Rattle.server.proofs.Pigeonhole.{queue-fits}
 use Rattle.server.proofs.KeepsValid.{Good, receive-good, suspect-good, check-good}
 use Rattle.words.specs.Records.{serverFrom}
 use Rattle.words.proofs.RecordsLaws.{server-held}
-use Rattle.system.proofs.Tokens.{message, worth, All, empty, more}
-use Rattle.system.proofs.ServerSteps.{Holds, Fair, none-gained, fair-receive, fair-suspect, fair-check}
+use Rattle.server_votes.proofs.Tagged.{message, message-request}
+use Rattle.system.proofs.Tokens.{worth}
+use Rattle.system.proofs.ServerSteps.{Holds, every-holds, holds-every, Fair, none-gained, fair-receive, fair-suspect, fair-check}
 use Rattle.sim_blocks.specs.Blocks.{serverRecord, serverPlace, namedPair, validServerBlock}
 use Rattle.sim_blocks.proofs.Facts.{ServerBlock, server-facts, server-good}
-use Rattle.sim_blocks.proofs.Pigeonhole.{queue-fits}
 use Rattle.sim_blocks.proofs.ServerLaws.{ServerIs, server-of, server-written, stored-server}
 use Rattle.system.specs.Limits.{systemClients}
 use Rattle.system.specs.Numbered.{serverNo}
 
 -- r is a request of one of so many clients
-abbrev pub OfClients : ℕ → Request → Type 0
+abbrev OfClients : ℕ → Request → Type 0
 OfClients clients r = leb (r .client .0) clients ≡ true
-
-module _ (clients : ℕ) where
-  all-of : (l : List Request) → every (namedPair clients) l ≡ true → All (OfClients clients) l
-  all-of [] h = empty
-  all-of (x ∷ l) h = let (a, g) = both (namedPair clients x) (every (namedPair clients) l) h in more a (all-of l g)
-
-  every-of : {l : List Request} → All (OfClients clients) l → every (namedPair clients) l ≡ true
-  every-of empty = refl
-  every-of (more a g) = rw a (every-of g)
-
-  holds-by : (o : Owner) (l : List Request) → every (namedPair clients) (candidates (record { owner = o; queue = l })) ≡ true
-      → Holds (OfClients clients) (record { owner = o; queue = l })
-  holds-by Nobody l h = record { owner = tt; queue = all-of l h }
-  holds-by (Of r) l h =
-      let (a, g) = both (namedPair clients r) (every (namedPair clients) l) h in
-      record { owner = a; queue = all-of l g }
-
-  names-by : (o : Owner) (l : List Request) → Holds (OfClients clients) (record { owner = o; queue = l })
-      → every (namedPair clients) (candidates (record { owner = o; queue = l })) ≡ true
-  names-by Nobody l h = every-of (h .queue)
-  names-by (Of r) l h = rw (h .owner) (every-of (h .queue))
-
-  pub named-holds : (q : State) → every (namedPair clients) (candidates q) ≡ true → Holds (OfClients clients) q
-  named-holds q h = holds-by (q .owner) (q .queue) h
-
-  pub holds-named : (q : State) → Holds (OfClients clients) q → every (namedPair clients) (candidates q) ≡ true
-  holds-named q h = names-by (q .owner) (q .queue) h
-
--- the request of a valid message
-pub message-request : (tag : Tag) (k : ClientId) (j : ServerId) (t : Timestamp) → format.valid (message tag k j t) ≡ true
-    → validRequest (record { client = k; timestamp = t }) ≡ true
-unfolding format.validUpTo
-message-request Asks k j t w = stamped-request maxServers k j t w
-message-request Yields k j t w = stamped-request maxServers k j t w
-message-request Releases k j t w = stamped-request maxServers k j t w
-message-request Inquires k j t w = stamped-request maxServers k j t w
-
-received-as : (s : Server) (tag : Tag) (k : ClientId) (j : ServerId) (t : Timestamp) → received s (message tag k j t) ≡ taken s tag k j t
-received-as s Asks k j t = refl
-received-as s Yields k j t = refl
-received-as s Releases k j t = refl
-received-as s Inquires k j t = refl
 
 -- the tokens of no request matter here
 abbrev no-one : Request → Type 0
@@ -104,7 +60,7 @@ module _ (n clients j : ℕ) (b : List ℕ) (ok : validServerBlock n clients (se
   good = server-good n clients j b B
 
   holds : Holds (OfClients clients) at
-  holds = named-holds clients at (B .names)
+  holds = every-holds (namedPair clients) at (B .names)
 
   shows : server.view its ≡ at
   unfolding serverPlace
@@ -119,7 +75,7 @@ module _ (n clients j : ℕ) (b : List ℕ) (ok : validServerBlock n clients (se
     fair = fair-receive tag r (λ p x. absurd x) c holds
 
     receive-names : every (namedPair clients) (candidates (receive me tag r at .state)) ≡ true
-    receive-names = holds-named clients (receive me tag r at .state) (fair .holds)
+    receive-names = holds-every (namedPair clients) (receive me tag r at .state) (fair .holds)
 
     module _ (v : validRequest r ≡ true) where
       -- so many clients fit a queue: it is never full
@@ -136,7 +92,7 @@ module _ (n clients j : ℕ) (b : List ℕ) (ok : validServerBlock n clients (se
   suspect-fair = fair-suspect (λ p x. absurd x) holds
 
   suspect-names : every (namedPair clients) (candidates (suspect me at .state)) ≡ true
-  suspect-names = holds-named clients (suspect me at .state) (suspect-fair .holds)
+  suspect-names = holds-every (namedPair clients) (suspect me at .state) (suspect-fair .holds)
 
   pub suspect-short : length (suspect (record { 0 = j }) (serverPlace b .state) .state .queue) ≤ clients
   suspect-short = queue-fits clients (suspect me at .state) (suspect-good me at good) suspect-names
@@ -151,7 +107,7 @@ module _ (n clients j : ℕ) (b : List ℕ) (ok : validServerBlock n clients (se
   check-fair = fair-check holds
 
   check-names : every (namedPair clients) (candidates (check me at .state)) ≡ true
-  check-names = holds-named clients (check me at .state) (check-fair .holds)
+  check-names = holds-every (namedPair clients) (check me at .state) (check-fair .holds)
 
   pub check-short : length (check (record { 0 = j }) (serverPlace b .state) .state .queue) ≤ clients
   check-short = queue-fits clients (check me at .state) (check-good me at good) check-names

@@ -3,7 +3,7 @@ use Prim.Native.Nat.{ℕ, _≤_}
 use native.Mathlib.Omega.{arith}
 use mathlib.Core.Path.{_≡_}
 use mathlib.Core.Bool.{Bool, true, _&&_}
-use mathlib.Core.List.{List, [], _∷_}
+use mathlib.Core.List.{List}
 use lib.Dec.{leb}
 use lib.ListN.{length}
 use borrow.Author.Tests.{le-leb, leb-true}
@@ -17,6 +17,7 @@ use Rattle.ids.specs.declared.Request.{Request as Pair}
 use Rattle.ids.specs.declared.Owner.{Owner}
 use Rattle.ids.specs.declared.Owner.the-variants.{Nobody, Of}
 use Rattle.ids.proofs.Choice.{both}
+use Rattle.ids.proofs.ListLaws.{every-both}
 use Rattle.ids.proofs.LimitsLaws.{within-range, request-range, client-range}
 use Rattle.wire.specs.Format as format
 use Rattle.wire.specs.Format.{sizeOfAll, fieldsOf, ownerClient}
@@ -105,20 +106,13 @@ abbrev known-request : ℕ → Pair → Bool
 known-request clients r = validRequest r && leb (r .client .0) clients
 
 module _ (clients : ℕ) where
-  all-known : (l : List Pair) → every validRequest l ≡ true → every (namedPair clients) l ≡ true → every (known-request clients) l ≡ true
-  all-known [] v h = v
-  all-known (r ∷ l) v h =
-      let (a, c) = both (validRequest r) (every validRequest l) v in
-      let (b, d) = both (leb (r .client .0) clients) (every (namedPair clients) l) h in
-      rw (a, b) (all-known l c d)
-
   state-known : (o : Owner) (l : List Pair) → Knows validRequest (record { owner = o; queue = l })
       → every (namedPair clients) (votes.candidates (record { owner = o; queue = l })) ≡ true
       → Knows (known-request clients) (record { owner = o; queue = l })
-  state-known Nobody l k h = record { owner = k .owner; queue = all-known l (k .queue) h }
+  state-known Nobody l k h = record { owner = k .owner; queue = every-both validRequest (namedPair clients) l (k .queue) h }
   state-known (Of r) l k h =
       let (b, d) = both (leb (r .client .0) clients) (every (namedPair clients) l) h in
-      record { owner = rw (k .owner, b); queue = all-known l (k .queue) d }
+      record { owner = rw (k .owner, b); queue = every-both validRequest (namedPair clients) l (k .queue) d }
 
   owner-there : (o : Owner) → byOwner o true (known-request clients) ≡ true → ownerClient o ≤ clients
   owner-there Nobody h = omega arith

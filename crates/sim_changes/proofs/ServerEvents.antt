@@ -42,11 +42,11 @@ use Rattle.system.specs.Transit.{replaced, keeping}
 use Rattle.sim_transit.specs.Slots.{slotAt}
 use Rattle.system.specs.Places.{System, ServerPlace, serverAt}
 use Rattle.system.specs.Events.{event, serverMoves, serverTook}
-use Rattle.system.proofs.Tokens.{message}
+use Rattle.server_votes.proofs.Tagged.{message, message-request}
 use Rattle.sim_blocks.specs.Blocks.{serverRecord, clientPlace, serverPlace, namedPair, serverBlock}
 use Rattle.sim_blocks.proofs.Facts.{ServerBlock, server-facts, server-good}
 use Rattle.sim_blocks.proofs.ServerLaws.{server-of}
-use Rattle.sim_blocks.proofs.ServerSteps.{message-request, check-outcome, check-short, suspect-outcome, suspect-short, receive-outcome, receive-short}
+use Rattle.sim_blocks.proofs.ServerSteps.{check-outcome, check-short, suspect-outcome, suspect-short, receive-outcome, receive-short}
 use Rattle.sim_blocks.proofs.ServerSteps.{server-after}
 use Rattle.sim_layout.specs.Layout.{settingOf, lengthOf, transitWords, view, serversFrom}
 use Rattle.sim_layout.specs.Parts.{clientBlockOf, serverBlockOf, ServerIn}

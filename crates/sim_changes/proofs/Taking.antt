@@ -22,7 +22,7 @@ use Rattle.system.specs.declared.Event.the-variants.{Take}
 use Rattle.system.specs.Transit.{InTransit, replaced, gone, keeping}
 use Rattle.system.specs.Places.{System, clientAt}
 use Rattle.system.specs.Events.{event, deliver, toServer, need, responseTook, checkTook}
-use Rattle.system.proofs.Tokens.{message}
+use Rattle.server_votes.proofs.Tagged.{message}
 use Rattle.sim_transit.specs.Slots.{slots, slotAt, ascending}
 use Rattle.sim_transit.proofs.Kept.{Kept, slot-kept, length-slots, Named, names-named}
 use Rattle.sim_transit.proofs.NumbersLaws.{replaced-there}

@@ -7,3 +7,4 @@ pub mod ReadLaws
 pub mod LoopLaws
 pub mod TestLaws
 pub mod HolderLaws
+pub mod Determined

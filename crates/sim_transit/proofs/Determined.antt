@@ -6,7 +6,7 @@ use mathlib.Core.Path.{_≡_, refl, sym, ap, _∙_}
 use mathlib.Core.Bool.{true}
 use mathlib.Core.List.{List, [], _∷_, _++_, map, append-assoc}
 use lib.Dec.{eqb}
-use lib.ListN.{length, take, drop, length-drop, take-append-drop}
+use lib.ListN.{length, take, drop, length-drop, length-map, take-append-drop}
 use lib.Seq.{drop-drop, length-take-le}
 use borrow.Author.Tests.{eqb-true}
 use Rattle.ids.specs.Limits.{maxServers}
@@ -18,6 +18,7 @@ use Rattle.ids.specs.Lists.{every}
 use Rattle.sim_transit.specs.Slots.{slotOf, rows, slots, validSlot, slotSize}
 use Rattle.sim_transit.specs.Calls.{Valid, slotWords}
 use Rattle.sim_transit.proofs.SlotLaws.{Seven, seven, sevens, slot-fitting}
+use Rattle.sim_transit.proofs.RowsLaws.{length-rows}
 use Rattle.sim_transit.proofs.ValidLaws.{known}
 
 flag-again : (b : ℕ) → b ≤ 1 → (if eqb b 1 then 1 else 0) ≡ b
@@ -53,7 +54,7 @@ rows-joined (suc k) t =
     (← drop-drop (slotSize * k) slotSize t) (rows-joined k (drop slotSize t)) in
     rw (z, append-assoc (take slotSize t) (joined (rows k (drop slotSize t))) (drop (slotSize + slotSize * k) t), e) (take-append-drop slotSize t)
 
-zeros-same : (a b : List ℕ) → length a ≡ length b → every (eqb 0) a ≡ true → every (eqb 0) b ≡ true → a ≡ b
+pub zeros-same : (a b : List ℕ) → length a ≡ length b → every (eqb 0) a ≡ true → every (eqb 0) b ≡ true → a ≡ b
 zeros-same [] [] l p q = refl
 zeros-same [] (y ∷ b) l p q = absurd (omega arith)
 zeros-same (x ∷ a) [] l p q = absurd (omega arith)
@@ -61,6 +62,13 @@ zeros-same (x ∷ a) (y ∷ b) l p q =
     let (u, v) = both (eqb 0 x) (every (eqb 0) a) p in
     let (w, z) = both (eqb 0 y) (every (eqb 0) b) q in
     rw (← eqb-true 0 x u, ← eqb-true 0 y w, zeros-same a b (omega arith) v z)
+
+-- the same messages are as many
+pub same-count : (len len′ : ℕ) (s t : List ℕ) → slots len s ≡ slots len′ t → len ≡ len′
+unfolding slots
+same-count len len′ s t e =
+    let counted : (k : ℕ) (ws : List ℕ) → length (map slotOf (rows k ws)) ≡ k = λ k ws. length-map (rows k ws) slotOf ∙ length-rows k ws in
+    sym (counted len s) ∙ (ap length e ∙ counted len′ t)
 
 pub same-words : (n clients sent n′ clients′ sent′ len : ℕ) (s t : List ℕ) → Valid n clients sent len s → Valid n′ clients′ sent′ len t
     → slots len s ≡ slots len t → s ≡ t

@@ -1,3 +1,4 @@
 pub mod Replies
 pub mod NewLaws
 pub mod NeverFull
+pub mod Determined

@@ -1,5 +1,5 @@
 -- No event of a simulation is refused because a server's queue is full (14): the definition has no such refusal, and the server's own call, which
--- has it, never gives it (`places/proofs` `ServerSteps.receive-outcome`), since at most 16 clients, each once, fill a queue of 16 places.
+-- has it, never gives it (`sim_blocks/proofs` `ServerSteps.receive-outcome`), since at most 16 clients, each once, fill a queue of 16 places.
 use mathlib.Core.Path.{_≡_}
 use Prim.Native.Nat.{ℕ}
 use native.Mathlib.Omega.{arith}

@@ -25,13 +25,13 @@ use Rattle.system.specs.Transit.{pending, present}
 use Rattle.system.specs.Places.{System, clientAt, serverAt}
 use Rattle.system.specs.Events.{Result, tried, exited, fallen, wentDown, cameUp, serverTook, responseTook, checkTook, dropped, suspected, asked, toServer, deliver, event}
 use Rattle.system.proofs.Branch.{branch, perhaps, owned}
-use Rattle.system.proofs.Tokens.{message}
+use Rattle.server_votes.proofs.Tagged.{message}
 
 module _ (n : ℕ) (wins : Quorum) (w : System) where
   pub data Effect : Event → Result → Type 0 where
     refuses : {e : Event} {x : Refusal} → Effect e (refused x)
     begins : {k : ClientId} → clientAt w k .living ≡ true → isRemainder (clientAt w k .state .section) ≡ true →
-        Effect (Try k) (stepped (tried n w k))
+        mayTry (clientAt w k .state) ≡ true → Effect (Try k) (stepped (tried n w k))
     leaves : {k : ClientId} → clientAt w k .living ≡ true → isCritical (clientAt w k .state .section) ≡ true →
         Effect (Exit k) (stepped (exited n w k))
     dies : {k : ClientId} → clientAt w k .living ≡ true → Effect (Fall k) (stepped (fallen w k))
@@ -66,7 +66,7 @@ module _ (n : ℕ) (wins : Quorum) (w : System) where
   effect (Try k) =
       let E = Effect (Try k) in
       branch E (has (w .clients) (k .0)) (λ _. branch E (clientAt w k .living) (λ a. branch E (isRemainder (clientAt w k .state .section)) (λ b.
-      branch E (mayTry (clientAt w k .state)) (λ _. begins a b) (λ _. refuses)) (λ _. refuses)) (λ _. refuses)) (λ _. refuses)
+      branch E (mayTry (clientAt w k .state)) (begins a b) (λ _. refuses)) (λ _. refuses)) (λ _. refuses)) (λ _. refuses)
   effect (Exit k) =
       let E = Effect (Exit k) in
       branch E (has (w .clients) (k .0)) (λ _. branch E (clientAt w k .living) (λ a. branch E (isCritical (clientAt w k .state .section)) (λ b. leaves a b)

@@ -30,7 +30,8 @@ use Rattle.system.specs.Runs.{runBy, after, start, next, runFrom, run}
 use Rattle.system.proofs.Effects.{Effect, refuses, begins, leaves, dies, sinks, rises, serverTakes, clientTakes, clientChecked, loses, suspects, asks, effect}
 use Rattle.ids.proofs.Choice.{clash}
 use Rattle.system.proofs.Branch.{differ}
-use Rattle.system.proofs.Tokens.{message, worth, token, empty}
+use Rattle.server_votes.proofs.Tagged.{message}
+use Rattle.system.proofs.Tokens.{worth, token, empty}
 use Rattle.system.proofs.ServerSteps.{Holds, Spares, fair-stay, fair-receive, fair-suspect, fair-check}
 use Rattle.system.proofs.ClientSteps.{request, next-greater, InTime, Fine, Calm, by-all, requests-none, shows-none, mine-none, calm-respond, calm-checked}
 use Rattle.system.proofs.TransitLaws.{posted, unchanged, stills-gone, stills-keeping, delivery-delivered, delivery-dropped, pending-all}
@@ -106,7 +107,7 @@ module _ (n : ℕ) (wins : Quorum) where
     good : {e : Event} {o : Result} → Effect n wins w e o → Good o
     unfolding tries exits
     good refuses = tt
-    good (begins {k = k} lives _) =
+    good (begins {k = k} lives _ _) =
         let t : Timestamp = newer (clientAt w k .state .timestamp) in
         let gt = next-greater (clientAt w k .state .timestamp) in
         let r : Request = record { client = k; timestamp = t } in

@@ -4,12 +4,13 @@ use mathlib.Core.Path.{_≡_, refl, ap}
 use Prim.Native.Nat.{ℕ, _+_, _≤_}
 use native.Mathlib.Nat.{le-refl}
 use native.Mathlib.Omega.{arith}
-use mathlib.Core.Bool.{false, and-false}
+use mathlib.Core.Bool.{Bool, true, false, and-false}
 use mathlib.Core.List.{List, [], _∷_}
 use mathlib.Core.Logic.{inl, inr}
 use lib.Dec.{eqb, ltb}
 use borrow.Author.Tests.{ltb-true}
 use Rattle.ids.specs.Choice.{if_then_else_}
+use Rattle.ids.specs.Lists.{every}
 use Rattle.ids.specs.Order.{before}
 use Rattle.ids.specs.Requests.{same, isRequest, isClient}
 use Rattle.ids.specs.declared.ClientId.{ClientId}
@@ -17,7 +18,7 @@ use Rattle.ids.specs.declared.ServerId.{ServerId}
 use Rattle.ids.specs.declared.Request.{Request}
 use Rattle.ids.specs.declared.Owner.{Owner}
 use Rattle.ids.specs.declared.Owner.the-variants.{Nobody, Of}
-use Rattle.ids.proofs.Choice.{decided, Test}
+use Rattle.ids.proofs.Choice.{decided, Test, both}
 use Rattle.ids.proofs.RequestLaws.{same-true}
 use Rattle.wire.specs.Step.{Step, stay, tell, _then_}
 use Rattle.wire.specs.declared.Message.{Message}
@@ -27,7 +28,8 @@ use Rattle.server_votes.specs.declared.Tag.the-variants.{Request as Asks, Yield
 use Rattle.rows.specs.Queue.{timestampIn, insert, without}
 use Rattle.server_votes.specs.Figure1.{State as ServerState, candidates, enqueue, promote, delete, inform, admit, act, receive, suspect, check}
 use Rattle.system.proofs.Branch.{branch, perhaps, owned, bit, bit-and, differ, owner-request}
-use Rattle.system.proofs.Tokens.{message, age, worth, sum, sum-append, All, empty, more, all-append}
+use Rattle.server_votes.proofs.Tagged.{message}
+use Rattle.system.proofs.Tokens.{age, worth, sum, sum-append, All, empty, more, all-append, every-all, all-every}
 
 module _ (P : Request → Type 0) where
   abbrev pub Named : Owner → Type 0
@@ -54,6 +56,22 @@ module _ (P : Request → Type 0) where
     pub kept : (p : Request) → R p → sum (worth p) (s .sent) + bit (isRequest p o) ≤ bit (isRequest p (s .state .owner)) + gain p
     pub from : All (From j) (s .sent)
     pub holds : Holds (s .state)
+
+-- the same by a test that the candidates pass
+module _ (f : Request → Bool) where
+  holds-by : (o : Owner) (l : List Request) → every f (candidates (record { owner = o; queue = l })) ≡ true → Holds (λ r. f r ≡ true) (record { owner = o; queue = l })
+  holds-by Nobody l h = record { owner = tt; queue = every-all f l h }
+  holds-by (Of r) l h = let (a, g) = both (f r) (every f l) h in record { owner = a; queue = every-all f l g }
+
+  every-by : (o : Owner) (l : List Request) → Holds (λ r. f r ≡ true) (record { owner = o; queue = l }) → every f (candidates (record { owner = o; queue = l })) ≡ true
+  every-by Nobody l h = all-every f (h .queue)
+  every-by (Of r) l h = rw (h .owner) (all-every f (h .queue))
+
+  pub every-holds : (q : ServerState) → every f (candidates q) ≡ true → Holds (λ r. f r ≡ true) q
+  every-holds q h = holds-by (q .owner) (q .queue) h
+
+  pub holds-every : (q : ServerState) → Holds (λ r. f r ≡ true) q → every f (candidates q) ≡ true
+  holds-every q h = every-by (q .owner) (q .queue) h
 
 abbrev pub none-gained : Request → ℕ
 none-gained p = 0

@@ -147,7 +147,7 @@ module _ (n : ℕ) (wins : Quorum) (d : List ℕ) where
     silent : {e : Event} {o : Result} → Inv n wins w → Stays d e → Effect n wins w e o → Good o
     unfolding tries exits
     silent inv a refuses = tt
-    silent inv a (begins {k = k} lives _) =
+    silent inv a (begins {k = k} lives _ _) =
         let t : Timestamp = newer (clientAt w k .state .timestamp) in
         silent-client k _ _ lives unchanged (all-map (by-unsaid d k (t .0)) (by-all (λ j. REQUEST k j t) (λ j. (refl, omega arith)) n))
         (λ j y ep. shows-none (record { client = k; timestamp = t }) n j)

@@ -2,30 +2,23 @@
 use mathlib.Core.Path.{_≡_, refl}
 use Prim.Native.Nat.{ℕ, zero, suc, _+_}
 use native.Mathlib.Omega.{arith}
-use mathlib.Core.Bool.{_&&_}
+use mathlib.Core.Bool.{Bool, true, _&&_}
 use mathlib.Core.List.{List, [], _∷_, _++_}
 use lib.Dec.{eqb}
 use lib.ListN.{length, set, length-set}
 use Rattle.ids.specs.Choice.{if_then_else_}
+use Rattle.ids.specs.Lists.{every}
 use Rattle.ids.specs.Requests.{same}
-use Rattle.ids.specs.declared.ClientId.{ClientId}
 use Rattle.ids.specs.declared.ServerId.{ServerId}
-use Rattle.ids.specs.declared.Timestamp.{Timestamp}
 use Rattle.ids.specs.declared.Request.{Request}
 use Rattle.ids.specs.declared.Owner.the-variants.{Nobody, Of}
+use Rattle.ids.proofs.Choice.{both}
 use Rattle.wire.specs.declared.Message.{Message}
 use Rattle.wire.specs.declared.Message.the-variants.{Request as REQUEST, Yield as YIELD, Release as RELEASE, Inquiry as INQUIRY, Response as RESPONSE, Check as CHECK}
 use Rattle.server_votes.specs.declared.Tag.{Tag}
 use Rattle.server_votes.specs.declared.Tag.the-variants.{Request as Asks, Yield as Yields, Release as Releases, Inquiry as Inquires}
 use Rattle.system.specs.Numbered.{put}
 use Rattle.system.proofs.Branch.{bit}
-
--- the message with a tag, client k's to server j
-abbrev pub message : Tag → ClientId → ServerId → Timestamp → Message
-message Asks k j t = REQUEST k j t
-message Yields k j t = YIELD k j t
-message Releases k j t = RELEASE k j t
-message Inquires k j t = INQUIRY k j t
 
 -- how much older than the client's last timestamp a message's timestamp is at least
 abbrev pub age : Tag → ℕ
@@ -93,6 +86,16 @@ module _ {A : Type 0} {P : A → Type 0} where
   pub all-put : {l : List A} (i : ℕ) (v : A) → P v → All P l → All P (put l i v)
   all-put zero v h g = g
   all-put (suc i) v h g = all-set i v h g
+
+-- a test that every element passes
+module _ {A : Type 0} (f : A → Bool) where
+  pub every-all : (l : List A) → every f l ≡ true → All (λ x. f x ≡ true) l
+  every-all [] h = empty
+  every-all (x ∷ l) h = let (a, g) = both (f x) (every f l) h in more a (every-all l g)
+
+  pub all-every : {l : List A} → All (λ x. f x ≡ true) l → every f l ≡ true
+  all-every empty = refl
+  all-every (more a g) = rw a (all-every g)
 
 module _ {A : Type 0} where
   pub length-put : (l : List A) (i : ℕ) (v : A) → length (put l i v) ≡ length l

@@ -94,8 +94,8 @@ message-fields limit (Inquiry k j t) v = refl
 message-fields limit (Response k j o) v = ap (Response k j) (owner-again o (both (validPartiesUpTo limit k j) (validNamed o) v .1))
 message-fields limit (Check k j t) v = refl
 
--- a message with known numbers has these numbers
-owner-numbers : (o t : ℕ) (b : Bool) → eqb o 0 && eqb t 0 ≡ b
+-- an owner made of two numbers has these numbers
+pub owner-numbers : (o t : ℕ) (b : Bool) → eqb o 0 && eqb t 0 ≡ b
     → (ownerClient (ownerOf (record { 0 = o }) (record { 0 = t })) ≡ o) × (ownerTimestamp (ownerOf (record { 0 = o }) (record { 0 = t })) ≡ t)
 owner-numbers o t true e =
     let (a, b) = both (eqb o 0) (eqb t 0) e in

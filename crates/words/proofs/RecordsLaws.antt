@@ -85,6 +85,12 @@ module _ (ws : List ℕ) where
       let z = eqb-true _ _ l in
       record { size = z; head = record { long = omega (arith, z); small = f } }
 
+  pub client-section-small : holdsClient ws ≡ true → getD ws 3 0 ≤ 2
+  unfolding holdsClient
+  client-section-small e =
+      let (l, r) = both (eqb (length ws) clientSize) (leb (getD ws 3 0) 2 && headFits ws) e in
+      leb-true _ _ (both (leb (getD ws 3 0) 2) (headFits ws) r .0)
+
   -- each of the first three numbers fits its field
   pub headed-small : Headed ws → (getD ws 0 0 ≤ maxShort) × (getD ws 1 0 ≤ maxShort) × (getD ws 2 0 ≤ maxShort)
   headed-small H = head-small (getD ws 0 0) (getD ws 1 0) (getD ws 2 0) (H .small)

@@ -1,18 +1,20 @@
--- The words of a valid record are read back as that record.
-use Prim.Native.Nat.{_≤_}
+-- The words of a valid record are read back as that record, and words that hold a record are the words of the record read from them: what a
+-- record is says every word.
+use Prim.Native.Nat.{ℕ, zero, suc, _≤_}
 use native.Mathlib.Omega.{arith}
 use mathlib.Core.Path.{_≡_, refl}
 use mathlib.Core.Bool.{true}
+use mathlib.Core.List.{List, [], _∷_}
 use mathlib.Core.Option.{some}
 use lib.Dec.{leb}
-use lib.ListN.{length}
+use lib.ListN.{length, getD, drop}
 use Rattle.ids.specs.Limits.{within, maxServers, validOwner, maxShort}
 use Rattle.ids.specs.declared.Owner.{Owner}
 use Rattle.ids.specs.declared.Owner.the-variants.{Nobody, Of}
 use Rattle.ids.proofs.Choice.{both}
 use Rattle.ids.proofs.LimitsLaws.{within-range, client-range, request-range}
 use Rattle.wire.specs.Format.{ownerClient}
-use Rattle.wire.proofs.NumbersLaws.{owner-again}
+use Rattle.wire.proofs.NumbersLaws.{owner-again, owner-numbers}
 use Rattle.server.specs.Record as server
 use Rattle.server.specs.declared.Server.{Server}
 use Rattle.server.proofs.KeepsValid.{view-good}
@@ -21,8 +23,8 @@ use Rattle.client.specs.declared.Client.{Client}
 use Rattle.client.proofs.ValidLaws.{valid-known}
 use Rattle.client_responses.specs.declared.Section.{Section}
 use Rattle.client_responses.specs.declared.Section.the-variants.{Remainder, Trying, Critical}
-use Rattle.words.specs.Records.{fitsHead, holdsServer, holdsClient, serverHeadWords, serverWords, serverHeadFrom, serverIn, clientHeadWords, clientWords, clientHeadFrom, clientIn, sectionOf, sectionWord}
-use Rattle.words.proofs.RecordsLaws.{head-fits}
+use Rattle.words.specs.Records.{recordHead, fitsHead, holdsServer, holdsClient, serverHeadWords, serverWords, serverHeadFrom, serverFrom, serverIn, clientHeadWords, clientWords, clientHeadFrom, clientFrom, clientIn, sectionOf, sectionWord}
+use Rattle.words.proofs.RecordsLaws.{head-fits, server-held, client-held, client-section-small}
 
 owner-small : (o : Owner) → validOwner o ≡ true → ownerClient o ≤ maxShort
 unfolding validOwner
@@ -66,3 +68,30 @@ module _ (c : Client) (v : client.valid c ≡ true) where
   unfolding holdsClient clientHeadFrom clientHeadWords clientWords
   client-read-back long =
       rw (long, section-small (c .head .section), client-head-fits, sections (c .head .section))
+
+-- words that begin with a head are its five words and the rest
+first-five : (ws : List ℕ) → recordHead ≤ length ws
+    → getD ws 0 0 ∷ (getD ws 1 0 ∷ (getD ws 2 0 ∷ (getD ws 3 0 ∷ (getD ws 4 0 ∷ drop recordHead ws)))) ≡ ws
+first-five (a ∷ (b ∷ (c ∷ (d ∷ (e ∷ ws))))) h = refl
+first-five (a ∷ (b ∷ (c ∷ (d ∷ [])))) h = absurd (omega arith)
+first-five (a ∷ (b ∷ (c ∷ []))) h = absurd (omega arith)
+first-five (a ∷ (b ∷ [])) h = absurd (omega arith)
+first-five (a ∷ []) h = absurd (omega arith)
+first-five [] h = absurd (omega arith)
+
+pub server-words-again : (ws : List ℕ) → holdsServer ws ≡ true → serverWords (serverFrom ws) ≡ ws
+unfolding serverHeadFrom serverHeadWords serverWords
+server-words-again ws e =
+    let (c, t) = owner-numbers (getD ws 2 0) (getD ws 3 0) _ refl in
+    rw (c, t) (first-five ws (server-held ws e .head .long))
+
+section-again : (x : ℕ) → x ≤ 2 → sectionWord (sectionOf x) ≡ x
+section-again zero h = refl
+section-again (suc zero) h = refl
+section-again (suc (suc zero)) h = refl
+section-again (suc (suc (suc x))) h = absurd (omega arith)
+
+pub client-words-again : (ws : List ℕ) → holdsClient ws ≡ true → clientWords (clientFrom ws) ≡ ws
+unfolding clientHeadFrom clientHeadWords clientWords
+client-words-again ws e =
+    rw (section-again (getD ws 3 0) (client-section-small ws e)) (first-five ws (client-held ws e .head .long))

@@ -1,8 +1,9 @@
--- Different clients with numbers from 1 to c are at most c: without the one with number c they are numbered from 1 to c - 1.
+-- Different clients with numbers from 1 to c are at most c: without the one with number c they are numbered from 1 to c - 1. So a queue with a place
+-- for each client is never full.
 use Prim.Native.Nat.{ℕ, zero, suc, _≤_}
 use native.Mathlib.Omega.{arith}
 use mathlib.Core.Path.{_≡_}
-use mathlib.Core.Bool.{true, false}
+use mathlib.Core.Bool.{Bool, true, false}
 use mathlib.Core.List.{List, [], _∷_}
 use mathlib.Core.Logic.{⊎-elim}
 use mathlib.Core.Option.{none}
@@ -20,8 +21,7 @@ use Rattle.ids.proofs.Choice.{both, decided}
 use Rattle.ids.proofs.LimitsLaws.{request-range, client-range}
 use Rattle.rows.specs.Queue.{timestampIn}
 use Rattle.server_votes.specs.Figure1.{State, candidates}
 use Rattle.server.proofs.KeepsValid.{Good, Single}
-use Rattle.sim_blocks.specs.Blocks.{namedPair}
 
 -- the clients are numbered from 1 to c
 abbrev Within : ℕ → List Request → Type 0
@@ -100,12 +100,16 @@ few-clients zero [] s w = omega arith
 few-clients zero (x ∷ l) s w = absurd (omega (arith, w .0, w .1))
 few-clients (suc c) l s w = omega (arith, one-less (suc c) l, few-clients c (others (suc c) l) (single-others (suc c) l s) (within-others c l s w))
 
+-- r is a request of one of the clients up to c
+abbrev pub upTo : ℕ → Request → Bool
+upTo c r = leb (r .client .0) c
+
 -- the candidates of a good state that names clients up to c
-within-all : (c : ℕ) (l : List Request) → every validRequest l ≡ true → every (namedPair c) l ≡ true → Within c l
+within-all : (c : ℕ) (l : List Request) → every validRequest l ≡ true → every (upTo c) l ≡ true → Within c l
 within-all c [] v h = tt
 within-all c (x ∷ l) v h =
     let (a, v′) = both (validRequest x) (every validRequest l) v in
-    let (b, h′) = both (namedPair c x) (every (namedPair c) l) h in
+    let (b, h′) = both (upTo c x) (every (upTo c) l) h in
     (client-range (x .client) (request-range x a .0) .0, leb-true (x .client .0) c b, within-all c l v′ h′)
 
 candidates-valid : (o : Owner) (l : List Request) → validOwner o ≡ true → every validRequest l ≡ true
@@ -118,7 +122,7 @@ longer : (o : Owner) (l : List Request) → length l ≤ length (candidates (rec
 longer Nobody l = omega arith
 longer (Of r) l = omega arith
 
-pub queue-fits : (c : ℕ) (q : State) → Good q → every (namedPair c) (candidates q) ≡ true → length (q .queue) ≤ c
+pub queue-fits : (c : ℕ) (q : State) → Good q → every (upTo c) (candidates q) ≡ true → length (q .queue) ≤ c
 queue-fits c q g h =
     omega (
       arith,

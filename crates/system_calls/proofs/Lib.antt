@@ -1,0 +1,3 @@
+pub mod Kept
+pub mod Outcomes
+pub mod Runs
