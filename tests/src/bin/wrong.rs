@@ -1,5 +1,6 @@
-//! Tries wrong answers, which the prover must refuse: the edits in crates/NAME/must-fail/quick, written like the kit's own, and with
-//! `in: FUNCTION` where the old text stands in other functions too.
+//! Tries wrong answers, which the prover must refuse: the edits in crates/NAME/must-fail/quick, written like the kit's own, with
+//! `in: FUNCTION` where the old text stands in other functions too, and with `crate: LOWER` where the definitions that are changed are
+//! those of a crate below: then that crate's definitions, without its proofs, and NAME over them are checked.
 //! `cargo run --release --bin wrong [--apart] [NAME..]`, behind `rt check`; with `--apart` each edit has a run of its own.
 //!
 //! The kit proves the whole crate again for each of its edits. Here only what an edit touches is proved again, over the modules that
@@ -12,6 +13,7 @@
 //! out of steps it gives no verdict, which is no refusal either.
 
 use std::collections::{BTreeMap, BTreeSet, VecDeque};
+use std::ffi::OsStr;
 use std::fs;
 use std::path::{Path, PathBuf};
 use std::process::{exit, Command};
@@ -32,6 +34,8 @@ struct Change {
 
 struct Edit {
     name: String,
+    /// The crate below whose definitions it changes; none where it changes its own crate.
+    below: Option<String>,
     changes: Vec<Change>,
     /// The functions whose bodies it changes, if it changes nothing else: then it can be tried together with others.
     functions: Option<Vec<String>>,
@@ -104,9 +108,12 @@ fn function_at(text: &str, at: usize) -> Option<String> {
 impl Edit {
     fn new(krate: &Path, path: &Path) -> Edit {
         let (mut file, mut function, mut old, mut changes) = (String::new(), String::new(), String::new(), vec![]);
+        let mut below = None;
         for line in read(path).lines() {
             if let Some(rest) = line.strip_prefix("file: ") {
                 file = rest.to_string();
+            } else if let Some(rest) = line.strip_prefix("crate: ") {
+                below = Some(rest.to_string());
             } else if let Some(rest) = line.strip_prefix("in: ") {
                 function = rest.to_string();
             } else if let Some(rest) = line.strip_prefix("old: ") {
@@ -119,8 +126,8 @@ impl Edit {
             }
         }
         let name = path.file_stem().expect("a name").to_string_lossy().into_owned();
-        let functions = Edit::bodies(krate, &changes);
-        Edit { name, changes, functions }
+        let functions = if below.is_some() { None } else { Edit::bodies(krate, &changes) };
+        Edit { name, below, changes, functions }
     }
 
     fn bodies(krate: &Path, changes: &[Change]) -> Option<Vec<String>> {
@@ -218,22 +225,29 @@ fn runs(root: &Path, krate: &str, apart: bool) -> Vec<Run> {
 impl Place {
     /// Proves the crate in a folder, taking from its `inc` what is proved there: the exit status, and what was said.
     fn prove(&self, krate: &str, folder: &Path) -> (Option<i32>, String) {
+        let inc = folder.join("inc");
+        self.rattle("check", krate, folder, None, &["--incremental".as_ref(), inc.as_os_str()])
+    }
+
+    /// Runs the prover over a crate's folder; libraries that `first` has are taken from there.
+    fn rattle(&self, verb: &str, krate: &str, folder: &Path, first: Option<&Path>, words: &[&OsStr]) -> (Option<i32>, String) {
         let own = self.kit.join("on").join(std::env::consts::ARCH);
-        let ours = self.root.join("target/rlib");
+        let folders = first.into_iter().map(Path::to_path_buf).chain([self.root.join("target/rlib"), own.join("rlib")]);
+        let folders: Vec<PathBuf> = folders.collect();
         let list = read(&self.root.join("crates.txt"));
         let needs = list.lines().find_map(|line| line.strip_prefix(krate)?.strip_prefix(':')).unwrap_or_default();
         let mut command = Command::new(own.join("bin/rattle"));
-        command.args(["check", "--crate-name", krate]).arg(folder.join("src/lib.rt"));
+        command.args([verb, "--crate-name", krate]).arg(folder.join("src/lib.rt"));
         for name in needs.split_whitespace().chain(["std"]) {
             let rlib = format!("{name}.rlib");
-            let path = if ours.join(&rlib).exists() { ours.join(rlib) } else { own.join("rlib").join(rlib) };
+            let path = folders.iter().map(|folder| folder.join(&rlib)).find(|path| path.exists()).expect("a proved library");
             command.arg("--extern").arg(format!("{name}={}", path.display()));
         }
-        for path in [&ours, &own.join("rlib")] {
+        for path in &folders {
             command.arg("-L").arg(format!("dependency={}", path.display()));
         }
         command.arg("--antt-project").arg(self.kit.join("logic/antt-project.json"));
-        command.arg("--logic-built").arg(own.join("logic-built")).arg("--incremental").arg(folder.join("inc"));
+        command.arg("--logic-built").arg(own.join("logic-built")).args(words);
         let output = command.output().expect("the prover runs");
         let said = [output.stdout, output.stderr].map(|bytes| String::from_utf8_lossy(&bytes).into_owned()).concat();
         (output.status.code(), said)
@@ -250,8 +264,38 @@ impl Place {
         folder
     }
 
+    /// What came of an edit of the definitions of a crate below: these must check, and the crate above must be refused in a proof.
+    fn tried_below(&self, krate: &str, edit: &Edit, below: &str) -> Vec<(bool, String)> {
+        let folder = self.root.join("target/wrong").join(krate).join(&edit.name);
+        let (lower, libraries) = (folder.join(below), folder.join("rlib"));
+        let began = Instant::now();
+        for part in ["src", "specs"] {
+            copy(&self.root.join("crates").join(below).join(part), &lower.join(part));
+        }
+        fs::create_dir_all(&libraries).expect("a folder");
+        let made = edit.make(&lower);
+        let library = libraries.join(format!("{below}.rlib"));
+        let (defined, _) = self.rattle("build", below, &lower, None, &["-o".as_ref(), library.as_os_str()]);
+        let above = self.root.join("crates").join(krate);
+        let (status, log) = self.rattle("check", krate, &above, Some(&libraries), &[]);
+        fs::write(folder.join("log"), &log).expect("the log is kept");
+        let refused = refusals(&log, &above);
+        let judged = status == Some(1) && log.lines().any(|line| line == "logic=not-proved");
+        let said = match refused.first() {
+            _ if !made || defined != Some(0) => "BAD EDIT".to_string(),
+            None => "NOT REFUSED".to_string(),
+            Some(_) if !judged || !refused.iter().all(|refusal| refusal.starts_with("proofs/")) => "REFUSED FOR SOMETHING ELSE".to_string(),
+            Some(refusal) if SHAPE.iter().any(|words| refusal.contains(words)) => "SHOWS NOTHING".to_string(),
+            Some(refusal) => format!("refused, as it must be (first at {})", refusal.split(": ").next().unwrap_or_default()),
+        };
+        vec![(said.starts_with("refused"), format!("{krate}/{}: {said}, {} s", edit.name, began.elapsed().as_secs()))]
+    }
+
     /// What came of each edit of a run, and whether it was refused as it must be.
     fn tried(&self, run: &Run) -> Vec<(bool, String)> {
+        if let [Edit { below: Some(below), .. }] = &run.edits[..] {
+            return self.tried_below(&run.krate, &run.edits[0], below);
+        }
         let folder = self.copy_of(&run.krate, &run.edits[0].name);
         let began = Instant::now();
         let made: Vec<bool> = run.edits.iter().map(|edit| edit.make(&folder)).collect();
