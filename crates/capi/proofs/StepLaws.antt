@@ -226,7 +226,7 @@ module _ (ws : List ℕ) (b : Bool) (e : b ≡ holdsServer ws) where
 pub client-short-answers : (call : ClientCall) (h : ClientHead) (row copy after o l : List ℕ) (t : ClientTurned) (r : ℕ) → copy ≡ row
     → Answers h copy (clientOutcome call (client.clientOf h copy)) o t after l → r ≡ shortAnswer (t .answer)
     → r ≡ shortCode (clientOutcome call (client.clientOf h row))
-client-short-answers call h row copy after o l t r c (a, b, d) e =
+client-short-answers call h row copy after o l t r c (a, b, d, s) e =
     rw (← c) (short-answers (clientOutcome call (client.clientOf h copy)) (length o) r (rw a at e))
 
 length-head-words : (h : ClientHead) → length (clientHeadWords h) ≡ recordHead
@@ -248,9 +248,9 @@ module _ (ws : List ℕ) (l : length ws ≡ clientSize) (h : ClientHead) where
       × (sent′ ≡ answerCounts sent (t .answer))
       → Leaves (lent out sent (inWords (clientWith (client.clientOf h row)) o)) r ws ws′ out out′ sent sent′
   unfolding withRoom clientWords
-  done-leaves (refused e) t row′ out out′ sent sent′ ws′ r g few (a, b, c) (er, ew, es) =
+  done-leaves (refused e) t row′ out out′ sent sent′ ws′ r g few (a, b, c, s) (er, ew, es) =
       record { returned = rw a at er; stored = rw (a, b, put-same recordHead client.rowWords ws) at ew; written = c; counted = rw a at es }
-  done-leaves (stepped p) t row′ out out′ sent sent′ ws′ r g few (a, b, c) (er, ew, es) =
+  done-leaves (stepped p) t row′ out out′ sent sent′ ws′ r g few (a, b, c, s) (er, ew, es) =
       ⊎-elim
       (λ (u : ltb (length out) (sizeOfAll (p .sent)) ≡ true).
       rw u (record

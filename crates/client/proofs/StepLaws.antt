@@ -2,7 +2,7 @@
 use Prim.Native.Nat.{ℕ, _+_, _*_, _-_, _≤_, _<_}
 use native.Mathlib.Omega.{arith}
 use mathlib.Core.Path.{_≡_, refl, _∙_, ap, sym}
-use mathlib.Core.Bool.{Bool, true, false, true≢false, not}
+use mathlib.Core.Bool.{Bool, true, false, true≢false, not, _&&_}
 use mathlib.Core.List.{List, [], _∷_, map}
 use lib.Dec.{eqb, leb}
 use lib.ListN.{length, replicate}
@@ -17,12 +17,14 @@ use Rattle.ids.specs.declared.Request.{Request}
 use Rattle.ids.specs.declared.Owner.{Owner}
 use Rattle.ids.specs.declared.Refusal.{Refusal}
 use Rattle.ids.specs.declared.Refusal.the-variants.{WrongSection, TimestampsSpent, RoomShort, NotForClient, NumberOutOfRange, InvalidRecord}
-use Rattle.ids.proofs.Choice.{both, fails, holds}
+use Rattle.ids.proofs.Choice.{both, fails, holds, of-choice}
 use Rattle.ids.proofs.LimitsLaws.{within-range, parties-range}
 use Rattle.wire.specs.Format as format
 use Rattle.wire.specs.Format.{sizeOf, bytesOf, bytesOfAll, sizeOfAll, fieldsOf, validNamed, validResponseUpTo, messageBytes}
 use Rattle.wire.proofs.NumbersLaws.{valid-head}
 use Rattle.wire.specs.Step.{Step, Outcome, refused, stepped, stay, tell, withRoom, sentInto}
+use Rattle.wire.specs.Says.{answerSays, outcomeSays, newSays}
+use Rattle.wire.proofs.SaysLaws.{answer-said}
 use Rattle.wire.specs.declared.Answer.the-variants.{Sent}
 use Rattle.wire.specs.declared.Message.{Message}
 use Rattle.wire.specs.declared.Message.the-variants.{Release, Response, Check}
@@ -41,32 +43,36 @@ use Rattle.client.specs.declared.Head.{Head}
 use Rattle.client.specs.declared.Stepped.{Stepped}
 use Rattle.client.specs.declared.Turned.{Turned}
 use Rattle.client.specs.Record.{rowWords, clientOf, headIn, validSizes, valid, view, store}
-use Rattle.client.specs.Calls.{newResult, beginOutcome, exitOutcome, messageOutcome, messageOutcomeUpTo, forClient, received, rowAfter, turned, result}
+use Rattle.client.specs.Calls.{newResult, NewGives, beginOutcome, exitOutcome, messageOutcome, messageOutcomeUpTo, forClient, received, rowAfter, turned, result, Gives}
 use Rattle.client.specs.Steps.{Answers}
 use Rattle.client.specs.Inner.{request, headWith, without, requests, releases, refusedNew, yields, isRefused}
 use Rattle.client.proofs.ValidLaws.{valid-known, valid-padded, padded-words, critical-below, sizes-range}
 use Rattle.client.proofs.RecordLaws.{row-without, row-again}
 
+-- what the answer says
+said : (h : Head) (r : Turned) (x : Outcome State) → r ≡ turned h x → answerSays (r .answer) ≡ outcomeSays x
+said h r x e = answer-said x (r .answer) (ap (λ (t : Turned). t .answer) e)
+
 module _ (h : Head) (row : List ℕ) (x : Outcome State) (o : List ℕ) (r : Turned) where
   pub answers-refused : (e : Refusal) → x ≡ refused e → r ≡ turned h (refused e) → Answers h row x o r row o
   unfolding withRoom
-  answers-refused e q p = rw q (p, refl, refl)
+  answers-refused e q p = rw q (p, refl, refl, said h r (refused e) p)
 
   module _ (s : Step State) (q : x ≡ stepped s) where
     pub answers-short : length o < sizeOfAll (s .sent) → r ≡ turned h (refused RoomShort) → Answers h row x o r row o
     unfolding withRoom
-    answers-short g p = rw (q, lt-ltb _ _ g) (p, refl, refl)
+    answers-short g p = rw (q, lt-ltb _ _ g) (p, refl, refl, said h r (refused RoomShort) p)
 
     pub answers-done : (after l : List ℕ) → sizeOfAll (s .sent) ≤ length o → r ≡ turned h (stepped s) → after ≡ rowAfter row (stepped s)
         → l ≡ sets o 0 (bytesOfAll (s .sent)) → Answers h row x o r after l
     unfolding withRoom
-    answers-done after l g p a e = rw (q, le-ltb _ _ g) (p, a, e)
+    answers-done after l g p a e = rw (q, le-ltb _ _ g) (p, a, e, said h r (stepped s) p)
 
 -- the same by value
 module _ (c : Client) (x : Outcome State) (o : List ℕ) (t : Turned) (after l : List ℕ) (A : Answers (c .head) (c .row) x o t after l) where
   pub by-value : (r : Stepped) → r ≡ record { client = clientOf (t .head) after; answer = t .answer }
-      → (r ≡ result c (withRoom (length o) x)) × (l ≡ sentInto o (withRoom (length o) x))
-  by-value r e = (rw (A .0, A .1) at e, A .2)
+      → Gives c (withRoom (length o) x) o r l
+  by-value r e = (rw (A .0, A .1) at e, A .2, ap (λ (s : Stepped). answerSays (s .answer)) e ∙ A .3)
 
 -- a step that sends nothing needs no room
 pub answers-stay : (h : Head) (row : List ℕ) (x : Outcome State) (o : List ℕ) (r : Turned) (s : State) → x ≡ stepped (stay s)
@@ -295,10 +301,10 @@ module _ (h : Head) (row : List ℕ) (j : ServerId) (o : Owner) (old : Request) 
 
   module _ (b l : List ℕ) (A : Answers h mid judgement b r left l) (x : Bool) (d : x ≡ isRefused (r .answer)) where
     pub respond-kept : x ≡ false → Answers h row (responded h row j o) b r left l
-    respond-kept f = rw (H .judges) (A .0, stays-by (withRoom (length b) judgement) (A .0) (A .1) (sym d ∙ f), A .2)
+    respond-kept f = rw (H .judges) (A .0, stays-by (withRoom (length b) judgement) (A .0) (A .1) (sym d ∙ f), A .2, A .3)
 
     pub respond-undone : (after : List ℕ) → x ≡ true → Put left after (j .0 - 1) old → Answers h row (responded h row j o) b r after l
-    respond-undone after t P = rw (H .judges) (A .0, undone-by (withRoom (length b) judgement) (A .0) (A .1) (sym d ∙ t) after P, A .2)
+    respond-undone after t P = rw (H .judges) (A .0, undone-by (withRoom (length b) judgement) (A .0) (A .1) (sym d ∙ t) after P, A .2, A .3)
 
 -- `check_row`
 module _ (h : Head) (row : List ℕ) (v : valid (clientOf h row) ≡ true) (j : ServerId) (t : Timestamp) (o : List ℕ) (r : Turned) where
@@ -365,14 +371,21 @@ response-range limit k j o h =
 
 -- `new`
 module _ (n m : ℕ) (k : ClientId) (x : Bool) (p : x ≡ validSizes n m) where
-  pub new-sizes : (r : Stepped) → not x ≡ true → r ≡ refusedNew → r ≡ newResult n m k
+  new-row : answerSays (newResult n m k .answer) ≡ newSays (validSizes n m && validClient k)
+  unfolding newResult newSays
+  new-row = of-choice (λ (s : Stepped). answerSays (s .answer)) (validSizes n m && validClient k) _ _ refl refl
+
+  said-new : (r : Stepped) → r ≡ newResult n m k → NewGives n m k r
+  said-new r e = (e, ap (λ (s : Stepped). answerSays (s .answer)) e ∙ new-row)
+
+  pub new-sizes : (r : Stepped) → not x ≡ true → r ≡ refusedNew → NewGives n m k r
   unfolding newResult
-  new-sizes r t e = rw (fails x (validSizes n m) p t) e
+  new-sizes r t e = said-new r (rw (fails x (validSizes n m) p t) e)
 
   module _ (y : Bool) (t : not x ≡ false) (q : y ≡ validClient k) where
-    pub new-id : (r : Stepped) → not y ≡ true → r ≡ refusedNew → r ≡ newResult n m k
+    pub new-id : (r : Stepped) → not y ≡ true → r ≡ refusedNew → NewGives n m k r
     unfolding newResult
-    new-id r u e = rw (holds x (validSizes n m) p t, fails y (validClient k) q u) e
+    new-id r u e = said-new r (rw (holds x (validSizes n m) p t, fails y (validClient k) q u) e)
 
     stored-fresh : store n m k (fresh n) ≡ clientOf (headIn n m k (fresh n)) (replicate rowWords 0)
     unfolding store
@@ -380,6 +393,6 @@ module _ (n m : ℕ) (k : ClientId) (x : Bool) (p : x ≡ validSizes n m) where
         (row-without rowWords n (omega (arith, s .1)))
 
     pub new-done : (c : Client) → not y ≡ false → c ≡ clientOf (headIn n m k (fresh n)) (replicate rowWords 0)
-        → _≡_ {A = Stepped} (record { client = c; answer = Sent 0 0 }) (newResult n m k)
+        → NewGives n m k (record { client = c; answer = Sent 0 0 })
     unfolding newResult
-    new-done c u e = rw (holds x (validSizes n m) p t, holds y (validClient k) q u, e, stored-fresh)
+    new-done c u e = said-new (record { client = c; answer = Sent 0 0 }) (rw (holds x (validSizes n m) p t, holds y (validClient k) q u, e, stored-fresh))

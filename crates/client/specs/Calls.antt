@@ -1,5 +1,6 @@
 -- The client's calls: the row 'kiosk' of document 01's table, each number in its order, and what is left in head, row and buffer.
 use Prim.Native.Nat.{ℕ}
+use mathlib.Core.Path.{_≡_}
 use mathlib.Core.Bool.{Bool, _&&_, not}
 use mathlib.Core.List.{List, map}
 use lib.Dec.{eqb, leb}
@@ -10,7 +11,8 @@ use Rattle.ids.specs.declared.ClientId.{ClientId}
 use Rattle.ids.specs.declared.ServerId.{ServerId}
 use Rattle.ids.specs.declared.Refusal.the-variants.{ParameterOutOfRange, NotForClient, NumberOutOfRange, InvalidRecord}
 use Rattle.wire.specs.Format as format
-use Rattle.wire.specs.Step.{Outcome, refused, stepped, answerOf}
+use Rattle.wire.specs.Step.{Outcome, refused, stepped, answerOf, sentInto}
+use Rattle.wire.specs.Says.{answerSays, outcomeSays, newSays}
 use Rattle.wire.specs.declared.Answer.the-variants.{Sent, Refused}
 use Rattle.wire.specs.declared.Message.{Message}
 use Rattle.wire.specs.declared.Message.the-variants.{Request, Yield, Release, Inquiry, Response, Check}
@@ -32,6 +34,10 @@ unfoldable pub newResult : ℕ → ℕ → ClientId → Stepped
 newResult n m k =
     if validSizes n m && validClient k then record { client = store n m k (fresh n); answer = Sent 0 0 }
     else record { client = blank; answer = Refused ParameterOutOfRange }
+
+-- answer and record, and the answer in document 01's numbers
+abbrev pub NewGives : ℕ → ℕ → ClientId → Stepped → Type 0
+NewGives n m k r = (r ≡ newResult n m k) × (answerSays (r .answer) ≡ newSays (validSizes n m && validClient k))
 
 -- document 01's try
 unfoldable pub beginOutcome : Client → Outcome State
@@ -86,3 +92,7 @@ turned h o = record { head = headAfter h o; answer = answerOf o }
 
 abbrev pub result : Client → Outcome State → Stepped
 result c o = record { client = clientAfter c o; answer = answerOf o }
+
+-- what a call by value with this outcome gives and leaves in the buffer: answer and record; the buffer; and the answer in document 01's numbers
+abbrev pub Gives : Client → Outcome State → List ℕ → Stepped → List ℕ → Type 0
+Gives c o out r out′ = (r ≡ result c o) × (out′ ≡ sentInto out o) × (answerSays (r .answer) ≡ outcomeSays o)

@@ -12,7 +12,7 @@ ghost use Rattle.rows.specs.Rows.{Padded};
 ghost use Rattle.client_responses.specs.Figure1.{isRemainder, isTrying, isCritical, fresh as freshOf, enough, lastTry, toAll, tries, exits, decide as decideOf, judge as judgeOf, responds, checked};
 ghost use Rattle.client_responses.specs.Row.{responsesIn};
 ghost use Rattle.client.specs.Record.{rowWords, clientOf, headIn, validSizes, fitsSection, noMore, fitsTimestamp, valid, view};
-ghost use Rattle.client.specs.Calls.{forClient, received, newResult, beginOutcome, exitOutcome, messageOutcome, result, turned};
+ghost use Rattle.client.specs.Calls.{forClient, received, NewGives, beginOutcome, exitOutcome, messageOutcome, Gives, turned};
 ghost use Rattle.client.specs.Steps.{Answers};
 ghost use Rattle.client.specs.Inner.{request, headWith, validPlaces, isRefused, refusedNew, requests, releases, yields};
 use client_responses::Section;
@@ -480,7 +480,7 @@ fn no_client() -> Stepped
 
 // A new client with `n` servers and threshold `m`: in the remainder section, no timestamp taken.
 pub fn new(n: u16, m: u16, id: ClientId) -> Stepped
-    ensures { λ r. ⌜ r ≡ newResult n m id ⌝ }
+    ensures { λ r. ⌜ NewGives n m id r ⌝ }
 {
     if !valid_sizes(n, m) {
         return no_client();
@@ -504,7 +504,7 @@ fn together(t: Turned, row: [u32; ROW_WORDS]) -> Stepped
 }
 
 pub fn begin(c: Client, out: &mut [u8]) -> Stepped
-    ensures { λ r. ⌜ (r ≡ result c (withRoom (length (now (out .entry))) (beginOutcome c))) × (now (out .exit) ≡ sentInto (now (out .entry)) (withRoom (length (now (out .entry))) (beginOutcome c))) ⌝ }
+    ensures { λ r. ⌜ Gives c (withRoom (length (now (out .entry))) (beginOutcome c)) (now (out .entry)) r (now (out .exit)) ⌝ }
 {
     let mut row = c.row;
     let turned = begin_row(c.head, &mut row, out);
@@ -512,7 +512,7 @@ pub fn begin(c: Client, out: &mut [u8]) -> Stepped
 }
 
 pub fn exit(c: Client, out: &mut [u8]) -> Stepped
-    ensures { λ r. ⌜ (r ≡ result c (withRoom (length (now (out .entry))) (exitOutcome c))) × (now (out .exit) ≡ sentInto (now (out .entry)) (withRoom (length (now (out .entry))) (exitOutcome c))) ⌝ }
+    ensures { λ r. ⌜ Gives c (withRoom (length (now (out .entry))) (exitOutcome c)) (now (out .entry)) r (now (out .exit)) ⌝ }
 {
     let mut row = c.row;
     let turned = exit_row(c.head, &mut row, out);
@@ -520,7 +520,7 @@ pub fn exit(c: Client, out: &mut [u8]) -> Stepped
 }
 
 pub fn message(c: Client, m: Message, out: &mut [u8]) -> Stepped
-    ensures { λ r. ⌜ (r ≡ result c (withRoom (length (now (out .entry))) (messageOutcome c m))) × (now (out .exit) ≡ sentInto (now (out .entry)) (withRoom (length (now (out .entry))) (messageOutcome c m))) ⌝ }
+    ensures { λ r. ⌜ Gives c (withRoom (length (now (out .entry))) (messageOutcome c m)) (now (out .entry)) r (now (out .exit)) ⌝ }
 {
     let mut row = c.row;
     let turned = message_row(c.head, &mut row, m, out);

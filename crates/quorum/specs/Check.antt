@@ -3,13 +3,14 @@ use mathlib.Core.Path.{_≡_}
 use mathlib.Core.Logic.{_↔_}
 use Prim.Native.Nat.{ℕ, _+_, _*_, _≤_}
 use mathlib.Core.Bool.{Bool, true, _&&_}
+use mathlib.Core.List.{[], _∷_}
 use lib.Dec.{leb, ltb}
 use lib.IntN.{ℤ, pos, _-ℤ_}
 use lib.ListN.{length}
 use lib.Signed.{leZ}
 use Rattle.ids.specs.Choice.{if_then_else_}
 use Rattle.ids.specs.Limits.{within, maxServers}
-use Rattle.ids.specs.Refusals.{code}
+use Rattle.ids.specs.Refusals.{code, Says, accepts, refuses, refusesWith}
 use Rattle.ids.specs.declared.Refusal.the-variants.{ParameterOutOfRange, Unsafe as NotSafe, Stalls as Stalling}
 use Rattle.client_responses.specs.Figure1.{enough}
 use Rattle.system.specs.Limits.{systemClients}
@@ -48,12 +49,24 @@ judged n m f =
 unfoldable pub verdict : ℕ → ℕ → ℕ → Verdict
 verdict n m f = if inRange n m f then judged n m f else OutOfRange
 
--- document 01's number of each answer, 0 for an accepted setting
+-- the answers in document 01's numbers: the margin, and with 8 the count of events in its run; 7 alone
+abbrev pub verdictSays : Verdict → Says ℤ
+verdictSays (Accepted x) = accepts (x ∷ [])
+verdictSays (Unsafe x events) = refusesWith (code NotSafe) (x ∷ (pos events ∷ []))
+verdictSays (Stalls x) = refusesWith (code Stalling) (x ∷ [])
+verdictSays OutOfRange = refuses (code ParameterOutOfRange)
+
+unfoldable pub checkSays : ℕ → ℕ → ℕ → Says ℤ
+checkSays n m f =
+    let x : ℤ = margin n m f in
+    if inRange n m f then
+    if isUnsafe n m f then refusesWith 8 (x ∷ (pos (length (unsafeRun n m)) ∷ []))
+    else if isStalling n m f then refusesWith 9 (x ∷ [])
+    else accepts (x ∷ [])
+    else refuses 7
+
 abbrev pub numberOf : Verdict → ℕ
-numberOf (Accepted x) = 0
-numberOf (Unsafe x events) = code NotSafe
-numberOf (Stalls x) = code Stalling
-numberOf OutOfRange = code ParameterOutOfRange
+numberOf v = verdictSays v .number
 
 -- Demand 3, of the answer v to the check of a setting in range, for each number of clients from 2 to 16: refused 8 exactly if
 -- some run has two living clients in the critical section at once; then the unsafe run, which is given event by event, is

@@ -7,10 +7,10 @@ ghost use lib.IntN.{pos, negsuc, _-ℤ_};
 ghost use Rattle.system.specs.Setting.{takes, lost};
 ghost use Rattle.system.specs.declared.Event.the-variants.{Try};
 ghost use Rattle.ids.specs.Limits.{maxServers};
-ghost use Rattle.quorum.specs.Check.{inRangeUpTo, inRange, margin as marginOf, judged, verdict, Demand3};
-ghost use Rattle.quorum.specs.Run.{listedEvent, runEvent};
+ghost use Rattle.quorum.specs.Check.{inRangeUpTo, inRange, margin as marginOf, judged, verdict, verdictSays, checkSays, Demand3};
+ghost use Rattle.quorum.specs.Run.{listedEvent, runEvent, askedSays, eventSays};
 ghost use Rattle.quorum.specs.Inner.{runLength, longestRun, firstEntry, restart as restartAt, secondEntry, eventAt};
-ghost use Rattle.quorum.specs.Threshold.{thresholdOf};
+ghost use Rattle.quorum.specs.Threshold.{thresholdOf, thresholdSays, defaultSays};
 ghost use Rattle.system.specs.Numbered.{clientNo};
 use ids::ClientId;
 use ids::Refusal;
@@ -105,6 +105,7 @@ fn judge(n: u32, m: u32, f: u32) -> Verdict
 // The check of a setting: refused 7, 8 or 9, or accepted.
 pub fn check(n: u32, m: u32, f: u32) -> Verdict
     ensures { λ r. ⌜ (r ≡ verdict n m f) × Demand3 n m f r ⌝ }
+    ensures numbers { λ r. ⌜ verdictSays r ≡ checkSays n m f ⌝ }
 {
     if !in_range(n, m, f) {
         return Verdict::OutOfRange;
@@ -203,6 +204,7 @@ fn listed(n: u32, m: u32, f: u32, i: u32) -> Asked
 // The event with number i, from 1, of the run that shows an unsafe setting.
 pub fn run_event(n: u32, m: u32, f: u32, i: u32) -> Asked
     ensures { λ r. ⌜ r ≡ runEvent n m f i ⌝ }
+    ensures numbers { λ r. ⌜ askedSays r ≡ eventSays n m f i ⌝ }
 {
     if !in_range(n, m, f) {
         return Asked::Refused(Refusal::ParameterOutOfRange);
@@ -213,6 +215,7 @@ pub fn run_event(n: u32, m: u32, f: u32, i: u32) -> Asked
 // Two thirds of n, rounded up.
 pub fn default_threshold(n: u32) -> Threshold
     ensures { λ r. ⌜ r ≡ thresholdOf n ⌝ }
+    ensures numbers { λ r. ⌜ thresholdSays r ≡ defaultSays n ⌝ }
 {
     if !ids::within_limit(n, ids::MAX_SERVERS) {
         return Threshold::OutOfRange;

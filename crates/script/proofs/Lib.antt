@@ -5,3 +5,5 @@ pub mod TestLaws
 pub mod StepLaws
 pub mod FeedLaws
 pub mod CallLaws
+pub mod SaysLaws
+pub mod Determined

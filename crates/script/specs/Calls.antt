@@ -2,11 +2,12 @@
 use Prim.Native.Nat.{ℕ, _≤_, _*_}
 use mathlib.Core.Path.{_≡_}
 use mathlib.Core.Bool.{Bool, true, false, _&&_}
-use mathlib.Core.List.{List, []}
+use mathlib.Core.List.{List, [], _∷_}
 use lib.Dec.{eqb, ltb, leb}
 use lib.ListN.{length, replicate}
 use lib.Seq.{sets}
 use Rattle.ids.specs.Choice.{if_then_else_}
+use Rattle.ids.specs.Refusals.{code, Says, accepts, refuses}
 use Rattle.ids.specs.declared.Refusal.the-variants.{RoomShort, InvalidRecord, ParameterOutOfRange}
 use Rattle.script.specs.declared.Progress.{Progress}
 use Rattle.script.specs.declared.Progress.the-variants.{Took, Refused}
@@ -28,6 +29,21 @@ feedAnswer w input room =
     if ltb room maxPrinted then Refused RoomShort
     else Took (fedWithin room (view w) input .used) (length (fedWithin room (view w) input .out))
     else Refused InvalidRecord
+
+-- the answers in document 01's numbers: the bytes used and the bytes written
+abbrev pub progressSays : Progress → Says ℕ
+progressSays (Refused x) = refuses (code x)
+progressSays (Took used wrote) = accepts (used ∷ wrote ∷ [])
+
+unfoldable pub newSays : List ℕ → Says ℕ
+newSays w = if eqb (length w) stateSize then accepts (0 ∷ 0 ∷ []) else refuses 7
+
+unfoldable pub feedSays : List ℕ → List ℕ → ℕ → Says ℕ
+feedSays w input room =
+    if valid w then
+    if ltb room maxPrinted then refuses 6
+    else accepts (fedWithin room (view w) input .used ∷ length (fedWithin room (view w) input .out) ∷ [])
+    else refuses 21
 
 abbrev pub feeds : List ℕ → ℕ → Bool
 feeds w room = valid w && leb maxPrinted room
@@ -53,6 +69,11 @@ unfoldable pub finishAnswer : List ℕ → ℕ → Progress
 finishAnswer w room =
     if valid w then if ltb room maxEnding then Refused RoomShort else Took 0 (length (finished (view w)))
     else Refused InvalidRecord
+
+unfoldable pub finishSays : List ℕ → ℕ → Says ℕ
+finishSays w room =
+    if valid w then if ltb room maxEnding then refuses 6 else accepts (0 ∷ length (finished (view w)) ∷ [])
+    else refuses 21
 
 abbrev pub finishes : List ℕ → ℕ → Bool
 finishes w room = valid w && leb maxEnding room

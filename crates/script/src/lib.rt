@@ -13,7 +13,7 @@ ghost use Rattle.script_lines.specs.Lines.{eventIn, lineOf, settingIn, firstOf}
 ghost use Rattle.script_lines.specs.Printed.{refusedLine};
 ghost use Rattle.script_output.specs.Reader.{closed, opened, worked, behind, taken, ended, lastLine, finished, maxKept, maxPrinted};
 ghost use Rattle.script.specs.State.{headIn, keptIn, simulationIn, countsIn, scriptIn, byteWord, validLine, validRun, validIdle, view, valid as isValid, stateSize, stageAt, lengthAt, stageOpening, stageRunning, stageClosed};
-ghost use Rattle.script.specs.Calls.{newAnswer, newWords, feedAnswer, FeedLeaves, finishAnswer, FinishLeaves, maxEnding};
+ghost use Rattle.script.specs.Calls.{newAnswer, newWords, feedAnswer, FeedLeaves, finishAnswer, FinishLeaves, maxEnding, progressSays, newSays, feedSays, finishSays};
 ghost use Rattle.script.specs.Inner.{Sound, Ready, Reads, Prints, Does, Takes, FedAs, Closes, happened, passing, withCounts, withoutLine, replyLine};
 use ids::Refusal;
 use script_lines::First;
@@ -361,6 +361,7 @@ fn take(w: &mut [u32], out: &mut [u8], at: usize, b: u8) -> usize
 // A new script.
 pub fn new(w: &mut [u32]) -> Progress
     ensures { λ r. ⌜ (r ≡ newAnswer (now (w .entry))) × (now (w .exit) ≡ newWords (now (w .entry))) ⌝ }
+    ensures numbers { λ r. ⌜ progressSays r ≡ newSays (now (w .entry)) ⌝ }
 {
     if w.len() != STATE_WORDS {
         return Progress::Refused(Refusal::ParameterOutOfRange);
@@ -400,6 +401,7 @@ fn take_all(w: &mut [u32], input: &[u8], out: &mut [u8]) -> Progress
 // The next part of the input. Refused 21, 6.
 pub fn feed(w: &mut [u32], input: &[u8], out: &mut [u8]) -> Progress
     ensures { λ r. ⌜ (r ≡ feedAnswer (now (w .entry)) (now (input .entry)) (length (now (out .entry)))) × FeedLeaves (now (w .entry)) (now (input .entry)) (now (out .entry)) (now (w .exit)) (now (out .exit)) ⌝ }
+    ensures numbers { λ r. ⌜ progressSays r ≡ feedSays (now (w .entry)) (now (input .entry)) (length (now (out .entry))) ⌝ }
 {
     if !valid(w) {
         return Progress::Refused(Refusal::InvalidRecord);
@@ -464,6 +466,7 @@ fn close(w: &mut [u32], out: &mut [u8]) -> usize
 // The end of the input. Refused 21, 6.
 pub fn finish(w: &mut [u32], out: &mut [u8]) -> Progress
     ensures { λ r. ⌜ (r ≡ finishAnswer (now (w .entry)) (length (now (out .entry)))) × FinishLeaves (now (w .entry)) (now (out .entry)) (now (w .exit)) (now (out .exit)) ⌝ }
+    ensures numbers { λ r. ⌜ progressSays r ≡ finishSays (now (w .entry)) (length (now (out .entry))) ⌝ }
 {
     if !valid(w) {
         return Progress::Refused(Refusal::InvalidRecord);

@@ -1,5 +1,6 @@
 pub mod WordLaws
 pub mod LineLaws
+pub mod SaysLaws
 pub mod FirstLaws
 pub mod PutLaws
 pub mod PrintedLaws

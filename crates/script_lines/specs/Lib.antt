@@ -1,4 +1,5 @@
 pub mod Words
 pub mod Lines
+pub mod Says
 pub mod Printed
 pub mod Inner

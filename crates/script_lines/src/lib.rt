@@ -8,6 +8,7 @@ ghost use Rattle.ids.specs.Limits.{maxShort};
 ghost use Rattle.script_numbers.specs.Decimals.{decimal};
 ghost use Rattle.script_lines.specs.Words.{same, word, spaced};
 ghost use Rattle.script_lines.specs.Lines.{commandIn, eventOf, eventIn, lineOf, fourIn, settingIn, firstOf};
+ghost use Rattle.script_lines.specs.Says.{lineSays, eventSays, firstSays, settingSays};
 ghost use Rattle.script_lines.specs.Printed.{headerLine, okLine, noLine, endLine, refusedLine, wordOf, numberOf, eventLine, fourWords, settingLine};
 ghost use Rattle.script_lines.specs.Inner.{names, fieldAt};
 use ids::ClientId;
@@ -193,7 +194,7 @@ fn line_of_32(c: Command, x: u32) -> Line
 }
 
 // The line of this command and this number.
-fn line_of(c: Command, x: u32) -> Line
+pub fn line_of(c: Command, x: u32) -> Line
     ensures { λ r. ⌜ r ≡ lineOf (eventOf c x) ⌝ }
 {
     if x > MAX_SHORT {
@@ -205,6 +206,7 @@ fn line_of(c: Command, x: u32) -> Line
 // The event of an event line, without its newline.
 pub fn parse_event(line: &[u8]) -> Line
     ensures { λ r. ⌜ r ≡ lineOf (eventIn (now (line .entry))) ⌝ }
+    ensures numbers { λ r. ⌜ lineSays r ≡ eventSays (eventIn (now (line .entry))) ⌝ }
 {
     let n = line.len();
     if n > MAX_LINE {
@@ -261,6 +263,7 @@ fn four_from(line: &[u8], at: usize) -> First
 // The setting of the first line, without its newline.
 pub fn parse_setting(line: &[u8]) -> First
     ensures { λ r. ⌜ r ≡ firstOf (settingIn (now (line .entry))) ⌝ }
+    ensures numbers { λ r. ⌜ firstSays r ≡ settingSays (settingIn (now (line .entry))) ⌝ }
 {
     if line.len() > MAX_LINE {
         return First::Bad;

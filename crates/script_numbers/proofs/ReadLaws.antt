@@ -2,7 +2,7 @@
 use Prim.Native.Nat.{ℕ, suc, _+_, _-_, _*_, _≤_, _<_}
 use native.Mathlib.Omega.{arith}
 use native.Mathlib.Numerals.{add-one}
-use mathlib.Core.Path.{_≡_, refl, _∙_, sym}
+use mathlib.Core.Path.{_≡_, refl, _∙_, ap, sym}
 use mathlib.Core.Bool.{true, false}
 use mathlib.Core.Logic.{⊎-elim}
 use mathlib.Core.Option.{Option, none, some}
@@ -12,8 +12,8 @@ use lib.ListN.{length, drop, getD}
 use lib.Seq.{drop-cons, drop-length}
 use borrow.Author.Tests.{le-leb, lt-leb, lt-ltb, eq-eqb, ne-eqb}
 use Rattle.ids.proofs.Choice.{decided}
-use Rattle.script_numbers.specs.Decimals.{digitUpTo, digitsUpTo, numberUpTo}
-use Rattle.script_numbers.specs.Answers.{readingOf}
+use Rattle.script_numbers.specs.Decimals.{digitUpTo, digitsUpTo, numberUpTo, number}
+use Rattle.script_numbers.specs.Answers.{readingOf, readingSays, numberSays}
 use Rattle.script_numbers.specs.declared.Reading.{Reading}
 use Rattle.script_numbers.specs.declared.Reading.the-variants.{Number, Nothing}
 
@@ -102,3 +102,11 @@ number-digits limit (b ∷ l) n h = simp (ne-eqb b 48 h)
 pub number-several : (limit : ℕ) (s : List ℕ) (r : Reading) → (length s ≡ 0 → ⊥) → (getD s 0 0 ≡ 48 → ⊥) → r ≡ readingOf (digitsUpTo limit 0 s)
     → r ≡ readingOf (numberUpTo limit s)
 number-several limit s r n h e = rw (number-digits limit s n h) e
+
+-- the same in document 01's numbers
+reading-row : (o : Option ℕ) → readingSays (readingOf o) ≡ numberSays o
+reading-row none = refl
+reading-row (some x) = refl
+
+pub number-said : (s : List ℕ) (r : Reading) → r ≡ readingOf (number s) → (r ≡ readingOf (number s)) × (readingSays r ≡ numberSays (number s))
+number-said s r e = (e, ap readingSays e ∙ reading-row (number s))

@@ -4,7 +4,7 @@ ghost use Prim.Native.Nat.{_+_, _≤_, _<_};
 ghost use lib.ListN.{length};
 ghost use lib.Seq.{sets};
 ghost use Rattle.script_numbers.specs.Decimals.{largest32, digitUpTo, digitsUpTo, number, decimal};
-ghost use Rattle.script_numbers.specs.Answers.{readingOf};
+ghost use Rattle.script_numbers.specs.Answers.{readingOf, readingSays, numberSays};
 
 // The largest number, and the most digits that a number has.
 const LARGEST_32: u64 = 4_294_967_295;
@@ -53,6 +53,7 @@ fn read_digits(s: &[u8]) -> Reading
 // The bytes as a number: one or more digits without a leading zero, up to 4,294,967,295.
 pub fn read_number(s: &[u8]) -> Reading
     ensures { λ r. ⌜ r ≡ readingOf (number (now (s .entry))) ⌝ }
+    ensures numbers { λ r. ⌜ readingSays r ≡ numberSays (number (now (s .entry))) ⌝ }
 {
     if s.len() == 0 {
         return Reading::Nothing;

@@ -7,6 +7,7 @@ use native.Mathlib.Omega.{arith}
 use borrow.Author.Tests.{le-ltb, not-true, not-false}
 use Rattle.ids.specs.Limits.{within, maxServers}
 use Rattle.ids.specs.Requests.{byOwner}
+use Rattle.ids.proofs.Choice.{of-choice}
 use Rattle.ids.specs.declared.Refusal.the-variants.{InvalidRecord, NumberOutOfRange, NotForServer, NoOwner, ParameterOutOfRange}
 use Rattle.ids.specs.declared.ClientId.{ClientId}
 use Rattle.ids.specs.declared.ServerId.{ServerId}
@@ -18,6 +19,7 @@ use Rattle.rows.specs.Rows.{Padded}
 use Rattle.rows.proofs.QueueLaws.{holds-still}
 use Rattle.wire.specs.Format as format
 use Rattle.wire.specs.Step.{Outcome, refused, stepped, stay, tell}
+use Rattle.wire.specs.Says.{answerSays, newSays}
 use Rattle.wire.specs.declared.Message.{Message}
 use Rattle.wire.specs.declared.Message.the-variants.{Check}
 use Rattle.wire.specs.declared.Message.the-variants as message
@@ -36,9 +38,9 @@ use Rattle.server.specs.declared.Head.{Head}
 use Rattle.server.specs.declared.Server.{Server}
 use Rattle.server.specs.declared.Stepped.{Stepped}
 use Rattle.server.specs.declared.Turned.{Turned}
-use Rattle.server.specs.Record.{valid, serverOf, view}
+use Rattle.server.specs.Record.{valid, validSizes, serverOf, view}
 use Rattle.server.specs.Inner.{refusing, doing, askedBy}
-use Rattle.server.specs.Calls.{emptyServer, blank, newResult, taken, received, messageOutcomeUpTo, messageOutcome, suspectOutcome, checkOutcome}
+use Rattle.server.specs.Calls.{emptyServer, blank, newResult, NewGives, taken, received, messageOutcomeUpTo, messageOutcome, suspectOutcome, checkOutcome}
 use Rattle.server.specs.Rows.{Turns}
 use Rattle.server.proofs.TurnLaws.{turns-refused, turns-done}
 
@@ -153,21 +155,28 @@ module _ (h : Head) (row : List ℕ) (r : Turned) (b : Bool) (e : b ≡ valid (s
 
 -- a new server
 module _ (n : ℕ) (j : ServerId) (r : Stepped) (a : Bool) (p : a ≡ within n maxServers) where
-  pub new-few : not a ≡ true → r ≡ record { server = blank; answer = Refused ParameterOutOfRange } → r ≡ newResult n j
+  new-row : answerSays (newResult n j .answer) ≡ newSays (validSizes n j)
+  unfolding newResult newSays
+  new-row = of-choice (λ (s : Stepped). answerSays (s .answer)) (validSizes n j) _ _ refl refl
+
+  said-new : r ≡ newResult n j → NewGives n j r
+  said-new e = (e, ap (λ (s : Stepped). answerSays (s .answer)) e ∙ new-row)
+
+  pub new-few : not a ≡ true → r ≡ record { server = blank; answer = Refused ParameterOutOfRange } → NewGives n j r
   unfolding newResult
-  new-few t q = let z : within n maxServers ≡ false = sym p ∙ not-true a t in rw (z, q)
+  new-few t q = let z : within n maxServers ≡ false = sym p ∙ not-true a t in said-new (rw (z, q))
 
   module _ (t : not a ≡ false) (b : Bool) (q : b ≡ within (j .0) n) where
-    pub new-other : not b ≡ true → r ≡ record { server = blank; answer = Refused ParameterOutOfRange } → r ≡ newResult n j
+    pub new-other : not b ≡ true → r ≡ record { server = blank; answer = Refused ParameterOutOfRange } → NewGives n j r
     unfolding newResult
     new-other u d =
         let z : within n maxServers ≡ true = sym p ∙ not-false a t in
         let y : within (j .0) n ≡ false = sym q ∙ not-true b u in
-        rw (z, y, d)
+        said-new (rw (z, y, d))
 
-    pub new-made : (s : Server) → not b ≡ false → s ≡ emptyServer n j → r ≡ record { server = s; answer = Sent 0 0 } → r ≡ newResult n j
+    pub new-made : (s : Server) → not b ≡ false → s ≡ emptyServer n j → r ≡ record { server = s; answer = Sent 0 0 } → NewGives n j r
     unfolding newResult
     new-made s u e d =
         let z : within n maxServers ≡ true = sym p ∙ not-false a t in
         let y : within (j .0) n ≡ true = sym q ∙ not-false b u in
-        rw (z, y, d, e)
+        said-new (rw (z, y, d, e))

@@ -1,6 +1,6 @@
 -- A call's outcome from its parts: what was done is the definition's step, or the refusal left everything as it was; and the same call by value.
 use Prim.Native.Nat.{ℕ}
-use mathlib.Core.Path.{_≡_, refl, sym, _∙_}
+use mathlib.Core.Path.{_≡_, refl, sym, ap, _∙_}
 use mathlib.Core.Bool.{true, false}
 use mathlib.Core.List.{List}
 use mathlib.Core.Logic.{⊎-elim}
@@ -8,6 +8,7 @@ use lib.Dec.{ltb}
 use lib.ListN.{length}
 use borrow.Author.Tests.{eq-eqb, ne-eqb}
 use Rattle.ids.proofs.Choice.{decided}
+use Rattle.ids.specs.Refusals.{accepts}
 use Rattle.ids.specs.declared.Refusal.{Refusal}
 use Rattle.ids.specs.declared.Refusal.the-variants.{NotForServer, QueueFull}
 use Rattle.ids.specs.declared.ClientId.{ClientId}
@@ -16,6 +17,7 @@ use Rattle.ids.specs.declared.Timestamp.{Timestamp}
 use Rattle.rows.proofs.QueueLaws.{holds-length, holds-row}
 use Rattle.wire.specs.Format.{sizeOfAll}
 use Rattle.wire.specs.Step.{Step, Outcome, refused, stepped, withRoom, sentInto}
+use Rattle.wire.proofs.SaysLaws.{answer-said}
 use Rattle.wire.specs.declared.Answer.{Answer}
 use Rattle.wire.specs.declared.Answer.the-variants.{Sent, Refused}
 use Rattle.server_votes.specs.declared.Moved.{Moved}
@@ -31,13 +33,13 @@ use Rattle.server.specs.declared.Ruling.the-variants.{Done, Refused as R
 use Rattle.server.specs.Record.{serverOf}
 use Rattle.server.specs.Parts.{threeMails, sentAnswer, sentBuffer}
 use Rattle.server.specs.Inner.{refusing, doing, answersBy, buffersBy, answering, buffering, keeping}
-use Rattle.server.specs.Calls.{headAfter, rowAfter, result, taken}
+use Rattle.server.specs.Calls.{headAfter, rowAfter, result, Gives, taken}
 use Rattle.server.specs.Rows.{rulingOf, sentOf, Turns}
 
 module _ (h : Head) (row : List ℕ) (o : Outcome State) (r : Turned) where
   pub turns-refused : (e : Refusal) → o ≡ refused e → r ≡ refusing h e → Turns h row o r row
   unfolding threeMails
-  turns-refused e p q = record { ruled = rw (q, p); head = rw (q, p); row = rw p; sent = rw (q, p) }
+  turns-refused e p q = record { ruled = rw (q, p); head = rw (q, p); row = rw p; sent = rw (q, p); said = rw (q, p) }
 
   pub turns-done : (after : List ℕ) (m : Moved) (s : Step State) → o ≡ stepped s → Moves (h .votes) row after m s → m .full ≡ false → r ≡ doing h m → Turns h row o r after
   unfolding threeMails
@@ -52,6 +54,7 @@ module _ (h : Head) (row : List ℕ) (o : Outcome State) (r : Turned) where
         head = rw (q, p) (sym v);
         row = rw p (holds-row row after (m .votes .len) (s .state .queue) H);
         sent = rw (q, p) (M .sent);
+        said = rw (q, p) (ap accepts (M .sent));
       }
 
 -- a message of some tag
@@ -102,7 +105,8 @@ module _ (s : Server) (out : List ℕ) where
 
   pub turns-by-value : (o : Outcome State) (t : Turned) (row : List ℕ) (r : Stepped) (l : List ℕ) → Turns (s .head) (s .row) o t row
       → (r ≡ keeping s (t .head) row (answering t (length out))) × (l ≡ buffering t out)
-      → (r ≡ result s (withRoom (length out) o)) × (l ≡ sentInto out (withRoom (length out) o))
+      → Gives s (withRoom (length out) o) out r l
   turns-by-value o t row r l T (a, b) =
       let (x, y) = by-outcome o in
-      (a ∙ rw (T .head, T .row, T .ruled, T .sent) x, b ∙ rw (T .ruled, T .sent) y)
+      let e : r ≡ result s (withRoom (length out) o) = a ∙ rw (T .head, T .row, T .ruled, T .sent) x in
+      (e, b ∙ rw (T .ruled, T .sent) y, answer-said (withRoom (length out) o) (r .answer) (ap (λ (t : Stepped). t .answer) e))

@@ -1,5 +1,6 @@
 -- The server's calls: the row 'keeper' of document 01's table, each number in its order, and what is left in record and buffer.
 use Prim.Native.Nat.{ℕ, _*_}
+use mathlib.Core.Path.{_≡_}
 use mathlib.Core.Bool.{not}
 use mathlib.Core.List.{List}
 use lib.Dec.{eqb, ltb}
@@ -14,7 +15,8 @@ use Rattle.ids.specs.declared.Owner.the-variants.{Nobody}
 use Rattle.ids.specs.declared.Refusal.the-variants.{ParameterOutOfRange, NotForServer, QueueFull, NoOwner, NumberOutOfRange, InvalidRecord}
 use Rattle.rows.specs.Rows.{rowOf}
 use Rattle.wire.specs.Format as format
-use Rattle.wire.specs.Step.{Step, Outcome, refused, stepped, answerOf}
+use Rattle.wire.specs.Step.{Step, Outcome, refused, stepped, answerOf, sentInto}
+use Rattle.wire.specs.Says.{answerSays, outcomeSays, newSays}
 use Rattle.wire.specs.declared.Answer.the-variants.{Sent, Refused}
 use Rattle.wire.specs.declared.Message.{Message}
 use Rattle.wire.specs.declared.Message.the-variants.{Request, Yield, Release, Inquiry, Response, Check}
@@ -39,6 +41,10 @@ unfoldable pub newResult : ℕ → ServerId → Stepped
 newResult n j =
     if validSizes n j then record { server = emptyServer n j; answer = Sent 0 0 }
     else record { server = blank; answer = Refused ParameterOutOfRange }
+
+-- answer and record, and the answer in document 01's numbers
+abbrev pub NewGives : ℕ → ServerId → Stepped → Type 0
+NewGives n j r = (r ≡ newResult n j) × (answerSays (r .answer) ≡ newSays (validSizes n j))
 
 -- 14: the row has no place for the request, the older pair gone; only a REQUEST adds to the queue
 abbrev pub held : ℕ → Step State → Outcome State
@@ -90,3 +96,7 @@ serverAfter s o = record { head = headAfter (s .head) o; row = rowAfter (s .row)
 -- answer and record of a call, from its outcome
 abbrev pub result : Server → Outcome State → Stepped
 result s o = record { server = serverAfter s o; answer = answerOf o }
+
+-- what a call with this outcome gives and leaves in the buffer: answer and record; the buffer; and the answer in document 01's numbers
+abbrev pub Gives : Server → Outcome State → List ℕ → Stepped → List ℕ → Type 0
+Gives s o out r out′ = (r ≡ result s o) × (out′ ≡ sentInto out o) × (answerSays (r .answer) ≡ outcomeSays o)

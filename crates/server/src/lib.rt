@@ -8,13 +8,13 @@ ghost use Rattle.ids.specs.Limits.{validRequest};
 ghost use Rattle.ids.specs.Lists.{every};
 ghost use Rattle.rows.specs.Rows.{queueOf, Padded};
 ghost use Rattle.wire.specs.Format.{bytesOfAll, sizeOfAll};
-ghost use Rattle.wire.specs.Step.{withRoom, sentInto};
+ghost use Rattle.wire.specs.Step.{withRoom};
 ghost use Rattle.server_votes.specs.Queues.{view as votesView};
 ghost use Rattle.server_votes.specs.Places.{mails};
 ghost use Rattle.server.specs.Record.{ordered, once, validState, serverOf, valid};
 ghost use Rattle.server.specs.Parts.{threeMails, sentAnswer, sentBuffer};
 ghost use Rattle.server.specs.Inner.{refusing, doing, answering, buffering, keeping, repeats, fitsOwner, askedBy};
-ghost use Rattle.server.specs.Calls.{result, taken, emptyServer, blank, newResult, messageOutcome, suspectOutcome, checkOutcome};
+ghost use Rattle.server.specs.Calls.{Gives, NewGives, taken, emptyServer, blank, messageOutcome, suspectOutcome, checkOutcome};
 ghost use Rattle.server.specs.Rows.{Turns};
 use ids::ClientId;
 use ids::Owner;
@@ -427,7 +427,7 @@ fn unmade(e: Refusal) -> Stepped
 
 // Server `id` of `n`, with no owner. Refused 7.
 pub fn new(n: u16, id: ServerId) -> Stepped
-    ensures { λ r. ⌜ r ≡ newResult n id ⌝ }
+    ensures { λ r. ⌜ NewGives n id r ⌝ }
 {
     if !ids::within_limit(n as u32, ids::MAX_SERVERS) {
         return unmade(Refusal::ParameterOutOfRange);
@@ -442,7 +442,7 @@ pub fn new(n: u16, id: ServerId) -> Stepped
 
 // `message_row` on a record by value. Refused 21, 5, 13, 14, 6.
 pub fn message(s: Server, m: Message, out: &mut [u8]) -> Stepped
-    ensures { λ r. ⌜ (r ≡ result s (withRoom (length (now (out .entry))) (messageOutcome s m))) × (now (out .exit) ≡ sentInto (now (out .entry)) (withRoom (length (now (out .entry))) (messageOutcome s m))) ⌝ }
+    ensures { λ r. ⌜ Gives s (withRoom (length (now (out .entry))) (messageOutcome s m)) (now (out .entry)) r (now (out .exit)) ⌝ }
 {
     let mut row = s.row;
     let head = s.head;
@@ -452,7 +452,7 @@ pub fn message(s: Server, m: Message, out: &mut [u8]) -> Stepped
 
 // `suspect_row` on a record by value. Refused 21, 15, 6.
 pub fn suspect(s: Server, out: &mut [u8]) -> Stepped
-    ensures { λ r. ⌜ (r ≡ result s (withRoom (length (now (out .entry))) (suspectOutcome s))) × (now (out .exit) ≡ sentInto (now (out .entry)) (withRoom (length (now (out .entry))) (suspectOutcome s))) ⌝ }
+    ensures { λ r. ⌜ Gives s (withRoom (length (now (out .entry))) (suspectOutcome s)) (now (out .entry)) r (now (out .exit)) ⌝ }
 {
     let mut row = s.row;
     let head = s.head;
@@ -462,7 +462,7 @@ pub fn suspect(s: Server, out: &mut [u8]) -> Stepped
 
 // `check_row` on a record by value. Refused 21, 6.
 pub fn check(s: Server, out: &mut [u8]) -> Stepped
-    ensures { λ r. ⌜ (r ≡ result s (withRoom (length (now (out .entry))) (checkOutcome s))) × (now (out .exit) ≡ sentInto (now (out .entry)) (withRoom (length (now (out .entry))) (checkOutcome s))) ⌝ }
+    ensures { λ r. ⌜ Gives s (withRoom (length (now (out .entry))) (checkOutcome s)) (now (out .entry)) r (now (out .exit)) ⌝ }
 {
     let row = s.row;
     let head = s.head;

@@ -7,14 +7,14 @@ use mir.Val.{Val}
 use denote.Laws.{Is}
 use denote.Enum.Laws as EL
 use denote.Struct.Laws as LL
-use Rattle.wire.specs.Step.{Outcome, withRoom, sentInto}
+use Rattle.wire.specs.Step.{Outcome, withRoom}
 use Rattle.wire.specs.declared.Answer.{Answer}
 use Rattle.wire.proofs.Answer as R
 use Rattle.wire.proofs.Answer.Laws as R′
 use Rattle.server_votes.specs.Figure1.{State}
 use Rattle.server.specs.declared.Server.{Server}
 use Rattle.server.specs.declared.Stepped.{Stepped}
-use Rattle.server.specs.Calls.{result}
+use Rattle.server.specs.Calls.{Gives}
 use Rattle.server.proofs.Server as K
 use Rattle.server.proofs.Server.Laws as K′
 use Rattle.server.proofs.Stepped as S
@@ -60,10 +60,10 @@ types = record {
 -- the two contracts, at the outcome f of a record
 module _ (f : Server → Outcome State) where
   abbrev pub Says : Server → List ℕ → Stepped → List ℕ → Type 0
-  Says h ys r zs = (r ≡ result h (withRoom (length ys) (f h))) × (zs ≡ sentInto ys (withRoom (length ys) (f h)))
+  Says h ys r zs = Gives h (withRoom (length ys) (f h)) ys r zs
 
   abbrev pub Left : Server → List ℕ → Answer → Server → List ℕ → Type 0
   Left h ys r h′ zs = Leaves (withRoom (length ys) (f h)) r h h′ ys zs
 
   pub leaves : (h : Server) (ys : List ℕ) (r : Stepped) (zs : List ℕ) → Says h ys r zs → Left h ys (r .answer) (r .server) zs
-  leaves h ys r zs e = record { answered = ap (λ (t : Stepped). t .answer) (e .0); stored = ap (λ (t : Stepped). t .server) (e .0); written = e .1 }
+  leaves h ys r zs e = record { answered = ap (λ (t : Stepped). t .answer) (e .0); stored = ap (λ (t : Stepped). t .server) (e .0); written = e .1; said = e .2 }

@@ -2,9 +2,10 @@
 use mathlib.Core.Path.{_≡_}
 use Prim.Native.Nat.{ℕ}
 use mathlib.Core.Bool.{true, false}
-use mathlib.Core.List.{List}
+use mathlib.Core.List.{List, [], _∷_}
 use lib.ListN.{length}
 use Rattle.ids.specs.Choice.{if_then_else_}
+use Rattle.ids.specs.Refusals.{code, Says, accepts, refuses}
 use Rattle.ids.specs.declared.Refusal.the-variants.{InvalidRecord}
 use Rattle.wire.specs.Step.{refused, stepped}
 use Rattle.client_responses.specs.Figure1.{enough}
@@ -47,6 +48,22 @@ replyOf u (stepped s) = reply.Accepted (length (s .sent)) (holders (after u (ste
 -- `event` of any words: 21, or what the event does
 unfoldable pub eventReply : List ℕ → Event → Reply
 eventReply w e = if valid w then replyOf (view w) (happens w e) else reply.Refused InvalidRecord
+
+-- the answers in document 01's numbers: the messages sent; and with them the living holders
+abbrev pub movedSays : Moved → Says ℕ
+movedSays (moved.Refused x) = refuses (code x)
+movedSays (moved.Sent count) = accepts (count ∷ [])
+
+abbrev pub replySays : Reply → Says ℕ
+replySays (reply.Refused x) = refuses (code x)
+replySays (reply.Accepted sent inside) = accepts (sent ∷ inside ∷ [])
+
+abbrev pub resultSays : System → Result → Says ℕ
+resultSays u (refused x) = refuses (code x)
+resultSays u (stepped s) = accepts (length (s .sent) ∷ holders (after u (stepped s)) ∷ [])
+
+unfoldable pub eventSays : List ℕ → Event → Says ℕ
+eventSays w e = if valid w then resultSays (view w) (happens w e) else refuses 21
 
 pub record EventLeaves (w : List ℕ) (e : Event) (w′ : List ℕ) : Type 0 where
   pub valid-leaves : valid w ≡ true → Leaves w e w′

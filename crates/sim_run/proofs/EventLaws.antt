@@ -13,7 +13,8 @@ use Rattle.system.specs.Events.{Result}
 use Rattle.system.specs.Runs.{after}
 use Rattle.sim_layout.specs.Layout.{settingOf, view, valid}
 use Rattle.sim_layout.proofs.ValidLaws as layout-laws
-use Rattle.sim_changes.specs.Happens.{Leaves, happens, replyOf}
+use Rattle.sim_changes.specs.Happens.{Leaves, happens, replyOf, replySays}
+use Rattle.simulation.proofs.Replies.{result-row}
 use Rattle.sim_changes.specs.declared.Reply.{Reply}
 use Rattle.sim_changes.specs.declared.Reply.the-variants.{Accepted, Refused}
 use Rattle.sim_run.specs.declared.Counts.{Counts}
@@ -46,6 +47,7 @@ module _ (c : Counts) (w : List ℕ) (e : Event) (w′ : List ℕ) (reply : Repl
       record {
         run = t ∙ outcome (settingOf w) (view w) (view w′) (happens w e) (h .0 .system) c d (q ∙ ap (counted c) (h .1));
         reply = h .1;
+        said = ap replySays (h .1) ∙ result-row (view w) (happens w e);
         again = h .0 .again;
         kept = h .0 .kept;
       }

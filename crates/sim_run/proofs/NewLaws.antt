@@ -19,9 +19,10 @@ use Rattle.sim_layout.proofs.ValidLaws as layout-laws
 use Rattle.sim_changes.specs.declared.Moved.{Moved}
 use Rattle.sim_changes.specs.declared.Moved.the-variants as made
 use Rattle.simulation.specs.Opens as simulation
+use Rattle.sim_run.specs.declared.Begun.{Begun}
 use Rattle.sim_run.specs.declared.Begun.the-variants.{Run as Runs, Refused}
 use Rattle.sim_run.specs.Run.{fresh}
-use Rattle.sim_run.specs.Calls.{newAnswer, NewLeaves}
+use Rattle.sim_run.specs.Calls.{newAnswer, begunSays, startSays, NewLeaves}
 
 none-inside : (n c : ℕ) → count (map isInside (replicate c (record { living = true; state = freshClient n; downs = [] }))) ≡ 0
 none-inside n zero = refl
@@ -73,3 +74,13 @@ module _ (s : Setting) (w w′ : List ℕ) (r : Moved) (h : simulation.NewLeaves
 
     pub run-same : length w′ ≡ length w
     run-same = let o = made-new Opens i (sym e ∙ h .1) in layout-laws.facts w′ (h .0 .starts o .again) .long ∙ sym (opens-long s (length w) o)
+
+-- the same in document 01's numbers
+start-row : (b : Bool) (s : Setting) → begunSays (newAnswer b s) ≡ startSays b s
+unfolding newAnswer startSays
+start-row true s = refl
+start-row false s = refl
+
+pub new-said : (s : Setting) (w w′ : List ℕ) (r : Begun) → NewLeaves s w w′ × (r ≡ newAnswer (simulation.opens (length w) s) s)
+    → (NewLeaves s w w′ × (r ≡ newAnswer (simulation.opens (length w) s) s)) × (begunSays r ≡ startSays (simulation.opens (length w) s) s)
+new-said s w w′ r h = (h, ap begunSays (h .1) ∙ start-row (simulation.opens (length w) s) s)

@@ -2,9 +2,10 @@
 use mathlib.Core.Path.{_≡_}
 use Prim.Native.Nat.{ℕ}
 use mathlib.Core.Bool.{Bool, true, false}
-use mathlib.Core.List.{List}
+use mathlib.Core.List.{List, [], _∷_}
 use lib.ListN.{length}
 use Rattle.ids.specs.Choice.{if_then_else_}
+use Rattle.ids.specs.Refusals.{code, Says, accepts, refuses}
 use Rattle.ids.specs.declared.Refusal.the-variants.{ParameterOutOfRange}
 use Rattle.system.specs.declared.Setting.{Setting}
 use Rattle.system.specs.declared.Event.{Event}
@@ -34,6 +35,14 @@ countsOf r = record { accepted = r .accepted; holding = r .holding }
 unfoldable pub newAnswer : Bool → Setting → Begun
 newAnswer b s = if b then begun.Run (countsOf (started s)) else begun.Refused ParameterOutOfRange
 
+-- the answer in document 01's numbers: the counts of a new run
+abbrev pub begunSays : Begun → Says ℕ
+begunSays (begun.Refused x) = refuses (code x)
+begunSays (begun.Run c) = accepts (c .accepted ∷ c .holding ∷ [])
+
+unfoldable pub startSays : Bool → Setting → Says ℕ
+startSays b s = if b then accepts (started s .accepted ∷ started s .holding ∷ []) else refuses 7
+
 pub record NewLeaves (s : Setting) (w w′ : List ℕ) : Type 0 where
   pub run : opens (length w) s ≡ true → runIn (countsOf (started s)) w′ ≡ started s
   pub again : opens (length w) s ≡ true → valid w′ ≡ true
@@ -43,5 +52,6 @@ pub record NewLeaves (s : Setting) (w w′ : List ℕ) : Type 0 where
 pub record Goes (c : Counts) (w : List ℕ) (e : Event) (w′ : List ℕ) (r : Went) : Type 0 where
   pub run : runIn (r .counts) w′ ≡ next (runIn c w) e
   pub reply : r .reply ≡ bounded.replyOf (view w) (bounded.happens w e)
+  pub said : bounded.replySays (r .reply) ≡ bounded.resultSays (view w) (bounded.happens w e)
   pub again : valid w′ ≡ true
   pub kept : isStepped (bounded.happens w e) ≡ false → w′ ≡ w

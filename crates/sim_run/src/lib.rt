@@ -6,7 +6,7 @@ ghost use Prim.Native.Nat.{_<_};
 ghost use lib.ListN.{length};
 ghost use Rattle.sim_layout.specs.Layout.{valid};
 ghost use Rattle.simulation.specs.Opens.{opens};
-ghost use Rattle.sim_run.specs.Calls.{maxAccepted, newAnswer, NewLeaves, Goes};
+ghost use Rattle.sim_run.specs.Calls.{maxAccepted, newAnswer, begunSays, startSays, NewLeaves, Goes};
 ghost use Rattle.sim_run.specs.Inner.{counted as countedBy};
 use ids::Refusal;
 pub use sim_changes::Reply;
@@ -50,6 +50,7 @@ fn counted(c: Counts, reply: Reply) -> Counts
 // A new run of a setting. Refused 7, and then the words stay.
 pub fn new(w: &mut [u32], s: Setting) -> Begun
     ensures { λ r. ⌜ NewLeaves s (now (w .entry)) (now (w .exit)) × (r ≡ newAnswer (opens (length (now (w .entry))) s) s) ⌝ }
+    ensures numbers { λ r. ⌜ begunSays r ≡ startSays (opens (length (now (w .entry))) s) s ⌝ }
 {
     let made = simulation::new(w, s);
     match made {

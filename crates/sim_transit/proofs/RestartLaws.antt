@@ -127,7 +127,7 @@ module _ (j : ServerId) (o : List ℕ) (len : ℕ) where
   restarting : Sized len o → (i : ℕ) → i ≤ len → Restarting j o len (pendingAgain i j o) i
   unfolding pendingAgain
   restarting s zero h = restarting-none s
-  restarting s (suc i) h = 
+  restarting s (suc i) h =
       let z : i + 1 ≡ suc i = add-one i in
       let R = restarting-more (pendingAgain i j o) i (restarting s i (omega arith)) (omega arith)
       (againWord (j .0) (getD (pendingAgain i j o) (slotSize * i + 1) 0) (getD (pendingAgain i j o) (slotSize * i + 2) 0)

@@ -1,5 +1,5 @@
 -- A new simulation is refused or made, test by test.
-use mathlib.Core.Path.{_≡_, refl}
+use mathlib.Core.Path.{_≡_, refl, ap, _∙_}
 use Prim.Native.Nat.{ℕ}
 use mathlib.Core.Bool.{Bool, true, false, not}
 use mathlib.Core.List.{List}
@@ -9,7 +9,9 @@ use Rattle.ids.specs.Limits.{within}
 use Rattle.ids.proofs.Choice.{clash, holds, fails}
 use Rattle.quorum.specs.Check.{inRangeUpTo}
 use Rattle.sim_changes.specs.Opening.{Starts}
-use Rattle.simulation.specs.Opens.{opens, newReply, NewLeaves}
+use Rattle.simulation.specs.Opens.{opens, newReply, openSays, NewLeaves}
+use Rattle.sim_changes.specs.Happens.{movedSays}
+use Rattle.sim_changes.specs.declared.Moved.{Moved}
 use Rattle.sim_changes.specs.declared.Moved.the-variants as moved
 use Rattle.ids.specs.declared.Refusal.the-variants.{ParameterOutOfRange}
 use Rattle.system.specs.declared.Setting.{Setting}
@@ -63,3 +65,13 @@ module _ (s : Setting) (w : List ℕ) where
       pub new-starts : not b ≡ false → (w′ : List ℕ) → Starts s w′ → NewLeaves s w w′ × (moved.Sent 0 ≡ newReply (opens (length w) s))
       unfolding newReply
       new-starts u w′ S = (record { starts = λ y. S; kept = λ y. clash (opens (length w) s) (all-right u) y }, rw (all-right u))
+
+-- the same in document 01's numbers
+open-row : (b : Bool) → movedSays (newReply b) ≡ openSays b
+unfolding newReply openSays
+open-row true = refl
+open-row false = refl
+
+pub new-said : (s : Setting) (w w′ : List ℕ) (r : Moved) → NewLeaves s w w′ × (r ≡ newReply (opens (length w) s))
+    → (NewLeaves s w w′ × (r ≡ newReply (opens (length w) s))) × (movedSays r ≡ openSays (opens (length w) s))
+new-said s w w′ r h = (h, ap movedSays (h .1) ∙ open-row (opens (length w) s))

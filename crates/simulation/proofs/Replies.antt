@@ -7,7 +7,7 @@ use mathlib.Core.List.{List}
 use lib.ListN.{length}
 use Rattle.ids.specs.declared.Refusal.{Refusal}
 use Rattle.ids.specs.declared.Refusal.the-variants.{InvalidRecord}
-use Rattle.ids.proofs.Choice.{clash, holds, fails}
+use Rattle.ids.proofs.Choice.{clash, holds, fails, of-choice}
 use Rattle.wire.specs.Step.{refused, stepped}
 use Rattle.system.specs.declared.Event.{Event}
 use Rattle.system.specs.Places.{System, holders}
@@ -18,7 +18,7 @@ use Rattle.sim_changes.specs.declared.Moved.{Moved}
 use Rattle.sim_changes.specs.declared.Moved.the-variants as moved
 use Rattle.sim_changes.specs.declared.Reply.{Reply}
 use Rattle.sim_changes.specs.declared.Reply.the-variants as reply
-use Rattle.sim_changes.specs.Happens.{happens, Leaves, movedOf, replyOf, EventLeaves, eventReply}
+use Rattle.sim_changes.specs.Happens.{happens, Leaves, movedOf, replyOf, EventLeaves, eventReply, replySays, resultSays, eventSays}
 
 -- the event is this variant
 pub as-event : {w w′ : List ℕ} {r : Moved} {e e′ : Event} → e ≡ e′ → Leaves w e′ w′ × (r ≡ movedOf (happens w e′)) → Leaves w e w′ × (r ≡ movedOf (happens w e))
@@ -56,3 +56,17 @@ module _ (w : List ℕ) (e : Event) (b : Bool) (t : b ≡ valid w) where
   event-valid f w′ r h =
       let yes = holds b (valid w) t f in
       (record { valid-leaves = λ y. h .0; invalid-kept = λ y. clash (valid w) yes y }, rw yes (h .1))
+
+-- the same in document 01's numbers
+pub result-row : (u : System) (o : Result) → replySays (replyOf u o) ≡ resultSays u o
+unfolding replyOf
+result-row u (refused x) = refl
+result-row u (stepped s) = refl
+
+event-row : (w : List ℕ) (e : Event) → replySays (eventReply w e) ≡ eventSays w e
+unfolding eventReply eventSays
+event-row w e = of-choice replySays (valid w) (replyOf (view w) (happens w e)) (reply.Refused InvalidRecord) (result-row (view w) (happens w e)) refl
+
+pub event-said : (w : List ℕ) (e : Event) (w′ : List ℕ) (r : Reply) → EventLeaves w e w′ × (r ≡ eventReply w e)
+    → (EventLeaves w e w′ × (r ≡ eventReply w e)) × (replySays r ≡ eventSays w e)
+event-said w e w′ r h = (h, ap replySays (h .1) ∙ event-row w e)

@@ -4,8 +4,8 @@ ghost use mathlib.Core.Path.{_≡_};
 ghost use mathlib.Core.Bool.{true};
 ghost use lib.ListN.{length};
 ghost use Rattle.sim_layout.specs.Layout.{view, valid};
-ghost use Rattle.sim_changes.specs.Happens.{happens, Leaves, movedOf, replyOf, EventLeaves, eventReply};
-ghost use Rattle.simulation.specs.Opens.{opens, newReply, NewLeaves};
+ghost use Rattle.sim_changes.specs.Happens.{happens, Leaves, movedOf, replyOf, EventLeaves, eventReply, movedSays, replySays, eventSays};
+ghost use Rattle.simulation.specs.Opens.{opens, newReply, openSays, NewLeaves};
 use ids::Refusal;
 pub use sim_changes::Moved;
 pub use sim_changes::Reply;
@@ -48,6 +48,7 @@ pub fn happen(w: &mut [u32], e: Event) -> Reply
 // An event of any words: words that are no simulation are refused, and stay.
 pub fn event(w: &mut [u32], e: Event) -> Reply
     ensures { λ r. ⌜ EventLeaves (now (w .entry)) e (now (w .exit)) × (r ≡ eventReply (now (w .entry)) e) ⌝ }
+    ensures numbers { λ r. ⌜ replySays r ≡ eventSays (now (w .entry)) e ⌝ }
 {
     if !sim_layout::valid(w) {
         return Reply::Refused(Refusal::InvalidRecord);
@@ -58,6 +59,7 @@ pub fn event(w: &mut [u32], e: Event) -> Reply
 // A new simulation of a setting. Refused 7.
 pub fn new(w: &mut [u32], s: Setting) -> Moved
     ensures { λ r. ⌜ NewLeaves s (now (w .entry)) (now (w .exit)) × (r ≡ newReply (opens (length (now (w .entry))) s)) ⌝ }
+    ensures numbers { λ r. ⌜ movedSays r ≡ openSays (opens (length (now (w .entry))) s) ⌝ }
 {
     if w.len() != SIMULATION_WORDS {
         return Moved::Refused(Refusal::ParameterOutOfRange);
@@ -86,6 +88,7 @@ pub struct Happened {
 // An event of a simulation by value. Refused as `event` is, and then the simulation is as it was.
 pub fn event_of(s: Simulation, e: Event) -> Happened
     ensures { λ r. ⌜ EventLeaves (s .words) e (r .simulation .words) × (r .reply ≡ eventReply (s .words) e) ⌝ }
+    ensures numbers { λ r. ⌜ replySays (r .reply) ≡ eventSays (s .words) e ⌝ }
 {
     let mut words = s.words;
     let reply = event(&mut words, e);

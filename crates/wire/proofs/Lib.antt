@@ -6,3 +6,4 @@ pub mod RoundTrip
 pub mod Prefix
 pub mod Sequence
 pub mod Carried
+pub mod SaysLaws

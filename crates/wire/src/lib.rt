@@ -7,6 +7,7 @@ ghost use Rattle.wire.specs.Bytes.{littleEndian, number};
 ghost use Rattle.wire.specs.Format.{messageBytes, known, lengthOf, plain, answer, fieldsOf, messageOf, kindIn, fieldIn, fieldsIn, bytesOf, bytesOfFields, sizeOf, validNamed, valid, validRest, validFields, ownerOf};
 ghost use Rattle.wire.specs.Inner.{front, validResponse, validNumbers};
 ghost use Rattle.wire.specs.Calls.{readOf, numbersOf, writeOf, bufferAfter, layOf, laidIn, writeNumbers, numbersAfter};
+ghost use Rattle.wire.specs.Says.{parsedSays, numbersSays, readSays, writtenSays, writeSays};
 ghost use Rattle.ids.specs.Limits.{validOwner};
 use ids::ClientId;
 use ids::Owner;
@@ -293,6 +294,7 @@ fn fields_in(bytes: &[u8], kind: u16) -> Fields
 // The numbers of the message that `bytes` begins with, and the bytes it takes. Bytes behind it are not looked at.
 pub fn read_fields(bytes: &[u8]) -> Numbers
     ensures { λ r. ⌜ r ≡ numbersOf (readOf (now (bytes .entry))) ⌝ }
+    ensures numbers { λ r. ⌜ numbersSays r ≡ readSays (now (bytes .entry)) ⌝ }
 {
     if bytes.len() < 4 {
         return Numbers::Refused(Refusal::HeaderShort);
@@ -318,6 +320,7 @@ pub fn read_fields(bytes: &[u8]) -> Numbers
 // The message that `bytes` begins with, and the bytes it takes.
 pub fn read(bytes: &[u8]) -> Parsed
     ensures { λ r. ⌜ r ≡ readOf (now (bytes .entry)) ⌝ }
+    ensures numbers { λ r. ⌜ parsedSays r ≡ readSays (now (bytes .entry)) ⌝ }
 {
     let p = read_fields(bytes);
     match p {
@@ -382,6 +385,7 @@ fn lay(f: Fields, out: &mut [u8]) -> Written
 // Writes `m` at the start of `out`. The bytes behind it stay, and a refusal changes none.
 pub fn write(m: Message, out: &mut [u8]) -> Written
     ensures { λ r. ⌜ (r ≡ writeOf m (length (now (out .entry)))) × (now (out .exit) ≡ bufferAfter m (now (out .entry))) ⌝ }
+    ensures numbers { λ r. ⌜ writtenSays r ≡ writeSays (valid m) (sizeOf m) (length (now (out .entry))) ⌝ }
 {
     if !valid_message(m) {
         return Written::Refused(Refusal::NumberOutOfRange);
@@ -392,6 +396,7 @@ pub fn write(m: Message, out: &mut [u8]) -> Written
 // The same of numbers that may be no message.
 pub fn write_fields(f: Fields, out: &mut [u8]) -> Written
     ensures { λ r. ⌜ (r ≡ writeNumbers f (length (now (out .entry)))) × (now (out .exit) ≡ numbersAfter f (now (out .entry))) ⌝ }
+    ensures numbers { λ r. ⌜ writtenSays r ≡ writeSays (validFields f) (lengthOf (f .kind)) (length (now (out .entry))) ⌝ }
 {
     if !valid_fields(f) {
         return Written::Refused(Refusal::NumberOutOfRange);

@@ -1,17 +1,17 @@
 -- Words and messages: when five words cross, and which message they are.
 use Prim.Native.Nat.{ℕ, _<_, _≤_}
-use mathlib.Core.Path.{_≡_, sym, _∙_}
+use mathlib.Core.Path.{_≡_, refl, sym, ap, _∙_}
 use mathlib.Core.Bool.{Bool, true, false, not, _&&_}
 use mathlib.Core.List.{List}
-use lib.Dec.{leb}
+use lib.Dec.{eqb, leb}
 use lib.ListN.{length, getD}
 use borrow.Author.Tests.{le-leb, lt-leb, ne-eqb, leb-true, not-true, not-false}
 use Rattle.ids.specs.Limits.{maxShort}
-use Rattle.ids.proofs.Choice.{both}
+use Rattle.ids.proofs.Choice.{both, of-choice}
 use Rattle.wire.specs.Format.{validFields, messageOf}
 use Rattle.wire.specs.declared.Fields.{Fields}
 use Rattle.wire.specs.declared.Message.{Message}
-use Rattle.words.specs.Messages.{fits, fieldsFrom, crossing, messageIn, messageOr, noMessage}
+use Rattle.words.specs.Messages.{fits, fieldsFrom, crossing, crossedSays, fiveSays, messageIn, messageOr, noMessage}
 use Rattle.words.specs.declared.Crossed.{Crossed}
 use Rattle.words.specs.declared.Crossed.the-variants.{Numbers, TooLarge}
 
@@ -71,3 +71,12 @@ module _ (ws : List ℕ) (g : Crossed) (e : g ≡ crossing ws) (m : Message) whe
 
     pub in-valid : not b ≡ false → m ≡ messageOf f → m ≡ messageOr (messageIn ws)
     in-valid n p = let q : crossing ws ≡ Numbers f = cc in let u : validFields f ≡ true = sym v ∙ not-false b n in rw (q, u, p)
+
+-- the same in document 01's numbers
+five-row : (ws : List ℕ) → crossedSays (crossing ws) ≡ fiveSays ws
+unfolding crossing fiveSays
+five-row ws =
+    of-choice crossedSays (eqb (length ws) 5 && fits (getD ws 0 0) (getD ws 1 0) (getD ws 2 0) (getD ws 4 0)) (Numbers (fieldsFrom ws)) TooLarge refl refl
+
+pub cross-said : (ws : List ℕ) (r : Crossed) → r ≡ crossing ws → (r ≡ crossing ws) × (crossedSays r ≡ fiveSays ws)
+cross-said ws r e = (e, ap crossedSays e ∙ five-row ws)

@@ -7,7 +7,9 @@ use lib.Dec.{eqb, leb}
 use lib.ListN.{length, getD}
 use Rattle.ids.specs.Limits.{maxShort}
 use Rattle.ids.specs.Choice.{if_then_else_}
-use Rattle.wire.specs.Format.{validFields, messageOf}
+use Rattle.ids.specs.Refusals.{code, Says, accepts, refuses}
+use Rattle.ids.specs.declared.Refusal.the-variants.{NumberOutOfRange}
+use Rattle.wire.specs.Format.{words, validFields, messageOf}
 use Rattle.wire.specs.declared.Fields.{Fields}
 use Rattle.wire.specs.declared.Message.{Message}
 use Rattle.wire.specs.declared.Message.the-variants.{Request}
@@ -27,6 +29,15 @@ fieldsFrom ws = record { kind = getD ws 0 0; client = getD ws 1 0; server = getD
 unfoldable pub crossing : List ℕ → Crossed
 crossing ws =
     if eqb (length ws) 5 && fits (getD ws 0 0) (getD ws 1 0) (getD ws 2 0) (getD ws 4 0) then Numbers (fieldsFrom ws) else TooLarge
+
+-- the answer in document 01's numbers: the five, or 5
+abbrev pub crossedSays : Crossed → Says ℕ
+crossedSays TooLarge = refuses (code NumberOutOfRange)
+crossedSays (Numbers f) = accepts (words f)
+
+unfoldable pub fiveSays : List ℕ → Says ℕ
+fiveSays ws =
+    if eqb (length ws) 5 && fits (getD ws 0 0) (getD ws 1 0) (getD ws 2 0) (getD ws 4 0) then accepts (words (fieldsFrom ws)) else refuses 5
 
 -- numbers in range are a message: its kind is one of the six, and only a RESPONSE has an owner
 abbrev pub asMessage : Crossed → Option Message

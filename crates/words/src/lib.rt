@@ -6,7 +6,7 @@ ghost use lib.ListN.{length};
 ghost use lib.Seq.{sets};
 ghost use Rattle.ids.specs.Limits.{maxShort};
 ghost use Rattle.wire.specs.Format.{ownerClient, ownerTimestamp};
-ghost use Rattle.words.specs.Messages.{fits, crossing, messageIn, messageOr, noMessage};
+ghost use Rattle.words.specs.Messages.{fits, crossing, crossedSays, fiveSays, messageIn, messageOr, noMessage};
 ghost use Rattle.words.specs.Records.{recordHead, maxWord, fitsHead, Headed, sectionOf, sectionWord, holdsServer, serverHeadFrom, serverHeadWords, holdsClient, clientHeadFrom, clientHeadWords};
 use client_responses::Section;
 use ids::ClientId;
@@ -62,6 +62,7 @@ fn fields_of_words(kind: u32, client: u32, server: u32, timestamp: u32, owner: u
 // The numbers in five words, none too large for its field.
 pub fn cross(words: &[u32]) -> Crossed
     ensures { λ r. ⌜ r ≡ crossing (now (words .entry)) ⌝ }
+    ensures numbers { λ r. ⌜ crossedSays r ≡ fiveSays (now (words .entry)) ⌝ }
 {
     if words.len() != 5 {
         return Crossed::TooLarge;

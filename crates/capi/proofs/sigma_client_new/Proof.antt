@@ -33,7 +33,7 @@ returns-3 c =
     let made = c .before .before in
     let new = made .before .before in
     let tested = new .before .before .before in
-    client-new-done _ _ _ (now (tested .before .before .args .state)) (tested .if1 .left) _ _ _ (new .new .ensures)
+    client-new-done _ _ _ (now (tested .before .before .args .state)) (tested .if1 .left) _ _ _ (new .new .ensures .0)
     (made .client-made .ensures .0) (made .client-made .ensures .1)
 
 pub sigma-client-new-spec : {M : Type 1} → statement M

@@ -7,22 +7,22 @@ use Rattle.capi.proofs.sigma_read.Statement.{statement}
 use Rattle.capi.proofs.sigma_read.Tie as tie
 
 returns : tie.Need-returns
-returns c = read-room _ _ _ (c .before .before .before .before .before .read-fields .ensures) _ _ (c .before .before .before .p .given .1) _
+returns c = read-room _ _ _ (c .before .before .before .before .before .read-fields .ensures .0) _ _ (c .before .before .before .p .given .1) _
     (c .before .if1 .taken) (c .code-of .ensures)
 
 cast-put-words : tie.Need-cast-put-words
 cast-put-words c =
-    let n = used-small _ [] _ (c .before .before .before .before .before .read-fields .ensures) _ _ (c .before .before .before .p .given .1) in
+    let n = used-small _ [] _ (c .before .before .before .before .before .read-fields .ensures .0) _ _ (c .before .before .before .p .given .1) in
     omega arith
 
 returns-2 : tie.Need-returns-2
 returns-2 c =
     let b = c .before .before .before .before in
-    read-done _ _ _ (b .before .before .before .before .read-fields .ensures) _ _ (b .before .before .p .given .1) _ (b .if1 .left)
+    read-done _ _ _ (b .before .before .before .before .read-fields .ensures .0) _ _ (b .before .before .p .given .1) _ (b .if1 .left)
     (c .before .before .put-words .ensures)
 
 returns-3 : tie.Need-returns-3
-returns-3 c = read-refused _ _ _ (c .before .before .before .before .read-fields .ensures) _ _ (c .before .before .p2 .given .1) (c .code-of2 .ensures)
+returns-3 c = read-refused _ _ _ (c .before .before .before .before .read-fields .ensures .0) _ _ (c .before .before .p2 .given .1) (c .code-of2 .ensures)
 
 pub sigma-read-spec : {M : Type 1} → statement M
 sigma-read-spec =

@@ -26,14 +26,14 @@ cast-new-2 : tie.Need-cast-new-2
 cast-new-2 c = let (a, b, d) = head-small _ _ _ (sym (c .before .fits-head .ensures) ∙ not-false _ (c .if2 .left)) in omega arith
 
 server-made-requires : tie.Need-server-made-requires
-server-made-requires c κs = let w = server-new-whole _ _ _ (c .before .new .ensures) in (c .before .before .before .before .if1 .left, w .0, w .1)
+server-made-requires c κs = let w = server-new-whole _ _ _ (c .before .new .ensures .0) in (c .before .before .before .before .if1 .left, w .0, w .1)
 
 returns-3 : tie.Need-returns-3
 returns-3 c =
     let made = c .before .before in
     let new = made .before .before in
     let tested = new .before .before .before in
-    server-new-done _ _ (now (tested .before .before .args .state)) (tested .if1 .left) _ _ _ (new .new .ensures)
+    server-new-done _ _ (now (tested .before .before .args .state)) (tested .if1 .left) _ _ _ (new .new .ensures .0)
     (made .server-made .ensures .0) (made .server-made .ensures .1)
 
 pub sigma-server-new-spec : {M : Type 1} → statement M

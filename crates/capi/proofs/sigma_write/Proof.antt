@@ -7,11 +7,11 @@ use Rattle.capi.proofs.sigma_write.Tie as tie
 returns : tie.Need-returns
 returns c =
     let b = c .before .before .before .before .before .before in
-    write-numbers _ _ _ (b .before .before .cross .ensures) _ _ _ _ (b .g .given .1) (c .before .before .before .write-fields .ensures .0)
-    (c .before .before .before .write-fields .ensures .1) (c .written-code .ensures)
+    write-numbers _ _ _ (b .before .before .cross .ensures .0) _ _ _ _ (b .g .given .1) (c .before .before .before .write-fields .ensures .0 .0)
+    (c .before .before .before .write-fields .ensures .0 .1) (c .written-code .ensures)
 
 returns-2 : tie.Need-returns-2
-returns-2 c = write-large _ _ _ (c .before .before .before .cross .ensures) _ (c .before .enum-told .given .1) (c .code-of .ensures)
+returns-2 c = write-large _ _ _ (c .before .before .before .cross .ensures .0) _ (c .before .enum-told .given .1) (c .code-of .ensures)
 
 pub sigma-write-spec : {M : Type 1} → statement M
 sigma-write-spec =

@@ -18,7 +18,7 @@ returns-2 c =
     let e = f .before .before .before in
     let a = e .before .before .before .before .before .args in
     feed-lent (now (a .state)) (now (a .out)) (now (a .counts)) _ (e .if1 .left) _ _ _ _ (k .put-counts .ensures) (c .number-of .ensures)
-    (now (a .input)) (f .feed .ensures)
+    (now (a .input)) (f .feed .ensures .0)
 
 pub sigma-script-feed-spec : {M : Type 1} → statement M
 sigma-script-feed-spec =

@@ -18,7 +18,7 @@ returns-2 c =
     let e = f .before .before .before in
     let a = e .before .before .before .before .args in
     finish-lent (now (a .state)) (now (a .out)) (now (a .counts)) _ (e .if1 .left) _ _ _ _ (k .put-counts .ensures) (c .number-of .ensures)
-    (f .finish .ensures)
+    (f .finish .ensures .0)
 
 pub sigma-script-finish-spec : {M : Type 1} → statement M
 sigma-script-finish-spec =

@@ -8,7 +8,7 @@ use Rattle.capi_script.proofs.sigma_script_new.Tie as tie
 returns : tie.Need-returns
 returns c =
     let n = c .before .before .before in
-    new-done (now (n .before .before .before .args .state)) _ _ _ (n .new .ensures) (c .number-of .ensures)
+    new-done (now (n .before .before .before .args .state)) _ _ _ (n .new .ensures .0) (c .number-of .ensures)
 
 pub sigma-script-new-spec : {M : Type 1} → statement M
 sigma-script-new-spec =

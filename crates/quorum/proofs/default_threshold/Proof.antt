@@ -1,5 +1,6 @@
 -- `quorum::default_threshold` meets its contract: each return is one case of the definition.
 use Rattle.quorum.proofs.ReturnLaws.{no-default, default-given, few-servers}
+use Rattle.quorum.proofs.SaysLaws.{threshold-said}
 use native.Mathlib.Omega.{arith}
 use borrow.Author.Needs.{needs}
 use Rattle.quorum.proofs.default_threshold.Statement.{statement}
@@ -18,7 +19,7 @@ default-threshold-spec =
     tie.close
     (tie.spec
     (λ c κs. search needs)
-    (λ c. search no-default)
+    (λ c. threshold-said _ _ (search no-default))
     mul-t4
     add-t5
-    (λ c. search default-given))
+    (λ c. threshold-said _ _ (search default-given)))

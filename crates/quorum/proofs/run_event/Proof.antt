@@ -1,5 +1,6 @@
 -- `quorum::run_event` meets its contract: each return is one case of the definition.
 use Rattle.quorum.proofs.ReturnLaws.{event-refuses, in-bounds, event-listed}
+use Rattle.quorum.proofs.SaysLaws.{event-said}
 use borrow.Author.Needs.{needs}
 use Rattle.quorum.proofs.run_event.Statement.{statement}
 use Rattle.quorum.proofs.run_event.Tie as tie
@@ -14,6 +15,6 @@ run-event-spec =
     tie.close
     (tie.spec
     (λ c κs. search needs)
-    (λ c. search event-refuses)
+    (λ c. event-said _ _ _ _ _ (search event-refuses))
     listed-requires
-    (λ c. search event-listed))
+    (λ c. event-said _ _ _ _ _ (search event-listed)))

@@ -31,7 +31,7 @@ refuse-requires c κs =
     let n = asked m in
     let d = entry n in
     let a = d .args in
-    begin-ready (now (a .w)) (now (a .out)) (a .at) (d .pre .0) (d .pre .1) (a .s) _ _ (n .new .ensures) _ (m .begun .given .1)
+    begin-ready (now (a .w)) (now (a .out)) (a .at) (d .pre .0) (d .pre .1) (a .s) _ _ (n .new .ensures .0) _ (m .begun .given .1)
 
 start-requires : tie.Need-start-requires
 start-requires c κs =
@@ -39,7 +39,7 @@ start-requires c κs =
     let n = made m in
     let d = entry n in
     let a = d .args in
-    begin-long (now (a .w)) (now (a .out)) (a .at) (d .pre .0) (d .pre .1) (a .s) _ _ (n .new .ensures) _ (m .begun2 .given .1)
+    begin-long (now (a .w)) (now (a .out)) (a .at) (d .pre .0) (d .pre .1) (a .s) _ _ (n .new .ensures .0) _ (m .begun2 .given .1)
 
 put-header-requires : tie.Need-put-header-requires
 put-header-requires c κs =
@@ -47,7 +47,7 @@ put-header-requires c κs =
     let n = made m in
     let d = entry n in
     let a = d .args in
-    begin-room (now (a .w)) (now (a .out)) (a .at) (d .pre .0) (d .pre .1) (a .s) _ _ (n .new .ensures) _ (m .begun2 .given .1)
+    begin-room (now (a .w)) (now (a .out)) (a .at) (d .pre .0) (d .pre .1) (a .s) _ _ (n .new .ensures .0) _ (m .begun2 .given .1)
 
 returns : tie.Need-returns
 returns c =
@@ -55,7 +55,7 @@ returns c =
     let n = asked m in
     let d = entry n in
     let a = d .args in
-    begin-refused (now (a .w)) (now (a .out)) (a .at) (d .pre .0) (d .pre .1) (a .s) _ _ (n .new .ensures) _ (m .begun .given .1)
+    begin-refused (now (a .w)) (now (a .out)) (a .at) (d .pre .0) (d .pre .1) (a .s) _ _ (n .new .ensures .0) _ (m .begun .given .1)
     _ _ _ (c .before .before .before .before .refuse .ensures)
 
 same-length-3 : tie.Need-same-length-3
@@ -65,7 +65,7 @@ same-length-3 c =
     let n = made m in
     let d = entry n in
     let a = d .args in
-    begin-same (now (a .w)) (now (a .out)) (a .at) (d .pre .0) (d .pre .1) (a .s) _ _ (n .new .ensures) _ (m .begun2 .given .1)
+    begin-same (now (a .w)) (now (a .out)) (a .at) (d .pre .0) (d .pre .1) (a .s) _ _ (n .new .ensures .0) _ (m .begun2 .given .1)
     _ (s .start .ensures)
 
 returns-2 : tie.Need-returns-2
@@ -75,7 +75,7 @@ returns-2 c =
     let n = made m in
     let d = entry n in
     let a = d .args in
-    begin-running (now (a .w)) (now (a .out)) (a .at) (d .pre .0) (d .pre .1) (a .s) _ _ (n .new .ensures) _ (m .begun2 .given .1)
+    begin-running (now (a .w)) (now (a .out)) (a .at) (d .pre .0) (d .pre .1) (a .s) _ _ (n .new .ensures .0) _ (m .begun2 .given .1)
     _ (s .start .ensures) _ _ (c .before .before .put-header .ensures)
 
 pub begin-spec : {M : Type 1} → statement M

@@ -11,7 +11,7 @@ returns : tie.Need-returns
 returns c =
     let y = c .before .before .before .before .before in
     let d = y .before .before .before in
-    line-read (λ l. lineOf (eventIn l)) (now (d .args .w)) (d .pre) _ _ refl (y .copy-line .ensures) _ (c .parse-event .ensures)
+    line-read (λ l. lineOf (eventIn l)) (now (d .args .w)) (d .pre) _ _ refl (y .copy-line .ensures) _ (c .parse-event .ensures .0)
 
 pub read-event-spec : {M : Type 1} → statement M
 read-event-spec =

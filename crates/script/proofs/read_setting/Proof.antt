@@ -11,7 +11,7 @@ returns : tie.Need-returns
 returns c =
     let y = c .before .before .before .before .before in
     let d = y .before .before .before in
-    line-read (λ l. firstOf (settingIn l)) (now (d .args .w)) (d .pre) _ _ refl (y .copy-line .ensures) _ (c .parse-setting .ensures)
+    line-read (λ l. firstOf (settingIn l)) (now (d .args .w)) (d .pre) _ _ refl (y .copy-line .ensures) _ (c .parse-setting .ensures .0)
 
 pub read-setting-spec : {M : Type 1} → statement M
 read-setting-spec =

@@ -59,14 +59,14 @@ returns-4 c =
     let r = c .before .before in
     let d = r .before .before in
     let b = from₂ d in
-    no-fourth _ _ _ _ (one (from₁ b)) _ _ (two b) _ _ (three d) _ (r .read-number .ensures) (c .enum-told4 .given .1)
+    no-fourth _ _ _ _ (one (from₁ b)) _ _ (two b) _ _ (three d) _ (r .read-number .ensures .0) (c .enum-told4 .given .1)
 
 returns-5 : tie.Need-returns-5
 returns-5 c =
     let r = c .before .before .before in
     let d = r .before .before in
     let b = from₂ d in
-    all-four _ _ _ _ (one (from₁ b)) _ _ (two b) _ _ (three d) _ (r .read-number .ensures) _ (c .before .clients .given .1)
+    all-four _ _ _ _ (one (from₁ b)) _ _ (two b) _ _ (three d) _ (r .read-number .ensures .0) _ (c .before .clients .given .1)
 
 pub four-from-spec : {M : Type 1} → statement M
 four-from-spec =

@@ -8,13 +8,13 @@ returns-2 : tie.Need-returns-2
 returns-2 c =
     let r = c .before .before .before in
     let d = r .before .before in
-    field-found _ _ _ (d .before .word-end .ensures) (d .if1 .left) _ (r .read-number .ensures) _ (c .before .x .given .1)
+    field-found _ _ _ (d .before .word-end .ensures) (d .if1 .left) _ (r .read-number .ensures .0) _ (c .before .x .given .1)
 
 returns-3 : tie.Need-returns-3
 returns-3 c =
     let r = c .before .before in
     let d = r .before .before in
-    field-unread _ _ _ (d .before .word-end .ensures) (d .if1 .left) _ (r .read-number .ensures) (c .enum-told .given .1)
+    field-unread _ _ _ (d .before .word-end .ensures) (d .if1 .left) _ (r .read-number .ensures .0) (c .enum-told .given .1)
 
 pub read-field-spec : {M : Type 1} → statement M
 read-field-spec =

@@ -23,7 +23,7 @@ part-write-out-end c =
     let f = fed p in
     let d = entry f in
     let a = d .args in
-    fed-wrote (now (a .w)) (now (a .part)) (now (a .out)) _ _ _ (d .pre .0) (d .pre .1) (f .feed .ensures) _ _ (p .p .given .1)
+    fed-wrote (now (a .w)) (now (a .part)) (now (a .out)) _ _ _ (d .pre .0) (d .pre .1) (f .feed .ensures .0) _ _ (p .p .given .1)
 
 returns : tie.Need-returns
 returns c =
@@ -31,9 +31,9 @@ returns c =
     let f = fed p in
     let d = entry f in
     let a = d .args in (
-      fed-used (now (a .w)) (now (a .part)) (now (a .out)) _ _ _ (d .pre .0) (d .pre .1) (f .feed .ensures) _ _ (p .p .given .1),
-      f .feed .ensures .1,
-      λ z. took-used (now (a .w)) (now (a .part)) (now (a .out)) _ _ _ (d .pre .0) (d .pre .1) (f .feed .ensures) _ _ (p .p .given .1),
+      fed-used (now (a .w)) (now (a .part)) (now (a .out)) _ _ _ (d .pre .0) (d .pre .1) (f .feed .ensures .0) _ _ (p .p .given .1),
+      f .feed .ensures .0 .1,
+      λ z. took-used (now (a .w)) (now (a .part)) (now (a .out)) _ _ _ (d .pre .0) (d .pre .1) (f .feed .ensures .0) _ _ (p .p .given .1),
     )
 
 pub answer-some-spec : {M : Type 1} → statement M
@@ -52,7 +52,7 @@ answer-some-spec =
     returns
     (λ c. search needs)
     (λ c. search needs)
-    (λ c. (omega arith, c .before .before .before .before .before .before .feed .ensures .1, λ z. absurd (omega (arith, z))))
+    (λ c. (omega arith, c .before .before .before .before .before .before .feed .ensures .0 .1, λ z. absurd (omega (arith, z))))
     (λ c. search needs)
     (λ c. search needs)
-    (λ c. (omega arith, fed (c .before .before .before .before .before) .feed .ensures .1, λ z. absurd (omega (arith, z)))))
+    (λ c. (omega arith, fed (c .before .before .before .before .before) .feed .ensures .0 .1, λ z. absurd (omega (arith, z)))))

@@ -13,14 +13,14 @@ module _ (c : tie.After-finish) where
   entry = c .before .before .before .before .before
 
   ended : Ended (now (entry .args .w)) (now (entry .args .out)) (c .finish .last .0) (c .finish .last .1 .0)
-  ended = script-ended (now (entry .args .w)) (now (entry .args .out)) _ _ (entry .pre .0) (entry .pre .1) (c .finish .ensures .1)
+  ended = script-ended (now (entry .args .w)) (now (entry .args .out)) _ _ (entry .pre .0) (entry .pre .1) (c .finish .ensures .0 .1)
 
 part-write-out-end : tie.Need-part-write-out-end
 part-write-out-end c =
     let p = c .before .before in
     let f = p .before .before .before .before .before .before in
     let d = entry f in
-    end-wrote (now (d .args .w)) (now (d .args .out)) _ _ _ (d .pre .0) (d .pre .1) (f .finish .ensures) _ _ (p .p .given .1)
+    end-wrote (now (d .args .w)) (now (d .args .out)) _ _ _ (d .pre .0) (d .pre .1) (f .finish .ensures .0) _ _ (p .p .given .1)
 
 pub finish-spec : {M : Type 1} → statement M
 finish-spec =

@@ -11,4 +11,4 @@ start-spec =
     (λ c κs. search needs)
     (λ c. search needs)
     (λ c κs. search needs)
-    (λ c. started _ _ _ (c .before .before .before .zeros .ensures) (c .before .new .ensures)))
+    (λ c. started _ _ _ (c .before .before .before .zeros .ensures) (c .before .new .ensures .0)))

@@ -40,9 +40,9 @@ use denote.Triple.Clauses.{ensured, lasts}
 use denote.Exit.{yes}
 use contract.Lifetimes.{AllOutlive}
 use lib.ListN.{length}
-use Rattle.wire.specs.Step.{withRoom, sentInto}
+use Rattle.wire.specs.Step.{withRoom}
 use Rattle.wire.specs.declared.Answer.{Answer}
-use Rattle.server.specs.Calls.{messageOutcome, result}
+use Rattle.server.specs.Calls.{messageOutcome, Gives}
 use Rattle.server.specs.declared.Stepped.{Stepped}
 use Rattle.wire.specs.declared.Message.{Message}
 use Rattle.server.specs.declared.Server.{Server}
@@ -104,14 +104,14 @@ module _ {M : Type 1} (𝓤 : URA M) (H : Heap 𝓤) (A : Atoms 𝓤) (W : Given
   Post = walkOf 𝓤 H A message.ended stayed (message.clauses 𝓤 H A at-mem run) .post (((κ, (κ′, tt)), (q, (q′, tt)), bounds, x, at), tt)
 
   abbrev Says : Stepped → List ℕ → Type 0
-  Says r zs = (r ≡ result h (withRoom (length ys) (messageOutcome h m))) × (zs ≡ sentInto ys (withRoom (length ys) (messageOutcome h m)))
+  Says r zs = Gives h (withRoom (length ys) (messageOutcome h m)) ys r zs
 
   exits : (r : Stepped) (zs : List ℕ) → Is E.the-row m (m-vals m) → Is R.the-row (r .answer) (r-val (r .answer) ∷ []) → Says r zs → length zs ≡ length ys
       → ent 𝓤 (⋆ 𝓤 H A (‵ (fobs γ (K.the-row .coded .code (r .server))) ∷ ‵ (fbor κ (Borrowed (mem K.the-row) b o γ)) ∷ ‵ (flft κ q) ∷ (‵ (flft κ′ q′) ⊛ ‵ ftrue) ∷ ‵ (finally u8 (y .name) zs) ∷ [])) (Post (r-val (r .answer)))
   exits r zs mi ri e l =
       qed W (‵ (fobs γ (K.the-row .coded .code (r .server))) ∷ ‵ (fbor κ (Borrowed (mem K.the-row) b o γ)) ∷ ‵ (flft κ q) ∷ (‵ (flft κ′ q′) ⊛ ‵ ftrue) ∷ ‵ (finally u8 (y .name) zs) ∷ []) ∵
       suffices ! _ (ends-at 𝓤 H A message.ended stayed (message.clauses 𝓤 H A at-mem run) W (((κ, (κ′, tt)), (q, (q′, tt)), bounds, x, at), tt) (r-val (r .answer)) (r .answer) (r .server, (tt, (zs, tt))) (tt, (tt, (l, tt)))) $
-      says ! (record { answered = ap (λ (t : Stepped). t .answer) (e .0); stored = ap (λ (t : Stepped). t .server) (e .0); written = e .1 }) $ move ! (2 ∷ 3 ∷ []) $ join ! $ frame ! $
+      says ! (record { answered = ap (λ (t : Stepped). t .answer) (e .0); stored = ap (λ (t : Stepped). t .server) (e .0); written = e .1; said = e .2 }) $ move ! (2 ∷ 3 ∷ []) $ join ! $ frame ! $
       feqI ! (List Val) (vptr b o ∷ []) (vptr b o ∷ []) refl $ fjoin3 ! $ nothing ! $ move ! (2 ∷ 0 ∷ []) $ fjoin ! $ owned ! E.the-row (Is E.the-row) (EL.makes E.the-type E′.the-plain 𝓤 H A) m _ mi $ fjoin ! $ move ! (1 ∷ 0 ∷ []) $ fjoin ! $
       owned ! R.the-row (Is R.the-row) (EL.makes R.the-type R′.the-plain 𝓤 H A) (r .answer) _ ri $ move ! (1 ∷ 0 ∷ []) $ done !
 

@@ -17,7 +17,7 @@ module _ (c : tie.After-put-client) where
   entry = made .before .before .before
 
   opened : c .put-client .last .0 ≡ newClient (entry .args .n) (entry .args .m) (entry .args .k) (now (entry .args .w))
-  opened = client-opened (entry .args .n) (entry .args .m) (entry .args .k .0) (now (entry .args .w)) (entry .pre) _ (made .new .ensures) _
+  opened = client-opened (entry .args .n) (entry .args .m) (entry .args .k .0) (now (entry .args .w)) (entry .pre) _ (made .new .ensures .0) _
       (c .put-client .ensures)
 
 same-length : tie.Need-same-length

@@ -20,7 +20,7 @@ module _ (c : tie.After-new) where
   there = risen-in (entry .args .n) (entry .args .j .0) (now (entry .args .w)) (entry .pre) _ (risen .rise-server .ensures)
 
   short : c .new .result .server .head .votes .len ≤ maxWord
-  short = new-short (entry .args .n) (entry .args .j .0) _ (c .new .ensures)
+  short = new-short (entry .args .n) (entry .args .j .0) _ (c .new .ensures .0)
 
 put-server-requires : tie.Need-put-server-requires
 put-server-requires c κs = (there (c .before .before .before .before), search needs, short (c .before .before .before .before))
@@ -30,7 +30,7 @@ returns c =
     let p = c .before .before in
     let r = p .before .before .before .before .before in
     let d = entry r in
-    server-opened (d .args .n) (d .args .j .0) (now (d .args .w)) (d .pre) _ (risen r .rise-server .ensures) _ (r .new .ensures) _ (p .put-server .ensures)
+    server-opened (d .args .n) (d .args .j .0) (now (d .args .w)) (d .pre) _ (risen r .rise-server .ensures) _ (r .new .ensures .0) _ (p .put-server .ensures)
 
 pub new-server-spec : {M : Type 1} → statement M
 new-server-spec =

@@ -15,7 +15,7 @@ add-result c =
     omega (
       arith,
       fitting-inside (e .args .at) (e .args .number) (e .args .from) (now (e .args .bytes)) (now (e .args .t))
-          _ (read-rest (now (e .args .bytes)) (e .args .from) _ (r .read-fields .ensures)) (e .pre .1) _ _ (p .p .given .1),
+          _ (read-rest (now (e .args .bytes)) (e .args .from) _ (r .read-fields .ensures .0)) (e .pre .1) _ _ (p .p .given .1),
     )
 
 pub post-one-spec : {M : Type 1} → statement M

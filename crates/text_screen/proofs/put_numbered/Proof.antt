@@ -8,12 +8,12 @@ use Rattle.text_screen.proofs.put_numbered.Tie as tie
 returns : tie.Need-returns
 unfolding askedText
 returns c =
-    rw (← c .before .before .before .before .before .before .before .run-event .ensures, c .before .before .before .before .before .a .given .1)
+    rw (← c .before .before .before .before .before .before .before .run-event .ensures .0, c .before .before .before .before .before .a .given .1)
     (c .before .before .put-event .ensures)
 
 returns-2 : tie.Need-returns-2
 unfolding askedText puts
-returns-2 c = rw (← c .before .before .run-event .ensures, c .enum-told .given .1)
+returns-2 c = rw (← c .before .before .run-event .ensures .0, c .enum-told .given .1)
 
 pub put-numbered-spec : {M : Type 1} → statement M
 put-numbered-spec =

@@ -12,7 +12,7 @@ returns c =
     let d₂ = d₃ .before .before .before .before in
     let d₁ = d₂ .before .before in
     let three = then _ _ _ (then _ _ _ (d₂ .put-verdict .ensures) (d₃ .put-margin .ensures)) (d₄ .put-events .ensures) in
-    rw (← d₁ .check .ensures .0, ← d₅ .before .default-threshold .ensures) (then _ _ _ three (d₅ .put-threshold .ensures))
+    rw (← d₁ .check .ensures .0 .0, ← d₅ .before .default-threshold .ensures .0) (then _ _ _ three (d₅ .put-threshold .ensures))
 
 pub put-report-spec : {M : Type 1} → statement M
 put-report-spec =

@@ -2,6 +2,7 @@
 use mathlib.Core.Path.{_∙_}
 use Rattle.wire.proofs.FormatLaws.{kind-in}
 use Rattle.wire.proofs.CallLaws.{read-short, read-unknown, read-wrong, read-cut, read-invalid, read-accepted}
+use Rattle.wire.proofs.SaysLaws.{numbers-said}
 use borrow.Author.Needs.{needs}
 use Rattle.wire.proofs.read_fields.Statement.{statement}
 use Rattle.wire.proofs.read_fields.Tie as tie
@@ -16,17 +17,17 @@ pub read-fields-spec : {M : Type 1} → statement M
 read-fields-spec =
     tie.close
     (tie.spec
-    (λ c. search read-short)
+    (λ c. numbers-said _ _ (search read-short))
     (λ c κs. search needs)
     (λ c κs. search needs)
-    (λ c. search read-unknown)
+    (λ c. numbers-said _ _ (search read-unknown))
     (λ c κs. search needs)
     (λ c κs. search needs)
-    (λ c. search read-wrong)
+    (λ c. numbers-said _ _ (search read-wrong))
     (λ c. search needs)
-    (λ c. search read-cut)
+    (λ c. numbers-said _ _ (search read-cut))
     fields-in-requires
     (λ c κs. search needs)
-    (λ c. search read-invalid)
+    (λ c. numbers-said _ _ (search read-invalid))
     (λ c. search needs)
-    (λ c. search read-accepted))
+    (λ c. numbers-said _ _ (search read-accepted)))

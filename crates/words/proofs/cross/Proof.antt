@@ -1,6 +1,6 @@
 -- `words::cross` meets its contract: the words are tested as `crossing` tests them.
 use denote.Ref.{now}
-use Rattle.words.proofs.MessagesLaws.{cross-length, cross-large, cross-small, cross-numbers}
+use Rattle.words.proofs.MessagesLaws.{cross-length, cross-large, cross-small, cross-numbers, cross-said}
 use borrow.Author.Needs.{needs}
 use Rattle.words.proofs.cross.Statement.{statement}
 use Rattle.words.proofs.cross.Tie as tie
@@ -13,13 +13,13 @@ pub cross-spec : {M : Type 1} → statement M
 cross-spec =
     tie.close
     (tie.spec
-    (λ c. search cross-length)
+    (λ c. cross-said _ _ (search cross-length))
     (λ c. search needs)
     (λ c. search needs)
     (λ c. search needs)
     (λ c. search needs)
     (λ c κs. search needs)
-    (λ c. search cross-large)
+    (λ c. cross-said _ _ (search cross-large))
     (λ c. search needs)
     fields-of-words-requires
-    (λ c. search cross-numbers))
+    (λ c. cross-said _ _ (search cross-numbers)))
