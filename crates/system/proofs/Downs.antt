@@ -63,71 +63,68 @@ now-down (q ∷ l) (suc i) v h e = now-down l i v (omega arith) e
 none-some : {i : ClientId} → _≡_ {A = Option ClientId} none (some i) → ⊥
 none-some e = let z : _≡_ {A = ℕ} 0 1 = cc in omega arith
 
-pass : {e : Event} (o : Result) (i : ClientId) → epochs.begins e ≡ none → ends i e ≡ false → Passes i e o
-pass (refused x) i b n = record { ends = refl; begins = none-some }
-pass (stepped v) i b n = record { ends = n; begins = λ q. none-some (sym b ∙ q) }
+passed : {e : Event} (o : Result) (i : ClientId) → epochs.begins e ≡ none → ends i e ≡ false → Passes i e o
+passed (refused x) i b n = record { ends = refl; begins = none-some }
+passed (stepped v) i b n = record { ends = n; begins = λ q. none-some (sym b ∙ q) }
 
 module _ {n : ℕ} {wins : Quorum} {w : System} (s : Safe n wins w) where
   -- the place of client k is the only one to change
-  one : (k : ClientId) (c : ClientPlace) {e : Event} {o : Result} {q : List ServerPlace} → clientAt w k .living ≡ true →
+  turn-one : (k : ClientId) (c : ClientPlace) {e : Event} {o : Result} {q : List ServerPlace} → clientAt w k .living ≡ true →
       ((i : ClientId) → (i .0 ≡ k .0 → ⊥) → Passes i e o) → Turn k e o (w .servers) q (clientAt w k) c →
       (i : ClientId) → Turn i e o (w .servers) q (clientAt w i) (at noClient (put (w .clients) (k .0) c) (i .0))
-  one k c {e} {o} {q} lives others t i =
+  turn-one k c {e} {o} {q} lives others t i =
       each (put-flagged noClient (λ x. x .living) refl (w .clients) (k .0) c lives)
       (Turn i e o (w .servers) q (clientAt w i)) (i .0)
       (λ same. subst (λ (x : ClientId). Turn x e o (w .servers) q (clientAt w x) c) (ap clientNo (sym same)) t)
       (λ ne. stays (others i ne) refl refl)
 
   -- it has made a step in its section
-  on : (k : ClientId) (c : ClientState) {e : Event} {o : Result} → clientAt w k .living ≡ true → ((i : ClientId) → Passes i e o) →
+  turn-step : (k : ClientId) (c : ClientState) {e : Event} {o : Result} → clientAt w k .living ≡ true → ((i : ClientId) → Passes i e o) →
       isRemainder (c .section) ≡ isRemainder (clientAt w k .state .section) →
       (i : ClientId) → Turn i e o (w .servers) (w .servers) (clientAt w i)
       (at noClient (put (w .clients) (k .0) (record { living = true; state = c; downs = clientAt w k .downs })) (i .0))
-  on k c lives passes same = one k _ lives (λ i _. passes i) (stays (passes k) (rw (lives, same)) refl)
+  turn-step k c lives passes same = turn-one k _ lives (λ i _. passes i) (stays (passes k) (rw (lives, same)) refl)
 
   -- server j goes down: each epoch that runs counts it
-  sunk : (j : ℕ) → serverAt w (serverNo j) .up ≡ true → (i : ClientId) → let v : Step System = wentDown w (serverNo j) in
+  turn-down : (j : ℕ) → serverAt w (serverNo j) .up ≡ true → (i : ClientId) → let v : Step System = wentDown w (serverNo j) in
       Turn i (Down (serverNo j)) (stepped v) (w .servers) (v .state .servers) (clientAt w i) (clientAt (v .state) i)
-  sunk zero up i = absurd (false≢true up)
-  sunk (suc x) up i =
+  turn-down zero up i = absurd (false≢true up)
+  turn-down (suc x) up i =
       let v : Step System = wentDown w (serverNo (suc x)) in
-      let passes : Passes i (Down (serverNo (suc x))) (stepped v) = pass _ i refl refl in
-      let G : ClientPlace → Type 0 = Turn i (Down (serverNo (suc x))) (stepped v) (w .servers) (v .state .servers) (clientAt w i) in
+      let c : ClientPlace = clientAt w i in
+      let passes : Passes i (Down (serverNo (suc x))) (stepped v) = passed _ i refl refl in
+      let G : ClientPlace → Type 0 = Turn i (Down (serverNo (suc x))) (stepped v) (w .servers) (v .state .servers) c in
       at-map noClient (downed (serverNo (suc x))) G (w .clients) (i .0) (λ e. stays passes (rw e) (rw e))
-      (go passes (decided (inEpoch (clientAt w i))))
-    where
-      go : Passes i (Down (serverNo (suc x))) (stepped (wentDown w (serverNo (suc x)))) → Test (inEpoch (clientAt w i)) →
-          Turn i (Down (serverNo (suc x))) (stepped (wentDown w (serverNo (suc x)))) (w .servers) (wentDown w (serverNo (suc x)) .state .servers)
-          (clientAt w i) (downed (serverNo (suc x)) (clientAt w i))
-      go passes (inl ep) =
-          counts passes ep ep x (now-down (w .servers) x _ (flagged-in noServer (λ q. q .up) refl (w .servers) (suc x) up .1) refl) (rw ep)
-      go passes (inr ep) = stays passes refl (rw ep)
+      (branch (λ d. G (record { living = c .living; state = c .state; downs = d })) (inEpoch c)
+      (λ ep. counts passes ep ep x (now-down (w .servers) x _ (flagged-in noServer (λ q. q .up) refl (w .servers) (suc x) up .1) refl) refl)
+      (λ _. stays passes refl refl))
 
   turn : {e : Event} {o : Result} → Effect n wins w e o → (i : ClientId) →
       Turn i e o (w .servers) (after w o .servers) (clientAt w i) (clientAt (after w o) i)
   unfolding after tries exits
   turn refuses = λ i. stays (record { ends = refl; begins = none-some }) refl refl
   turn (begins {k = k} lives rests _) =
-      one k _ lives (λ i ne. record { ends = refl; begins = λ q. let e : k ≡ i = cc in ne (sym (ap (λ (x : ClientId). x .0) e)) })
+      turn-one k _ lives (λ i ne. record { ends = refl; begins = λ q. let e : k ≡ i = cc in ne (sym (ap (λ (x : ClientId). x .0) e)) })
       (opens refl refl (rw (lives, rests)) refl refl)
   turn (leaves {k = k} lives _) =
-      one k _ lives (λ i ne. record { ends = ne-eqb (k .0) (i .0) (λ q. ne (sym q)); begins = none-some })
+      turn-one k _ lives (λ i ne. record { ends = ne-eqb (k .0) (i .0) (λ q. ne (sym q)); begins = none-some })
       (closes (eq-eqb (k .0) (k .0) refl) none-some refl refl)
   turn (dies {k = k} lives) =
-      one k _ lives (λ i ne. record { ends = ne-eqb (k .0) (i .0) (λ q. ne (sym q)); begins = none-some })
+      turn-one k _ lives (λ i ne. record { ends = ne-eqb (k .0) (i .0) (λ q. ne (sym q)); begins = none-some })
       (closes (eq-eqb (k .0) (k .0) refl) none-some refl refl)
-  turn (sinks {j = j} up) = sunk (j .0) up
-  turn (rises _) = λ i. stays (pass _ i refl refl) refl refl
-  turn (serverTakes tag k j t _ _) = λ i. stays (pass _ i refl refl) refl refl
+  turn (sinks {j = j} up) = turn-down (j .0) up
+  turn (rises _) = λ i. stays (passed _ i refl refl) refl refl
+  turn (serverTakes tag k j t _ _) = λ i. stays (passed _ i refl refl) refl refl
   turn (clientTakes {i = i} {k = k} {j = j} {o = o} e lives) =
-      on k _ lives (λ i. pass _ i refl refl)
+      turn-step k _ lives (λ i. passed _ i refl refl)
       (calm-respond n wins k j o (pending-all (Past (last (at noClient (w .clients)))) (i .0) e (s .sound .mail) .0) (s .sound .fine (k .0)) .epoch)
   turn (clientChecked {i = i} {k = k} {j = j} {t = t} e lives) =
-      on k _ lives (λ i. pass _ i refl refl)
-      (calm-checked n wins k {gain = λ _. 0} j t (pending-all (Past (last (at noClient (w .clients)))) (i .0) e (s .sound .mail)) (s .sound .fine (k .0)) .epoch)
-  turn loses = λ i. stays (pass _ i refl refl) refl refl
-  turn (suspects _ _ _) = λ i. stays (pass _ i refl refl) refl refl
-  turn (asks _) = λ i. stays (pass _ i refl refl) refl refl
+      turn-step k _ lives (λ i. passed _ i refl refl)
+      (calm-checked n wins k {gain = λ _. 0} j t (pending-all (Past (last (at noClient (w .clients)))) (i .0) e (s .sound .mail))
+      (s .sound .fine (k .0)) .epoch)
+  turn loses = λ i. stays (passed _ i refl refl) refl refl
+  turn (suspects _ _ _) = λ i. stays (passed _ i refl refl) refl refl
+  turn (asks _) = λ i. stays (passed _ i refl refl) refl refl
 
 -- what a run keeps ----------------------------------------------------------------------------------------------------------
 
@@ -136,7 +133,8 @@ record Known (n : ℕ) (wins : Quorum) (w : System) : Type 0 where
   inv : Inv n wins w
   marked : (k : ClientId) → Marked (clientAt w k .downs)
 
-turn-marked : {k : ClientId} {e : Event} {o : Result} {q q′ : List ServerPlace} {c c′ : ClientPlace} → Turn k e o q q′ c c′ → Marked (c .downs) → Marked (c′ .downs)
+turn-marked : {k : ClientId} {e : Event} {o : Result} {q q′ : List ServerPlace} {c c′ : ClientPlace} → Turn k e o q q′ c c′
+    → Marked (c .downs) → Marked (c′ .downs)
 turn-marked {q = q} (opens _ _ _ _ d) m = record { flags = map isDown q; same = d ∙ down-numbers 1 q }
 turn-marked (closes _ _ _ d) m = record { flags = []; same = d }
 turn-marked (stays _ _ d) m = rw d m
@@ -159,10 +157,31 @@ down-in : {n : ℕ} {wins : Quorum} {w : System} → Inv n wins w → (k : Clien
     → getD (downNow w) i false ≡ true → member (suc i) (clientAt w k .downs) ≡ true
 down-in {w = w} v k ep i h = v .safe .nest .now (k .0) ep (suc i) (rw (down-numbers 1 (w .servers), member-numbers (downNow w) i) h)
 
+-- the servers ever down from now on in client k's epoch, as the first event ends it or not
+module _ (step : System → Event → Result) (k : ClientId) where
+  module _ (w : System) (e : Event) (es : List Event) where
+    ever-ends : isStepped (step w e) && ends k e ≡ true → everDown step k w (e ∷ es) ≡ downNow w
+    unfolding everDown
+    ever-ends h = rw h
+
+    ever-goes : isStepped (step w e) && ends k e ≡ false → everDown step k w (e ∷ es) ≡ either (downNow w) (everDown step k (after w (step w e)) es)
+    unfolding everDown
+    ever-goes h = rw h
+
+  -- those down now are among them
+  now-ever : (w : System) (es : List Event) (i : ℕ) → getD (downNow w) i false ≡ true → getD (everDown step k w es) i false ≡ true
+  unfolding everDown
+  now-ever w [] i h = h
+  now-ever w (e ∷ es) i h = go (decided (isStepped (step w e) && ends k e))
+    where
+      go : Test (isStepped (step w e) && ends k e) → getD (everDown step k w (e ∷ es)) i false ≡ true
+      go (inl q) = rw (ever-ends w e es q) h
+      go (inr q) = rw (ever-goes w e es q) (either-left (downNow w) (everDown step k (after w (step w e)) es) i h)
+
 module _ (n : ℕ) (wins : Quorum) (step : System → Event → Result) (follows : Follows n wins step) where
-  does : (w : System) (e : Event) (o : Result) → (isStepped o ≡ true → o ≡ event n wins w e) → Effect n wins w e o
-  does w e (refused x) f = refuses
-  does w e (stepped v) f = rw (f refl) (effect n wins w e)
+  effects : (w : System) (e : Event) (o : Result) → (isStepped o ≡ true → o ≡ event n wins w e) → Effect n wins w e o
+  effects w e (refused x) f = refuses
+  effects w e (stepped v) f = rw (f refl) (effect n wins w e)
 
   keeps : (w : System) (e : Event) (o : Result) → (isStepped o ≡ true → o ≡ event n wins w e) → Inv n wins w → Inv n wins (after w o)
   unfolding after
@@ -171,18 +190,10 @@ module _ (n : ℕ) (wins : Quorum) (step : System → Event → Result) (follows
 
   module _ {w : System} (known : Known n wins w) (e : Event) where
     turns : (k : ClientId) → Turn k e (step w e) (w .servers) (after w (step w e) .servers) (clientAt w k) (clientAt (after w (step w e)) k)
-    turns = turn (known .inv .safe) (does w e (step w e) (follows w e))
+    turns = turn (known .inv .safe) (effects w e (step w e) (follows w e))
 
     known-next : Known n wins (after w (step w e))
     known-next = record { inv = keeps w e (step w e) (follows w e) (known .inv); marked = λ k. turn-marked (turns k) (known .marked k) }
-
-  -- the servers down now are among those ever down
-  now-ever : (k : ClientId) (w : System) (es : List Event) (i : ℕ) → getD (downNow w) i false ≡ true → getD (everDown step k w es) i false ≡ true
-  unfolding everDown
-  now-ever k w [] i h = h
-  now-ever k w (e ∷ es) i h =
-      branch (λ l. getD l i false ≡ true) (isStepped (step w e) && ends k e) (λ _. h)
-      (λ _. either-left (downNow w) (everDown step k (after w (step w e)) es) i h)
 
   -- at most b numbers hold the servers that were down in client k's epoch and those that will be
   record Room (b : ℕ) (k : ClientId) (w : System) (es : List Event) : Type 0 where
@@ -215,42 +226,36 @@ module _ (n : ℕ) (wins : Quorum) (step : System → Event → Result) (follows
       abbrev w′ : System
       w′ = after w (step w e)
 
-      abbrev E : ClientId → List Bool
-      E k = everDown step k w′ es
+      abbrev Turned : ClientId → Type 0
+      Turned k = Turn k e (step w e) (w .servers) (w′ .servers) (clientAt w k) (clientAt w′ k)
 
-      goes : (k : ClientId) → isStepped (step w e) && ends k e ≡ false → everDown step k w (e ∷ es) ≡ either (downNow w) (E k)
-      unfolding everDown
-      goes k h = rw h
+      abbrev ever : ClientId → List Bool
+      ever k = everDown step k w′ es
 
-      ends-now : (k : ClientId) → isStepped (step w e) && ends k e ≡ true → everDown step k w (e ∷ es) ≡ downNow w
-      unfolding everDown
-      ends-now k h = rw h
-
-      before : (k : ClientId) → inEpoch (clientAt w k) ≡ true → isStepped (step w e) && ends k e ≡ false → Room b k w′ es →
+      room-kept : (k : ClientId) → inEpoch (clientAt w k) ≡ true → isStepped (step w e) && ends k e ≡ false → Room b k w′ es →
           ((i : ℕ) → member (suc i) (clientAt w k .downs) ≡ true → member (suc i) (clientAt w′ k .downs) ≡ true) → Room b k w (e ∷ es)
-      before k ep on r grows =
+      room-kept k ep on r grows =
           record {
             held = r .held;
             few = r .few;
             past = λ i h. r .past i (grows i h);
             ahead = λ i h. ⊎-elim (λ (q : getD (downNow w) i false ≡ true). r .past i (grows i (down-in (known .inv) k ep i q))) (r .ahead i)
-                (either-cases (downNow w) (E k) i (rw (goes k on) at h));
+                (either-cases (downNow w) (ever k) i (rw (ever-goes step k w e es on) at h));
           }
 
       -- forward
-      try-few : (k : ClientId) → begun e (step w e) ≡ some k → mostDown step w (e ∷ es) ≤ b → count (E k) ≤ b
+      try-few : (k : ClientId) → begun e (step w e) ≡ some k → mostDown step w (e ∷ es) ≤ b → count (ever k) ≤ b
       unfolding mostDown
       try-few k q h = omega (arith, rw q at h)
 
-      room-next : (k : ClientId) → Within b w (e ∷ es) → inEpoch (clientAt w′ k) ≡ true →
-          Turn k e (step w e) (w .servers) (w′ .servers) (clientAt w k) (clientAt w′ k) → Room b k w′ es
+      room-next : (k : ClientId) → Within b w (e ∷ es) → inEpoch (clientAt w′ k) ≡ true → Turned k → Room b k w′ es
       room-next k t ep (opens q same _ _ d) =
           record {
-            held = numbers 1 (E k);
-            few = omega (arith, length-numbers 1 (E k), try-few k q (t .rest));
-            past = λ i h. rw (member-numbers (E k) i) (now-ever k w′ es i
+            held = numbers 1 (ever k);
+            few = omega (arith, length-numbers 1 (ever k), try-few k q (t .rest));
+            past = λ i h. rw (member-numbers (ever k) i) (now-ever step k w′ es i
                 (rw same (rw (d, down-numbers 1 (w .servers), member-numbers (downNow w) i) at h)));
-            ahead = λ i h. rw (member-numbers (E k) i) h;
+            ahead = λ i h. rw (member-numbers (ever k) i) h;
           }
       room-next k t ep (closes _ _ out _) = clash _ ep out
       room-next k t ep (stays p same d) =
@@ -259,30 +264,28 @@ module _ (n : ℕ) (wins : Quorum) (step : System → Event → Result) (follows
             held = r .held;
             few = r .few;
             past = λ i h. r .past i (rw d at h);
-            ahead = λ i h. r .ahead i (rw (goes k (p .ends)) (either-right (downNow w) (E k) i h));
+            ahead = λ i h. r .ahead i (rw (ever-goes step k w e es (p .ends)) (either-right (downNow w) (ever k) i h));
           }
       room-next k t ep (counts p was _ j down d) =
           let r : Room b k w (e ∷ es) = t .running k was in
-          let later : (i : ℕ) → getD (E k) i false ≡ true → member (suc i) (r .held) ≡ true = λ i h.
-          r .ahead i (rw (goes k (p .ends)) (either-right (downNow w) (E k) i h)) in
+          let later : (i : ℕ) → getD (ever k) i false ≡ true → member (suc i) (r .held) ≡ true = λ i h.
+          r .ahead i (rw (ever-goes step k w e es (p .ends)) (either-right (downNow w) (ever k) i h)) in
           record {
             held = r .held;
             few = r .few;
-            past = λ i h. ⊎-elim (λ (q : suc i ≡ suc j). rw q (later j (now-ever k w′ es j down))) (r .past i)
+            past = λ i h. ⊎-elim (λ (q : suc i ≡ suc j). rw q (later j (now-ever step k w′ es j down))) (r .past i)
                 (add-cases (suc i) (suc j) (clientAt w k .downs) (rw d at h));
             ahead = later;
           }
 
       -- backward
-      room-back : (k : ClientId) → Within b w′ es → inEpoch (clientAt w k) ≡ true →
-          Turn k e (step w e) (w .servers) (w′ .servers) (clientAt w k) (clientAt w′ k) → Room b k w (e ∷ es)
+      room-back : (k : ClientId) → Within b w′ es → inEpoch (clientAt w k) ≡ true → Turned k → Room b k w (e ∷ es)
       room-back k t ep (opens _ _ out _ _) = clash _ ep out
-      room-back k t ep (closes q _ _ _) = last-room k (e ∷ es) (omega (arith, most-after n wins w (step w e), t .most)) ep (ends-now k q)
-      room-back k t ep (stays p same d) = before k ep (p .ends) (t .running k (same ∙ ep)) (λ i h. rw d h)
-      room-back k t ep (counts p _ is j _ d) = before k ep (p .ends) (t .running k is) (λ i h. rw d (add-more (suc i) (suc j) (clientAt w k .downs) h))
+      room-back k t ep (closes q _ _ _) = last-room k (e ∷ es) (omega (arith, most-after n wins w (step w e), t .most)) ep (ever-ends step k w e es q)
+      room-back k t ep (stays p same d) = room-kept k ep (p .ends) (t .running k (same ∙ ep)) (λ i h. rw d h)
+      room-back k t ep (counts p _ is j _ d) = room-kept k ep (p .ends) (t .running k is) (λ i h. rw d (add-more (suc i) (suc j) (clientAt w k .downs) h))
 
-      length-few : (k : ClientId) → Within b w (e ∷ es) →
-          Turn k e (step w e) (w .servers) (w′ .servers) (clientAt w k) (clientAt w′ k) → Test (inEpoch (clientAt w′ k)) → length (clientAt w′ k .downs) ≤ b
+      length-few : (k : ClientId) → Within b w (e ∷ es) → Turned k → Test (inEpoch (clientAt w′ k)) → length (clientAt w′ k .downs) ≤ b
       length-few k t u (inl ep) =
           let r : Room b k w′ es = room-next k t ep u in
           let m : Marked (clientAt w′ k .downs) = known-next known e .marked k in
@@ -315,9 +318,8 @@ module _ (n : ℕ) (wins : Quorum) (step : System → Event → Result) (follows
             rest = rest-few (t .rest);
           }
 
-      try-back : (k : ClientId) → Within b w′ es → begun e (step w e) ≡ some k →
-          Turn k e (step w e) (w .servers) (w′ .servers) (clientAt w k) (clientAt w′ k) → count (E k) ≤ b
-      try-back k t q (opens _ _ _ ep _) = let r : Room b k w′ es = t .running k ep in omega (arith, r .few, fits (E k) (r .held) (r .ahead))
+      try-back : (k : ClientId) → Within b w′ es → begun e (step w e) ≡ some k → Turned k → count (ever k) ≤ b
+      try-back k t q (opens _ _ _ ep _) = let r : Room b k w′ es = t .running k ep in omega (arith, r .few, fits (ever k) (r .held) (r .ahead))
       try-back k t q (closes _ f _ _) = absurd (f q)
       try-back k t q (stays p _ _) = absurd (p .begins q)
       try-back k t q (counts p _ _ _ _ _) = absurd (p .begins q)
@@ -327,7 +329,7 @@ module _ (n : ℕ) (wins : Quorum) (step : System → Event → Result) (follows
       rest-back t = omega (
         arith,
         t .rest,
-        perhaps {f = λ k. count (E k)} (λ x. x ≤ b) (begun e (step w e)) (λ _. zero-le) (λ k q. try-back k t q (turns known e k)),
+        perhaps {f = λ k. count (ever k)} (λ x. x ≤ b) (begun e (step w e)) (λ _. zero-le) (λ k q. try-back k t q (turns known e k)),
       )
 
       within-back : Within b w′ es → Within b w (e ∷ es)
@@ -338,15 +340,15 @@ module _ (n : ℕ) (wins : Quorum) (step : System → Event → Result) (follows
             rest = rest-back t;
           }
 
-  forward : (b : ℕ) (w : System) (es : List Event) → Known n wins w → Within b w es → runBy step w es .most ≤ b
+  most-within : (b : ℕ) (w : System) (es : List Event) → Known n wins w → Within b w es → runBy step w es .most ≤ b
   unfolding runBy
-  forward b w [] known t = t .most
-  forward b w (e ∷ es) known t = forward b (after w (step w e)) es (known-next known e) (within-next b w known e es t)
+  most-within b w [] known t = t .most
+  most-within b w (e ∷ es) known t = most-within b (after w (step w e)) es (known-next known e) (within-next b w known e es t)
 
-  backward : (b : ℕ) (w : System) (es : List Event) → Known n wins w → runBy step w es .most ≤ b → Within b w es
+  within-most : (b : ℕ) (w : System) (es : List Event) → Known n wins w → runBy step w es .most ≤ b → Within b w es
   unfolding runBy
-  backward b w [] known h = within-end b w known h
-  backward b w (e ∷ es) known h = within-back b w known e es (backward b (after w (step w e)) es (known-next known e) h)
+  within-most b w [] known h = within-end b w known h
+  within-most b w (e ∷ es) known h = within-back b w known e es (within-most b (after w (step w e)) es (known-next known e) h)
 
   pub most-down : (clients : ℕ) (es : List Event) → runBy step (start n wins clients) es .most ≡ mostDown step (start n wins clients) es
   unfolding start
@@ -357,9 +359,9 @@ module _ (n : ℕ) (wins : Quorum) (step : System → Event → Result) (follows
         inv = inv-start n wins clients;
         marked = λ k. at-replicate noClient (λ c. Marked (c .downs)) clients (k .0) _ (record { flags = []; same = refl }) (record { flags = []; same = refl });
       } in
-      let up : runBy step w es .most ≤ mostDown step w es = forward (mostDown step w es) w es known
+      let up : runBy step w es .most ≤ mostDown step w es = most-within (mostDown step w es) w es known
       (record { most = zero-le; running = λ k ep. clash _ ep (resting k); rest = le-refl _ }) in
-      let down : mostDown step w es ≤ runBy step w es .most = backward (runBy step w es .most) w es known (le-refl _) .rest in
+      let down : mostDown step w es ≤ runBy step w es .most = within-most (runBy step w es .most) w es known (le-refl _) .rest in
       omega arith
 
 -- of a run, whose step is `event`
