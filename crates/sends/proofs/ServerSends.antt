@@ -1,4 +1,5 @@
--- A server sends at most three messages in a step, so that their number and bytes fit a word. What they say comes from the requests that
+-- A server sends at most three messages in a step, and two where its record is valid: a client stands at most once in it, so that after
+-- its older pair was the owner and is gone, the message is not the owner's. What they say comes from the requests that
 -- the server knows or is told: a test that these pass, and that makes messages pass another, is passed by all that it sends.
 use Prim.Native.Nat.{ℕ, _*_, _≤_}
 use native.Mathlib.Omega.{arith}
@@ -14,7 +15,7 @@ use Rattle.ids.specs.Lists.{every}
 use Rattle.ids.specs.Choice.{if_then_else_, maybe}
 use Rattle.ids.specs.Order.{before}
 use Rattle.ids.specs.Limits.{maxServers, validServer, validRequest, validOwner, validPartiesUpTo, validStampedUpTo}
-use Rattle.ids.specs.Requests.{isRequest, isClient, byOwner}
+use Rattle.ids.specs.Requests.{same, isRequest, isClient, byOwner}
 use Rattle.ids.specs.declared.ClientId.{ClientId}
 use Rattle.ids.specs.declared.ServerId.{ServerId}
 use Rattle.ids.specs.declared.Timestamp.{Timestamp}
@@ -31,18 +32,16 @@ use Rattle.wire.specs.Format as format
 use Rattle.wire.specs.Step.{Step, Outcome, refused, stepped, stay, tell}
 use Rattle.wire.specs.declared.Message.{Message}
 use Rattle.wire.specs.declared.Message.the-variants.{Request, Yield, Release, Inquiry, Response, Check}
-use Rattle.rows.specs.Queue.{insert, timestampIn}
-use Rattle.server_votes.specs.Figure1.{State, promote, delete, inform, act, compare, receive, suspect, check, admit, candidates}
+use Rattle.rows.specs.Queue.{insert, without, timestampIn}
+use Rattle.server_votes.specs.Figure1.{State, idle, promote, delete, inform, act, compare, receive, suspect, check, admit, candidates}
 use Rattle.server_votes.specs.declared.Tag.{Tag}
 use Rattle.server_votes.specs.declared.Tag.the-variants.{Request as REQUEST, Yield as YIELD, Release as RELEASE, Inquiry as INQUIRY}
-use Rattle.rows.proofs.QueueLaws.{length-queue}
 use Rattle.server_votes.proofs.RoomLaws.{length-deleted}
 use Rattle.server_votes.proofs.EveryLaws.{every-insert, every-without}
 use Rattle.server.specs.Record as server
 use Rattle.server.specs.Calls as server-calls
 use Rattle.server.specs.declared.Server.{Server}
-use Rattle.server.proofs.RecordLaws.{valid-padded}
-use Rattle.server.proofs.KeepsValid.{Good, message-keeps-valid, suspect-keeps-valid, check-keeps-valid}
+use Rattle.server.proofs.KeepsValid.{Good, head-other, owner-apart, view-good, its-room, message-keeps-valid, suspect-keeps-valid, check-keeps-valid}
 
 -- no message is longer than a RESPONSE
 lengthOf-few : (kind : ℕ) → lengthOf kind ≤ responseBytes
@@ -91,6 +90,16 @@ module _ (j : ServerId) where
   act-few RELEASE r q = omega (arith, delete-few r q)
   act-few INQUIRY r q = omega (arith, inquired-few (q .owner) (r .client) q)
 
+  -- a message that is not the owner's
+  act-once : (tag : Tag) (r : Pair) (q : State) → isRequest r (q .owner) ≡ false → length (act j tag r q .sent) ≤ 1
+  unfolding act
+  act-once REQUEST r q e =
+      ⊎-elim (λ (t : isClient (r .client) (q .owner) ≡ true). rw t (omega arith))
+      (λ (t : isClient (r .client) (q .owner) ≡ false). rw t (omega arith)) (decided (isClient (r .client) (q .owner)))
+  act-once YIELD r q e = rw e (inform-few (r .client) q)
+  act-once RELEASE r q e = delete-few r q
+  act-once INQUIRY r q e = inquired-few (q .owner) (r .client) q
+
   compared-few : (older newer : Bool) (tag : Tag) (r p : Pair) (q : State)
       → length ((if older then stay q else if newer then record
       { state = act j tag r (delete j p q .state) .state; sent = delete j p q .sent ++ act j tag r (delete j p q .state) .sent } else
@@ -108,21 +117,63 @@ module _ (j : ServerId) where
   unfolding receive
   receive-few tag r q = received-few (timestampIn (r .client) (candidates q)) tag r q
 
-  suspected-by : (o : Owner) (q : State) → length (byOwner o (stay q) (λ x. delete j x q) .sent) ≤ 3
+  -- of a good state: the client of the pair that made way does not stand in the queue
+  promoted-twice : (tag : Tag) (r : Pair) (l : List Pair) → timestampIn (r .client) l ≡ none
+      → length (promote j l .sent ++ act j tag r (promote j l .state) .sent) ≤ 2
+  unfolding promote same
+  promoted-twice tag r [] n = act-few tag r idle
+  promoted-twice tag r (h ∷ l) n =
+      omega (arith, act-once tag r (record { owner = Of h; queue = l }) (rw (head-other (r .client) h l _ refl n .0)))
+
+  deleted-twice : (tag : Tag) (r : Pair) (t : Timestamp) (q : State) → Good q →
+      let old : Pair = record { client = r .client; timestamp = t } in length (delete j old q .sent ++ act j tag r (delete j old q .state) .sent) ≤ 2
+  unfolding delete
+  deleted-twice tag r t q G =
+      let old : Pair = record { client = r .client; timestamp = t } in
+      ⊎-elim
+      (λ (e : isRequest old (q .owner) ≡ true). rw e (promoted-twice tag r (q .queue) (owner-apart old (q .owner) (q .queue) e (G .single))))
+      (λ (e : isRequest old (q .owner) ≡ false). rw e (act-few tag r (record { owner = q .owner; queue = without old (q .queue) })))
+      (decided (isRequest old (q .owner)))
+
+  compared-twice : (tag : Tag) (r : Pair) (q : State) (t : Timestamp) → Good q → length (compare j tag r q t .sent) ≤ 2
+  compared-twice tag r q t G =
+      ⊎-elim
+      (λ (a : ltb (r .timestamp .0) (t .0) ≡ true). rw a (omega arith))
+      (λ (a : ltb (r .timestamp .0) (t .0) ≡ false).
+      ⊎-elim (λ (b : ltb (t .0) (r .timestamp .0) ≡ true). rw (a, b) (deleted-twice tag r t q G))
+      (λ (b : ltb (t .0) (r .timestamp .0) ≡ false). rw (a, b) (act-few tag r q))
+      (decided (ltb (t .0) (r .timestamp .0))))
+      (decided (ltb (r .timestamp .0) (t .0)))
+
+  received-twice : (o : Option Timestamp) (tag : Tag) (r : Pair) (q : State) → Good q → length (maybe o (act j tag r q) (compare j tag r q) .sent) ≤ 2
+  received-twice none tag r q G = act-few tag r q
+  received-twice (some t) tag r q G = compared-twice tag r q t G
+
+  pub receive-twice : (tag : Tag) (r : Pair) (q : State) → Good q → length (receive j tag r q .sent) ≤ 2
+  unfolding receive
+  receive-twice tag r q G = received-twice (timestampIn (r .client) (candidates q)) tag r q G
+
+  suspected-by : (o : Owner) (q : State) → length (byOwner o (stay q) (λ x. delete j x q) .sent) ≤ 1
   suspected-by Nobody q = omega arith
-  suspected-by (Of x) q = omega (arith, delete-few x q)
+  suspected-by (Of x) q = delete-few x q
+
+  suspect-once : (q : State) → length (suspect j q .sent) ≤ 1
+  unfolding suspect
+  suspect-once q = suspected-by (q .owner) q
 
   pub suspect-few : (q : State) → length (suspect j q .sent) ≤ 3
-  unfolding suspect
-  suspect-few q = suspected-by (q .owner) q
+  suspect-few q = omega (arith, suspect-once q)
 
-  checked-by : (o : Owner) (q : State) → length (byOwner o (stay q) (λ x. tell q (Check (x .client) j (x .timestamp))) .sent) ≤ 3
+  checked-by : (o : Owner) (q : State) → length (byOwner o (stay q) (λ x. tell q (Check (x .client) j (x .timestamp))) .sent) ≤ 1
   checked-by Nobody q = omega arith
   checked-by (Of x) q = omega arith
 
-  pub check-few : (q : State) → length (check j q .sent) ≤ 3
+  check-once : (q : State) → length (check j q .sent) ≤ 1
   unfolding check
-  check-few q = checked-by (q .owner) q
+  check-once q = checked-by (q .owner) q
+
+  pub check-few : (q : State) → length (check j q .sent) ≤ 3
+  check-few q = omega (arith, check-once q)
 
 pub never : {A : Type 0} (e : Refusal) (p : Step A) → _≡_ {A = Outcome A} (refused e) (stepped p) → ⊥
 never e p h = let z : _≡_ {A = ℕ} 0 1 = cc in omega arith
@@ -149,43 +200,48 @@ module _ (j : ServerId) where
   unfolding check
   check-same q = checked-same (q .owner) q
 
--- the queue of a valid record has a place for each of its requests
-pub valid-length : (s : Server) → server.valid s ≡ true → 2 * s .head .votes .len ≤ length (s .row)
-valid-length s v = let G = valid-padded maxServers s v in omega (arith, G .within, G .places .even)
-
 -- an accepted step of a server
 module _ (s : Server) (p : Step State) where
   -- few messages, and a queue for which the row has places
   record Short (x : Step State) : Type 0 where
-    few : length (x .sent) ≤ 3
+    few : length (x .sent) ≤ 2
     room : 2 * length (x .state .queue) ≤ length (s .row)
 
-  held-short : (x : Step State) → length (x .sent) ≤ 3 → server-calls.held (length (s .row)) x ≡ stepped p → Short p
-  held-short x h e =
-      let (b, f) = passed (ltb (length (s .row)) (2 * length (x .state .queue))) (never QueueFull p) e in
-      let g : x ≡ p = cc in
-      rw (← g) (record { few = h; room = ltb-false _ _ b })
+  module _ (v : server.valid s ≡ true) where
+    taken-short : (tag : Tag) (k : ClientId) (j : ServerId) (t : Timestamp) → server-calls.taken s tag k j t ≡ stepped p → Short p
+    taken-short tag k j t e =
+        let x : Step State = receive (s .head .id) tag (record { client = k; timestamp = t }) (server.view s) in
+        let (b, f) = passed (ltb (length (s .row)) (2 * length (x .state .queue))) (never QueueFull p)
+        (entered (eqb (j .0) (s .head .id .0)) (never NotForServer p) e) in
+        let g : x ≡ p = cc in
+        rw (← g) (record {
+          few = receive-twice (s .head .id) tag (record { client = k; timestamp = t }) (server.view s) (view-good maxServers s v .1);
+          room = ltb-false _ _ b;
+        })
 
-  taken-short : (tag : Tag) (k : ClientId) (j : ServerId) (t : Timestamp) → server-calls.taken s tag k j t ≡ stepped p → Short p
-  taken-short tag k j t e =
-      held-short (receive (s .head .id) tag (record { client = k; timestamp = t }) (server.view s))
-      (receive-few (s .head .id) tag (record { client = k; timestamp = t }) (server.view s))
-      (entered (eqb (j .0) (s .head .id .0)) (never NotForServer p) e)
+    received-short : (m : Message) → server-calls.received s m ≡ stepped p → Short p
+    received-short (Request k j t) e = taken-short REQUEST k j t e
+    received-short (Yield k j t) e = taken-short YIELD k j t e
+    received-short (Release k j t) e = taken-short RELEASE k j t e
+    received-short (Inquiry k j t) e = taken-short INQUIRY k j t e
+    received-short (Response k j o) e = absurd (never NotForServer p e)
+    received-short (Check k j t) e = absurd (never NotForServer p e)
 
-  received-short : (m : Message) → server-calls.received s m ≡ stepped p → Short p
-  received-short (Request k j t) e = taken-short REQUEST k j t e
-  received-short (Yield k j t) e = taken-short YIELD k j t e
-  received-short (Release k j t) e = taken-short RELEASE k j t e
-  received-short (Inquiry k j t) e = taken-short INQUIRY k j t e
-  received-short (Response k j o) e = absurd (never NotForServer p e)
-  received-short (Check k j t) e = absurd (never NotForServer p e)
+    suspected-short : (o : Owner) → byOwner {B = Outcome State} o (refused NoOwner) (λ x. stepped (suspect (s .head .id) (server.view s))) ≡ stepped p → Short p
+    suspected-short Nobody e = absurd (never NoOwner p e)
+    suspected-short (Of x) e =
+        let g : suspect (s .head .id) (server.view s) ≡ p = cc in
+        rw (← g) (record {
+          few = omega (arith, suspect-once (s .head .id) (server.view s));
+          room = omega (arith, its-room maxServers s v, suspect-shorter (s .head .id) (server.view s));
+        })
 
   -- what is known of the step: the record was valid and is again, few messages were sent, and the queue has its places
   pub record Accepted : Type 0 where
     pub before : server.valid s ≡ true
     pub after : server.valid (server-calls.serverAfter s (stepped p)) ≡ true
-    pub few : length (p .sent) ≤ 3
-    pub small : sizeOfAll (p .sent) ≤ 3 * responseBytes
+    pub few : length (p .sent) ≤ 2
+    pub small : sizeOfAll (p .sent) ≤ 2 * responseBytes
     pub room : 2 * length (p .state .queue) ≤ length (s .row)
 
   accepted : server.valid s ≡ true → server.valid (server-calls.serverAfter s (stepped p)) ≡ true → Short p → Accepted
@@ -198,17 +254,7 @@ module _ (s : Server) (p : Step State) where
       let (a, h₁) = passed (not (server.valid s)) (never InvalidRecord p) e in
       let (b, h₂) = passed (not (format.valid m)) (never NumberOutOfRange p) h₁ in
       let v : server.valid s ≡ true = not-false (server.valid s) a in
-      accepted v (message-keeps-valid s v m p e) (received-short m h₂)
-
-  module _ (v : server.valid s ≡ true) where
-    its-room : 2 * length (server.view s .queue) ≤ length (s .row)
-    its-room = omega (arith, valid-length s v, length-queue (s .row) (s .head .votes .len) (valid-padded maxServers s v))
-
-    suspected-short : (o : Owner) → byOwner {B = Outcome State} o (refused NoOwner) (λ x. stepped (suspect (s .head .id) (server.view s))) ≡ stepped p → Short p
-    suspected-short Nobody e = absurd (never NoOwner p e)
-    suspected-short (Of x) e =
-        let g : suspect (s .head .id) (server.view s) ≡ p = cc in
-        rw (← g) (record { few = suspect-few (s .head .id) (server.view s); room = omega (arith, its-room, suspect-shorter (s .head .id) (server.view s)) })
+      accepted v (message-keeps-valid s v m p e) (received-short v m h₂)
 
   pub suspect-accepted : server-calls.suspectOutcome s ≡ stepped p → Accepted
   unfolding server-calls.suspectOutcome
@@ -224,7 +270,10 @@ module _ (s : Server) (p : Step State) where
       let v : server.valid s ≡ true = not-false (server.valid s) a in
       let g : check (s .head .id) (server.view s) ≡ p = cc in
       accepted v (check-keeps-valid s v p e)
-      (rw (← g) (record { few = check-few (s .head .id) (server.view s); room = rw (check-same (s .head .id) (server.view s)) (its-room v) }))
+      (rw (← g) (record {
+        few = omega (arith, check-once (s .head .id) (server.view s));
+        room = rw (check-same (s .head .id) (server.view s)) (its-room maxServers s v);
+      }))
 
 -- the owner and the queue pass g
 pub record Knows (g : Pair → Bool) (q : State) : Type 0 where

@@ -1,5 +1,5 @@
 -- Every step of a valid server gives a valid server: insertion and removal keep a queue strictly in order and its clients apart.
-use Prim.Native.Nat.{ℕ, suc, _*_, _≤_}
+use Prim.Native.Nat.{ℕ, suc, _*_, _≤_, zero-le}
 use native.Mathlib.Omega.{arith}
 use mathlib.Core.Path.{_≡_, refl, sym, ap, subst}
 use mathlib.Core.Bool.{Bool, true, false, _&&_}
@@ -32,19 +32,19 @@ use Rattle.ids.proofs.LimitsLaws.{stamped-request}
 use Rattle.wire.specs.Format as format
 use Rattle.server_votes.specs.declared.Tag.{Tag}
 use Rattle.server_votes.specs.declared.Tag.the-variants.{Request as REQUEST, Yield as YIELD, Release as RELEASE, Inquiry as INQUIRY}
-use Rattle.rows.specs.Rows.{requestsIn, rowOf, fitsPlace, Padded}
+use Rattle.rows.specs.Rows.{requestsIn, requestWords, rowOf, fitsPlace, Padded}
 use Rattle.rows.specs.Queue.{timestampIn, insert, without}
 use Rattle.rows.proofs.ListLaws.{length-without}
 use Rattle.rows.proofs.QueueLaws.{length-queue}
 use Rattle.rows.proofs.GoodLaws.{padded-good}
 use Rattle.rows.proofs.RowLaws.{row-of-holds}
-use Rattle.server_votes.specs.Figure1.{State, candidates, enqueue, promote, delete, inform, act, compare, receive, suspect, check}
+use Rattle.server_votes.specs.Figure1.{State, idle, candidates, enqueue, promote, delete, inform, act, compare, receive, suspect, check}
 use Rattle.server_votes.proofs.RoomLaws.{informed-state, length-deleted}
 use Rattle.ids.specs.Lists.{every}
 use Rattle.server.specs.declared.Head.{Head}
 use Rattle.server.specs.declared.Server.{Server}
 use Rattle.server.specs.Record.{queuePlaces, rowWords, ordered, once, behindOwner, validState, validSizesUpTo, validSizes, validUpTo, valid, view, store}
-use Rattle.server.specs.Calls.{held, taken, received, messageOutcomeUpTo, messageOutcome, suspectOutcome, checkOutcome, headAfter, rowAfter, serverAfter}
+use Rattle.server.specs.Calls.{emptyServer, held, taken, received, messageOutcomeUpTo, messageOutcome, suspectOutcome, checkOutcome, headAfter, rowAfter, serverAfter}
 use Rattle.server.proofs.RecordLaws.{valid-sized, valid-padded, valid-state}
 
 -- x stands before the head of l
@@ -92,7 +92,7 @@ single-once [] s = refl
 single-once (x ∷ l) s = rw (s .0) (single-once l (s .1))
 
 -- a client that is not in a list is not its head's, nor in its tail
-head-other : (k : ClientId) (x : Pair) (l : List Pair) (b : Bool) → eqb (x .client .0) (k .0) ≡ b → timestampIn k (x ∷ l) ≡ none
+pub head-other : (k : ClientId) (x : Pair) (l : List Pair) (b : Bool) → eqb (x .client .0) (k .0) ≡ b → timestampIn k (x ∷ l) ≡ none
     → (eqb (x .client .0) (k .0) ≡ false) × (timestampIn k l ≡ none)
 unfolding timestampIn
 head-other k x l true e n = let z : _≡_ {A = Option Timestamp} (some (x .timestamp)) none = rw e at n in let y : _≡_ {A = ℕ} 0 1 = cc in absurd (omega arith)
@@ -203,6 +203,12 @@ queue-single : (o : Owner) (l : List Pair) → Single (candidates (record { owne
 queue-single Nobody l s = s
 queue-single (Of r) l s = s .1
 
+-- the owner's client does not wait
+pub owner-apart : (r : Pair) (o : Owner) (l : List Pair) → isRequest r o ≡ true → Single (candidates (record { owner = o; queue = l }))
+    → timestampIn (r .client) l ≡ none
+owner-apart r Nobody l e s = clash false e refl
+owner-apart r (Of o) l e s = rw (same-true o r e) at (s .0)
+
 module _ (j : ServerId) where
   pub promote-good : (l : List Pair) → every validRequest l ≡ true → Sorted l → Single l → Good (promote j l .state)
   unfolding promote validOwner
@@ -279,8 +285,7 @@ module _ (j : ServerId) where
   yield-good r (Of o) l v g =
       ⊎-elim
       (λ (t : same o r ≡ true).
-      let e : o ≡ r = same-true o r t in
-      let n : timestampIn (r .client) l ≡ none = rw e at (g .single .0) in
+      let n : timestampIn (r .client) l ≡ none = owner-apart r (Of o) l t (g .single) in
       rw t (promote-good (insert r l) (every-insert validRequest r l v (g .all)) (insert-sorted r l (g .sorted) n) (insert-single r l (g .single .1) n)))
       (λ (t : same o r ≡ false). rw t g)
       (decided (same o r))
@@ -382,7 +387,7 @@ module _ (limit : ℕ) (s : Server) (v : validUpTo limit s ≡ true) where
   its-padded : Padded (s .row) (s .head .votes .len)
   its-padded = valid-padded limit s v
 
-  its-room : 2 * length (view s .queue) ≤ length (s .row)
+  pub its-room : 2 * length (view s .queue) ≤ length (s .row)
   its-room = omega (arith, length-queue (s .row) (s .head .votes .len) its-padded, its-padded .within, its-padded .places .even)
 
   kept : (p : Step State) → 2 * length (p .state .queue) ≤ length (s .row) → Good (p .state) → validUpTo limit (serverAfter s (stepped p)) ≡ true
@@ -461,3 +466,8 @@ module _ (s : Server) (v : valid s ≡ true) where
       let w : _≡_ {A = Outcome State} (stepped (check (s .head .id) (view s))) (stepped p) = rw v at e in
       let h : check (s .head .id) (view s) ≡ p = cc in
       rw (← h) (check-keeps maxServers s v)
+
+-- a new server's record is valid
+pub new-valid : (n : ℕ) (j : ServerId) → validSizes n j ≡ true → valid (emptyServer n j) ≡ true
+unfolding validOwner rowOf requestWords
+new-valid n j z = store-valid n j idle z zero-le (record { owner = refl; all = refl; behind = refl; sorted = tt; single = tt })

@@ -5,11 +5,15 @@ use native.Mathlib.Omega.{arith}
 use mathlib.Core.List.{List, [], _∷_}
 use Rattle.ids.specs.Choice.{if_then_else_}
 use Rattle.wire.specs.Step.{refused, stepped}
+use Rattle.client_responses.specs.Figure1.{enough}
+use Rattle.system.specs.Limits.{systemMessages, lastNumber}
 use Rattle.system.specs.declared.Setting.{Setting}
 use Rattle.system.specs.declared.Event.{Event}
 use Rattle.system.specs.Places.{System, holders}
 use Rattle.system.specs.Events.{Result}
 use Rattle.system.specs.Runs.{after, isStepped, runBy, acceptedEvents, mostHolders}
+use Rattle.system.specs.Downs.{mostDown}
+use Rattle.system.proofs.Downs.{most-down, places-follow}
 use Rattle.sim_run.specs.Run.{Run, fresh, started, happens, moved, next, plays}
 
 -- the run after the events, by the counts of the whole list
@@ -89,3 +93,7 @@ plays-counted s es =
     let y : max (holders (fresh s)) (mostHolders (happens s) (fresh s) es) ≡ mostHolders (happens s) (fresh s) es = omega (arith, most-least s (fresh s) es) in
     let x : 0 + acceptedEvents (happens s) (fresh s) es ≡ acceptedEvents (happens s) (fresh s) es = omega arith in
     plays-ahead es (started s) (omega arith) ∙ (λ i. record { setting = s; system = runBy (happens s) (fresh s) es; accepted = x i; holding = y i })
+
+-- and the most different servers ever down within one epoch
+pub happens-most-down : (s : Setting) (es : List Event) → runBy (happens s) (fresh s) es .most ≡ mostDown (happens s) (fresh s) es
+happens-most-down s = most-down (s .n) (enough (s .m)) (happens s) (places-follow (s .n) (enough (s .m)) systemMessages lastNumber) (s .clients)

@@ -177,7 +177,7 @@ module _ (n : ℕ) (wins : Quorum) where
           nest = nest-servers (s .nest) (still-up (w .servers) (j .0) _ refl);
         }
 
-  inv-start : (clients : ℕ) → Inv (start n wins clients)
+  pub inv-start : (clients : ℕ) → Inv (start n wins clients)
   unfolding start
   inv-start clients =
       let quiet : (k : ℕ)
@@ -214,7 +214,7 @@ module _ (n : ℕ) (wins : Quorum) where
   inv-run clients es = inv-from (start n wins clients) (inv-start clients) es
 
   -- the most servers down within an epoch never falls
-  most-after : (w : System) (o : Result) → w .most ≤ after w o .most
+  pub most-after : (w : System) (o : Result) → w .most ≤ after w o .most
   unfolding after
   most-after w (refused x) = le-refl (w .most)
   most-after w (stepped v) = omega arith
