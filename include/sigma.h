@@ -5,8 +5,8 @@
  * even where the length is 0, and a slice that a call may write overlaps no other.
  *
  * libcapi.a has the calls on messages and records, libcapi_host.a those on a server's record in a struct (sigma_host_*),
- * libcapi_quorum.a those on settings (sigma_setting, sigma_run_event and sigma_default_threshold), libcapi_script.a those on
- * scripts (sigma_script_*).
+ * libcapi_quorum.a those on settings (sigma_setting, sigma_run_event and sigma_default_threshold), libcapi_simulation.a those on
+ * a simulated system (sigma_simulation_*), libcapi_script.a those on scripts (sigma_script_*).
  */
 #ifndef SIGMA_H
 #define SIGMA_H
@@ -44,7 +44,7 @@ uint32_t sigma_write(const uint32_t *words, size_t words_len, uint8_t *out, size
  *   server: n, its number, owner, owner's timestamp, queue length, then client and timestamp of 16 places
  *   client: n, m, its number, section, timestamp, then owner and timestamp of the responses of servers 1 to 31
  * The messages that a step sends stand one after another at the start of `out`, and the bytes behind them stay;
- * `sent` takes their number and their bytes. A server sends at most 42 bytes in a step, a client 12 times n. */
+ * `sent` takes their number and their bytes. A server sends at most 28 bytes in a step, a client 12 times n. */
 enum {
     SIGMA_REMAINDER = 0,
     SIGMA_TRYING = 1,
@@ -142,6 +142,23 @@ uint32_t sigma_run_event(uint32_t n, uint32_t m, uint32_t f, uint32_t i, uint32_
 /* The default threshold for n servers, two thirds of n rounded up, in the first word.
  * Refusals: 7 n out of range, 6 no word lent. */
 uint32_t sigma_default_threshold(uint32_t n, uint32_t *words, size_t words_len);
+
+/* A simulated system: n servers with threshold m, 1 to 16 clients, and at most 512 messages in transit, as words that stay where
+ * the host put them. f is kept with them, and no event is held to it. An event is the two words of sigma_run_event. */
+enum {
+    SIGMA_SIMULATION_WORDS = 6353,
+    SIGMA_ANSWER_WORDS = 2
+};
+
+/* A fresh start: all clients living, in the remainder section, all servers up, nothing sent.
+ * Refusal: 7 a number out of range, or not 6353 words. */
+uint32_t sigma_simulation_new(uint32_t n, uint32_t m, uint32_t f, uint32_t clients, uint32_t *words, size_t words_len);
+
+/* An event: accepted, the words are the system after it, and the first two words of `answer` are the messages sent and the living
+ * clients in the critical section. Refusals: 16 no such kind, 21 the words are no valid system, 17 no such client, server or
+ * message, 18 the party is down or fallen, or up already, 15 no owner, 20 the owner lives, 10 wrong section, 11 timestamps spent,
+ * 19 no place or number left for what is sent, 6 fewer than two words in `answer`. */
+uint32_t sigma_simulation_event(uint32_t *words, size_t words_len, uint32_t kind, uint32_t number, uint32_t *answer, size_t answer_len);
 
 /* A script of events, run on a simulated system: new, then feed for the input in parts of any size, then finish. The state is
  * words that stay where the host put them. What is printed stands at the start of `out`, and the bytes behind it stay;

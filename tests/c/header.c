@@ -1,5 +1,5 @@
 /* Shows that include/sigma.h is right: both examples of document 01, one client's way into its critical section
- * and out of it, a server in a struct, and the example of a script, through the functions as it declares them. */
+ * and out of it, a server in a struct, the unsafe run in a simulation, and the example of a script, through the functions as it declares them. */
 #include "sigma.h"
 
 #include <assert.h>
@@ -84,7 +84,7 @@ static_assert(offsetof(struct sigma_host, bytes) == (SIGMA_SERVER_WORDS + 1) * s
 /* One server twice: in a struct, and as a record's words with the same calls. */
 static struct sigma_host host;
 static uint32_t record[SIGMA_SERVER_WORDS], counts[SIGMA_SENT_WORDS];
-static uint8_t host_out[42], record_out[42];
+static uint8_t host_out[28], record_out[28];
 
 static void same(const char *what)
 {
@@ -175,6 +175,29 @@ static void script(void)
     expect(sigma_script_finish(state, SIGMA_SCRIPT_WORDS, out, SIGMA_SCRIPT_END, counts, 2) == 21, "a broken state");
 }
 
+/* The unsafe run of 3, 2, 1, event by event, ends with two clients inside. */
+static void simulation(void)
+{
+    static uint32_t words[SIGMA_SIMULATION_WORDS], before[SIGMA_SIMULATION_WORDS];
+    uint32_t answer[SIGMA_ANSWER_WORDS] = {7, 7}, setting[SIGMA_SETTING_WORDS], event[SIGMA_EVENT_WORDS], i;
+    expect(sigma_simulation_new(3, 2, 1, 2, words, SIGMA_SIMULATION_WORDS - 1) == 7, "too few words");
+    expect(sigma_simulation_new(3, 2, 1, 17, words, SIGMA_SIMULATION_WORDS) == 7, "17 clients");
+    expect(sigma_simulation_new(3, 2, 1, 2, words, SIGMA_SIMULATION_WORDS) == 0, "a fresh start");
+    memcpy(before, words, sizeof words);
+    expect(sigma_simulation_event(words, SIGMA_SIMULATION_WORDS, SIGMA_EVENT_CHECK + 1, 1, answer, 2) == 16, "no such kind");
+    expect(sigma_simulation_event(words, SIGMA_SIMULATION_WORDS, SIGMA_EVENT_EXIT, 1, answer, 1) == 10, "10 before 6");
+    expect(sigma_simulation_event(words, SIGMA_SIMULATION_WORDS, SIGMA_EVENT_TRY, 1, answer, 1) == 6, "one word lent");
+    expect(memcmp(before, words, sizeof words) == 0 && answer[0] == 7 && answer[1] == 7, "refused, all is as it was");
+    expect(sigma_setting(3, 2, 1, setting, SIGMA_SETTING_WORDS) == 8, "an unsafe setting");
+    for (i = 1; i <= setting[1]; i++) {
+        expect(sigma_run_event(3, 2, 1, i, event, SIGMA_EVENT_WORDS) == 0, "an event of its run");
+        expect(sigma_simulation_event(words, SIGMA_SIMULATION_WORDS, event[0], event[1], answer, 2) == 0, "it happens");
+    }
+    expect(answer[0] == 0 && answer[1] == 2, "two clients inside");
+    words[0] = 0;
+    expect(sigma_simulation_event(words, SIGMA_SIMULATION_WORDS, SIGMA_EVENT_TRY, 70000, answer, 2) == 21, "21 before 17");
+}
+
 int main(void)
 {
     static const uint8_t request[] = {0x0C, 0, 1, 0, 5, 0, 1, 0, 3, 0, 0, 0};
@@ -186,6 +209,7 @@ int main(void)
     enter_and_leave();
     in_a_struct();
     settings();
+    simulation();
     script();
     puts(failures == 0 ? "header ok" : "header wrong");
     return failures != 0;

@@ -19,6 +19,7 @@ fn compile_and_run(compiler: &str, language: &[&str], name: &str) {
         .arg(root.join("target/staticlib/libcapi.a"))
         .arg(root.join("target/staticlib/libcapi_host.a"))
         .arg(root.join("target/staticlib/libcapi_quorum.a"))
+        .arg(root.join("target/staticlib/libcapi_simulation.a"))
         .arg(root.join("target/staticlib/libcapi_script.a"))
         .arg("-o")
         .arg(&program)
