@@ -14,3 +14,4 @@ pub mod random;
 pub mod records;
 pub mod script;
 pub mod setting;
+pub mod simulation;
