@@ -3,6 +3,7 @@
 
 pub mod author;
 pub mod both;
+pub mod broken;
 pub mod fault;
 pub mod files;
 pub mod gallery;
