@@ -620,7 +620,7 @@ fn damages_of(damages: Break, gallery: &Gallery, r: &mut Random) -> Vec<Damage> 
 
 /// Each damage of these is judged as it says, refused 21 by both ways, and leaves every word.
 fn try_breaks(breaks: &[(&str, &[Rule], Break)], seed: u64) {
-    let mut r = Random::new(seed);
+    let (mut r, mut tried) = (Random::new(seed), 0);
     let all = galleries(96, 1);
     for &(name, rules, damages) in breaks {
         let mut met = 0;
@@ -635,8 +635,10 @@ fn try_breaks(breaks: &[(&str, &[Rule], Break)], seed: u64) {
                 assert_eq!(by_library(&mut wrong, event), Err(21), "{name}: {damage:?} of {:?}", told(&words));
             }
         }
-        assert!(met >= 5, "{name}: only {met} galleries have it");
+        assert!(met >= 5, "{name}: only {met} damages");
+        tried += met;
     }
+    println!("{tried} damages of {} kinds", breaks.len());
 }
 
 #[test]
@@ -751,7 +753,7 @@ const EDGES: &[(&str, Break)] = &[
 
 #[test]
 fn edges_that_break_no_rule() {
-    let (mut r, mut answers) = (Random::new(7), Met::new());
+    let (mut r, mut tried, mut answers) = (Random::new(7), 0, Met::new());
     let all = galleries(96, 1);
     for &(name, damages) in EDGES {
         let mut met = 0;
@@ -766,8 +768,10 @@ fn edges_that_break_no_rule() {
                 met += 1;
             }
         }
-        assert!(met >= 5, "{name}: only {met} galleries have it");
+        assert!(met >= 5, "{name}: only {met} edges");
+        tried += met;
     }
+    println!("{tried} edges of {} kinds, which answered {answers:?}", EDGES.len());
     assert!(answers.keys().eq(&EVERY_ANSWER) && answers.values().all(|&times| times >= 20), "{answers:?}");
 }
 
