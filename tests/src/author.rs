@@ -17,7 +17,7 @@ fn message(gallery: &Gallery, r: &mut Random) -> u64 {
     r.one_of(&waiting)
 }
 
-fn any_event(gallery: &Gallery, r: &mut Random) -> Event {
+pub fn any_event(gallery: &Gallery, r: &mut Random) -> Event {
     let usual = [Kind::Take, Kind::Take, Kind::Take, Kind::Take, Kind::Take, Kind::Try, Kind::Exit];
     let kind = if r.below(3) == 0 { r.one_of(&KINDS) } else { r.one_of(&usual) };
     let number = match kind {
@@ -57,7 +57,7 @@ fn push_line(script: &mut Vec<u8>, line: &str, damage: u64, r: &mut Random) {
 }
 
 /// A setting and kiosks in range; now and then as many kiosks and keepers as a gallery can have, which fill it.
-fn any_setting(r: &mut Random) -> (Setting, u32) {
+pub fn any_setting(r: &mut Random) -> (Setting, u32) {
     if r.below(12) == 0 {
         return (Setting { n: 31, m: 21, f: 10 }, 16);
     }

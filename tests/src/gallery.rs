@@ -204,12 +204,12 @@ impl Gallery {
         Ok(0)
     }
 
-    /// The keeper forgets all, and what it had taken waits again.
+    /// The keeper forgets all, and what it had taken waits again; a message from it to a kiosk was not taken by it.
     fn down(&mut self, j: u64) -> Result<usize, u32> {
         let at = self.standing(j)?;
         let id = self.servers[at].record.id;
         self.servers[at] = Server { up: false, record: Keeper::new(self.setting.n, id)? };
-        for kept in self.kept.iter_mut().filter(|kept| kept.message.keeper == id) {
+        for kept in self.kept.iter_mut().filter(|kept| kept.message.kind < RESPONSE && kept.message.keeper == id) {
             kept.taken = false;
         }
         self.clients.iter_mut().flat_map(|c| &mut c.epoch).for_each(|down| {

@@ -3,6 +3,7 @@
 
 pub mod author;
 pub mod both;
+pub mod broken;
 pub mod fault;
 pub mod files;
 pub mod gallery;
@@ -14,3 +15,4 @@ pub mod random;
 pub mod records;
 pub mod script;
 pub mod setting;
+pub mod simulation;

@@ -44,6 +44,8 @@ extern "C" {
         counts_len: usize,
     ) -> u32;
     fn sigma_script_finish(state: *mut u32, s: usize, out: *mut u8, o: usize, counts: *mut usize, c: usize) -> u32;
+    fn sigma_simulation_new(n: u32, m: u32, f: u32, clients: u32, words: *mut u32, words_len: usize) -> u32;
+    fn sigma_simulation_event(words: *mut u32, w: usize, kind: u32, number: u32, answer: *mut u32, a: usize) -> u32;
 }
 
 // No call has a `requires`: any slices that Rust can lend are in order.
@@ -118,4 +120,13 @@ pub fn script_feed(state: &mut [u32], input: &[u8], out: &mut [u8], counts: &mut
 pub fn script_finish(state: &mut [u32], out: &mut [u8], counts: &mut [usize]) -> u32 {
     let (s, o, c) = (state.as_mut_ptr(), out.as_mut_ptr(), counts.as_mut_ptr());
     unsafe { sigma_script_finish(s, state.len(), o, out.len(), c, counts.len()) }
+}
+
+pub fn simulation_new(n: u32, m: u32, f: u32, clients: u32, words: &mut [u32]) -> u32 {
+    unsafe { sigma_simulation_new(n, m, f, clients, words.as_mut_ptr(), words.len()) }
+}
+
+pub fn simulation_event(words: &mut [u32], kind: u32, number: u32, answer: &mut [u32]) -> u32 {
+    let (w, a) = (words.as_mut_ptr(), answer.as_mut_ptr());
+    unsafe { sigma_simulation_event(w, words.len(), kind, number, a, answer.len()) }
 }

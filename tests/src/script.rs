@@ -22,7 +22,7 @@ const NAMES: [(&[u8], Kind); 9] = [
 ];
 
 /// The lines without their newlines; behind the last newline there is none.
-fn lines(script: &[u8]) -> impl Iterator<Item = &[u8]> {
+pub fn lines(script: &[u8]) -> impl Iterator<Item = &[u8]> {
     script.split_inclusive(|&b| b == b'\n').map(|line| line.strip_suffix(b"\n").unwrap_or(line))
 }
 
@@ -42,15 +42,15 @@ fn number(word: &[u8]) -> Result<u32, u32> {
     String::from_utf8_lossy(word).parse().map_err(|_| 16)
 }
 
-fn first(line: &[u8]) -> Result<(Setting, u32), u32> {
+/// n, m, f and the kiosks, in range or not.
+pub fn first(line: &[u8]) -> Result<[u32; 4], u32> {
     let &[b"setting", n, m, f, kiosks] = words(line)?.as_slice() else {
         return Err(16);
     };
-    let [n, m, f, kiosks] = [number(n)?, number(m)?, number(f)?, number(kiosks)?];
-    Ok((Setting::new(n, m, f)?, kiosks))
+    Ok([number(n)?, number(m)?, number(f)?, number(kiosks)?])
 }
 
-fn event(line: &[u8]) -> Result<Event, u32> {
+pub fn event(line: &[u8]) -> Result<Event, u32> {
     let &[name, of] = words(line)?.as_slice() else {
         return Err(16);
     };
@@ -70,9 +70,8 @@ type Shown<'a> = &'a dyn Fn(&Gallery) -> String;
 /// The program's output, or the refusal of the first line.
 fn output(script: &[u8], fault: Fault, each: Shown, last: Shown) -> Result<String, u32> {
     let mut lines = lines(script);
-    let (setting, kiosks) = first(lines.next().ok_or(16u32)?)?;
-    let mut gallery = Gallery::new(setting, kiosks, GALLERY)?.with(fault);
-    let Setting { n, m, f } = setting;
+    let [n, m, f, kiosks] = first(lines.next().ok_or(16u32)?)?;
+    let mut gallery = Gallery::new(Setting::new(n, m, f)?, kiosks, GALLERY)?.with(fault);
     let mut out = format!("gallery {n} {m} {f} {kiosks}\n");
     let mut any = false;
     for (line, number) in lines.take(EVENTS).zip(1..) {
