@@ -1,4 +1,5 @@
--- What each exported call returns, 0 or a refusal's number, and what it leaves in the buffers it was lent.
+-- What the calls that read and write a message return, 0 or a refusal's number, and what they leave in the words or bytes they were lent; the calls on
+-- records are in `Steps`.
 use Prim.Native.Nat.{ℕ}
 use mathlib.Core.List.{List, [], _∷_, _++_}
 use mathlib.Core.Option.{Option, none, some}

@@ -11,8 +11,9 @@ use borrow.Author.Tests.{ne-eqb, lt-ltb, le-ltb}
 use Rattle.ids.specs.Choice.{if_then_else_}
 use Rattle.ids.specs.Refusals.{code, Says, accepts, refuses}
 use Rattle.ids.specs.declared.Refusal.{Refusal}
-use Rattle.ids.specs.declared.Refusal.the-variants.{HeaderShort, KindUnknown, LengthWrong, MessageCut, NumberOutOfRange, RoomShort, ParameterOutOfRange, Unsafe, Stalls, WrongSection, TimestampsSpent, NotForClient, NotForServer, QueueFull, NoOwner, BadLine, NoSuchParty, PartyDown, SystemFull, OwnerLives, InvalidRecord}
+use Rattle.ids.specs.declared.Refusal.the-variants.{RoomShort, BadLine, NoSuchParty, InvalidRecord}
 use Rattle.ids.proofs.Choice.{decided, clash}
+use Rattle.ids.proofs.Codes.{some-number}
 use Rattle.wire.specs.Step.{refused, stepped}
 use Rattle.system.specs.declared.Event.{Event as Happening}
 use Rattle.system.specs.Events.{Result}
@@ -31,30 +32,6 @@ use Rattle.script_lines.specs.declared.Line.{Line}
 use Rattle.script_lines.specs.declared.Line.the-variants.{Event, Unknown, Bad}
 use Rattle.script_lines.specs.Lines.{eventOf, lineOf}
 use Rattle.capi_simulation.specs.Calls.{commandOf, asked, lineSays, answerWords, withWords, callSays, given, Leaves}
-
--- no refusal's number is 0
-some-number : (e : Refusal) → eqb (code e) 0 ≡ false
-some-number HeaderShort = refl
-some-number KindUnknown = refl
-some-number LengthWrong = refl
-some-number MessageCut = refl
-some-number NumberOutOfRange = refl
-some-number RoomShort = refl
-some-number ParameterOutOfRange = refl
-some-number Unsafe = refl
-some-number Stalls = refl
-some-number WrongSection = refl
-some-number TimestampsSpent = refl
-some-number NotForClient = refl
-some-number NotForServer = refl
-some-number QueueFull = refl
-some-number NoOwner = refl
-some-number BadLine = refl
-some-number NoSuchParty = refl
-some-number PartyDown = refl
-some-number SystemFull = refl
-some-number OwnerLives = refl
-some-number InvalidRecord = refl
 
 abbrev number : Says ℕ → ℕ
 number s = s .number
@@ -215,14 +192,24 @@ module _ (w answer : List ℕ) (kind number : ℕ) (c : Command) (l : Line) (p :
   as-unknown z r h =
       let x : asked kind number ≡ Unknown = is-line ∙ z in
       let no : eqb (callSays w Unknown (length answer) .number) 0 ≡ false = unknown-number w (length answer) in
-      rw x (record { number = h; told = given-none answer (callSays w Unknown (length answer)) no; happened = λ e y _. never-event e y; kept = λ n. refl })
+      rw x (record {
+        number = h;
+        told = given-none answer (callSays w Unknown (length answer)) no;
+        happened = λ e y _. never-event e y;
+        kept = λ n. refl;
+      })
 
   pub as-bad : l ≡ Bad → (r : ℕ) → r ≡ code BadLine → Leaves w (asked kind number) answer r w answer
   unfolding lineSays
   as-bad z r h =
       let x : asked kind number ≡ Bad = is-line ∙ z in
       let t : withWords (length answer) (refuses 16) ≡ refuses 16 = refused-room (length answer) BadLine in
-      rw x (record { number = rw t h; told = given-none answer (withWords (length answer) (refuses 16)) (rw t refl); happened = λ e y _. bad-event e y; kept = λ n. refl })
+      rw x (record {
+        number = rw t h;
+        told = given-none answer (withWords (length answer) (refuses 16)) (rw t refl);
+        happened = λ e y _. bad-event e y;
+        kept = λ n. refl;
+      })
 
 -- `command_of`
 module _ (kind : ℕ) where
@@ -262,6 +249,18 @@ module _ (kind : ℕ) where
   unfolding commandOf
   is-check e = rw e refl
 
-  pub is-other : (kind ≡ 1 → ⊥) → (kind ≡ 2 → ⊥) → (kind ≡ 3 → ⊥) → (kind ≡ 4 → ⊥) → (kind ≡ 5 → ⊥) → (kind ≡ 6 → ⊥) → (kind ≡ 7 → ⊥) → (kind ≡ 8 → ⊥) → (kind ≡ 9 → ⊥) → command.Other ≡ commandOf kind
+  pub is-other : (kind ≡ 1 → ⊥) → (kind ≡ 2 → ⊥) → (kind ≡ 3 → ⊥) → (kind ≡ 4 → ⊥) → (kind ≡ 5 → ⊥) → (kind ≡ 6 → ⊥) → (kind ≡ 7 → ⊥) → (kind ≡ 8 → ⊥)
+      → (kind ≡ 9 → ⊥) → command.Other ≡ commandOf kind
   unfolding commandOf
-  is-other a b c d e f g h i = rw (ne-eqb kind 1 a, ne-eqb kind 2 b, ne-eqb kind 3 c, ne-eqb kind 4 d, ne-eqb kind 5 e, ne-eqb kind 6 f, ne-eqb kind 7 g, ne-eqb kind 8 h, ne-eqb kind 9 i)
+  is-other a b c d e f g h i =
+      rw (
+        ne-eqb kind 1 a,
+        ne-eqb kind 2 b,
+        ne-eqb kind 3 c,
+        ne-eqb kind 4 d,
+        ne-eqb kind 5 e,
+        ne-eqb kind 6 f,
+        ne-eqb kind 7 g,
+        ne-eqb kind 8 h,
+        ne-eqb kind 9 i,
+      )

@@ -1,4 +1,4 @@
--- Names for what the inner steps' contracts say.
+-- A call on a head and a lent row: what it gives, and what it leaves of row and buffer.
 use Prim.Native.Nat.{ℕ}
 use mathlib.Core.Path.{_≡_}
 use mathlib.Core.List.{List}

@@ -3,3 +3,4 @@ pub mod OrderLaws
 pub mod LimitsLaws
 pub mod RequestLaws
 pub mod ListLaws
+pub mod Codes

@@ -1,4 +1,4 @@
--- What the calls on a script's state give and leave, and what the functions inside do to it.
+-- What the calls on a script's state give and leave.
 use Prim.Native.Nat.{ℕ, _≤_, _*_}
 use mathlib.Core.Path.{_≡_}
 use mathlib.Core.Bool.{Bool, true, false, _&&_}

@@ -1,4 +1,4 @@
--- The messages of a step as they are sent, and what the private functions compute.
+-- The messages of a step, and what sending them answers and leaves in the buffer.
 use Prim.Native.Nat.{ℕ}
 use mathlib.Core.List.{List, _++_}
 use lib.Dec.{ltb}

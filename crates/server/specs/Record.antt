@@ -1,4 +1,4 @@
--- The server's record: which records are valid, and the state of Figure 1 in a record.
+-- The server's record, a head and a row of words for its queue: which records are valid, and how a record and the state of Figure 1 are one another.
 use Prim.Native.Nat.{ℕ, _*_}
 use mathlib.Core.Bool.{Bool, true, false, _&&_}
 use mathlib.Core.List.{List, [], _∷_}

@@ -25,7 +25,7 @@ pub record State : Type 0 where
 abbrev pub idle : State
 idle = record { owner = Nobody; queue = [] }
 
--- line 27: the same of a server's owner and queue
+-- line 27: all that the server knows of, its owner first
 abbrev pub candidates : State → List Request
 candidates q = byOwner (q .owner) (q .queue) (λ o. o ∷ q .queue)
 

@@ -1,4 +1,4 @@
--- What a part of a step leaves: of the row, of the votes beside it, and to send.
+-- What a part of a server's step leaves: the row, the votes beside it, and at most three messages to send.
 use Prim.Native.Nat.{ℕ, _*_}
 use mathlib.Core.Path.{_≡_}
 use mathlib.Core.Bool.{true, false}

@@ -45,7 +45,7 @@ module _ (d : List ℕ) where
   Unsaid (RESPONSE k j o) = member (j .0) d ≡ false
   Unsaid (CHECK k j t) = Unit
 
-  -- no own inform of a server of d
+  -- no own response of a server of d
   abbrev pub Blank : ClientId → ClientState → Type 0
   Blank k c = (j : ℕ) → member j d ≡ true → isRemainder (c .section) ≡ false → shows (request k c) (c .responses) j ≡ 0
 

@@ -57,8 +57,8 @@ Past t (CHECK k j s) = s .0 ≤ t (k .0)
 abbrev pub Runs : (ℕ → ClientPlace) → Request → Type 0
 Runs K p = (inEpoch (K (p .client .0)) ≡ true) × (p .timestamp .0 ≡ last K (p .client .0))
 
--- ClientState k at place c, and server j with owner o: if j was not down in k's epoch, then k's request has at most one token or own
--- inform at j, and none unless it is the owner.
+-- Client k at place c, and server j with owner o: if j was not down in k's epoch, then k's request has at most one token or own
+-- response at j, and none unless it is the owner.
 abbrev pub Balanced : ℕ → ℕ → ClientPlace → List InTransit → Owner → Type 0
 Balanced k j c l o =
     inEpoch c ≡ true → member j (c .downs) ≡ false →
