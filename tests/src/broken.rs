@@ -44,7 +44,7 @@ pub enum Rule {
     OldTicket,
     /// "tries or holds with a ticket of 0 or 4,294,967,295"
     Ticket,
-    /// "A gallery is broken if a record or kept message in it is": the message, as refusal 5 judges it.
+    /// "A gallery is broken if a record or kept message in it is": the message, by its kind and the ranges of its numbers.
     Message,
     /// "a record differs from its setting": n, m or its own number is not its place's.
     Differs,
@@ -54,9 +54,9 @@ pub enum Rule {
     Ascend,
     /// "Messages are numbered from 1 as sent": none has a number above the last.
     AboveLast,
-    /// "a count is out of range": the most keepers down within one epoch, of n, and no open epoch has more.
+    /// "a count is out of range": the most keepers down within one epoch, of n. Ours: no open epoch has more.
     Most,
-    /// A word that says yes or no is 1 or 0.
+    /// "a number is out of range": a word that says yes or no is 1 or 0.
     Bit,
     /// Ours: outside an epoch no keeper is noted as down in it.
     NoEpoch,

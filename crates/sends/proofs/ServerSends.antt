@@ -157,7 +157,7 @@ module _ (j : ServerId) where
   suspected-by Nobody q = omega arith
   suspected-by (Of x) q = delete-few x q
 
-  suspect-once : (q : State) → length (suspect j q .sent) ≤ 1
+  pub suspect-once : (q : State) → length (suspect j q .sent) ≤ 1
   unfolding suspect
   suspect-once q = suspected-by (q .owner) q
 
@@ -168,7 +168,7 @@ module _ (j : ServerId) where
   checked-by Nobody q = omega arith
   checked-by (Of x) q = omega arith
 
-  check-once : (q : State) → length (check j q .sent) ≤ 1
+  pub check-once : (q : State) → length (check j q .sent) ≤ 1
   unfolding check
   check-once q = checked-by (q .owner) q
 

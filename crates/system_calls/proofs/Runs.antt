@@ -32,7 +32,7 @@ use Rattle.client.specs.Calls as client-calls
 use Rattle.client.proofs.KeepsValid.{Fits, view-store, store-valid}
 use Rattle.client.proofs.ValidLaws.{sizes-range}
 use Rattle.sends.proofs.ClientSends.{tries-few, exits-few, responds-few, checked-few}
-use Rattle.sends.proofs.ServerSends.{size-few, receive-few, suspect-few, check-few}
+use Rattle.sends.proofs.ServerSends.{size-few, receive-twice, suspect-once, check-once}
 use Rattle.system.specs.Limits.{systemClients}
 use Rattle.system.specs.declared.Event.{Event}
 use Rattle.system.specs.Numbered.{at, has}
@@ -131,7 +131,7 @@ module _ (n m clients : ℕ) (z : client.validSizes n m ≡ true) (few : clients
       taken-as (i .0) _ (message tag k j t) e (as-taken n m w _ tag k j t
       (server-called j up (replaced (i .0) keeping (w .transit)) (votes.receive j tag r (serverAt w j .state)) _
       (receive-outcome n clients few j (sized j up) (serverAt w j .state) (K .server-fits (j .0)) tag k t (arrived n m clients w K (i .0) (message tag k j t) e))
-      (receive-few j tag r (serverAt w j .state))))
+      (receive-twice j tag r (serverAt w j .state) (K .server-fits (j .0) .good))))
   by (clientTakes {i = i} {k = k} {j = j} {o = o} e lives) =
       let F = fits k lives in
       taken-as (i .0) _ (RESPONSE k j o) e
@@ -148,11 +148,11 @@ module _ (n m clients : ℕ) (z : client.validSizes n m ≡ true) (few : clients
   by (suspects {j = j} {o = o} up e dead) =
       server-called j up (w .transit) (votes.suspect j (serverAt w j .state)) _
       (suspect-outcome n clients few j (sized j up) (serverAt w j .state) (K .server-fits (j .0)) o e)
-      (suspect-few j (serverAt w j .state))
+      (omega (arith, suspect-once j (serverAt w j .state)))
   by (asks {j = j} up) =
       server-called j up (w .transit) (votes.check j (serverAt w j .state)) _
       (check-call n clients few j (sized j up) (serverAt w j .state) (K .server-fits (j .0)))
-      (check-few j (serverAt w j .state))
+      (omega (arith, check-once j (serverAt w j .state)))
 
   kept-calls : OnRecords n m w
   kept-calls = record { stored = stored; called = λ e s q. subst (By e) q (by (effect n (enough m) w e)) }

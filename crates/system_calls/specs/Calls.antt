@@ -47,7 +47,7 @@ abbrev pub clientRoom : ℕ → ℕ
 clientRoom n = messageBytes * n
 
 abbrev pub serverMessages : ℕ
-serverMessages = 3
+serverMessages = 2
 
 abbrev pub serverRoom : ℕ
 serverRoom = serverMessages * responseBytes
