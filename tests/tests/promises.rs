@@ -109,7 +109,7 @@ fn the_table_of_wrong_answers_names_the_edits() {
 #[test]
 fn each_call_for_c_goes_through_a_wrong_answer() {
     let edits = edits();
-    for krate in ["capi", "capi_host", "capi_quorum", "capi_script"] {
+    for (krate, calls) in [("capi", 10), ("capi_host", 3), ("capi_quorum", 3), ("capi_simulation", 2), ("capi_script", 3)] {
         let functions = functions(krate);
         let changes: Vec<BTreeSet<String>> = edits
             .iter()
@@ -118,7 +118,7 @@ fn each_call_for_c_goes_through_a_wrong_answer() {
             .collect();
         let exported: Vec<&String> =
             functions.iter().filter(|(_, text)| text.starts_with("pub extern")).map(|(call, _)| call).collect();
-        assert!(exported.len() >= 3, "{krate}: {exported:?}");
+        assert_eq!(exported.len(), calls, "{krate}: {exported:?}");
         for call in exported {
             let reached = reached(&functions, call);
             assert!(

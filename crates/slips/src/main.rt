@@ -1,6 +1,6 @@
 // The slips program: a gallery script on standard input; on standard output what the gallery program prints and, behind the line of each
-// event, a slip for each server and each client (knowledge/specs/Knowledge). With the argument `last` the slips stand only behind the
-// last event's line; with `mail` the messages in transit stand behind the slips of each event (knowledge/specs/Mail).
+// event, a slip for each server and each client (text_knowledge/specs/Knowledge). With the argument `last` the slips stand only behind the
+// last event's line; with `mail` the messages in transit stand behind the slips of each event (text_knowledge/specs/Mail).
 // Where reading or writing fails, standard error says so and the program ends there.
 ghost use mathlib.Core.Path.{_≡_};
 ghost use mathlib.Core.Bool.{true};

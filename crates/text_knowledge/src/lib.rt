@@ -1,5 +1,5 @@
 // What each server and each client of a simulation knows, and its messages in transit, as text on a sheet: the teacher's slips
-// (knowledge/specs/Knowledge) and mail (knowledge/specs/Mail). The public functions are for `slips`, whose script has a valid simulation.
+// (specs/Knowledge) and mail (specs/Mail). The public functions are for `slips`, whose script has a valid simulation.
 ghost use mathlib.Core.Path.{_≡_};
 ghost use mathlib.Core.Bool.{true};
 ghost use mathlib.Core.List.{[], _∷_, _++_};

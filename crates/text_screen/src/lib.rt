@@ -1,5 +1,5 @@
 // What the commissioning screen says of a setting, and the run of an unsafe one as a gallery script, as texts on a sheet
-// (screen/specs/Screen). For `commission`.
+// (specs/Screen). For `commission`.
 ghost use mathlib.Core.Path.{_≡_};
 ghost use mathlib.Core.List.{[], _∷_};
 ghost use lib.IntN.{subℕ};
