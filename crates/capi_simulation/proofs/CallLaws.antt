@@ -31,7 +31,7 @@ use Rattle.script_lines.specs.declared.Command.the-variants as command
 use Rattle.script_lines.specs.declared.Line.{Line}
 use Rattle.script_lines.specs.declared.Line.the-variants.{Event, Unknown, Bad}
 use Rattle.script_lines.specs.Lines.{eventOf, lineOf}
-use Rattle.capi_simulation.specs.Calls.{commandOf, asked, lineSays, answerWords, withWords, callSays, given, Leaves}
+use Rattle.capi_simulation.specs.Calls.{commandOf, asked, simulationSays, answerWords, withWords, callSays, given, Leaves}
 
 abbrev number : Says ℕ → ℕ
 number s = s .number
@@ -116,7 +116,7 @@ kept-by w e w′ x L h =
 -- `happen`
 module _ (w : List ℕ) (e : Happening) (answer : List ℕ) where
   pub happens-short : length answer < answerWords → (r : ℕ) → r ≡ withWords 0 (eventSays w e) .number → Leaves w (Event e) answer r w answer
-  unfolding lineSays
+  unfolding simulationSays
   happens-short lt r p =
       let s : withWords (length answer) (eventSays w e) ≡ withWords 0 (eventSays w e) = same-short (length answer) (eventSays w e) lt in
       record {
@@ -132,7 +132,7 @@ module _ (w : List ℕ) (e : Happening) (answer : List ℕ) where
 
     pub happens-accepted : answerWords ≤ length answer → (sent holders : ℕ) → r ≡ reply.Accepted sent holders
         → Leaves w (Event e) answer 0 w′ (set (set answer 0 sent) 1 holders)
-    unfolding lineSays
+    unfolding simulationSays
     happens-accepted le sent holders q =
         let s : eventSays w e ≡ accepts (sent ∷ holders ∷ []) = rw q at (sym (h .1)) in
         let t : withWords (length answer) (eventSays w e) ≡ accepts (sent ∷ holders ∷ []) =
@@ -140,7 +140,7 @@ module _ (w : List ℕ) (e : Happening) (answer : List ℕ) where
         record { number = rw t refl; told = rw t refl; happened = λ x p _. goes x p; kept = λ n. absurd (n (ap number t)) }
 
     pub happens-refused : (x : Refusal) (k : ℕ) → r ≡ reply.Refused x → k ≡ code x → Leaves w (Event e) answer k w′ answer
-    unfolding lineSays
+    unfolding simulationSays
     happens-refused x k q p =
         let s : eventSays w e ≡ refuses (code x) = rw q at (sym (h .1)) in
         let t : withWords (length answer) (eventSays w e) ≡ refuses (code x) = ap (withWords (length answer)) s ∙ refused-room (length answer) x in
@@ -151,25 +151,32 @@ module _ (w : List ℕ) (e : Happening) (answer : List ℕ) where
           kept = λ n. kept-by w e w′ x (h .0 .0) (sym (h .0 .1) ∙ q);
         }
 
--- `unknown`
-unknown-says : (w : List ℕ) (room : ℕ) → (b : Bool) → valid w ≡ b → callSays w Unknown room ≡ (if b then refuses 17 else refuses 21)
-unfolding lineSays
-unknown-says w room true v = rw v (refused-room room NoSuchParty)
-unknown-says w room false v = rw v (refused-room room InvalidRecord)
+-- `unknown`, and its number whatever the room
+unknown-says : (w : List ℕ) (b : Bool) → valid w ≡ b → simulationSays w Unknown ≡ (if b then refuses 17 else refuses 21)
+unfolding simulationSays
+unknown-says w true v = rw v refl
+unknown-says w false v = rw v refl
 
-unknown-number : (w : List ℕ) (room : ℕ) → eqb (callSays w Unknown room .number) 0 ≡ false
-unknown-number w room =
+unknown-room : (w : List ℕ) (room : ℕ) → callSays w Unknown room ≡ simulationSays w Unknown
+unknown-room w room =
     ⊎-elim
-    (λ (v : valid w ≡ true). rw (unknown-says w room true v) refl)
-    (λ (v : valid w ≡ false). rw (unknown-says w room false v) refl)
+    (λ (v : valid w ≡ true). rw (unknown-says w true v) (refused-room room NoSuchParty))
+    (λ (v : valid w ≡ false). rw (unknown-says w false v) (refused-room room InvalidRecord))
     (decided (valid w))
 
-module _ (w : List ℕ) (room : ℕ) (b : Bool) (t : b ≡ valid w) where
-  pub unknown-valid : b ≡ true → (k : ℕ) → k ≡ code NoSuchParty → k ≡ callSays w Unknown room .number
-  unknown-valid e k p = rw (unknown-says w room true (sym t ∙ e)) p
+unknown-number : (w : List ℕ) → eqb (simulationSays w Unknown .number) 0 ≡ false
+unknown-number w =
+    ⊎-elim
+    (λ (v : valid w ≡ true). rw (unknown-says w true v) refl)
+    (λ (v : valid w ≡ false). rw (unknown-says w false v) refl)
+    (decided (valid w))
 
-  pub unknown-invalid : b ≡ false → (k : ℕ) → k ≡ code InvalidRecord → k ≡ callSays w Unknown room .number
-  unknown-invalid e k p = rw (unknown-says w room false (sym t ∙ e)) p
+module _ (w : List ℕ) (b : Bool) (t : b ≡ valid w) where
+  pub unknown-valid : b ≡ true → (k : ℕ) → k ≡ code NoSuchParty → k ≡ simulationSays w Unknown .number
+  unknown-valid e k p = rw (unknown-says w true (sym t ∙ e)) p
+
+  pub unknown-invalid : b ≡ false → (k : ℕ) → k ≡ code InvalidRecord → k ≡ simulationSays w Unknown .number
+  unknown-invalid e k p = rw (unknown-says w false (sym t ∙ e)) p
 
 -- neither of the other two lines is an event
 never-event : {P : Type 0} (e : Happening) → _≡_ {A = Line} Unknown (Event e) → P
@@ -187,20 +194,19 @@ module _ (w answer : List ℕ) (kind number : ℕ) (c : Command) (l : Line) (p :
       → Leaves w (asked kind number) answer r w′ answer′
   as-event e z r w′ answer′ L = rw (is-line, z) L
 
-  pub as-unknown : l ≡ Unknown → (r : ℕ) → r ≡ callSays w Unknown (length answer) .number → Leaves w (asked kind number) answer r w answer
-  unfolding lineSays
+  pub as-unknown : l ≡ Unknown → (r : ℕ) → r ≡ simulationSays w Unknown .number → Leaves w (asked kind number) answer r w answer
   as-unknown z r h =
       let x : asked kind number ≡ Unknown = is-line ∙ z in
-      let no : eqb (callSays w Unknown (length answer) .number) 0 ≡ false = unknown-number w (length answer) in
+      let s : callSays w Unknown (length answer) ≡ simulationSays w Unknown = unknown-room w (length answer) in
       rw x (record {
-        number = h;
-        told = given-none answer (callSays w Unknown (length answer)) no;
+        number = rw s h;
+        told = given-none answer (callSays w Unknown (length answer)) (rw s (unknown-number w));
         happened = λ e y _. never-event e y;
         kept = λ n. refl;
       })
 
   pub as-bad : l ≡ Bad → (r : ℕ) → r ≡ code BadLine → Leaves w (asked kind number) answer r w answer
-  unfolding lineSays
+  unfolding simulationSays
   as-bad z r h =
       let x : asked kind number ≡ Bad = is-line ∙ z in
       let t : withWords (length answer) (refuses 16) ≡ refuses 16 = refused-room (length answer) BadLine in

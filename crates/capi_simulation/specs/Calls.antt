@@ -35,10 +35,10 @@ abbrev pub asked : ℕ → ℕ → Line
 asked kind number = lineOf (eventOf (commandOf kind) number)
 
 -- 16 no such kind; 21; then 17 for a number that no client or server can have, or what the event says
-unfoldable pub lineSays : List ℕ → Line → Says ℕ
-lineSays w Bad = refuses 16
-lineSays w Unknown = if valid w then refuses 17 else refuses 21
-lineSays w (Event e) = eventSays w e
+unfoldable pub simulationSays : List ℕ → Line → Says ℕ
+simulationSays w Bad = refuses 16
+simulationSays w Unknown = if valid w then refuses 17 else refuses 21
+simulationSays w (Event e) = eventSays w e
 
 -- 6, last: an accepted event has two words to give
 abbrev pub answerWords : ℕ
@@ -48,7 +48,7 @@ unfoldable pub withWords : ℕ → Says ℕ → Says ℕ
 withWords room s = if eqb (s .number) 0 && ltb room answerWords then refuses 6 else s
 
 abbrev pub callSays : List ℕ → Line → ℕ → Says ℕ
-callSays w l room = withWords room (lineSays w l)
+callSays w l room = withWords room (simulationSays w l)
 
 -- the words of an answer, and all others as found
 abbrev pub given : List ℕ → Says ℕ → List ℕ

@@ -1,12 +1,11 @@
 // The C interface of a simulation: a whole system in words that the host lends, made anew and taken on event by event.
 // include/sigma.h declares these functions.
 ghost use mathlib.Core.Path.{_≡_};
-ghost use mathlib.Core.Bool.{true};
 ghost use lib.ListN.{length};
 ghost use Rattle.sim_changes.specs.Happens.{eventSays};
 ghost use Rattle.simulation.specs.Opens.{opens, openSays, NewLeaves};
 ghost use Rattle.script_lines.specs.declared.Line.the-variants as line;
-ghost use Rattle.capi_simulation.specs.Calls.{commandOf, asked, callSays, withWords, Leaves};
+ghost use Rattle.capi_simulation.specs.Calls.{commandOf, asked, simulationSays, withWords, Leaves};
 use ids::Refusal;
 use script_lines::Command;
 use script_lines::Line;
@@ -74,8 +73,8 @@ fn command_of(kind: u32) -> Command
 }
 
 // The number of an event with a client or server that nobody has.
-fn unknown(words: &[u32], room: usize) -> u32
-    ensures { λ r. ⌜ r ≡ callSays (now (words .entry)) line.Unknown room .number ⌝ }
+fn unknown(words: &[u32]) -> u32
+    ensures { λ r. ⌜ r ≡ simulationSays (now (words .entry)) line.Unknown .number ⌝ }
 {
     if sim_layout::valid(words) {
         return ids::code_of(Refusal::NoSuchParty);
@@ -132,7 +131,7 @@ pub extern "C" fn sigma_simulation_event(
     let line = script_lines::line_of(command, number);
     match line {
         Line::Event(e) => happen(words, e, answer),
-        Line::Unknown => unknown(words, answer.len()),
+        Line::Unknown => unknown(words),
         Line::Bad => ids::code_of(Refusal::BadLine),
     }
 }

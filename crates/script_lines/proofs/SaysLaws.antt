@@ -5,7 +5,7 @@ use mathlib.Core.List.{List}
 use mathlib.Core.Option.{Option, none, some}
 use Rattle.ids.proofs.Choice.{of-choice}
 use Rattle.system.specs.declared.Event.{Event as Happening}
-use Rattle.system.specs.declared.Setting.{Setting as Four}
+use Rattle.system.specs.declared.Setting.{Setting}
 use Rattle.script_lines.specs.Lines.{sixteenBits, eventIn, lineOf, settingIn, firstOf}
 use Rattle.script_lines.specs.Says.{lineSays, eventSays, firstSays, settingSays}
 use Rattle.script_lines.specs.declared.Line.{Line}
@@ -20,7 +20,7 @@ line-row (some e) = of-choice lineSays (sixteenBits e) (Event e) Unknown refl re
 pub line-said : (l : List ℕ) (r : Line) → r ≡ lineOf (eventIn l) → (r ≡ lineOf (eventIn l)) × (lineSays r ≡ eventSays (eventIn l))
 line-said l r e = (e, ap lineSays e ∙ line-row (eventIn l))
 
-first-row : (o : Option Four) → firstSays (firstOf o) ≡ settingSays o
+first-row : (o : Option Setting) → firstSays (firstOf o) ≡ settingSays o
 first-row none = refl
 first-row (some s) = refl
 

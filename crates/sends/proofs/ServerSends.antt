@@ -33,6 +33,7 @@ use Rattle.wire.specs.Step.{Step, Outcome, refused, stepped, stay, tell}
 use Rattle.wire.specs.declared.Message.{Message}
 use Rattle.wire.specs.declared.Message.the-variants.{Request, Yield, Release, Inquiry, Response, Check}
 use Rattle.rows.specs.Queue.{insert, without, timestampIn}
+use Rattle.sends.specs.Room.{serverMessages, serverRoom}
 use Rattle.server_votes.specs.Figure1.{State, idle, promote, delete, inform, act, compare, receive, suspect, check, admit, candidates}
 use Rattle.server_votes.specs.declared.Tag.{Tag}
 use Rattle.server_votes.specs.declared.Tag.the-variants.{Request as REQUEST, Yield as YIELD, Release as RELEASE, Inquiry as INQUIRY}
@@ -149,7 +150,7 @@ module _ (j : ServerId) where
   received-twice none tag r q G = act-few tag r q
   received-twice (some t) tag r q G = compared-twice tag r q t G
 
-  pub receive-twice : (tag : Tag) (r : Pair) (q : State) → Good q → length (receive j tag r q .sent) ≤ 2
+  pub receive-twice : (tag : Tag) (r : Pair) (q : State) → Good q → length (receive j tag r q .sent) ≤ serverMessages
   unfolding receive
   receive-twice tag r q G = received-twice (timestampIn (r .client) (candidates q)) tag r q G
 
@@ -204,7 +205,7 @@ module _ (j : ServerId) where
 module _ (s : Server) (p : Step State) where
   -- few messages, and a queue for which the row has places
   record Short (x : Step State) : Type 0 where
-    few : length (x .sent) ≤ 2
+    few : length (x .sent) ≤ serverMessages
     room : 2 * length (x .state .queue) ≤ length (s .row)
 
   module _ (v : server.valid s ≡ true) where
@@ -240,8 +241,8 @@ module _ (s : Server) (p : Step State) where
   pub record Accepted : Type 0 where
     pub before : server.valid s ≡ true
     pub after : server.valid (server-calls.serverAfter s (stepped p)) ≡ true
-    pub few : length (p .sent) ≤ 2
-    pub small : sizeOfAll (p .sent) ≤ 2 * responseBytes
+    pub few : length (p .sent) ≤ serverMessages
+    pub small : sizeOfAll (p .sent) ≤ serverRoom
     pub room : 2 * length (p .state .queue) ≤ length (s .row)
 
   accepted : server.valid s ≡ true → server.valid (server-calls.serverAfter s (stepped p)) ≡ true → Short p → Accepted

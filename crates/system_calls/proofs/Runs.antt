@@ -31,6 +31,7 @@ use Rattle.client.specs.Record as client
 use Rattle.client.specs.Calls as client-calls
 use Rattle.client.proofs.KeepsValid.{Fits, view-store, store-valid}
 use Rattle.client.proofs.ValidLaws.{sizes-range}
+use Rattle.sends.specs.Room.{serverMessages, serverRoom}
 use Rattle.sends.proofs.ClientSends.{tries-few, exits-few, responds-few, checked-few}
 use Rattle.sends.proofs.ServerSends.{size-few, receive-twice, suspect-once, check-once}
 use Rattle.system.specs.Limits.{systemClients}
@@ -42,7 +43,7 @@ use Rattle.system.specs.Events.{Result, clientMoves, serverMoves}
 use Rattle.system.specs.Runs.{start, run}
 use Rattle.system.proofs.Effects.{Effect, refuses, begins, leaves, dies, sinks, rises, serverTakes, clientTakes, clientChecked, loses, suspects, asks, effect}
 use Rattle.server_votes.proofs.Tagged.{message}
-use Rattle.system_calls.specs.Calls.{serverRecord, Stored, clientRoom, serverMessages, serverRoom, ClientCalled, ServerCalled, TakenByCall, ByCalls, OnRecords, StartsByNew}
+use Rattle.system_calls.specs.Calls.{serverRecord, Stored, clientRoom, ClientCalled, ServerCalled, TakenByCall, ByCalls, OnRecords, StartsByNew}
 use Rattle.system_calls.proofs.Kept.{Kept, has-client, has-server, new-client, new-server, arrived, server-sizes, kept-run}
 use Rattle.system_calls.proofs.Outcomes.{with-room, client-after, begin-outcome, exit-outcome, response-outcome, check-outcome, stored-server, shown-server, server-after, receive-outcome, suspect-outcome, check-call}
 

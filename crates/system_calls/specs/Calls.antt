@@ -7,7 +7,7 @@ use mathlib.Core.Option.{some}
 use Rattle.ids.specs.Limits.{within}
 use Rattle.ids.specs.declared.ClientId.{ClientId}
 use Rattle.ids.specs.declared.ServerId.{ServerId}
-use Rattle.wire.specs.Format.{messageBytes, responseBytes}
+use Rattle.wire.specs.Format.{messageBytes}
 use Rattle.wire.specs.Step.{Step, Outcome, stepped, withRoom}
 use Rattle.wire.specs.declared.Answer.the-variants.{Sent}
 use Rattle.wire.specs.declared.Message.{Message}
@@ -20,6 +20,7 @@ use Rattle.client_responses.specs.Figure1.{enough, State}
 use Rattle.client.specs.Record as client
 use Rattle.client.specs.Calls as client-calls
 use Rattle.client.specs.declared.Client.{Client}
+use Rattle.sends.specs.Room.{serverRoom}
 use Rattle.system.specs.declared.Event.{Event}
 use Rattle.system.specs.declared.Event.the-variants.{Try, Exit, Fall, Down, Up, Take, Drop, Miss, Check}
 use Rattle.system.specs.Numbered.{has}
@@ -42,15 +43,9 @@ pub record Stored (n m : ℕ) (w : System) : Type 0 where
   pub server-valid : (j : ServerId) → has (w .servers) (j .0) ≡ true → server.valid (serverRecord n w j) ≡ true
   pub server-read : (j : ServerId) → has (w .servers) (j .0) ≡ true → server.view (serverRecord n w j) ≡ serverAt w j .state
 
--- the bytes that a caller has to lend: for a client a message to each of its n servers, for a server so many RESPONSEs
+-- the bytes that a client's caller has to lend: a message to each of its n servers (a server's: `sends/specs` `Room`)
 abbrev pub clientRoom : ℕ → ℕ
 clientRoom n = messageBytes * n
-
-abbrev pub serverMessages : ℕ
-serverMessages = 2
-
-abbrev pub serverRoom : ℕ
-serverRoom = serverMessages * responseBytes
 
 -- The event's step s is client k's call with outcome o, said as the call's contract says it: with a buffer of so many bytes or more the call is accepted,
 -- it gives the client's new state and sends what the event sends, and the record that it leaves is the one that the client is stored as afterwards.
