@@ -28,3 +28,4 @@ some-number refusal.PartyDown = refl
 some-number refusal.SystemFull = refl
 some-number refusal.OwnerLives = refl
 some-number refusal.InvalidRecord = refl
+some-number refusal.PacketMalformed = refl

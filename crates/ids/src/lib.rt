@@ -33,7 +33,7 @@ pub enum Owner {
     Of(Request),
 }
 
-// Why a call is refused; `code` gives each its number in document 01's table.
+// Why a call is refused; `code` gives each its number in document 01's table, and from 22 on in document 02.
 pub enum Refusal {
     HeaderShort,
     KindUnknown,
@@ -56,6 +56,7 @@ pub enum Refusal {
     SystemFull,
     OwnerLives,
     InvalidRecord,
+    PacketMalformed,
 }
 
 // Whether `x` is one of 1 to `max`.
@@ -127,7 +128,7 @@ pub fn same_request(a: Request, b: Request) -> bool
     a.client.0 == b.client.0 && a.timestamp.0 == b.timestamp.0
 }
 
-// The refusal's number in document 01's table.
+// The refusal's number.
 pub fn code_of(e: Refusal) -> u32
     ensures { λ r. ⌜ r ≡ code e ⌝ }
 {
@@ -153,5 +154,6 @@ pub fn code_of(e: Refusal) -> u32
         Refusal::SystemFull => 19,
         Refusal::OwnerLives => 20,
         Refusal::InvalidRecord => 21,
+        Refusal::PacketMalformed => 22,
     }
 }
