@@ -1,0 +1,3 @@
+pub mod WalkLaws
+pub mod ContentsLaws
+pub mod TotalLaws

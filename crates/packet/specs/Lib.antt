@@ -1,0 +1,5 @@
+pub mod Packet
+pub mod Reading
+pub mod Packing
+pub mod Says
+pub mod Inner

@@ -1,0 +1,174 @@
+// Packets: messages one after another behind a total of two bytes (document 02, L1). Nothing of a packet is given unless all of it is accepted.
+ghost use mathlib.Core.Path.{_≡_};
+ghost use mathlib.Core.Bool.{true};
+ghost use Prim.Native.Nat.{_+_, _*_, _≤_};
+ghost use lib.ListN.{length, drop};
+ghost use lib.Seq.{sets};
+ghost use Rattle.packet.specs.Packet.{totalBytes, maxTotal, contentsOf, pieces};
+ghost use Rattle.packet.specs.Reading.{findIn, nextFound, nextOf, partOf};
+ghost use Rattle.packet.specs.Packing.{packedBytes, packed, packOf, bufferAfter};
+ghost use Rattle.packet.specs.Says.{nextSays, packetSays, packSays};
+ghost use Rattle.packet.specs.Inner.{sizeIn, walked, judged, totalOf, Reached};
+ghost use Rattle.packet.specs.declared.Verdict.the-variants.{Accepted};
+ghost use Rattle.wire.specs.Says.{writtenSays};
+use ids::Refusal;
+use wire::Message;
+use wire::Parsed;
+use wire::Written;
+
+// The bytes of the total. The first message stands behind it.
+pub const TOTAL_BYTES: usize = 2;
+
+// The largest total.
+pub const MAX_TOTAL: usize = ids::MAX_SHORT as usize;
+
+// The least length field that the walk goes by.
+const LEAST_LENGTH: usize = 4;
+
+// What reading at a place gives: a message with the place behind it, the packet's end, or why neither.
+pub enum Next {
+    Message(Message, usize),
+    End,
+    Refused(Refusal),
+}
+
+// Whether the messages of a packet are all accepted.
+pub enum Verdict {
+    Accepted,
+    Refused(Refusal),
+}
+
+fn join(lo: u8, hi: u8) -> usize
+    ensures { λ r. ⌜ r ≡ lo + 256 * hi ⌝ }
+{
+    (lo as usize) + 256 * (hi as usize)
+}
+
+// The bytes of the message at a place, by its length field; 0 where no message fits.
+fn size_at(bytes: &[u8], at: usize) -> usize
+    requires { ⌜ at ≤ length (now bytes) ⌝ }
+    ensures { λ r. ⌜ r ≡ sizeIn (drop at (now (bytes .entry))) ⌝ }
+{
+    let left = bytes.len() - at;
+    if left < LEAST_LENGTH {
+        return 0;
+    }
+    let size = join(bytes[at], bytes[at + 1]);
+    if size < LEAST_LENGTH {
+        return 0;
+    }
+    if left < size {
+        return 0;
+    }
+    size
+}
+
+// Whether the messages from a place on, walked by their length fields, end where the bytes do.
+fn walks(bytes: &[u8], from: usize) -> bool
+    requires { ⌜ from ≤ length (now bytes) ⌝ }
+    ensures { λ r. ⌜ r ≡ walked (drop from (now (bytes .entry))) ⌝ }
+{
+    let mut at = from;
+    let mut size = size_at(bytes, from);
+    while size != 0 {
+        at += size;
+        size = size_at(bytes, at);
+    }
+    at == bytes.len()
+}
+
+// The first refusal of the messages from a place on, which the walk has passed.
+fn first_bad(bytes: &[u8], from: usize) -> Verdict
+    requires { ⌜ (from ≤ length (now bytes)) × (walked (drop from (now bytes)) ≡ true) ⌝ }
+    ensures { λ r. ⌜ r ≡ judged (contentsOf (drop from (now (bytes .entry)))) ⌝ }
+{
+    let mut at = from;
+    while at < bytes.len() {
+        let end = at + size_at(bytes, at);
+        match wire::read(&bytes[at..end]) {
+            Parsed::Accepted(_, _) => {
+                at = end;
+            }
+            Parsed::Refused(e) => {
+                return Verdict::Refused(e);
+            }
+        }
+    }
+    Verdict::Accepted
+}
+
+fn judge(bytes: &[u8], from: usize) -> Verdict
+    requires { ⌜ from ≤ length (now bytes) ⌝ }
+    ensures { λ r. ⌜ r ≡ judged (contentsOf (drop from (now (bytes .entry)))) ⌝ }
+{
+    if !walks(bytes, from) {
+        return Verdict::Refused(Refusal::PacketMalformed);
+    }
+    first_bad(bytes, from)
+}
+
+// The total, 0 where the bytes are too few for one or for what it says.
+fn total_of(packet: &[u8]) -> usize
+    ensures { λ r. ⌜ r ≡ totalOf (now (packet .entry)) ⌝ }
+{
+    if packet.len() < TOTAL_BYTES {
+        return 0;
+    }
+    let total = join(packet[0], packet[1]);
+    if total < TOTAL_BYTES {
+        return 0;
+    }
+    if packet.len() < total {
+        return 0;
+    }
+    total
+}
+
+// The first place of `at` and those behind it where a message starts or the packet ends.
+fn reach(bytes: &[u8], at: usize) -> usize
+    requires { ⌜ (at ≤ length (now bytes)) × Reached (now bytes) at totalBytes ⌝ }
+    ensures { λ r. ⌜ (at ≤ r) × Reached (now (bytes .entry)) at r ⌝ }
+{
+    let mut place = TOTAL_BYTES;
+    while place < at {
+        place += size_at(bytes, place);
+    }
+    place
+}
+
+// What is at a place of a packet whose messages are all accepted.
+fn message_at(bytes: &[u8], at: usize) -> Next
+    requires { ⌜ Reached (now bytes) at totalBytes ⌝ }
+    ensures { λ r. ⌜ r ≡ nextFound at (findIn totalBytes (pieces (contentsOf (drop totalBytes (now (bytes .entry))))) at) ⌝ }
+{
+    if bytes.len() < at {
+        return Next::Refused(Refusal::PacketMalformed);
+    }
+    if reach(bytes, at) != at {
+        return Next::Refused(Refusal::PacketMalformed);
+    }
+    if at == bytes.len() {
+        return Next::End;
+    }
+    let end = at + size_at(bytes, at);
+    match wire::read(&bytes[at..end]) {
+        Parsed::Accepted(m, _) => Next::Message(m, end),
+        Parsed::Refused(e) => Next::Refused(e),
+    }
+}
+
+// The message at a place of the packet, which is judged whole first. Bytes behind its total are not looked at.
+pub fn next_at(packet: &[u8], at: usize) -> Next
+    ensures { λ r. ⌜ r ≡ nextOf (now (packet .entry)) at ⌝ }
+    ensures numbers { λ r. ⌜ nextSays r ≡ packetSays (now (packet .entry)) at ⌝ }
+{
+    let total = total_of(packet);
+    if total == 0 {
+        return Next::Refused(Refusal::PacketMalformed);
+    }
+    let whole = &packet[0..total];
+    match judge(whole, TOTAL_BYTES) {
+        Verdict::Accepted => message_at(whole, at),
+        Verdict::Refused(e) => Next::Refused(e),
+    }
+}
