@@ -144,7 +144,7 @@ first p (Accepted m n) (carries ps) h = record { message = m; used = n; read = r
 
 -- what is at a place: found at once where a message starts, else behind the first part
 module _ (from : ℕ) (p : Piece) (ps : List Piece) (at : ℕ) where
-  found-here : at ≡ from → findIn from (p ∷ ps) at ≡ starts p
+  pub found-here : at ≡ from → findIn from (p ∷ ps) at ≡ starts p
   unfolding findIn
   found-here e = rw (eq-eqb at from e)
 
@@ -157,13 +157,13 @@ module _ (s : List ℕ) (at place size : ℕ) (r : Reached s at place) (h : plac
   pub here : PartAt s place size
   here = part-at s place size h (carried-walks (drop place s) (r .carried)) e
 
-  abbrev part : List ℕ
+  abbrev pub part : List ℕ
   part = take size (drop place s)
 
-  its-first : First part (readOf part) (contentsOf (drop (place + size) s))
+  pub its-first : First part (readOf part) (contentsOf (drop (place + size) s))
   its-first = first part (readOf part) (contentsOf (drop (place + size) s)) (sym (ap judged (here .contents)) ∙ r .carried)
 
-  its-list : pieces (contentsOf (drop place s)) ≡ record { message = its-first .message; part = part } ∷ pieces (contentsOf (drop (place + size) s))
+  pub its-list : pieces (contentsOf (drop place s)) ≡ record { message = its-first .message; part = part } ∷ pieces (contentsOf (drop (place + size) s))
   its-list = ap pieces (here .contents) ∙ its-first .list
 
   pub reached-more : (at ≡ place → ⊥) → Reached s at (place + size)

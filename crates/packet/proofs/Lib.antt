@@ -1,3 +1,6 @@
 pub mod WalkLaws
 pub mod ContentsLaws
 pub mod TotalLaws
+pub mod Parts
+pub mod PlaceLaws
+pub mod SaysLaws

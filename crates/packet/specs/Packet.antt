@@ -1,7 +1,7 @@
 -- A packet (document 02, L1): a total of two bytes, then messages one after another. What a packet carries, all of it or nothing.
 use Prim.Native.Nat.{ℕ, zero, suc}
 use mathlib.Core.Bool.{Bool, _&&_}
-use mathlib.Core.List.{List, [], _∷_}
+use mathlib.Core.List.{List, [], _∷_, _++_}
 use mathlib.Core.Option.{Option, none, some}
 use lib.Dec.{eqb, leb}
 use lib.ListN.{length, take, drop}
@@ -94,3 +94,12 @@ packetOf s = if framed s then contentsOf (bodyOf s) else refused PacketMalformed
 abbrev pub pieces : Contents → List Piece
 pieces (refused e) = []
 pieces (carries ps) = ps
+
+-- their parts one after another, and their messages
+unfoldable pub joined : List Piece → List ℕ
+joined [] = []
+joined (p ∷ ps) = p .part ++ joined ps
+
+unfoldable pub messages : List Piece → List Message
+messages [] = []
+messages (p ∷ ps) = p .message ∷ messages ps
