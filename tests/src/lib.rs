@@ -13,6 +13,7 @@ pub mod library;
 pub mod model;
 pub mod random;
 pub mod records;
+pub mod samples;
 pub mod script;
 pub mod setting;
 pub mod simulation;
