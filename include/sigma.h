@@ -6,7 +6,8 @@
  *
  * libcapi.a has the calls on messages and records, libcapi_host.a those on a server's record in a struct (sigma_host_*),
  * libcapi_quorum.a those on settings (sigma_setting, sigma_run_event and sigma_default_threshold), libcapi_simulation.a those on
- * a simulated system (sigma_simulation_*), libcapi_script.a those on scripts (sigma_script_*).
+ * a simulated system (sigma_simulation_*), libcapi_script.a those on scripts (sigma_script_*), libcapi_packet.a those on packets
+ * (sigma_packet_*).
  */
 #ifndef SIGMA_H
 #define SIGMA_H
@@ -38,6 +39,35 @@ uint32_t sigma_read(const uint8_t *bytes, size_t bytes_len, uint32_t *words, siz
 /* Writes the message of five words at the start of `out`; the bytes behind it stay.
  * Refusals: 5 not five words, or a number out of range, 6 room short. */
 uint32_t sigma_write(const uint32_t *words, size_t words_len, uint8_t *out, size_t out_len);
+
+/* A packet is its length, the total, in two bytes, little-endian, then messages one after another: all that a step sends, in one
+ * piece. Places are counted in the packet: the first message starts at 2, and the packet ends at its total. What a step wrote is
+ * packed, and a packet read to its end, by
+ *
+ *     refusal = sigma_packet_pack(out, sent[1], packet, sizeof packet);
+ *     for (at = SIGMA_PACKET_FIRST; refusal == 0; at += words[5]) {
+ *         refusal = sigma_packet_next(packet, sizeof packet, at, words, SIGMA_READ_WORDS);
+ *         if (refusal != 0 || words[5] == 0) break;
+ *         deliver(words, packet + at);
+ *     }
+ *
+ * where `deliver` takes a message's words and the part of the packet that it came from, words[5] bytes long. */
+enum {
+    SIGMA_PACKET_FIRST = 2,
+    SIGMA_PACKET_MAX = 65535
+};
+
+/* Reads the message that starts at place `at`, into the first six words: its five, and the bytes it took; or six times 0 where the
+ * packet ends. Each call judges the whole packet, so that no message of it is given unless all can be read; the bytes behind the
+ * total are not looked at. Refusals: 22 under 2 bytes, a total under 2 or above the bytes lent, or messages that, walked by length
+ * fields of at least 4, do not end exactly at it; 2, 3 or 5 of the first message that cannot be read; 22 no message starts at `at`,
+ * and the packet does not end there; 6 fewer than six words lent. */
+uint32_t sigma_packet_next(const uint8_t *packet, size_t packet_len, size_t at, uint32_t *words, size_t words_len);
+
+/* Writes the total and then the bytes, which are messages one after another or none, at the start of `out`; the bytes behind the
+ * packet stay. Refusals: 22 a total above 65535, or messages that do not end exactly with the bytes; 2, 3 or 5 as above;
+ * 6 room short for 2 more than the bytes. */
+uint32_t sigma_packet_pack(const uint8_t *bytes, size_t bytes_len, uint8_t *out, size_t out_len);
 
 /* A record is words that stay where the host put them; an accepted call writes the new record over the old.
  * 0 is none. A record slice of another length, or one that holds no valid record, is refused 21.

@@ -1,5 +1,6 @@
 /* Shows that include/sigma.h is right: both examples of document 01, one client's way into its critical section
- * and out of it, a server in a struct, the unsafe run in a simulation, and the example of a script, through the functions as it declares them. */
+ * and out of it, a server in a struct, a round of yields in one packet, the unsafe run in a simulation, and the example of a
+ * script, through the functions as it declares them. */
 #include "sigma.h"
 
 #include <assert.h>
@@ -129,6 +130,64 @@ static void in_a_struct(void)
     expect(sigma_host_check(&host, host_out, sizeof host_out) == 21 && host.queue_length == SIGMA_QUEUE_PLACES + 1, "a broken struct");
 }
 
+/* Client 5 needs all of 31 servers. The last one's owner is client 2, which comes before it, and so client 5 yields the 30 others. */
+enum { ROUND = 31 };
+
+static uint32_t delivered = 0;
+
+/* The round's next message: YIELD to servers 1 to 30, then INQUIRY to server 31. */
+static void deliver(const uint32_t *words, const uint8_t *part)
+{
+    uint32_t alone[SIGMA_READ_WORDS], kind = ++delivered < ROUND ? SIGMA_YIELD : SIGMA_INQUIRY;
+    expect(words[0] == kind && words[1] == 5 && words[2] == delivered && words[3] == 1 && words[4] == 0, "to the next server");
+    expect(sigma_read(part, words[5], alone, SIGMA_READ_WORDS) == 0 && memcmp(alone, words, sizeof alone) == 0, "its part");
+}
+
+/* The round's bytes as the step that yields wrote them. */
+static void yield_round(uint8_t *out, size_t room, uint32_t *sent)
+{
+    uint32_t client[SIGMA_CLIENT_WORDS], j;
+    expect(sigma_client_new(ROUND, ROUND, 5, client, SIGMA_CLIENT_WORDS) == 0, "a new client");
+    expect(sigma_client_begin(client, SIGMA_CLIENT_WORDS, out, room, sent, SIGMA_SENT_WORDS) == 0, "it tries");
+    for (j = 1; j <= ROUND; j++) {
+        uint32_t response[SIGMA_MESSAGE_WORDS] = {SIGMA_RESPONSE, 5, j, 1, j < ROUND ? 5u : 2u};
+        expect(sigma_client_message(client, SIGMA_CLIENT_WORDS, response, SIGMA_MESSAGE_WORDS, out, room, sent,
+                                    SIGMA_SENT_WORDS) == 0, "a server's response");
+    }
+    expect(client[3] == SIGMA_TRYING && sent[0] == ROUND && sent[1] == 12 * ROUND, "a message to every server");
+}
+
+static void packets(void)
+{
+    uint32_t sent[SIGMA_SENT_WORDS], words[SIGMA_READ_WORDS] = {7, 7, 7, 7, 7, 7}, refusal;
+    uint8_t out[12 * ROUND], packet[SIGMA_PACKET_FIRST + sizeof out];
+    size_t at;
+    yield_round(out, sizeof out, sent);
+    refusal = sigma_packet_pack(out, sent[1], packet, sizeof packet);
+    for (at = SIGMA_PACKET_FIRST; refusal == 0; at += words[5]) {
+        refusal = sigma_packet_next(packet, sizeof packet, at, words, SIGMA_READ_WORDS);
+        if (refusal != 0 || words[5] == 0) break;
+        deliver(words, packet + at);
+    }
+    expect(refusal == 0 && delivered == ROUND && at == sizeof packet, "all of the packet was read");
+    expect(words[0] == 0 && words[1] == 0 && words[2] == 0 && words[3] == 0 && words[4] == 0, "six times 0 at its end");
+    expect(packet[0] == sizeof packet % 256 && packet[1] == sizeof packet / 256, "the total");
+    expect(memcmp(packet + SIGMA_PACKET_FIRST, out, sizeof out) == 0, "the bytes that the step wrote");
+
+    words[0] = 7;
+    expect(sigma_packet_next(packet, sizeof packet - 1, 2, words, SIGMA_READ_WORDS) == 22, "the total is above the bytes lent");
+    expect(sigma_packet_next(packet, sizeof packet, 3, words, SIGMA_READ_WORDS) == 22, "no message starts there");
+    expect(sigma_packet_next(packet, sizeof packet, 2, words, SIGMA_READ_WORDS - 1) == 6, "five words lent");
+    packet[SIGMA_PACKET_FIRST + 6] = 0;
+    expect(sigma_packet_next(packet, sizeof packet, 14, words, SIGMA_READ_WORDS) == 5, "server 0, in another message");
+    expect(words[0] == 7, "refused, all is as it was");
+    expect(sigma_packet_pack(out, sizeof out - 1, packet, sizeof packet) == 22, "the last message is cut");
+    expect(sigma_packet_pack(packet + SIGMA_PACKET_FIRST, sizeof out, out, 0) == 5, "server 0, before the room");
+    expect(sigma_packet_pack(out, sizeof out, packet, sizeof packet - 1) == 6, "room short");
+    expect(sigma_packet_pack(out, 0, packet, sizeof packet) == 0 && packet[0] == 2 && packet[1] == 0, "the empty packet");
+    expect(sigma_packet_next(packet, sizeof packet, 2, words, SIGMA_READ_WORDS) == 0 && words[0] == 0, "which ends at once");
+}
+
 /* Document 01's setting 3,2,1: unsafe, margin 0, a run of 12 events that begins with client 1's try. */
 static void settings(void)
 {
@@ -208,6 +267,7 @@ int main(void)
     round_trip(response, sizeof response, response_words);
     enter_and_leave();
     in_a_struct();
+    packets();
     settings();
     simulation();
     script();

@@ -1,5 +1,5 @@
-//! A model of document 01, written from the document alone, and the proved library beside it.
-//! The model speaks the document's words (kiosk, keeper, ticket), so that it can be held against the text.
+//! A model of documents 01 and 02, written from the documents alone, and the proved library beside it.
+//! The model speaks the documents' words (kiosk, keeper, ticket), so that it can be held against the text.
 
 pub mod author;
 pub mod both;
@@ -11,8 +11,10 @@ pub mod keeper;
 pub mod kiosk;
 pub mod library;
 pub mod model;
+pub mod packet;
 pub mod random;
 pub mod records;
+pub mod samples;
 pub mod script;
 pub mod setting;
 pub mod simulation;

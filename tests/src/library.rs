@@ -3,6 +3,8 @@
 extern "C" {
     fn sigma_read(bytes: *const u8, bytes_len: usize, words: *mut u32, words_len: usize) -> u32;
     fn sigma_write(words: *const u32, words_len: usize, out: *mut u8, out_len: usize) -> u32;
+    fn sigma_packet_next(packet: *const u8, packet_len: usize, at: usize, words: *mut u32, words_len: usize) -> u32;
+    fn sigma_packet_pack(bytes: *const u8, bytes_len: usize, out: *mut u8, out_len: usize) -> u32;
     fn sigma_server_new(n: u32, id: u32, record: *mut u32, record_len: usize) -> u32;
     fn sigma_server_message(
         record: *mut u32,
@@ -56,6 +58,14 @@ pub fn read(bytes: &[u8], words: &mut [u32]) -> u32 {
 
 pub fn write(words: &[u32], out: &mut [u8]) -> u32 {
     unsafe { sigma_write(words.as_ptr(), words.len(), out.as_mut_ptr(), out.len()) }
+}
+
+pub fn packet_next(packet: &[u8], at: usize, words: &mut [u32]) -> u32 {
+    unsafe { sigma_packet_next(packet.as_ptr(), packet.len(), at, words.as_mut_ptr(), words.len()) }
+}
+
+pub fn packet_pack(bytes: &[u8], out: &mut [u8]) -> u32 {
+    unsafe { sigma_packet_pack(bytes.as_ptr(), bytes.len(), out.as_mut_ptr(), out.len()) }
 }
 
 pub fn server_new(n: u32, id: u32, record: &mut [u32]) -> u32 {

@@ -1,5 +1,6 @@
 //! include/sigma.h as C and as C++ sees it: a small program is compiled against the header and the library, and run.
 
+use std::fs;
 use std::path::{Path, PathBuf};
 use std::process::Command;
 
@@ -21,6 +22,7 @@ fn compile_and_run(compiler: &str, language: &[&str], name: &str) {
         .arg(root.join("target/staticlib/libcapi_quorum.a"))
         .arg(root.join("target/staticlib/libcapi_simulation.a"))
         .arg(root.join("target/staticlib/libcapi_script.a"))
+        .arg(root.join("target/staticlib/libcapi_packet.a"))
         .arg("-o")
         .arg(&program)
         .status()
@@ -39,4 +41,14 @@ fn in_c() {
 #[test]
 fn in_cpp() {
     compile_and_run("c++", &["-std=c++17", "-x", "c++"], "header_cpp");
+}
+
+#[test]
+fn the_example_in_the_header_is_run() {
+    let text = |path: &str| fs::read_to_string(root().join(path)).unwrap_or_else(|e| panic!("{path}: {e}"));
+    let header = text("include/sigma.h");
+    let example: Vec<String> =
+        header.lines().filter_map(|line| line.strip_prefix(" *     ")).map(|line| format!("    {line}\n")).collect();
+    assert_eq!(example.len(), 6);
+    assert!(text("tests/c/header.c").contains(&example.concat()), "{example:?}");
 }

@@ -1,6 +1,7 @@
 //! `sigma_read` and `sigma_write` beside the model: the refusal, every word and every byte, lent or not used.
 
 use sigma_tests::random::Random;
+use sigma_tests::samples::{bytes_of, random_message};
 use sigma_tests::{library, model};
 
 const POISON: u32 = 0xA5A5_5A5A;
@@ -23,27 +24,6 @@ fn compare_write(words: &[u32], room: usize) -> u32 {
     let b = model::write(words, &mut theirs[..room]);
     assert_eq!((a, ours), (b, theirs), "writing {words:?} into {room} bytes");
     a
-}
-
-/// The bytes of words that are a message, by the model.
-fn bytes_of(words: &[u32; 5]) -> Vec<u8> {
-    let mut out = [0u8; 14];
-    assert_eq!(model::write(words, &mut out), 0, "{words:?} is a message");
-    out[..model::length_of(words[0])].to_vec()
-}
-
-fn random_message(r: &mut Random) -> [u32; 5] {
-    let kind = 1 + r.below(6) as u32;
-    let kiosk = 1 + r.below(65_535) as u32;
-    let keeper = 1 + r.below(31) as u32;
-    let ticket = if r.below(8) == 0 { u32::MAX } else { 1 + r.below(1 << 20) as u32 };
-    if kind != model::RESPONSE {
-        return [kind, kiosk, keeper, ticket, 0];
-    }
-    if r.below(4) == 0 {
-        return [kind, kiosk, keeper, 0, 0];
-    }
-    [kind, kiosk, keeper, ticket, 1 + r.below(65_535) as u32]
 }
 
 #[test]

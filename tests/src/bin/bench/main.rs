@@ -5,6 +5,7 @@
 
 mod codec;
 mod gallery;
+mod packet;
 mod steps;
 
 use std::time::{Duration, Instant};
@@ -43,6 +44,7 @@ fn main() {
     }
     println!("{:<42}{:>10}{:>10}{:>8}", "nanoseconds each", "proved", "model", "ratio");
     codec::run();
+    packet::run();
     steps::run();
     gallery::run();
 }
