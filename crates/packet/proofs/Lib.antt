@@ -4,3 +4,5 @@ pub mod TotalLaws
 pub mod Parts
 pub mod PlaceLaws
 pub mod SaysLaws
+pub mod Shown
+pub mod PackLaws

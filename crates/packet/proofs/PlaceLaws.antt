@@ -38,11 +38,11 @@ found-past from (p ∷ ps) at h =
     rw (ne-eqb at from (λ e. omega arith)) (found-past (from + length (p .part)) ps at (omega (arith, length-append (p .part) (joined ps))))
 
 -- accepted contents are their pieces
-good-carries : (c : Contents) → judged c ≡ Good → c ≡ carries (pieces c)
+pub good-carries : (c : Contents) → judged c ≡ Good → c ≡ carries (pieces c)
 good-carries (refused x) h = let z : _≡_ {A = ℕ} 0 1 = cc in absurd (omega arith)
 good-carries (carries ps) h = refl
 
-bad-refused : (c : Contents) (x : Refusal) → judged c ≡ Bad x → c ≡ refused x
+pub bad-refused : (c : Contents) (x : Refusal) → judged c ≡ Bad x → c ≡ refused x
 bad-refused (refused y) x h = let e : y ≡ x = cc in cc
 bad-refused (carries ps) x h = let z : _≡_ {A = ℕ} 0 1 = cc in absurd (omega arith)
 

@@ -33,5 +33,5 @@ abbrev pub packedInto : Written → List ℕ → List ℕ → List ℕ
 packedInto (Refused e) bytes buffer = buffer
 packedInto (Bytes n) bytes buffer = sets buffer 0 (packed bytes)
 
-abbrev pub bufferAfter : List ℕ → List ℕ → List ℕ
+unfoldable pub bufferAfter : List ℕ → List ℕ → List ℕ
 bufferAfter bytes buffer = packedInto (packOf bytes (length buffer)) bytes buffer

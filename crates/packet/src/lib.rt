@@ -172,3 +172,51 @@ pub fn next_at(packet: &[u8], at: usize) -> Next
         Verdict::Refused(e) => Next::Refused(e),
     }
 }
+
+// The part of the packet that the message at a place came from, empty where no message is given. No byte is copied.
+pub fn part_at(packet: &[u8], at: usize) -> &[u8]
+    ensures { λ r. ⌜ now r ≡ partOf (now (packet .entry)) at ⌝ }
+{
+    match next_at(packet, at) {
+        Next::Message(_, next) => &packet[at..next],
+        Next::End => &packet[0..0],
+        Next::Refused(_) => &packet[0..0],
+    }
+}
+
+// The bytes behind a total of their own, at the start of `out`.
+fn put_packet(bytes: &[u8], out: &mut [u8])
+    requires { ⌜ (packedBytes (now bytes) ≤ length (now out)) × (packedBytes (now bytes) ≤ maxTotal) ⌝ }
+    ensures { λ _. ⌜ now (out .exit) ≡ sets (now (out .entry)) 0 (packed (now (bytes .entry))) ⌝ }
+{
+    let total = TOTAL_BYTES + bytes.len();
+    out[0] = (total % 256) as u8;
+    out[1] = (total / 256 % 256) as u8;
+    let mut i: usize = 0;
+    while i < bytes.len() {
+        out[TOTAL_BYTES + i] = bytes[i];
+        i += 1;
+    }
+}
+
+// Packs messages that stand one after another, as a step wrote them. The bytes behind the packet stay, and a refusal changes none.
+pub fn pack(bytes: &[u8], out: &mut [u8]) -> Written
+    ensures { λ r. ⌜ (r ≡ packOf (now (bytes .entry)) (length (now (out .entry)))) × (now (out .exit) ≡ bufferAfter (now (bytes .entry)) (now (out .entry))) ⌝ }
+    ensures numbers { λ r. ⌜ writtenSays r ≡ packSays (now (bytes .entry)) (length (now (out .entry))) ⌝ }
+{
+    if bytes.len() > MAX_TOTAL - TOTAL_BYTES {
+        return Written::Refused(Refusal::PacketMalformed);
+    }
+    match judge(bytes, 0) {
+        Verdict::Accepted => {}
+        Verdict::Refused(e) => {
+            return Written::Refused(e);
+        }
+    }
+    let total = TOTAL_BYTES + bytes.len();
+    if out.len() < total {
+        return Written::Refused(Refusal::RoomShort);
+    }
+    put_packet(bytes, out);
+    Written::Bytes(total)
+}
