@@ -184,6 +184,48 @@ pub fn part_at(packet: &[u8], at: usize) -> &[u8]
     }
 }
 
+// A reader that stands on a lent packet, at the place of its next message. It holds the packet's slice and copies nothing.
+pub struct Reader<'a> {
+    pub packet: &'a [u8],
+    pub at: usize,
+}
+
+impl<'a> Reader<'a> {
+    // A reader at the packet's first message.
+    pub fn new(packet: &'a [u8]) -> Reader<'a>
+        ensures { λ r. ⌜ (r .packet ≡ packet .entry) × (r .at ≡ totalBytes) ⌝ }
+    {
+        Reader {
+            packet,
+            at: TOTAL_BYTES,
+        }
+    }
+
+    // The next message, with the place behind it.
+    pub fn next(self) -> Next
+        ensures { λ r. ⌜ (r ≡ nextOf (now (self .entry .packet)) (self .entry .at)) × (nextSays r ≡ packetSays (now (self .entry .packet)) (self .entry .at)) ⌝ }
+    {
+        next_at(self.packet, self.at)
+    }
+
+    // The part of the packet that the next message comes from.
+    pub fn part(self) -> &'a [u8]
+        ensures { λ r. ⌜ now r ≡ partOf (now (self .entry .packet)) (self .entry .at) ⌝ }
+    {
+        part_at(self.packet, self.at)
+    }
+
+    // The reader at another place: behind the message that it gave.
+    pub fn moved(self, at: usize) -> Reader<'a>
+        ensures { λ r. ⌜ (r .packet ≡ self .entry .packet) × (r .at ≡ at) ⌝ }
+    {
+        Reader {
+            packet: self.packet,
+            at,
+        }
+    }
+}
+
 // The bytes behind a total of their own, at the start of `out`.
 fn put_packet(bytes: &[u8], out: &mut [u8])
     requires { ⌜ (packedBytes (now bytes) ≤ length (now out)) × (packedBytes (now bytes) ≤ maxTotal) ⌝ }
