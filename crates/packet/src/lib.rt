@@ -173,21 +173,35 @@ pub fn next_at(packet: &[u8], at: usize) -> Next
     }
 }
 
-// The part of the packet that the message at a place came from, empty where no message is given. No byte is copied.
-pub fn part_at(packet: &[u8], at: usize) -> &[u8]
+// The part of the packet from a place to the one behind the message that was given there, else an empty one. No byte is copied.
+fn part_of(packet: &[u8], at: usize, next: Next) -> &[u8]
+    requires { ⌜ next ≡ nextOf (now packet) at ⌝ }
     ensures { λ r. ⌜ now r ≡ partOf (now (packet .entry)) at ⌝ }
 {
-    match next_at(packet, at) {
-        Next::Message(_, next) => &packet[at..next],
+    match next {
+        Next::Message(_, end) => &packet[at..end],
         Next::End => &packet[0..0],
         Next::Refused(_) => &packet[0..0],
     }
+}
+
+// The part of the packet that the message at a place came from, empty where no message is given.
+pub fn part_at(packet: &[u8], at: usize) -> &[u8]
+    ensures { λ r. ⌜ now r ≡ partOf (now (packet .entry)) at ⌝ }
+{
+    part_of(packet, at, next_at(packet, at))
 }
 
 // A reader that stands on a lent packet, at the place of its next message. It holds the packet's slice and copies nothing.
 pub struct Reader<'a> {
     pub packet: &'a [u8],
     pub at: usize,
+}
+
+// What a reader gives: the next message with the place behind it, and the part of the packet that it came from.
+pub struct Given<'a> {
+    pub next: Next,
+    pub part: &'a [u8],
 }
 
 impl<'a> Reader<'a> {
@@ -201,18 +215,13 @@ impl<'a> Reader<'a> {
         }
     }
 
-    // The next message, with the place behind it.
-    pub fn next(self) -> Next
-        ensures { λ r. ⌜ (r ≡ nextOf (now (self .entry .packet)) (self .entry .at)) × (nextSays r ≡ packetSays (now (self .entry .packet)) (self .entry .at)) ⌝ }
+    // The next message, and its part of the packet.
+    pub fn next(self) -> Given<'a>
+        ensures { λ r. ⌜ (r .next ≡ nextOf (now (self .entry .packet)) (self .entry .at)) × (now (r .part) ≡ partOf (now (self .entry .packet)) (self .entry .at)) × (nextSays (r .next) ≡ packetSays (now (self .entry .packet)) (self .entry .at)) ⌝ }
     {
-        next_at(self.packet, self.at)
-    }
-
-    // The part of the packet that the next message comes from.
-    pub fn part(self) -> &'a [u8]
-        ensures { λ r. ⌜ now r ≡ partOf (now (self .entry .packet)) (self .entry .at) ⌝ }
-    {
-        part_at(self.packet, self.at)
+        let next = next_at(self.packet, self.at);
+        let part = part_of(self.packet, self.at, next);
+        Given { next, part }
     }
 
     // The reader at another place: behind the message that it gave.
