@@ -6,3 +6,4 @@ pub mod PlaceLaws
 pub mod SaysLaws
 pub mod Shown
 pub mod PackLaws
+pub mod Whole

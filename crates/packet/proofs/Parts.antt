@@ -99,7 +99,7 @@ pub data Carries : List ℕ → List Piece → Type 0 where
 read-whole : (p : List ℕ) (m : Message) (n : ℕ) → Part p → readOf p ≡ Accepted m n → readOf p ≡ Accepted m (length p)
 read-whole p m n g r = let t = took maxServers p m n r in let e : n ≡ length p = sym (t .used) ∙ (sym (t .claimed) ∙ g .is) in rw e at r
 
-read-part : (p : List ℕ) (m : Message) → readOf p ≡ Accepted m (length p) → Part p
+pub read-part : (p : List ℕ) (m : Message) → readOf p ≡ Accepted m (length p) → Part p
 read-part p m r =
     let t = took maxServers p m (length p) r in
     record { least = omega (arith, t .used, at-least (kindIn p)); is = t .claimed ∙ t .used }

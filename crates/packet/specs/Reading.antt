@@ -1,10 +1,12 @@
 -- Reading one message of a packet, at a place: the whole packet is judged first, then the place.
 use Prim.Native.Nat.{ℕ, _+_}
+use mathlib.Core.Path.{_≡_}
 use mathlib.Core.List.{List, [], _∷_}
 use lib.Dec.{eqb}
 use lib.ListN.{length}
 use Rattle.ids.specs.Choice.{if_then_else_}
 use Rattle.ids.specs.declared.Refusal.the-variants.{PacketMalformed}
+use Rattle.wire.specs.declared.Message.{Message as Carried}
 use Rattle.packet.specs.Packet.{totalBytes, Piece, Contents, refused, carries, packetOf, pieces}
 use Rattle.packet.specs.declared.Next.{Next}
 use Rattle.packet.specs.declared.Next.the-variants.{Message, End, Refused}
@@ -46,3 +48,9 @@ partFound nowhere = []
 
 unfoldable pub partOf : List ℕ → ℕ → List ℕ
 partOf s at = partFound (foundIn s at)
+
+-- THE CALLS of a reader from the place `at` on: a message each, with its part, until the packet's end
+pub data ReadFrom (s : List ℕ) : ℕ → List Piece → Type 0 where
+  ended : {at : ℕ} → nextOf s at ≡ End → ReadFrom s at []
+  gave : {at next : ℕ} {m : Carried} {ps : List Piece} → nextOf s at ≡ Message m next → ReadFrom s next ps
+      → ReadFrom s at (record { message = m; part = partOf s at } ∷ ps)
