@@ -7,3 +7,5 @@ pub mod SaysLaws
 pub mod Shown
 pub mod PackLaws
 pub mod Whole
+pub mod Behind
+pub mod RoundTrip
