@@ -24,17 +24,8 @@ use Rattle.wire.specs.declared.Parsed.the-variants.{Accepted, Refused as NotRea
 use Rattle.wire.proofs.FormatLaws.{length-in, at-least}
 use Rattle.wire.proofs.RoundTrip.{took}
 use Rattle.packet.specs.Packet.{leastLength, fits, withFirst, cutInto, cut, Piece, Contents, refused, carries, inFront, readParts, contentsOf, joined}
+use Rattle.packet.specs.Parts.{Part, Cut, Carries, done, next}
 use Rattle.packet.proofs.WalkLaws.{fitting, fitted, cut-empty, cut-next}
-
--- a part that is as long as its length field says, which is 4 at least
-pub record Part (p : List ℕ) : Type 0 where
-  pub least : leastLength ≤ length p
-  pub is : lengthIn p ≡ length p
-
--- bytes cut into such parts
-pub data Cut : List ℕ → List (List ℕ) → Type 0 where
-  done : Cut [] []
-  next : {p s : List ℕ} {ps : List (List ℕ)} → Part p → Cut s ps → Cut (p ++ s) (p ∷ ps)
 
 some-not-none : (ps : List (List ℕ)) → _≡_ {A = Option (List (List ℕ))} none (some ps) → ⊥
 some-not-none ps h = let z : _≡_ {A = ℕ} 0 1 = cc in omega arith
@@ -88,12 +79,6 @@ cut-all whole parts (next {p} {s} {ps} g d) =
     let i : lengthIn (p ++ s) ≡ length p = length-front p s (omega (arith, g .least)) ∙ g .is in
     let f : fits (p ++ s) ≡ true = fitted (p ++ s) (omega (arith, i, g .least)) (omega (arith, i, length-append p s)) in
     cut-next (p ++ s) f ∙ rw (i, take-append-seam p s, drop-append-seam p s, cut-all s ps d)
-
--- THE MESSAGES that bytes are, one after another, each read from a part of its own, all of it
-pub data Carries : List ℕ → List Piece → Type 0 where
-  done : Carries [] []
-  next : {m : Message} {p s : List ℕ} {ps : List Piece} → readOf p ≡ Accepted m (length p) → Carries s ps
-      → Carries (p ++ s) (record { message = m; part = p } ∷ ps)
 
 -- a part that is read: its length field, the bytes used and its own length are one
 read-whole : (p : List ℕ) (m : Message) (n : ℕ) → Part p → readOf p ≡ Accepted m n → readOf p ≡ Accepted m (length p)

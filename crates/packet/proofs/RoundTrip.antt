@@ -26,8 +26,9 @@ use Rattle.wire.proofs.FormatLaws.{length-bytesOf}
 use Rattle.wire.proofs.RoundTrip.{written-is-read, read-is-written}
 use Rattle.wire.proofs.Sequence.{length-bytesOfAll}
 use Rattle.packet.specs.Packet.{totalBytes, maxTotal, Piece, Contents, refused, carries, contentsOf, totalIn, framed, upToTotal, bodyOf, packetOf, messages}
-use Rattle.packet.specs.Packing.{packedBytes, packed, packIn, packOf, bufferAfter}
-use Rattle.packet.proofs.Parts.{Carries, done, next, carried-only, carried-all}
+use Rattle.packet.specs.Packing.{piecesOf, packedBytes, packed, packIn, packOf, bufferAfter}
+use Rattle.packet.specs.Parts.{Carries, done, next}
+use Rattle.packet.proofs.Parts.{carried-only, carried-all}
 use Rattle.packet.proofs.TotalLaws.{is-framed, to-framed}
 use Rattle.packet.proofs.Shown.{accepted-framed}
 
@@ -81,11 +82,6 @@ module _ (bytes o : List ℕ) (n : ℕ) (written : packOf bytes (length o) ≡ B
       let l = packed-length bytes [] a in
       let s : sets o 0 (packed bytes) ≡ packed bytes ++ drop (0 + length (packed bytes)) o = sets-eq (packed bytes) o 0 (omega arith) in
       rw (written, s) (packed-is-read bytes (drop (0 + length (packed bytes)) o) a)
-
--- messages, each with its bytes
-abbrev pub piecesOf : List Message → List Piece
-piecesOf [] = []
-piecesOf (m ∷ ms) = record { message = m; part = bytesOf m } ∷ piecesOf ms
 
 pub messages-of : (ms : List Message) → messages (piecesOf ms) ≡ ms
 unfolding messages

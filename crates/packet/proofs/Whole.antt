@@ -15,7 +15,8 @@ use Rattle.packet.specs.Packet.{totalBytes, Piece, Contents, refused, ca
 use Rattle.packet.specs.Reading.{Found, starts, ends, nowhere, findIn, nextFound, nextIn, nextOf, partFound, partOf, ReadFrom, ended, gave}
 use Rattle.packet.specs.declared.Next.{Next}
 use Rattle.packet.specs.declared.Next.the-variants.{Message as Given, End, Refused}
-use Rattle.packet.proofs.Parts.{Carries, done, next, read-part, carried-only, carried-joined}
+use Rattle.packet.specs.Parts.{Carries, done, next}
+use Rattle.packet.proofs.Parts.{read-part, carried-only, carried-joined}
 use Rattle.packet.proofs.Shown.{Shows, shows, accepted-framed}
 
 -- parts that have a byte at least

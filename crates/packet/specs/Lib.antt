@@ -1,4 +1,5 @@
 pub mod Packet
+pub mod Parts
 pub mod Reading
 pub mod Packing
 pub mod Says

@@ -1,15 +1,17 @@
 -- Packing messages that stand one after another: the total is put before their bytes.
 use Prim.Native.Nat.{ℕ, _+_}
-use mathlib.Core.List.{List, _++_}
+use mathlib.Core.List.{List, [], _∷_, _++_}
 use lib.Dec.{ltb}
 use lib.ListN.{length}
 use lib.Seq.{sets}
 use Rattle.ids.specs.Choice.{if_then_else_}
 use Rattle.ids.specs.declared.Refusal.the-variants.{PacketMalformed, RoomShort}
 use Rattle.wire.specs.Bytes.{littleEndian}
+use Rattle.wire.specs.Format.{bytesOf}
+use Rattle.wire.specs.declared.Message.{Message}
 use Rattle.wire.specs.declared.Written.{Written}
 use Rattle.wire.specs.declared.Written.the-variants.{Bytes, Refused}
-use Rattle.packet.specs.Packet.{totalBytes, maxTotal, Contents, refused, carries, contentsOf}
+use Rattle.packet.specs.Packet.{totalBytes, maxTotal, Piece, Contents, refused, carries, contentsOf}
 
 abbrev pub packedBytes : List ℕ → ℕ
 packedBytes bytes = totalBytes + length bytes
@@ -35,3 +37,8 @@ packedInto (Bytes n) bytes buffer = sets buffer 0 (packed bytes)
 
 unfoldable pub bufferAfter : List ℕ → List ℕ → List ℕ
 bufferAfter bytes buffer = packedInto (packOf bytes (length buffer)) bytes buffer
+
+-- messages, each with its bytes
+abbrev pub piecesOf : List Message → List Piece
+piecesOf [] = []
+piecesOf (m ∷ ms) = record { message = m; part = bytesOf m } ∷ piecesOf ms
