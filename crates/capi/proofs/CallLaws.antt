@@ -25,7 +25,7 @@ use Rattle.wire.specs.declared.Written.{Written}
 use Rattle.wire.proofs.RoundTrip.{took, short}
 use Rattle.wire.proofs.CallLaws.{written-as-message, buffer-as-message}
 use Rattle.words.specs.Messages.{crossing, messageIn}
-use Rattle.capi.specs.Calls.{readCode, readWords, writtenCode, writeCode, writeBuffer}
+use Rattle.capi.specs.Calls.{readSize, readCode, readWords, writtenCode, writeCode, writeBuffer}
 use Rattle.words.specs.declared.Crossed.{Crossed}
 use Rattle.words.specs.declared.Crossed.the-variants.{Numbers, TooLarge}
 
@@ -51,10 +51,10 @@ module _ (s ws : List ℕ) (p : Read) (e : p ≡ numbersOf (readOf s)) where
     pub used-small : n < 65536
     used-small = let m = read-from in let k = took maxServers s (m .message) n (m .accepted) in rw (k .used) at (short (kindIn s))
 
-    pub read-room : (r : ℕ) → length ws < 6 → r ≡ code RoomShort → (r ≡ readCode (readOf s) (length ws)) × (ws ≡ readWords (readOf s) ws)
+    pub read-room : (r : ℕ) → length ws < readSize → r ≡ code RoomShort → (r ≡ readCode (readOf s) (length ws)) × (ws ≡ readWords (readOf s) ws)
     read-room r h c = let m = read-from in (rw (m .accepted, lt-ltb _ _ h, c), rw (m .accepted, lt-ltb _ _ h))
 
-    pub read-done : (l : List ℕ) → 6 ≤ length ws → l ≡ sets ws 0 (words f ++ n ∷ []) → (0 ≡ readCode (readOf s) (length ws)) × (l ≡ readWords (readOf s) ws)
+    pub read-done : (l : List ℕ) → readSize ≤ length ws → l ≡ sets ws 0 (words f ++ n ∷ []) → (0 ≡ readCode (readOf s) (length ws)) × (l ≡ readWords (readOf s) ws)
     read-done l h c = let m = read-from in (rw (m .accepted, le-ltb _ _ h), rw (m .accepted, le-ltb _ _ h, m .numbers) c)
 
   refused : (q : Parsed) (x : Refusal) → p ≡ numbersOf q → p ≡ NoNumbers x → q ≡ NotRead x

@@ -17,15 +17,19 @@ use Rattle.wire.specs.declared.Parsed.the-variants.{Accepted, Refused as NotRea
 use Rattle.wire.specs.declared.Written.{Written}
 use Rattle.wire.specs.declared.Written.the-variants.{Bytes, Refused as NotWritten}
 
--- `sigma_read`, from what reading answers: its refusals, then 6 where fewer than six words are lent
+-- the words that a message that was read is given in: its five, and the bytes used
+abbrev pub readSize : ℕ
+readSize = 6
+
+-- `sigma_read`, from what reading answers: its refusals, then 6 where fewer words are lent
 abbrev pub readCode : Parsed → ℕ → ℕ
 readCode (NotRead e) room = code e
-readCode (Accepted m n) room = if ltb room 6 then code RoomShort else 0
+readCode (Accepted m n) room = if ltb room readSize then code RoomShort else 0
 
--- the words afterwards: the message's five and the bytes used; after a refusal all as found
+-- the words afterwards; after a refusal all as found
 abbrev pub readWords : Parsed → List ℕ → List ℕ
 readWords (NotRead e) ws = ws
-readWords (Accepted m n) ws = if ltb (length ws) 6 then ws else sets ws 0 (words (fieldsOf m) ++ n ∷ [])
+readWords (Accepted m n) ws = if ltb (length ws) readSize then ws else sets ws 0 (words (fieldsOf m) ++ n ∷ [])
 
 -- `sigma_write`, from the message that the words are: 5 where they are none, then the refusals of writing
 abbrev pub writtenCode : Written → ℕ

@@ -13,7 +13,7 @@ ghost use Rattle.client.specs.Record as client;
 ghost use Rattle.client.specs.Steps.{Answers};
 ghost use Rattle.words.specs.Messages.{messageIn};
 ghost use Rattle.words.specs.Records.{maxWord, recordHead, serverSize, clientSize, serverWords, clientHeadWords, clientWords};
-ghost use Rattle.capi.specs.Calls.{readCode, readWords, writtenCode, writeCode, writeBuffer};
+ghost use Rattle.capi.specs.Calls.{readSize, readCode, readWords, writtenCode, writeCode, writeBuffer};
 ghost use Rattle.capi.specs.Steps.{lent, Leaves, codeOf, recordInto, serverMessage, serverSuspect, serverCheck, clientMessage, clientBegin, clientExit, serverNew, clientNew, onServer, onClient};
 ghost use Rattle.capi.specs.Inner.{answerCode, answerRecord, answerCounts, shortCode, shortAnswer, Storable, turnedWords, acceptedWords, serverOutcome, clientOutcome};
 use ids::ClientId;
@@ -27,9 +27,11 @@ use wire::Numbers;
 use wire::Written;
 use words::Crossed;
 
-// A message's five words and the bytes it took.
-fn put_words(words: &mut [u32], f: Fields, used: u32)
-    requires { ⌜ 6 ≤ length (now words) ⌝ }
+// The words that a message that was read is given in: its five, and the bytes it took.
+pub const READ_WORDS: usize = 6;
+
+pub fn put_words(words: &mut [u32], f: Fields, used: u32)
+    requires { ⌜ readSize ≤ length (now words) ⌝ }
     ensures { λ _. ⌜ now (words .exit) ≡ sets (now (words .entry)) 0 (wordsOf f ++ used ∷ []) ⌝ }
 {
     words[0] = f.kind as u32;
@@ -48,7 +50,7 @@ pub extern "C" fn sigma_read(bytes: &[u8], words: &mut [u32]) -> u32
     let p = wire::read_fields(bytes);
     match p {
         Numbers::Fitting(f, used) => {
-            if words.len() < 6 {
+            if words.len() < READ_WORDS {
                 return ids::code_of(Refusal::RoomShort);
             }
             put_words(words, f, used as u32);
@@ -58,7 +60,8 @@ pub extern "C" fn sigma_read(bytes: &[u8], words: &mut [u32]) -> u32
     }
 }
 
-fn written_code(w: Written) -> u32
+// 0, or the number of the refusal.
+pub fn written_code(w: Written) -> u32
     ensures { λ r. ⌜ r ≡ writtenCode w ⌝ }
 {
     match w {

@@ -13,11 +13,14 @@ use Rattle.ids.specs.Choice.{if_then_else_}
 use Rattle.ids.specs.declared.Refusal.{Refusal}
 use Rattle.ids.specs.declared.Refusal.the-variants.{PacketMalformed}
 use Rattle.ids.proofs.Choice.{decided}
+use Rattle.wire.specs.Calls.{readOf}
 use Rattle.wire.specs.declared.Message.{Message}
+use Rattle.wire.specs.declared.Parsed.the-variants.{Accepted}
 use Rattle.packet.specs.Packet.{totalBytes, Piece, Contents, refused, carries, contentsOf, totalIn, framed, upToTotal, bodyOf, packetOf, pieces, joined}
 use Rattle.packet.specs.Reading.{Found, starts, ends, nowhere, findIn, foundIn, nextFound, nextIn, nextOf, partFound, partOf}
 use Rattle.packet.specs.declared.Next.{Next}
 use Rattle.packet.specs.declared.Next.the-variants.{Message as Given, End, Refused}
+use Rattle.packet.specs.Parts.{Carries, done, next}
 use Rattle.packet.proofs.Parts.{carried-only, carried-joined}
 use Rattle.packet.proofs.TotalLaws.{Framed, is-framed}
 
@@ -58,6 +61,21 @@ stands from (q ∷ ps) at p h =
     })
     (decided (eqb at from))
 
+-- a message that is found is what its part is read as, all of it
+pub found-read : (s : List ℕ) (ps : List Piece) → Carries s ps → (from at : ℕ) (q : Piece) → findIn from ps at ≡ starts q → readOf (q .part) ≡ Accepted (q .message) (length (q .part))
+unfolding findIn
+found-read whole all done from at q h =
+    ⊎-elim (λ (e : eqb at from ≡ true). absurd (ends-not-starts q (rw e at h))) (λ (e : eqb at from ≡ false). absurd (nowhere-not-starts q (rw e at h)))
+    (decided (eqb at from))
+found-read whole all (next {m} {p} {s} {ps} r c) from at q h =
+    ⊎-elim
+    (λ (e : eqb at from ≡ true).
+    let g : starts (record { message = m; part = p }) ≡ starts q = rw e at h in
+    let i : record { message = m; part = p } ≡ q = cc in
+    rw (← i) r)
+    (λ (e : eqb at from ≡ false). found-read s ps c (from + length p) at q (rw e at h))
+    (decided (eqb at from))
+
 -- a stretch of the first bytes is a stretch of all
 stretch : (s : List ℕ) (total at size : ℕ) → at + size ≤ total → total ≤ length s → take size (drop at (take total s)) ≡ take size (drop at s)
 stretch s total at size h k =
@@ -66,7 +84,7 @@ stretch s total at size h k =
     let t : drop at s ≡ drop at (take total s) ++ drop total s = rw (take-append-drop total s) at d in
     rw t (sym (take-append-le size (drop at (take total s)) (drop total s) (omega (arith, length-drop at (take total s)))))
 
--- a packet that gives a message is accepted, whole; and the part is the stretch from the place to the next one
+-- a packet that gives a message is accepted, whole; the part is the stretch from the place to the next one, and is read as the message
 pub record Shows (s : List ℕ) (at : ℕ) (m : Message) (next : ℕ) : Type 0 where
   pub carried : List Piece
   pub accepted : packetOf s ≡ carries carried
@@ -75,6 +93,7 @@ pub record Shows (s : List ℕ) (at : ℕ) (m : Message) (next : ℕ) : Type 0 w
   pub lent : totalIn s ≤ length s
   pub shown : take (next - at) (drop at s) ≡ partOf s at
   pub long : at + length (partOf s at) ≡ next
+  pub read : readOf (partOf s at) ≡ Accepted m (length (partOf s at))
   pub found : findIn totalBytes carried at ≡ starts (record { message = m; part = partOf s at })
 
 refused-not-carried : (x : Refusal) (ps : List Piece) → _≡_ {A = Contents} (refused x) (carries ps) → ⊥
@@ -122,6 +141,7 @@ module _ (s : List ℕ) (at : ℕ) (m : Message) (next : ℕ) where
           lent = g .within;
           shown = rw (part, z) t;
           long = rw part n;
+          read = rw (part, ← i) (found-read (bodyOf s) ps (carried-only (bodyOf s) ps c) totalBytes at p e);
           found = rw (part, ← i) e;
         }
 
