@@ -60,8 +60,7 @@ pub extern "C" fn sigma_read(bytes: &[u8], words: &mut [u32]) -> u32
     }
 }
 
-// 0, or the number of the refusal.
-pub fn written_code(w: Written) -> u32
+fn written_code(w: Written) -> u32
     ensures { λ r. ⌜ r ≡ writtenCode w ⌝ }
 {
     match w {

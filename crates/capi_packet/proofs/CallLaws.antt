@@ -17,9 +17,9 @@ use Rattle.wire.specs.Says.{readValues}
 use Rattle.wire.specs.declared.Fields.{Fields}
 use Rattle.wire.specs.declared.Message.{Message}
 use Rattle.wire.specs.declared.Written.{Written}
+use Rattle.wire.specs.declared.Written.the-variants.{Bytes, Refused as NotPacked}
 use Rattle.wire.proofs.RoundTrip.{took, short}
 use Rattle.packet.specs.Reading.{nextOf, partOf}
-use Rattle.packet.specs.Packing.{packOf, bufferAfter}
 use Rattle.packet.specs.declared.Next.{Next}
 use Rattle.packet.specs.declared.Next.the-variants.{Message as Given, End, Refused}
 use Rattle.packet.proofs.Shown.{shows}
@@ -61,3 +61,11 @@ module _ (s : List ℕ) (at : ℕ) (m : Message) (next : ℕ) (g : nextOf s at �
       let w = shows s at m next g in
       let t = took maxServers (partOf s at) m (length (partOf s at)) (w .read) in
       omega (arith, w .long, t .used, short (kindIn (partOf s at)))
+
+-- `sigma_packet_pack`, from what packing answered
+module _ (w o : Written) (e : w ≡ o) where
+  pub pack-done : (n : ℕ) → w ≡ Bytes n → 0 ≡ writtenCode o
+  pack-done n h = rw (sym e ∙ h)
+
+  pub pack-refused : (x : Refusal) (r : ℕ) → w ≡ NotPacked x → r ≡ code x → r ≡ writtenCode o
+  pack-refused x r h c = rw (sym e ∙ h) c

@@ -14,6 +14,7 @@ ghost use Rattle.capi_packet.specs.Calls.{nextCode, nextWords};
 use ids::Refusal;
 use packet::Next;
 use wire::Fields;
+use wire::Written;
 
 // The numbers of no message, for the packet's end.
 fn no_fields() -> Fields
@@ -57,5 +58,8 @@ pub extern "C" fn sigma_packet_next(packet: &[u8], at: usize, words: &mut [u32])
 pub extern "C" fn sigma_packet_pack(bytes: &[u8], out: &mut [u8]) -> u32
     ensures { λ r. ⌜ (r ≡ writtenCode (packOf (now (bytes .entry)) (length (now (out .entry))))) × (now (out .exit) ≡ bufferAfter (now (bytes .entry)) (now (out .entry))) ⌝ }
 {
-    capi::written_code(packet::pack(bytes, out))
+    match packet::pack(bytes, out) {
+        Written::Bytes(_) => 0,
+        Written::Refused(e) => ids::code_of(e),
+    }
 }
