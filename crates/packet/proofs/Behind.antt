@@ -1,15 +1,14 @@
 -- Bytes behind a packet's total are not looked at: with any others there the packet is read as the same, at every place.
-use Prim.Native.Nat.{ℕ, _≤_}
+use Prim.Native.Nat.{ℕ}
 use native.Mathlib.Omega.{arith}
-use mathlib.Core.Path.{_≡_, refl, sym, ap, _∙_}
+use mathlib.Core.Path.{_≡_, ap, _∙_}
 use mathlib.Core.Bool.{true}
 use mathlib.Core.List.{List, _++_}
 use lib.ListN.{length, take, drop, length-append}
 use lib.Seq.{take-append-le, take-take, take-at, length-take-le}
-use Rattle.ids.specs.Choice.{if_then_else_}
 use Rattle.wire.specs.Bytes.{number}
-use Rattle.packet.specs.Packet.{totalBytes, totalIn, framed, upToTotal, bodyOf, packetOf, contentsOf, pieces}
-use Rattle.packet.specs.Reading.{nextIn, nextOf, partOf, foundIn, findIn, partFound}
+use Rattle.packet.specs.Packet.{totalBytes, totalIn, framed, upToTotal, packetOf, contentsOf, pieces}
+use Rattle.packet.specs.Reading.{nextIn, nextOf, partOf, findIn, partFound}
 use Rattle.packet.proofs.TotalLaws.{is-framed, to-framed}
 
 module _ (s t : List ℕ) (f : framed s ≡ true) where

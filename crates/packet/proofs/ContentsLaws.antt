@@ -3,15 +3,14 @@ use Prim.Native.Nat.{ℕ, _+_, _-_, _<_, _≤_}
 use native.Mathlib.Nat.{add-sub-cancel-left}
 use native.Mathlib.Omega.{arith}
 use mathlib.Core.Path.{_≡_, refl, sym, ap, _∙_}
-use mathlib.Core.Bool.{Bool, true, false}
+use mathlib.Core.Bool.{true, false}
 use mathlib.Core.List.{List, [], _∷_}
 use mathlib.Core.Logic.{⊎-elim}
 use mathlib.Core.Option.{Option, none, some}
-use lib.Dec.{eqb}
 use lib.ListN.{length, take, drop, length-drop}
 use lib.Seq.{drop-drop, length-take-le}
 use borrow.Author.Tests.{eq-eqb, ne-eqb}
-use Rattle.ids.specs.Choice.{if_then_else_, maybe}
+use Rattle.ids.specs.Choice.{maybe}
 use Rattle.ids.specs.declared.Refusal.{Refusal}
 use Rattle.ids.specs.declared.Refusal.the-variants.{PacketMalformed}
 use Rattle.ids.proofs.Choice.{decided, clash}
@@ -20,12 +19,12 @@ use Rattle.wire.specs.Calls.{readOf}
 use Rattle.wire.specs.declared.Message.{Message}
 use Rattle.wire.specs.declared.Parsed.{Parsed}
 use Rattle.wire.specs.declared.Parsed.the-variants.{Accepted, Refused as NotRead}
-use Rattle.packet.specs.Packet.{totalBytes, fits, withFirst, cut, Piece, Contents, refused, carries, inFront, readParts, contentsOf, pieces}
-use Rattle.packet.specs.Reading.{Found, starts, ends, nowhere, findIn}
+use Rattle.packet.specs.Packet.{fits, withFirst, cut, Piece, Contents, refused, carries, inFront, readParts, contentsOf, pieces}
+use Rattle.packet.specs.Reading.{starts, findIn}
 use Rattle.packet.specs.Inner.{sizeIn, walked, judged, Reached}
 use Rattle.packet.specs.declared.Verdict.{Verdict}
 use Rattle.packet.specs.declared.Verdict.the-variants.{Accepted as Good, Refused}
-use Rattle.packet.proofs.WalkLaws.{Sized, sized, unfit, cut-empty, cut-next, walked-next, walked-stuck}
+use Rattle.packet.proofs.WalkLaws.{sized, unfit, cut-empty, cut-next, walked-next, walked-stuck}
 
 pub contents-empty : (s : List ℕ) → length s ≡ 0 → contentsOf s ≡ carries []
 unfolding contentsOf readParts

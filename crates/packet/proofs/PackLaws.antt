@@ -1,20 +1,19 @@
 -- What packing answers and leaves, in each case; and the bytes that are laid down so far.
-use Prim.Native.Nat.{ℕ, suc, _+_, _-_, _/_, _%_, _<_, _≤_}
+use Prim.Native.Nat.{ℕ, _+_, _-_, _/_, _%_, _<_, _≤_}
 use native.Mathlib.Omega.{arith}
 use native.Mathlib.Numerals.{add-one}
 use mathlib.Core.Path.{_≡_, refl, sym, ap, _∙_}
-use mathlib.Core.List.{List, [], _∷_, _++_, append-assoc, append-nil}
-use lib.ListN.{length, getD, set, take, length-append}
+use mathlib.Core.List.{List, [], _∷_}
+use lib.ListN.{length, getD, set, take}
 use lib.Seq.{sets, length-sets, take-suc, take-all, length-take-le}
 use borrow.Author.Tests.{lt-ltb, le-ltb}
-use Rattle.ids.specs.Choice.{if_then_else_}
 use Rattle.ids.specs.declared.Refusal.{Refusal}
 use Rattle.ids.specs.declared.Refusal.the-variants.{PacketMalformed, RoomShort}
 use Rattle.wire.specs.Bytes.{littleEndian}
 use Rattle.wire.specs.declared.Written.the-variants.{Bytes, Refused}
 use Rattle.wire.proofs.BytesLaws.{stored-on}
-use Rattle.packet.specs.Packet.{totalBytes, maxTotal, contentsOf, pieces}
-use Rattle.packet.specs.Packing.{packedBytes, packed, packIn, packOf, packedInto, bufferAfter}
+use Rattle.packet.specs.Packet.{totalBytes, maxTotal, contentsOf}
+use Rattle.packet.specs.Packing.{packedBytes, packed, packOf, bufferAfter}
 use Rattle.packet.specs.Inner.{judged}
 use Rattle.packet.specs.declared.Verdict.the-variants.{Accepted as Good, Refused as Bad}
 use Rattle.packet.proofs.PlaceLaws.{good-carries, bad-refused}

@@ -1,8 +1,8 @@
 -- What is carried is cut from the bytes: the parts joined are the bytes, and each part is read as its message, all of it.
-use Prim.Native.Nat.{ℕ, zero, suc, _<_, _≤_}
+use Prim.Native.Nat.{ℕ, zero, suc, _≤_}
 use native.Mathlib.Omega.{arith}
 use mathlib.Core.Path.{_≡_, refl, sym, ap, _∙_}
-use mathlib.Core.Bool.{Bool, true, false}
+use mathlib.Core.Bool.{true, false}
 use mathlib.Core.List.{List, [], _∷_, _++_}
 use mathlib.Core.Logic.{⊎-elim}
 use mathlib.Core.Option.{Option, none, some}
@@ -10,7 +10,7 @@ use lib.Dec.{eqb}
 use lib.ListN.{length, take, drop, take-append-drop, length-append}
 use lib.Seq.{length-take-le, take-append-le, take-append-seam, drop-append-seam}
 use borrow.Author.Tests.{eqb-true}
-use Rattle.ids.specs.Choice.{if_then_else_, maybe}
+use Rattle.ids.specs.Choice.{maybe}
 use Rattle.ids.specs.Limits.{maxServers}
 use Rattle.ids.specs.declared.Refusal.{Refusal}
 use Rattle.ids.specs.declared.Refusal.the-variants.{PacketMalformed}
@@ -23,7 +23,7 @@ use Rattle.wire.specs.declared.Parsed.{Parsed}
 use Rattle.wire.specs.declared.Parsed.the-variants.{Accepted, Refused as NotRead}
 use Rattle.wire.proofs.FormatLaws.{length-in, at-least}
 use Rattle.wire.proofs.RoundTrip.{took}
-use Rattle.packet.specs.Packet.{leastLength, fits, withFirst, cutInto, cut, Piece, Contents, refused, carries, inFront, readParts, contentsOf, joined}
+use Rattle.packet.specs.Packet.{fits, withFirst, cutInto, cut, Piece, Contents, refused, carries, inFront, readParts, contentsOf, joined}
 use Rattle.packet.specs.Parts.{Part, Cut, Carries, done, next}
 use Rattle.packet.proofs.WalkLaws.{fitting, fitted, cut-empty, cut-next}
 

@@ -2,24 +2,21 @@
 use Prim.Native.Nat.{ℕ, _+_, _-_, _<_, _≤_}
 use native.Mathlib.Omega.{arith}
 use mathlib.Core.Path.{_≡_, refl, sym, ap, _∙_}
-use mathlib.Core.Bool.{true, false}
 use mathlib.Core.List.{List, [], _∷_}
 use lib.ListN.{length, take, drop, length-drop, length-append}
 use lib.Seq.{length-take-le}
 use borrow.Author.Tests.{eq-eqb, ne-eqb}
-use Rattle.ids.specs.Choice.{if_then_else_}
 use Rattle.ids.specs.declared.Refusal.{Refusal}
 use Rattle.ids.specs.declared.Refusal.the-variants.{PacketMalformed}
 use Rattle.wire.specs.Calls.{readOf}
 use Rattle.wire.specs.declared.Message.{Message}
 use Rattle.wire.specs.declared.Parsed.{Parsed}
 use Rattle.wire.specs.declared.Parsed.the-variants.{Accepted, Refused as NotRead}
-use Rattle.packet.specs.Packet.{totalBytes, Piece, Contents, refused, carries, contentsOf, totalIn, framed, upToTotal, bodyOf, packetOf, pieces, joined}
+use Rattle.packet.specs.Packet.{totalBytes, Piece, Contents, refused, carries, contentsOf, packetOf, pieces, joined}
 use Rattle.packet.specs.Reading.{Found, starts, ends, nowhere, findIn, nextFound, nextIn, nextOf}
 use Rattle.packet.specs.Inner.{sizeIn, judged, totalOf, Reached}
 use Rattle.packet.specs.declared.Next.{Next}
 use Rattle.packet.specs.declared.Next.the-variants.{Message as Given, End, Refused}
-use Rattle.packet.specs.declared.Verdict.{Verdict}
 use Rattle.packet.specs.declared.Verdict.the-variants.{Accepted as Good, Refused as Bad}
 use Rattle.packet.proofs.Parts.{carried-only, carried-joined}
 use Rattle.packet.proofs.ContentsLaws.{contents-empty, First, its-first, its-list, here, read-part, found-here}

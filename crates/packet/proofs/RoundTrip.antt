@@ -1,12 +1,12 @@
 -- What is packed is read as the messages that were packed, and an accepted packet's messages, packed again, are the same bytes.
-use Prim.Native.Nat.{ℕ, _+_, _<_, _≤_, _-_}
+use Prim.Native.Nat.{ℕ, _+_, _≤_}
 use native.Mathlib.Omega.{arith}
 use mathlib.Core.Path.{_≡_, refl, sym, ap, _∙_}
 use mathlib.Core.Bool.{true}
-use mathlib.Core.List.{List, [], _∷_, _++_, append-assoc, append-nil}
+use mathlib.Core.List.{List, [], _∷_, _++_, append-nil}
 use lib.Dec.{ltb}
 use lib.ListN.{length, take, drop, length-append, length-drop, take-append-drop}
-use lib.Seq.{sets, sets-eq, take-at, drop-at, take-length, take-take, length-take-le, drop-append-seam}
+use lib.Seq.{sets, sets-eq, take-at, take-length, take-take, length-take-le, drop-append-seam}
 use borrow.Author.Tests.{le-ltb, ltb-false}
 use Rattle.ids.specs.Choice.{if_then_else_}
 use Rattle.ids.specs.Limits.{maxServers}
@@ -14,14 +14,14 @@ use Rattle.ids.specs.Lists.{every}
 use Rattle.ids.specs.declared.Refusal.{Refusal}
 use Rattle.ids.specs.declared.Refusal.the-variants.{PacketMalformed, RoomShort}
 use Rattle.ids.proofs.Choice.{both, passed}
-use Rattle.wire.specs.Bytes.{number, littleEndian}
-use Rattle.wire.specs.Format.{valid, bytesOf, sizeOf, bytesOfAll, sizeOfAll}
+use Rattle.wire.specs.Bytes.{littleEndian}
+use Rattle.wire.specs.Format.{valid, bytesOf, bytesOfAll, sizeOfAll}
 use Rattle.wire.specs.Calls.{readOf}
 use Rattle.wire.specs.declared.Message.{Message}
 use Rattle.wire.specs.declared.Parsed.the-variants.{Accepted}
 use Rattle.wire.specs.declared.Written.{Written}
 use Rattle.wire.specs.declared.Written.the-variants.{Bytes, Refused}
-use Rattle.wire.proofs.BytesLaws.{AllBytes, none, more, bytes-drop, length-littleEndian, number-littleEndian, littleEndian-number}
+use Rattle.wire.proofs.BytesLaws.{AllBytes, none, more, bytes-drop, number-littleEndian, littleEndian-number}
 use Rattle.wire.proofs.FormatLaws.{length-bytesOf}
 use Rattle.wire.proofs.RoundTrip.{written-is-read, read-is-written}
 use Rattle.wire.proofs.Sequence.{length-bytesOfAll}

@@ -1,7 +1,7 @@
 -- The answers in document 02's numbers: each definition of an answer, said in numbers, is in the order of the refusals.
 use Prim.Native.Nat.{ℕ}
 use mathlib.Core.Path.{_≡_, refl, sym, ap, _∙_}
-use mathlib.Core.Bool.{Bool, true, false, not}
+use mathlib.Core.Bool.{not}
 use mathlib.Core.List.{List, [], _∷_}
 use mathlib.Core.Option.{Option, none, some}
 use lib.Dec.{eqb, ltb}
@@ -18,7 +18,7 @@ use Rattle.wire.specs.declared.Parsed.the-variants.{Accepted, Refused as NotRea
 use Rattle.wire.specs.declared.Written.{Written}
 use Rattle.wire.specs.declared.Written.the-variants.{Bytes, Refused as NotWritten}
 use Rattle.wire.proofs.SaysLaws.{read-said}
-use Rattle.packet.specs.Packet.{totalBytes, maxTotal, cut, Contents, refused, carries, inFront, readParts, contentsOf, framed, bodyOf, packetOf, pieces}
+use Rattle.packet.specs.Packet.{totalBytes, maxTotal, cut, Contents, refused, carries, inFront, readParts, contentsOf, framed, bodyOf, packetOf}
 use Rattle.packet.specs.Reading.{Found, starts, ends, nowhere, findIn, nextFound, nextIn, nextOf}
 use Rattle.packet.specs.Packing.{packedBytes, packIn, packOf, bufferAfter}
 use Rattle.packet.specs.Says.{nextSays, firstBad, bodyNumber, packetNumber, foundSays, packetSays, packSays}

@@ -2,14 +2,13 @@
 use Prim.Native.Nat.{ℕ, _+_, _-_, _≤_}
 use native.Mathlib.Omega.{arith}
 use mathlib.Core.Path.{_≡_, refl, sym, ap, _∙_}
-use mathlib.Core.Bool.{Bool, true, false}
+use mathlib.Core.Bool.{true, false}
 use mathlib.Core.List.{List, [], _∷_, _++_}
 use mathlib.Core.Logic.{⊎-elim}
 use lib.Dec.{eqb}
 use lib.ListN.{length, take, drop, length-append, length-drop, take-append-drop}
 use lib.Seq.{take-append-seam, drop-append-add, drop-append-le, take-append-le, drop-drop, length-take-le}
 use borrow.Author.Tests.{eqb-true}
-use Rattle.ids.specs.Choice.{if_then_else_}
 use Rattle.ids.specs.declared.Refusal.{Refusal}
 use Rattle.ids.specs.declared.Refusal.the-variants.{PacketMalformed}
 use Rattle.ids.proofs.Choice.{decided}
@@ -17,12 +16,12 @@ use Rattle.wire.specs.Calls.{readOf}
 use Rattle.wire.specs.declared.Message.{Message}
 use Rattle.wire.specs.declared.Parsed.the-variants.{Accepted}
 use Rattle.packet.specs.Packet.{totalBytes, Piece, Contents, refused, carries, contentsOf, totalIn, framed, upToTotal, bodyOf, packetOf, pieces, joined}
-use Rattle.packet.specs.Reading.{Found, starts, ends, nowhere, findIn, foundIn, nextFound, nextIn, nextOf, partFound, partOf}
+use Rattle.packet.specs.Reading.{Found, starts, ends, nowhere, findIn, nextFound, nextIn, nextOf, partFound, partOf}
 use Rattle.packet.specs.declared.Next.{Next}
 use Rattle.packet.specs.declared.Next.the-variants.{Message as Given, End, Refused}
 use Rattle.packet.specs.Parts.{Carries, done, next}
 use Rattle.packet.proofs.Parts.{carried-only, carried-joined}
-use Rattle.packet.proofs.TotalLaws.{Framed, is-framed}
+use Rattle.packet.proofs.TotalLaws.{is-framed}
 
 -- a message found among those that stand from place `from` on: where its part stands in the parts joined
 pub record Stands (from : ℕ) (ps : List Piece) (at : ℕ) (p : Piece) : Type 0 where

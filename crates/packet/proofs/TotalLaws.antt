@@ -1,15 +1,13 @@
 -- A packet's total: what the first two bytes say, where they count themselves and no more bytes than there are.
 use Prim.Native.Nat.{ℕ, _+_, _*_, _<_, _≤_}
 use native.Mathlib.Omega.{arith}
-use mathlib.Core.Path.{_≡_, refl, sym, _∙_}
+use mathlib.Core.Path.{_≡_, sym, _∙_}
 use mathlib.Core.Bool.{true, false}
 use mathlib.Core.List.{List}
 use mathlib.Core.Logic.{⊎-elim}
-use lib.ListN.{length, getD, take, drop}
+use lib.ListN.{length, getD}
 use borrow.Author.Tests.{leb-true, le-leb}
-use Rattle.ids.specs.Choice.{if_then_else_}
 use Rattle.ids.proofs.Choice.{both, decided, clash}
-use Rattle.wire.specs.Bytes.{number}
 use Rattle.wire.proofs.BytesLaws.{number-two}
 use Rattle.packet.specs.Packet.{totalBytes, totalIn, framed}
 use Rattle.packet.specs.Inner.{totalOf}

@@ -1,18 +1,17 @@
 -- The walk: one part at a time, whatever the count of parts that `cutInto` is given, and where it stops.
 use Prim.Native.Nat.{ℕ, zero, suc, _+_, _*_, _-_, _<_, _≤_}
 use native.Mathlib.Omega.{arith}
-use mathlib.Core.Path.{_≡_, refl, sym, ap, _∙_}
-use mathlib.Core.Bool.{Bool, true, false, _&&_}
-use mathlib.Core.List.{List, [], _∷_}
+use mathlib.Core.Path.{_≡_, refl, sym, _∙_}
+use mathlib.Core.Bool.{true, false}
+use mathlib.Core.List.{List, []}
 use mathlib.Core.Logic.{⊎-elim}
 use mathlib.Core.Option.{Option, none, some}
-use lib.Dec.{eqb, leb}
+use lib.Dec.{eqb}
 use lib.ListN.{length, getD, take, drop, length-drop}
-use lib.Seq.{drop-drop, length-take-le}
-use borrow.Author.Tests.{eqb-true, eqb-false, eq-eqb, ne-eqb, leb-true, leb-false, le-leb, lt-leb}
-use Rattle.ids.specs.Choice.{if_then_else_, maybe}
+use lib.Seq.{drop-drop}
+use borrow.Author.Tests.{eqb-true, eqb-false, eq-eqb, ne-eqb, leb-true, le-leb}
+use Rattle.ids.specs.Choice.{maybe}
 use Rattle.ids.proofs.Choice.{both, decided, clash}
-use Rattle.wire.specs.Bytes.{number}
 use Rattle.wire.specs.Format.{lengthIn}
 use Rattle.wire.proofs.BytesLaws.{number-two}
 use Rattle.wire.proofs.FormatLaws.{length-in}

@@ -2,22 +2,18 @@
 use Prim.Native.Nat.{ℕ, _+_, _<_}
 use native.Mathlib.Omega.{arith}
 use mathlib.Core.Path.{_≡_, refl, sym, ap, _∙_}
-use mathlib.Core.Bool.{false, true}
 use mathlib.Core.List.{List, [], _∷_, _++_, append-assoc, append-nil}
-use lib.Dec.{eqb}
 use lib.ListN.{length, length-append}
 use borrow.Author.Tests.{eq-eqb, ne-eqb}
-use Rattle.ids.specs.Choice.{if_then_else_}
 use Rattle.ids.specs.declared.Refusal.{Refusal}
-use Rattle.ids.specs.declared.Refusal.the-variants.{PacketMalformed}
 use Rattle.wire.specs.declared.Message.{Message}
-use Rattle.packet.specs.Packet.{totalBytes, Piece, Contents, refused, carries, contentsOf, bodyOf, packetOf, pieces, joined}
-use Rattle.packet.specs.Reading.{Found, starts, ends, nowhere, findIn, nextFound, nextIn, nextOf, partFound, partOf, ReadFrom, ended, gave}
+use Rattle.packet.specs.Packet.{totalBytes, Piece, Contents, refused, carries, bodyOf, packetOf, joined}
+use Rattle.packet.specs.Reading.{Found, starts, ends, findIn, nextFound, nextIn, nextOf, partFound, partOf, ReadFrom, ended, gave}
 use Rattle.packet.specs.declared.Next.{Next}
 use Rattle.packet.specs.declared.Next.the-variants.{Message as Given, End, Refused}
 use Rattle.packet.specs.Parts.{Carries, done, next}
 use Rattle.packet.proofs.Parts.{read-part, carried-only, carried-joined}
-use Rattle.packet.proofs.Shown.{Shows, shows, accepted-framed}
+use Rattle.packet.proofs.Shown.{accepted-framed}
 
 -- parts that have a byte at least
 data Long : List Piece → Type 0 where

@@ -3,7 +3,6 @@ use Prim.Native.Nat.{ℕ, _≤_}
 use mathlib.Core.Path.{_≡_}
 use mathlib.Core.Bool.{Bool, true, false}
 use mathlib.Core.List.{List}
-use mathlib.Core.Option.{Option, none, some}
 use lib.ListN.{length, drop}
 use Rattle.ids.specs.Choice.{if_then_else_, maybe}
 use Rattle.wire.specs.Format.{lengthIn}

@@ -1,11 +1,11 @@
 -- What an accepted step wrote is packed without a refusal but 6: every number in it is in range, and it is far shorter than a packet may be.
 use Prim.Native.Nat.{ℕ, _+_, _*_, _≤_}
 use native.Mathlib.Omega.{arith}
-use mathlib.Core.Path.{_≡_, refl, sym, ap, _∙_}
-use mathlib.Core.Bool.{Bool, true, false, not, _&&_}
+use mathlib.Core.Path.{_≡_, refl}
+use mathlib.Core.Bool.{Bool, true, false, not}
 use mathlib.Core.List.{List, _++_}
 use lib.Dec.{eqb, ltb, leb}
-use lib.ListN.{length, take, drop}
+use lib.ListN.{length, drop}
 use lib.Seq.{sets, sets-eq, take-at}
 use borrow.Author.Tests.{eqb-true, leb-true, le-leb, ltb-false, not-false}
 use Rattle.ids.specs.Choice.{if_then_else_}
@@ -17,16 +17,14 @@ use Rattle.ids.specs.declared.ServerId.{ServerId}
 use Rattle.ids.specs.declared.Timestamp.{Timestamp}
 use Rattle.ids.specs.declared.Owner.{Owner}
 use Rattle.ids.specs.declared.Owner.the-variants.{Nobody, Of}
-use Rattle.ids.specs.declared.Refusal.{Refusal}
 use Rattle.ids.specs.declared.Refusal.the-variants.{InvalidRecord, NumberOutOfRange, RoomShort, WrongSection, TimestampsSpent, NotForClient, NotForServer, QueueFull, NoOwner}
 use Rattle.ids.proofs.Choice.{both, passed}
 use Rattle.ids.proofs.LimitsLaws.{within-range, stamped-request}
 use Rattle.wire.specs.Format as format
-use Rattle.wire.specs.Format.{messageBytes, bytesOfAll, sizeOfAll}
+use Rattle.wire.specs.Format.{bytesOfAll, sizeOfAll}
 use Rattle.wire.specs.Step.{Step, Outcome, refused, stepped, withRoom, sentInto}
 use Rattle.wire.specs.declared.Message.{Message}
 use Rattle.wire.specs.declared.Message.the-variants.{Request, Yield, Release, Inquiry, Response, Check}
-use Rattle.wire.specs.declared.Written.the-variants.{Bytes, Refused}
 use Rattle.wire.proofs.Sequence.{length-bytesOfAll}
 use Rattle.client_responses.specs.Figure1 as client-figure
 use Rattle.client.specs.Record as client

@@ -1,5 +1,5 @@
 -- `packet::judge` meets its contract: the walk decides first.
-use mathlib.Core.Path.{sym, ap, _∙_}
+use mathlib.Core.Path.{sym, ap}
 use Rattle.ids.proofs.Choice.{fails, holds}
 use Rattle.packet.specs.Inner.{judged}
 use Rattle.packet.proofs.ContentsLaws.{contents-broken}
