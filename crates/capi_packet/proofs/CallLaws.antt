@@ -8,7 +8,7 @@ use lib.ListN.{length}
 use lib.Seq.{sets}
 use borrow.Author.Tests.{lt-ltb, le-ltb}
 use Rattle.ids.specs.Choice.{if_then_else_}
-use Rattle.ids.specs.Limits.{maxServers}
+use Rattle.ids.specs.Limits.{maxServers, maxShort}
 use Rattle.ids.specs.Refusals.{code}
 use Rattle.ids.specs.declared.Refusal.{Refusal}
 use Rattle.ids.specs.declared.Refusal.the-variants.{RoomShort}
@@ -56,7 +56,7 @@ module _ (s : List ℕ) (at : ℕ) (m : Message) (next : ℕ) (g : nextOf s at �
   pub place-order : at ≤ next
   place-order = shows s at m next g .order
 
-  pub used-small : next - at < 65536
+  pub used-small : next - at ≤ maxShort
   used-small =
       let w = shows s at m next g in
       let t = took maxServers (partOf s at) m (length (partOf s at)) (w .read) in

@@ -9,3 +9,4 @@ pub mod PackLaws
 pub mod Whole
 pub mod Behind
 pub mod RoundTrip
+pub mod Numbers

@@ -89,7 +89,7 @@ read-part p m r =
     let t = took maxServers p m (length p) r in
     record { least = omega (arith, t .used, at-least (kindIn p)); is = t .claimed ∙ t .used }
 
-never : (x : Refusal) (ps : List Piece) → _≡_ {A = Contents} (refused x) (carries ps) → ⊥
+pub never : (x : Refusal) (ps : List Piece) → _≡_ {A = Contents} (refused x) (carries ps) → ⊥
 never x ps h = let z : _≡_ {A = ℕ} 0 1 = cc in omega arith
 
 first-carried : (p : List ℕ) (q : Parsed) (rest : Contents) (ps : List Piece) → inFront p q rest ≡ carries ps

@@ -20,7 +20,7 @@ use Rattle.packet.specs.Reading.{Found, starts, ends, nowhere, findIn, n
 use Rattle.packet.specs.declared.Next.{Next}
 use Rattle.packet.specs.declared.Next.the-variants.{Message as Given, End, Refused}
 use Rattle.packet.specs.Parts.{Carries, done, next}
-use Rattle.packet.proofs.Parts.{carried-only, carried-joined}
+use Rattle.packet.proofs.Parts.{never, carried-only, carried-joined}
 use Rattle.packet.proofs.TotalLaws.{is-framed}
 
 -- a message found among those that stand from place `from` on: where its part stands in the parts joined
@@ -95,14 +95,11 @@ pub record Shows (s : List ℕ) (at : ℕ) (m : Message) (next : ℕ) : Type 0 w
   pub read : readOf (partOf s at) ≡ Accepted m (length (partOf s at))
   pub found : findIn totalBytes carried at ≡ starts (record { message = m; part = partOf s at })
 
-refused-not-carried : (x : Refusal) (ps : List Piece) → _≡_ {A = Contents} (refused x) (carries ps) → ⊥
-refused-not-carried x ps h = let z : _≡_ {A = ℕ} 0 1 = cc in omega arith
-
 -- an accepted packet has its total, and its messages stand behind it
 pub accepted-framed : (s : List ℕ) (ps : List Piece) → packetOf s ≡ carries ps → (framed s ≡ true) × (contentsOf (bodyOf s) ≡ carries ps)
 unfolding packetOf
 accepted-framed s ps h =
-    ⊎-elim (λ (f : framed s ≡ true). (f, rw f at h)) (λ (f : framed s ≡ false). absurd (refused-not-carried PacketMalformed ps (rw f at h)))
+    ⊎-elim (λ (f : framed s ≡ true). (f, rw f at h)) (λ (f : framed s ≡ false). absurd (never PacketMalformed ps (rw f at h)))
     (decided (framed s))
 
 module _ (s : List ℕ) (at : ℕ) (m : Message) (next : ℕ) where

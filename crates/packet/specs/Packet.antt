@@ -8,7 +8,7 @@ use lib.ListN.{length, take, drop}
 use Rattle.ids.specs.Choice.{if_then_else_, maybe}
 use Rattle.ids.specs.Limits.{maxShort}
 use Rattle.ids.specs.declared.Refusal.{Refusal}
-use Rattle.ids.specs.declared.Refusal.the-variants.{PacketMalformed}
+use Rattle.ids.specs.declared.Refusal.the-variants.{PacketMalformed, KindUnknown, LengthWrong, NumberOutOfRange}
 use Rattle.wire.specs.Bytes.{number}
 use Rattle.wire.specs.Format.{lengthIn}
 use Rattle.wire.specs.Calls.{readOf}
@@ -103,3 +103,10 @@ joined (p ∷ ps) = p .part ++ joined ps
 unfoldable pub messages : List Piece → List Message
 messages [] = []
 messages (p ∷ ps) = p .message ∷ messages ps
+
+-- the refusals that a packet can have, for its total, its walk or a place in it and for a bad message: 22, 2, 3, 5
+pub data Told : Refusal → Type 0 where
+  malformed : Told PacketMalformed
+  kind : Told KindUnknown
+  wrong : Told LengthWrong
+  range : Told NumberOutOfRange
