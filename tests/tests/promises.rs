@@ -103,7 +103,8 @@ fn the_table_of_wrong_answers_names_the_edits() {
     let missing: Vec<&String> = named.difference(&there).collect();
     let unnamed: Vec<&String> = there.difference(&named).collect();
     assert!(missing.is_empty() && unnamed.is_empty(), "named and not there: {missing:?}; there and not named: {unnamed:?}");
-    assert!((100..=120).contains(&there.len()), "{}", there.len());
+    let requests = fs::read_dir(root().join("docs/changes")).expect("the notes of the change requests").count();
+    assert!((100..=120 + 10 * requests).contains(&there.len()), "{}", there.len());
 }
 
 #[test]
