@@ -192,7 +192,14 @@ pub fn part_at(packet: &[u8], at: usize) -> &[u8]
     part_of(packet, at, next_at(packet, at))
 }
 
-// A reader that stands on a lent packet, at the place of its next message. It holds the packet's slice and copies nothing.
+// A reader that stands on a lent packet, at the place of its next message. It holds the packet's slice and copies nothing:
+//
+//     let given = reader.next();
+//     match given.next {
+//         Next::Message(m, behind) => { .. m .. given.part .. reader = reader.moved(behind); }
+//         Next::End => ..
+//         Next::Refused(e) => ..
+//     }
 pub struct Reader<'a> {
     pub packet: &'a [u8],
     pub at: usize,

@@ -284,7 +284,9 @@ impl Place {
         let said = match refused.first() {
             _ if !made || defined != Some(0) => "BAD EDIT".to_string(),
             None => "NOT REFUSED".to_string(),
-            Some(_) if !judged || !refused.iter().all(|refusal| refusal.starts_with("proofs/")) => "REFUSED FOR SOMETHING ELSE".to_string(),
+            Some(_) if !judged || !refused.iter().all(|refusal| refusal.starts_with("proofs/")) => {
+                "REFUSED FOR SOMETHING ELSE".to_string()
+            }
             Some(refusal) if SHAPE.iter().any(|words| refusal.contains(words)) => "SHOWS NOTHING".to_string(),
             Some(refusal) => format!("refused, as it must be (first at {})", refusal.split(": ").next().unwrap_or_default()),
         };

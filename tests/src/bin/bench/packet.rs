@@ -43,13 +43,11 @@ fn read_all(next: fn(&[u8], usize, &mut [u32]) -> u32, packet: &[u8]) -> u64 {
 pub fn run() {
     let bytes = round();
     let (mut out, mut other) = (vec![0; LENGTH], vec![0; LENGTH]);
-    for (name, count) in [("pack 255 messages", PACKED), ("pack 255 messages, each of them", PACKED * MESSAGES)] {
-        let mut ours = || pack_all(library::packet_pack, &bytes, &mut out);
-        compare(name, count, &mut ours, &mut || pack_all(packet::pack, &bytes, &mut other));
-    }
+    compare("pack 255 messages", PACKED, &mut || pack_all(library::packet_pack, &bytes, &mut out), &mut || {
+        pack_all(packet::pack, &bytes, &mut other)
+    });
     assert!(out == other, "the same packet");
-    for (name, count) in [("read a packet of 255 messages to its end", READ), ("each of its 256 calls", READ * CALLS)] {
-        let mut ours = || read_all(library::packet_next, &out);
-        compare(name, count, &mut ours, &mut || read_all(packet::next, &other));
-    }
+    compare("read a packet of 255 messages to its end", READ, &mut || read_all(library::packet_next, &out), &mut || {
+        read_all(packet::next, &other)
+    });
 }
