@@ -40,9 +40,9 @@ uint32_t sigma_read(const uint8_t *bytes, size_t bytes_len, uint32_t *words, siz
  * Refusals: 5 not five words, or a number out of range, 6 room short. */
 uint32_t sigma_write(const uint32_t *words, size_t words_len, uint8_t *out, size_t out_len);
 
-/* A packet is its length, the total, in two bytes, little-endian, then messages one after another: all that a step sends, in one
- * piece. Places are counted in the packet: the first message starts at 2, and the packet ends at its total. What a step wrote is
- * packed, and a packet read to its end, by
+/* A packet is two bytes, little-endian, with the packet's whole length, these two counted (its total), then messages one after
+ * another: all that a step sends, in one piece. Places are counted in the packet: the first message starts at 2, and the packet ends
+ * at its total. What a step wrote is packed, and a packet read to its end, by
  *
  *     refusal = sigma_packet_pack(out, sent[1], packet, sizeof packet);
  *     for (at = SIGMA_PACKET_FIRST; refusal == 0; at += words[5]) {
@@ -53,15 +53,16 @@ uint32_t sigma_write(const uint32_t *words, size_t words_len, uint8_t *out, size
  *
  * where `deliver` takes a message's words and the part of the packet that it came from, words[5] bytes long. */
 enum {
-    SIGMA_PACKET_FIRST = 2,
-    SIGMA_PACKET_MAX = 65535
+    SIGMA_PACKET_FIRST = 2,    /* the place of the first message */
+    SIGMA_PACKET_MAX = 65535   /* the largest total */
 };
 
 /* Reads the message that starts at place `at`, into the first six words: its five, and the bytes it took; or six times 0 where the
- * packet ends. Each call judges the whole packet, so that no message of it is given unless all can be read; the bytes behind the
- * total are not looked at. Refusals: 22 under 2 bytes, a total under 2 or above the bytes lent, or messages that, walked by length
- * fields of at least 4, do not end exactly at it; 2, 3 or 5 of the first message that cannot be read; 22 no message starts at `at`,
- * and the packet does not end there; 6 fewer than six words lent. */
+ * packet ends. Each call judges the whole packet, so that no message of it is given unless all can be read: to read p messages to
+ * the end is to judge the packet p + 1 times. Bytes behind the packet are not looked at.
+ * Refusals: 22 under 2 bytes, a total under 2 or above the bytes lent, or messages that, walked by length fields of at least 4, do
+ * not end exactly at it; 2, 3 or 5 of the first message that cannot be read; 22 no message starts at `at`, and the packet does not
+ * end there; 6 fewer than six words lent. */
 uint32_t sigma_packet_next(const uint8_t *packet, size_t packet_len, size_t at, uint32_t *words, size_t words_len);
 
 /* Writes the total and then the bytes, which are messages one after another or none, at the start of `out`; the bytes behind the

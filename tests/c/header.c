@@ -130,7 +130,7 @@ static void in_a_struct(void)
     expect(sigma_host_check(&host, host_out, sizeof host_out) == 21 && host.queue_length == SIGMA_QUEUE_PLACES + 1, "a broken struct");
 }
 
-/* Client 5 needs all of 31 servers. The last one's owner is client 2, which comes before it, and so client 5 yields the 30 others. */
+/* Client 5 needs all of 31 servers. The last one's owner is client 2, whose request comes before client 5's, which so yields the 30 others. */
 enum { ROUND = 31 };
 
 static uint32_t delivered = 0;

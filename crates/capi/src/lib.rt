@@ -30,6 +30,7 @@ use words::Crossed;
 // The words that a message that was read is given in: its five, and the bytes it took.
 pub const READ_WORDS: usize = 6;
 
+// A message's words and the bytes it took, at the start of words that have room for them. For `sigma_read` and `capi_packet`, which test that.
 pub fn put_words(words: &mut [u32], f: Fields, used: u32)
     requires { ⌜ readSize ≤ length (now words) ⌝ }
     ensures { λ _. ⌜ now (words .exit) ≡ sets (now (words .entry)) 0 (wordsOf f ++ used ∷ []) ⌝ }

@@ -7,12 +7,12 @@ use lib.ListN.{length}
 use Rattle.wire.specs.Calls.{readOf}
 use Rattle.wire.specs.declared.Message.{Message}
 use Rattle.packet.specs.Reading.{nextOf, partOf}
-use Rattle.packet.specs.declared.Next.the-variants.{Message as Given}
+use Rattle.packet.specs.declared.Next.the-variants.{Message as Gave}
 use Rattle.packet.proofs.Shown.{shows}
 use Rattle.capi.specs.Calls.{readCode, readWords}
 use Rattle.capi_packet.specs.Calls.{nextCode, nextWords}
 
-module _ (s : List ℕ) (at : ℕ) (m : Message) (next : ℕ) (g : nextOf s at ≡ Given m next) (ws : List ℕ) where
+module _ (s : List ℕ) (at : ℕ) (m : Message) (next : ℕ) (g : nextOf s at ≡ Gave m next) (ws : List ℕ) where
   its-bytes : next - at ≡ length (partOf s at)
   its-bytes = omega (arith, shows s at m next g .long)
 

@@ -21,7 +21,7 @@ use Rattle.wire.specs.declared.Written.the-variants.{Bytes, Refused as NotPacke
 use Rattle.wire.proofs.RoundTrip.{took, short}
 use Rattle.packet.specs.Reading.{nextOf, partOf}
 use Rattle.packet.specs.declared.Next.{Next}
-use Rattle.packet.specs.declared.Next.the-variants.{Message as Given, End, Refused}
+use Rattle.packet.specs.declared.Next.the-variants.{Message as Gave, End, Refused}
 use Rattle.packet.proofs.Shown.{shows}
 use Rattle.capi.specs.Calls.{readSize, writtenCode}
 use Rattle.capi_packet.specs.Calls.{nextCode, nextWords}
@@ -42,8 +42,8 @@ module _ (s ws : List ℕ) (at : ℕ) (n : Next) (e : n ≡ nextOf s at) (r : �
   abbrev Goal : Type 0
   Goal = (r ≡ nextCode (nextOf s at) (length ws)) × (l ≡ nextWords (nextOf s at) at ws)
 
-  pub next-given : (m : Message) (next : ℕ) (f : Fields) → n ≡ Given m next → f ≡ fieldsOf m → Answers ws f (next - at) r l → Goal
-  next-given m next f g h a = let q : nextOf s at ≡ Given m next = sym e ∙ g in rw q (rw h at a)
+  pub next-given : (m : Message) (next : ℕ) (f : Fields) → n ≡ Gave m next → f ≡ fieldsOf m → Answers ws f (next - at) r l → Goal
+  next-given m next f g h a = let q : nextOf s at ≡ Gave m next = sym e ∙ g in rw q (rw h at a)
 
   pub next-end : n ≡ End → Answers ws (record { kind = 0; client = 0; server = 0; timestamp = 0; owner = 0 }) 0 r l → Goal
   next-end g a = let q : nextOf s at ≡ End = sym e ∙ g in rw q a
@@ -52,7 +52,7 @@ module _ (s ws : List ℕ) (at : ℕ) (n : Next) (e : n ≡ nextOf s at) (r : �
   next-none x g c h = let q : nextOf s at ≡ Refused x = sym e ∙ g in (rw q c, rw q h)
 
 -- a message's bytes are few
-module _ (s : List ℕ) (at : ℕ) (m : Message) (next : ℕ) (g : nextOf s at ≡ Given m next) where
+module _ (s : List ℕ) (at : ℕ) (m : Message) (next : ℕ) (g : nextOf s at ≡ Gave m next) where
   pub place-order : at ≤ next
   place-order = shows s at m next g .order
 

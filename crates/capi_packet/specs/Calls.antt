@@ -19,7 +19,7 @@ nextCode (Refused e) room = code e
 nextCode End room = if ltb room readSize then code RoomShort else 0
 nextCode (Message m next) room = if ltb room readSize then code RoomShort else 0
 
--- the words afterwards: the message's five and the bytes it has, or zeros where the packet ends; after a refusal all as found
+-- the words afterwards: the message's five and its bytes, as `sigma_read` gives them, or zeros where the packet ends; after a refusal all as found
 abbrev pub nextWords : Next → ℕ → List ℕ → List ℕ
 nextWords (Refused e) at ws = ws
 nextWords End at ws = if ltb (length ws) readSize then ws else sets ws 0 (replicate readSize 0)

@@ -1,4 +1,4 @@
--- Bytes behind a packet's total are not looked at: with any others there the packet is read as the same, at every place.
+-- Bytes behind a packet are not looked at: with any others there it is read as the same, at every place.
 use Prim.Native.Nat.{ℕ}
 use native.Mathlib.Omega.{arith}
 use mathlib.Core.Path.{_≡_, ap, _∙_}

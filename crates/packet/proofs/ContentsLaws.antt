@@ -19,7 +19,7 @@ use Rattle.wire.specs.Calls.{readOf}
 use Rattle.wire.specs.declared.Message.{Message}
 use Rattle.wire.specs.declared.Parsed.{Parsed}
 use Rattle.wire.specs.declared.Parsed.the-variants.{Accepted, Refused as NotRead}
-use Rattle.packet.specs.Packet.{fits, withFirst, cut, Piece, Contents, refused, carries, inFront, readParts, contentsOf, pieces}
+use Rattle.packet.specs.Packet.{totalBytes, fits, withFirst, cut, Piece, Contents, refused, carries, inFront, readParts, contentsOf, pieces}
 use Rattle.packet.specs.Reading.{starts, findIn}
 use Rattle.packet.specs.Inner.{sizeIn, walked, judged, Reached}
 use Rattle.packet.specs.declared.Verdict.{Verdict}
@@ -85,8 +85,8 @@ first-accepted p q m n (refused e) h = rw h
 first-accepted p q m n (carries ps) h = rw h
 
 -- the part from `at` to `at + size`, as the code lends it
-pub read-part : (s : List ℕ) (at size : ℕ) (q : Parsed) → q ≡ readOf (take (at + size - at) (drop at s)) → q ≡ readOf (take size (drop at s))
-read-part s at size q r = rw (add-sub-cancel-left at size) at r
+pub lent-part : (s : List ℕ) (at size : ℕ) (q : Parsed) → q ≡ readOf (take (at + size - at) (drop at s)) → q ≡ readOf (take size (drop at s))
+lent-part s at size q r = rw (add-sub-cancel-left at size) at r
 
 -- what `first_bad` knows at its loop's head: the walk ends with the bytes, and from `at` on they are judged as from `from` on
 pub record Judging (s : List ℕ) (from at : ℕ) : Type 0 where
@@ -110,13 +110,13 @@ module _ (s : List ℕ) (from : ℕ) where
         pub judging-more : (m : Message) (n : ℕ) → q ≡ Accepted m n → Judging s from (at + size)
         judging-more m n a =
             let p = its-part in
-            let j = first-accepted (take size (drop at s)) (readOf (take size (drop at s))) m n (contentsOf (drop (at + size) s)) (sym (read-part s at size q r) ∙ a) in
+            let j = first-accepted (take size (drop at s)) (readOf (take size (drop at s))) m n (contentsOf (drop (at + size) s)) (sym (lent-part s at size q r) ∙ a) in
             record { within = p .within; walks = p .walked-on; same = sym (ap judged (p .contents) ∙ j) ∙ inv .same }
 
         pub judging-bad : (x : Refusal) → q ≡ NotRead x → Refused x ≡ judged (contentsOf (drop from s))
         judging-bad x a =
             let p = its-part in
-            let j = first-refused (take size (drop at s)) (readOf (take size (drop at s))) x (contentsOf (drop (at + size) s)) (sym (read-part s at size q r) ∙ a) in
+            let j = first-refused (take size (drop at s)) (readOf (take size (drop at s))) x (contentsOf (drop (at + size) s)) (sym (lent-part s at size q r) ∙ a) in
             sym (ap judged (p .contents) ∙ j) ∙ inv .same
 
 -- bytes that carry messages: the walk ends with them, and the first is accepted
@@ -150,6 +150,10 @@ module _ (from : ℕ) (p : Piece) (ps : List Piece) (at : ℕ) where
   found-behind : (at ≡ from → ⊥) → findIn from (p ∷ ps) at ≡ findIn (from + length (p .part)) ps at
   unfolding findIn
   found-behind n = rw (ne-eqb at from n)
+
+-- the search begins at the first place
+pub reached-first : (s : List ℕ) (at : ℕ) → totalBytes ≤ length s → judged (contentsOf (drop totalBytes s)) ≡ Good → Reached s at totalBytes
+reached-first s at h g = record { within = h; carried = g; found = refl }
 
 -- the part that stands at a place that was reached
 module _ (s : List ℕ) (at place size : ℕ) (r : Reached s at place) (h : place < length s) (e : size ≡ sizeIn (drop place s)) where

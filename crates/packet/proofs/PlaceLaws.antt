@@ -16,10 +16,10 @@ use Rattle.packet.specs.Packet.{totalBytes, Piece, Contents, refused, ca
 use Rattle.packet.specs.Reading.{Found, starts, ends, nowhere, findIn, nextFound, nextIn, nextOf}
 use Rattle.packet.specs.Inner.{sizeIn, judged, totalOf, Reached}
 use Rattle.packet.specs.declared.Next.{Next}
-use Rattle.packet.specs.declared.Next.the-variants.{Message as Given, End, Refused}
+use Rattle.packet.specs.declared.Next.the-variants.{Message as Gave, End, Refused}
 use Rattle.packet.specs.declared.Verdict.the-variants.{Accepted as Good, Refused as Bad}
 use Rattle.packet.proofs.Parts.{carried-only, carried-joined}
-use Rattle.packet.proofs.ContentsLaws.{contents-empty, First, its-first, its-list, here, read-part, found-here}
+use Rattle.packet.proofs.ContentsLaws.{contents-empty, First, its-first, its-list, here, lent-part, found-here}
 use Rattle.packet.proofs.TotalLaws.{is-framed, total-zero, total-some}
 
 -- in front of the first of them, and behind the last, nothing is found
@@ -48,51 +48,48 @@ module _ (s : List ℕ) (at : ℕ) where
   abbrev answer : Next
   answer = nextFound at (findIn totalBytes (pieces (contentsOf (drop totalBytes s))) at)
 
-  pub place-past : Reached s at totalBytes → length s < at → Refused PacketMalformed ≡ answer
-  place-past r h =
+  pub place-past : totalBytes ≤ length s → judged (contentsOf (drop totalBytes s)) ≡ Good → length s < at → Refused PacketMalformed ≡ answer
+  place-past two good h =
       let b : List ℕ = drop totalBytes s in
-      let j : joined (pieces (contentsOf b)) ≡ b = carried-joined b (pieces (contentsOf b)) (carried-only b (pieces (contentsOf b)) (good-carries (contentsOf b) (r .carried))) in
+      let j : joined (pieces (contentsOf b)) ≡ b = carried-joined b (pieces (contentsOf b)) (carried-only b (pieces (contentsOf b)) (good-carries (contentsOf b) good)) in
       let l : length (joined (pieces (contentsOf b))) ≡ length b = ap length j in
-      sym (ap (nextFound at) (found-past totalBytes (pieces (contentsOf b)) at (omega (arith, l, length-drop totalBytes s, r .within))))
+      sym (ap (nextFound at) (found-past totalBytes (pieces (contentsOf b)) at (omega (arith, l, length-drop totalBytes s))))
 
-  module _ (place : ℕ) (reached : at ≤ place) (r : Reached s at place) where
+  module _ (place : ℕ) (r : Reached s at place) where
     to-answer : (f : Found) → findIn place (pieces (contentsOf (drop place s))) at ≡ f → nextFound at f ≡ answer
     to-answer f e = ap (nextFound at) (sym e ∙ r .found)
 
-    pub place-between : (place ≡ at → ⊥) → Refused PacketMalformed ≡ answer
-    place-between n = to-answer nowhere (found-before place (pieces (contentsOf (drop place s))) at (omega (arith, n)))
+    pub place-between : at ≤ place → (place ≡ at → ⊥) → Refused PacketMalformed ≡ answer
+    place-between h n = to-answer nowhere (found-before place (pieces (contentsOf (drop place s))) at (omega (arith, n)))
 
     module _ (there : place ≡ at) where
-      pub here-reached : Reached s at at
-      here-reached = rw there at r
-
-      pub place-end : at ≡ length s → End ≡ answer
+      pub place-end : place ≡ length s → End ≡ answer
       unfolding findIn
       place-end e =
           to-answer ends (rw (contents-empty (drop place s) (omega (arith, length-drop place s)), eq-eqb at place (sym there)))
 
-  -- a message starts there
-  module _ (size : ℕ) (r : Reached s at at) (h : at < length s) (e : size ≡ sizeIn (drop at s)) where
-    abbrev its-message : First (take size (drop at s)) (readOf (take size (drop at s))) (contentsOf (drop (at + size) s))
-    its-message = its-first s at at size r h e
+      -- a message starts there
+      module _ (size : ℕ) (h : place < length s) (e : size ≡ sizeIn (drop place s)) where
+        abbrev its-message : First (take size (drop place s)) (readOf (take size (drop place s))) (contentsOf (drop (place + size) s))
+        its-message = its-first s at place size r h e
 
-    its-answer : Given (its-message .message) (at + size) ≡ answer
-    its-answer =
-        let l = here s at at size r h e .long in
-        let p : Piece = record { message = its-message .message; part = take size (drop at s) } in
-        let rest : List Piece = pieces (contentsOf (drop (at + size) s)) in
-        let f : findIn at (pieces (contentsOf (drop at s))) at ≡ starts p = ap (λ ps. findIn at ps at) (its-list s at at size r h e) ∙ found-here at p rest at refl in
-        rw l at (ap (nextFound at) (sym f ∙ r .found))
+        its-answer : Gave (its-message .message) (place + size) ≡ answer
+        its-answer =
+            let l : at + length (take size (drop place s)) ≡ place + size = omega (arith, here s at place size r h e .long) in
+            let p : Piece = record { message = its-message .message; part = take size (drop place s) } in
+            let rest : List Piece = pieces (contentsOf (drop (place + size) s)) in
+            let f : findIn place (pieces (contentsOf (drop place s))) at ≡ starts p = ap (λ ps. findIn place ps at) (its-list s at place size r h e) ∙ found-here place p rest at (sym there) in
+            rw l at (to-answer (starts p) f)
 
-    module _ (q : Parsed) (read : q ≡ readOf (take (at + size - at) (drop at s))) where
-      read-here : q ≡ Accepted (its-message .message) (its-message .used)
-      read-here = read-part s at size q read ∙ its-message .read
+        module _ (q : Parsed) (read : q ≡ readOf (take (place + size - place) (drop place s))) where
+          read-here : q ≡ Accepted (its-message .message) (its-message .used)
+          read-here = lent-part s place size q read ∙ its-message .read
 
-      pub place-message : (m : Message) (n : ℕ) → q ≡ Accepted m n → Given m (at + size) ≡ answer
-      place-message m n a = let g = read-here in let k : its-message .message ≡ m = cc in rw k at its-answer
+          pub place-message : (m : Message) (n : ℕ) → q ≡ Accepted m n → Gave m (place + size) ≡ answer
+          place-message m n a = let g = read-here in let k : its-message .message ≡ m = cc in rw k at its-answer
 
-      pub place-bad : (x : Refusal) → q ≡ NotRead x → Refused x ≡ answer
-      place-bad x a = let g = read-here in let z : _≡_ {A = ℕ} 0 1 = cc in absurd (omega arith)
+          pub place-bad : (x : Refusal) → q ≡ NotRead x → Refused x ≡ answer
+          place-bad x a = let g = read-here in let z : _≡_ {A = ℕ} 0 1 = cc in absurd (omega arith)
 
 -- what `next_at` answers, from the total and the judgement of what stands behind it
 module _ (s : List ℕ) (at : ℕ) where
@@ -123,8 +120,8 @@ module _ (s : List ℕ) (at : ℕ) where
     next-refused x h = rw (its-packet, bad-refused (contentsOf (drop totalBytes whole)) x (sym h))
 
     module _ (good : Good ≡ judged (contentsOf (drop totalBytes whole))) where
-      pub next-reached : Reached whole at totalBytes
-      next-reached = record { within = omega (arith, its-length .0, its-length .2); carried = sym good; found = refl }
+      pub next-carried : (totalBytes ≤ length whole) × (judged (contentsOf (drop totalBytes whole)) ≡ Good)
+      next-carried = (omega (arith, its-length .0, its-length .2), sym good)
 
       pub next-found : (r : Next) → r ≡ nextFound at (findIn totalBytes (pieces (contentsOf (drop totalBytes whole))) at) → r ≡ nextOf s at
       unfolding nextOf

@@ -8,13 +8,12 @@ use lib.Dec.{ltb}
 use lib.ListN.{length, take, drop, length-append, length-drop, take-append-drop}
 use lib.Seq.{sets, sets-eq, take-at, take-length, take-take, length-take-le, drop-append-seam}
 use borrow.Author.Tests.{le-ltb, ltb-false}
-use Rattle.ids.specs.Choice.{if_then_else_}
 use Rattle.ids.specs.Limits.{maxServers}
 use Rattle.ids.specs.Lists.{every}
 use Rattle.ids.specs.declared.Refusal.{Refusal}
 use Rattle.ids.specs.declared.Refusal.the-variants.{PacketMalformed, RoomShort}
 use Rattle.ids.proofs.Choice.{both, passed}
-use Rattle.wire.specs.Bytes.{littleEndian}
+use Rattle.wire.specs.Bytes.{littleEndian, number}
 use Rattle.wire.specs.Format.{valid, bytesOf, bytesOfAll, sizeOfAll}
 use Rattle.wire.specs.Calls.{readOf}
 use Rattle.wire.specs.declared.Message.{Message}
@@ -26,11 +25,11 @@ use Rattle.wire.proofs.FormatLaws.{length-bytesOf}
 use Rattle.wire.proofs.RoundTrip.{written-is-read, read-is-written}
 use Rattle.wire.proofs.Sequence.{length-bytesOfAll}
 use Rattle.packet.specs.Packet.{totalBytes, maxTotal, Piece, Contents, refused, carries, contentsOf, totalIn, framed, upToTotal, bodyOf, packetOf, messages}
-use Rattle.packet.specs.Packing.{piecesOf, packedBytes, packed, packIn, packOf, bufferAfter}
+use Rattle.packet.specs.Packing.{piecesOf, packedBytes, packed, byRoom, packIn, packOf, bufferAfter}
 use Rattle.packet.specs.Parts.{Carries, done, next}
-use Rattle.packet.proofs.Parts.{carried-only, carried-all}
+use Rattle.packet.proofs.Parts.{carried-all}
 use Rattle.packet.proofs.TotalLaws.{is-framed, to-framed}
-use Rattle.packet.proofs.Shown.{accepted-framed}
+use Rattle.packet.proofs.Shown.{accepted-framed, accepted-carries}
 
 -- a packet, whatever stands behind it, is read as its bytes are
 module _ (bytes t : List ℕ) (short : packedBytes bytes ≤ maxTotal) where
@@ -102,7 +101,7 @@ messages-carried ms v = carried-all (bytesOfAll ms) (piecesOf ms) (carried-messa
 
 -- so they are packed wherever there is room for them, and read again
 module _ (ms : List Message) (v : every valid ms ≡ true) (short : totalBytes + sizeOfAll ms ≤ maxTotal) where
-  pub messages-packed : (room : ℕ) → packOf (bytesOfAll ms) room ≡ (if ltb room (totalBytes + sizeOfAll ms) then Refused RoomShort else Bytes (totalBytes + sizeOfAll ms))
+  pub messages-packed : (room : ℕ) → packOf (bytesOfAll ms) room ≡ byRoom (totalBytes + sizeOfAll ms) room
   unfolding packOf
   messages-packed room =
       let l = length-bytesOfAll ms in
@@ -127,13 +126,19 @@ written-again whole all (next {m} {p} {s} {ps} r c) h =
     let b : AllBytes s = rw (drop-append-seam p s) at (bytes-drop (length p) h) in
     rw (a, written-again s ps c b)
 
+-- a total is a number of two bytes
+two-small : (s : List ℕ) → AllBytes s → number (take totalBytes s) ≤ maxTotal
+two-small s none = omega arith
+two-small s (more b none) = omega arith
+two-small s (more b (more c h)) = omega arith
+
 module _ (s : List ℕ) (ps : List Piece) (accepted : packetOf s ≡ carries ps) (bytes : AllBytes s) where
   its-frame : framed s ≡ true
   its-frame = accepted-framed s ps accepted .0
 
-  -- its messages' bytes are what stands behind its total
+  -- its messages' bytes are what stands behind the two bytes of its total
   pub read-is-written-again : bytesOfAll (messages ps) ≡ bodyOf s
-  read-is-written-again = written-again (bodyOf s) ps (carried-only (bodyOf s) ps (accepted-framed s ps accepted .1)) (bytes-drop totalBytes (bytes-take (totalIn s) s bytes))
+  read-is-written-again = written-again (bodyOf s) ps (accepted-carries s ps accepted) (bytes-drop totalBytes (bytes-take (totalIn s) s bytes))
 
   pub body-packed : packed (bodyOf s) ≡ upToTotal s
   unfolding packed totalIn
@@ -147,3 +152,29 @@ module _ (s : List ℕ) (ps : List Piece) (accepted : packetOf s ≡ carries ps)
   -- and packed again they are the same bytes
   pub read-is-packed : packed (bytesOfAll (messages ps)) ≡ upToTotal s
   read-is-packed = ap packed read-is-written-again ∙ body-packed
+
+  -- at the call: they are packed wherever there is room for them, and what is written is the packet
+  its-bytes : packedBytes (bytesOfAll (messages ps)) ≡ totalIn s
+  its-bytes =
+      let g = is-framed s its-frame in
+      let l : length (upToTotal s) ≡ totalIn s = length-take-le (totalIn s) s (g .within) in
+      omega (arith, ap length read-is-written-again, length-drop totalBytes (upToTotal s), l, g .least)
+
+  two-bytes : totalIn s ≤ maxTotal
+  unfolding totalIn
+  two-bytes = two-small s bytes
+
+  pub packs-again : (room : ℕ) → packOf (bytesOfAll (messages ps)) room ≡ byRoom (totalIn s) room
+  unfolding packOf
+  packs-again room =
+      let c : contentsOf (bytesOfAll (messages ps)) ≡ carries ps = ap contentsOf read-is-written-again ∙ accepted-framed s ps accepted .1 in
+      rw (its-bytes, le-ltb maxTotal (totalIn s) two-bytes, c)
+
+  pub packed-again : (o : List ℕ) → totalIn s ≤ length o → bufferAfter (bytesOfAll (messages ps)) o ≡ upToTotal s ++ drop (totalIn s) o
+  unfolding bufferAfter
+  packed-again o h =
+      let g = is-framed s its-frame in
+      let l : length (upToTotal s) ≡ totalIn s = length-take-le (totalIn s) s (g .within) in
+      let w : packOf (bytesOfAll (messages ps)) (length o) ≡ Bytes (totalIn s) = packs-again (length o) ∙ rw (le-ltb (length o) (totalIn s) h) in
+      let z : 0 + length (upToTotal s) ≡ totalIn s = omega arith in
+      rw (w, read-is-packed) (rw z at (sets-eq (upToTotal s) o 0 (omega arith)))

@@ -1,15 +1,16 @@
 -- The answers in document 02's numbers: each definition of an answer, said in numbers, is in the order of the refusals.
 use Prim.Native.Nat.{ℕ}
 use mathlib.Core.Path.{_≡_, refl, sym, ap, _∙_}
-use mathlib.Core.Bool.{not}
+use mathlib.Core.Bool.{true, false, not}
 use mathlib.Core.List.{List, [], _∷_}
+use mathlib.Core.Logic.{⊎-elim}
 use mathlib.Core.Option.{Option, none, some}
 use lib.Dec.{eqb, ltb}
 use lib.ListN.{length}
 use Rattle.ids.specs.Choice.{if_then_else_, maybe}
 use Rattle.ids.specs.Refusals.{code, Says, accepts, refuses}
 use Rattle.ids.specs.declared.Refusal.the-variants.{PacketMalformed, RoomShort}
-use Rattle.ids.proofs.Choice.{of-choice}
+use Rattle.ids.proofs.Choice.{of-choice, decided}
 use Rattle.ids.proofs.Codes.{some-number}
 use Rattle.wire.specs.Calls.{readOf}
 use Rattle.wire.specs.Says.{parsedSays, readSays, writtenSays}
@@ -21,7 +22,7 @@ use Rattle.wire.proofs.SaysLaws.{read-said}
 use Rattle.packet.specs.Packet.{totalBytes, maxTotal, cut, Contents, refused, carries, inFront, readParts, contentsOf, framed, bodyOf, packetOf}
 use Rattle.packet.specs.Reading.{Found, starts, ends, nowhere, findIn, nextFound, nextIn, nextOf}
 use Rattle.packet.specs.Packing.{packedBytes, packIn, packOf, bufferAfter}
-use Rattle.packet.specs.Says.{nextSays, firstBad, bodyNumber, packetNumber, foundSays, packetSays, packSays}
+use Rattle.packet.specs.Says.{nextSays, firstBad, bodyNumber, foundSays, packetSays, packSays}
 use Rattle.packet.specs.declared.Next.{Next}
 
 -- the number of what is carried: 0 where it is accepted
@@ -51,26 +52,34 @@ body-number : (s : List ℕ) → numberOf (contentsOf s) ≡ bodyNumber s
 unfolding contentsOf bodyNumber
 body-number s = cut-number (cut s)
 
-packet-number : (s : List ℕ) → numberOf (packetOf s) ≡ packetNumber s
-unfolding packetOf packetNumber
-packet-number s = of-choice numberOf (framed s) (contentsOf (bodyOf s)) (refused PacketMalformed) (body-number (bodyOf s)) refl
-
 found-row : (at : ℕ) (f : Found) → nextSays (nextFound at f) ≡ foundSays at f
 found-row at (starts p) = refl
 found-row at ends = refl
 found-row at nowhere = refl
 
 module _ (s : List ℕ) (at : ℕ) where
-  by-contents : (c : Contents) → packetOf s ≡ c → nextSays (nextIn c at) ≡ packetSays s at
+  -- in the order of the refusals: the total, then what stands behind it, then the place
+  by-contents : framed s ≡ true → packetOf s ≡ contentsOf (bodyOf s) → (c : Contents) → contentsOf (bodyOf s) ≡ c → nextSays (nextIn c at) ≡ packetSays s at
   unfolding packetSays
-  by-contents (refused e) h = let n : packetNumber s ≡ code e = sym (packet-number s) ∙ ap numberOf h in rw (n, some-number e)
-  by-contents (carries ps) h =
-      let n : packetNumber s ≡ 0 = sym (packet-number s) ∙ ap numberOf h in
-      rw (n, h) (found-row at (findIn totalBytes ps at))
+  by-contents f p (refused e) h = let n : bodyNumber (bodyOf s) ≡ code e = sym (body-number (bodyOf s)) ∙ ap numberOf h in rw (f, n, some-number e)
+  by-contents f p (carries ps) h =
+      let n : bodyNumber (bodyOf s) ≡ 0 = sym (body-number (bodyOf s)) ∙ ap numberOf h in
+      rw (f, n, p, h) (found-row at (findIn totalBytes ps at))
+
+  with-frame : framed s ≡ true → packetOf s ≡ contentsOf (bodyOf s)
+  unfolding packetOf
+  with-frame f = rw f
+
+  without-frame : framed s ≡ false → nextSays (nextIn (packetOf s) at) ≡ packetSays s at
+  unfolding packetOf packetSays
+  without-frame f = rw f refl
 
   next-row : nextSays (nextOf s at) ≡ packetSays s at
   unfolding nextOf
-  next-row = by-contents (packetOf s) refl
+  next-row =
+      ⊎-elim
+      (λ (f : framed s ≡ true). ap (λ c. nextSays (nextIn c at)) (with-frame f) ∙ by-contents f (with-frame f) (contentsOf (bodyOf s)) refl)
+      without-frame (decided (framed s))
 
   pub next-said : (r : Next) → r ≡ nextOf s at → (r ≡ nextOf s at) × (nextSays r ≡ packetSays s at)
   next-said r e = (e, ap nextSays e ∙ next-row)

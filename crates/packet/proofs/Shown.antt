@@ -18,7 +18,7 @@ use Rattle.wire.specs.declared.Parsed.the-variants.{Accepted}
 use Rattle.packet.specs.Packet.{totalBytes, Piece, Contents, refused, carries, contentsOf, totalIn, framed, upToTotal, bodyOf, packetOf, pieces, joined}
 use Rattle.packet.specs.Reading.{Found, starts, ends, nowhere, findIn, nextFound, nextIn, nextOf, partFound, partOf}
 use Rattle.packet.specs.declared.Next.{Next}
-use Rattle.packet.specs.declared.Next.the-variants.{Message as Given, End, Refused}
+use Rattle.packet.specs.declared.Next.the-variants.{Message as Gave, End, Refused}
 use Rattle.packet.specs.Parts.{Carries, done, next}
 use Rattle.packet.proofs.Parts.{never, carried-only, carried-joined}
 use Rattle.packet.proofs.TotalLaws.{is-framed}
@@ -102,24 +102,27 @@ accepted-framed s ps h =
     ⊎-elim (λ (f : framed s ≡ true). (f, rw f at h)) (λ (f : framed s ≡ false). absurd (never PacketMalformed ps (rw f at h)))
     (decided (framed s))
 
+pub accepted-carries : (s : List ℕ) (ps : List Piece) → packetOf s ≡ carries ps → Carries (bodyOf s) ps
+accepted-carries s ps h = carried-only (bodyOf s) ps (accepted-framed s ps h .1)
+
 module _ (s : List ℕ) (at : ℕ) (m : Message) (next : ℕ) where
-  refused-not-given : (x : Refusal) → _≡_ {A = Next} (Refused x) (Given m next) → ⊥
+  refused-not-given : (x : Refusal) → _≡_ {A = Next} (Refused x) (Gave m next) → ⊥
   refused-not-given x h = let z : _≡_ {A = ℕ} 0 1 = cc in omega arith
 
-  end-not-given : _≡_ {A = Next} End (Given m next) → ⊥
+  end-not-given : _≡_ {A = Next} End (Gave m next) → ⊥
   end-not-given h = let z : _≡_ {A = ℕ} 0 1 = cc in omega arith
 
   module _ (ps : List Piece) (accepted : packetOf s ≡ carries ps) where
-    by-found : (f : Found) → findIn totalBytes ps at ≡ f → nextFound at f ≡ Given m next → Shows s at m next
+    by-found : (f : Found) → findIn totalBytes ps at ≡ f → nextFound at f ≡ Gave m next → Shows s at m next
     unfolding partOf
     by-found ends e h = absurd (end-not-given h)
     by-found nowhere e h = absurd (refused-not-given PacketMalformed h)
     by-found (starts p) e h =
         let n : at + length (p .part) ≡ next = cc in
         let i : p .message ≡ m = cc in
-        let (f, c) = accepted-framed s ps accepted in
-        let g = is-framed s f in
-        let j : joined ps ≡ bodyOf s = carried-joined (bodyOf s) ps (carried-only (bodyOf s) ps c) in
+        let c = accepted-carries s ps accepted in
+        let g = is-framed s (accepted-framed s ps accepted .0) in
+        let j : joined ps ≡ bodyOf s = carried-joined (bodyOf s) ps c in
         let l : length (joined ps) ≡ length (bodyOf s) = ap length j in
         let k : length (upToTotal s) ≡ totalIn s = length-take-le (totalIn s) s (g .within) in
         let w = stands totalBytes ps at p e in
@@ -137,21 +140,21 @@ module _ (s : List ℕ) (at : ℕ) (m : Message) (next : ℕ) where
           lent = g .within;
           shown = rw (part, z) t;
           long = rw part n;
-          read = rw (part, ← i) (found-read (bodyOf s) ps (carried-only (bodyOf s) ps c) totalBytes at p e);
+          read = rw (part, ← i) (found-read (bodyOf s) ps c totalBytes at p e);
           found = rw (part, ← i) e;
         }
 
-  by-contents : (c : Contents) → packetOf s ≡ c → nextIn c at ≡ Given m next → Shows s at m next
+  by-contents : (c : Contents) → packetOf s ≡ c → nextIn c at ≡ Gave m next → Shows s at m next
   by-contents (refused x) e h = absurd (refused-not-given x h)
   by-contents (carries ps) e h = by-found ps e (findIn totalBytes ps at) refl h
 
-  pub shows : nextOf s at ≡ Given m next → Shows s at m next
+  pub shows : nextOf s at ≡ Gave m next → Shows s at m next
   unfolding nextOf
   shows h = by-contents (packetOf s) refl h
 
 -- where no message is given, no part is shown
 module _ (s : List ℕ) (at : ℕ) where
-  none-found : (ps : List Piece) (f : Found) → findIn totalBytes ps at ≡ f → ((m : Message) (next : ℕ) → nextFound at f ≡ Given m next → ⊥) → partFound (findIn totalBytes ps at) ≡ []
+  none-found : (ps : List Piece) (f : Found) → findIn totalBytes ps at ≡ f → ((m : Message) (next : ℕ) → nextFound at f ≡ Gave m next → ⊥) → partFound (findIn totalBytes ps at) ≡ []
   none-found ps ends e n = rw e
   none-found ps nowhere e n = rw e
   none-found ps (starts p) e n = absurd (n (p .message) (at + length (p .part)) refl)
@@ -160,11 +163,11 @@ module _ (s : List ℕ) (at : ℕ) where
   unfolding findIn
   empty-part = ⊎-elim (λ (e : eqb at totalBytes ≡ true). rw e) (λ (e : eqb at totalBytes ≡ false). rw e) (decided (eqb at totalBytes))
 
-  none-carried : (c : Contents) → packetOf s ≡ c → ((m : Message) (next : ℕ) → nextIn c at ≡ Given m next → ⊥) → partFound (findIn totalBytes (pieces c) at) ≡ []
+  none-carried : (c : Contents) → packetOf s ≡ c → ((m : Message) (next : ℕ) → nextIn c at ≡ Gave m next → ⊥) → partFound (findIn totalBytes (pieces c) at) ≡ []
   none-carried (refused x) e n = empty-part
   none-carried (carries ps) e n = none-found ps (findIn totalBytes ps at) refl n
 
-  shows-none : ((m : Message) (next : ℕ) → nextOf s at ≡ Given m next → ⊥) → partOf s at ≡ []
+  shows-none : ((m : Message) (next : ℕ) → nextOf s at ≡ Gave m next → ⊥) → partOf s at ≡ []
   unfolding nextOf partOf
   shows-none n = none-carried (packetOf s) refl n
 
@@ -173,3 +176,12 @@ module _ (s : List ℕ) (at : ℕ) where
 
   pub refused-shows : (r : Next) → r ≡ nextOf s at → (x : Refusal) → r ≡ Refused x → [] ≡ partOf s at
   refused-shows r e x h = sym (shows-none (λ m next g. refused-not-given s at m next x (sym h ∙ (e ∙ g))))
+
+-- a packet that is refused gives nothing: at every place its refusal, and no part
+module _ (s : List ℕ) (x : Refusal) (h : packetOf s ≡ refused x) (at : ℕ) where
+  its-refusal : nextOf s at ≡ Refused x
+  unfolding nextOf
+  its-refusal = rw h
+
+  pub refused-gives-nothing : (nextOf s at ≡ Refused x) × (partOf s at ≡ [])
+  refused-gives-nothing = (its-refusal, sym (refused-shows s at (nextOf s at) refl x its-refusal))

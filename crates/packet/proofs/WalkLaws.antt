@@ -18,7 +18,7 @@ use Rattle.wire.proofs.FormatLaws.{length-in}
 use Rattle.packet.specs.Packet.{leastLength, fits, withFirst, cutInto, cut}
 use Rattle.packet.specs.Inner.{sizeIn, walked}
 
--- a length field that fits: it is 4 at least, and s has as many bytes
+-- a length field that fits: it is 4 at least, and s has at least so many bytes
 pub record Fitting (s : List ℕ) : Type 0 where
   pub least : leastLength ≤ lengthIn s
   pub within : lengthIn s ≤ length s
@@ -60,6 +60,14 @@ pub unfit : (s : List ℕ) → 0 ≡ sizeIn s → fits s ≡ false
 unfolding sizeIn
 unfit s e =
     ⊎-elim (λ (h : fits s ≡ true). absurd (omega (arith, size-fits s h, fitting s h .least))) (λ (h : fits s ≡ false). h) (decided (fits s))
+
+-- a part is within the bytes, wherever it stands
+pub size-within : (s : List ℕ) (at size : ℕ) → at ≤ length s → size ≡ sizeIn (drop at s) → at + size ≤ length s
+size-within s at size h e =
+    ⊎-elim (λ (f : fits (drop at s) ≡ true). omega (arith, size-fits (drop at s) f, fitting (drop at s) f .within, length-drop at s))
+    (λ (f : fits (drop at s) ≡ false).
+    omega (arith, size-none (drop at s) (λ g. clash (fits (drop at s)) (fitted (drop at s) (g .least) (g .within)) f)))
+    (decided (fits (drop at s)))
 
 -- what `size_at` returns
 module _ (s : List ℕ) (at : ℕ) where

@@ -10,10 +10,10 @@ use Rattle.wire.specs.declared.Message.{Message}
 use Rattle.packet.specs.Packet.{totalBytes, Piece, Contents, refused, carries, bodyOf, packetOf, joined}
 use Rattle.packet.specs.Reading.{Found, starts, ends, findIn, nextFound, nextIn, nextOf, partFound, partOf, ReadFrom, ended, gave}
 use Rattle.packet.specs.declared.Next.{Next}
-use Rattle.packet.specs.declared.Next.the-variants.{Message as Given, End, Refused}
+use Rattle.packet.specs.declared.Next.the-variants.{Message as Gave, End, Refused}
 use Rattle.packet.specs.Parts.{Carries, done, next}
-use Rattle.packet.proofs.Parts.{read-part, carried-only, carried-joined}
-use Rattle.packet.proofs.Shown.{accepted-framed}
+use Rattle.packet.proofs.Parts.{read-part, carried-joined}
+use Rattle.packet.proofs.Shown.{accepted-carries}
 
 -- parts that have a byte at least
 data Long : List Piece → Type 0 where
@@ -63,14 +63,14 @@ module _ (s : List ℕ) (all : List Piece) (accepted : packetOf s ≡ carries al
   -- from the first place to the end: the packet's messages, each with its part
   pub read-to-end : ReadFrom s totalBytes all
   unfolding joined
-  read-to-end = read-on [] totalBytes (bodyOf s) all (carried-only (bodyOf s) all (accepted-framed s all accepted .1)) none refl refl
+  read-to-end = read-on [] totalBytes (bodyOf s) all (accepted-carries s all accepted) none refl refl
 
-  -- whose parts, one after another, are the packet behind its total
+  -- whose parts, one after another, are the packet behind the two bytes of its total
   pub parts-joined : joined all ≡ bodyOf s
-  parts-joined = carried-joined (bodyOf s) all (carried-only (bodyOf s) all (accepted-framed s all accepted .1))
+  parts-joined = carried-joined (bodyOf s) all (accepted-carries s all accepted)
 
 -- and nothing else can be read: the calls determine the list
-given-not-end : (m : Message) (n : ℕ) → _≡_ {A = Next} (Given m n) End → ⊥
+given-not-end : (m : Message) (n : ℕ) → _≡_ {A = Next} (Gave m n) End → ⊥
 given-not-end m n h = let z : _≡_ {A = ℕ} 0 1 = cc in omega arith
 
 module _ (s : List ℕ) where
@@ -96,7 +96,7 @@ module _ (s : List ℕ) where
 
   first-answer : (at : ℕ) (ps : List Piece) → ReadFrom s at ps → (all : List Piece) × (packetOf s ≡ carries all)
   first-answer at ps (ended e) = nothing-unless-accepted at End e (λ x h. let z : _≡_ {A = ℕ} 0 1 = cc in omega arith)
-  first-answer at ps (gave {next = n} {m = m} g r) = nothing-unless-accepted at (Given m n) g (λ x h. let z : _≡_ {A = ℕ} 0 1 = cc in omega arith)
+  first-answer at ps (gave {next = n} {m = m} g r) = nothing-unless-accepted at (Gave m n) g (λ x h. let z : _≡_ {A = ℕ} 0 1 = cc in omega arith)
 
   -- so what was read to the end is what the packet carries
   pub read-exactly : (ps : List Piece) → ReadFrom s totalBytes ps → packetOf s ≡ carries ps

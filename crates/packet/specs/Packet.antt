@@ -16,7 +16,7 @@ use Rattle.wire.specs.declared.Message.{Message}
 use Rattle.wire.specs.declared.Parsed.{Parsed}
 use Rattle.wire.specs.declared.Parsed.the-variants.{Accepted, Refused as NotRead}
 
--- the bytes of the total, behind which the first message stands
+-- the bytes of the total, and so the place of the first message
 abbrev pub totalBytes : ℕ
 totalBytes = 2
 
@@ -28,7 +28,7 @@ maxTotal = maxShort
 abbrev pub leastLength : ℕ
 leastLength = 4
 
--- the length field that s begins with is no smaller, and s has as many bytes
+-- s begins with a part: its length field is at least 4, and s has at least so many bytes (a rest of under 4 bytes never fits)
 unfoldable pub fits : List ℕ → Bool
 fits s = leb leastLength (lengthIn s) && leb (lengthIn s) (length s)
 
@@ -57,7 +57,7 @@ pub data Contents : Type 0 where
   refused : Refusal → Contents
   carries : List Piece → Contents
 
--- a part in front of others: the first one that reading refuses decides
+-- a part in front of others: the first one that reading refuses decides. A part is as long as its length field says, so that reading uses all of it
 abbrev pub inFront : List ℕ → Parsed → Contents → Contents
 inFront p (NotRead e) rest = refused e
 inFront p (Accepted m used) (refused e) = refused e
@@ -79,7 +79,7 @@ totalIn s = number (take totalBytes s)
 unfoldable pub framed : List ℕ → Bool
 framed s = leb totalBytes (length s) && leb totalBytes (totalIn s) && leb (totalIn s) (length s)
 
--- the packet without the bytes behind it, and what stands behind its total
+-- the packet without the bytes behind it, and its messages
 abbrev pub upToTotal : List ℕ → List ℕ
 upToTotal s = take (totalIn s) s
 
@@ -105,8 +105,8 @@ messages [] = []
 messages (p ∷ ps) = p .message ∷ messages ps
 
 -- the refusals that a packet can have, for its total, its walk or a place in it and for a bad message: 22, 2, 3, 5
-pub data Told : Refusal → Type 0 where
-  malformed : Told PacketMalformed
-  kind : Told KindUnknown
-  wrong : Told LengthWrong
-  range : Told NumberOutOfRange
+pub data PacketRefusal : Refusal → Type 0 where
+  malformed : PacketRefusal PacketMalformed
+  kind : PacketRefusal KindUnknown
+  wrong : PacketRefusal LengthWrong
+  range : PacketRefusal NumberOutOfRange

@@ -21,9 +21,12 @@ unfoldable pub packed : List ℕ → List ℕ
 packed bytes = littleEndian totalBytes (packedBytes bytes) ++ bytes
 
 -- refusal 6 comes last
+abbrev pub byRoom : ℕ → ℕ → Written
+byRoom size room = if ltb room size then Refused RoomShort else Bytes size
+
 abbrev pub packIn : Contents → ℕ → ℕ → Written
 packIn (refused e) size room = Refused e
-packIn (carries ps) size room = if ltb room size then Refused RoomShort else Bytes size
+packIn (carries ps) size room = byRoom size room
 
 -- 22 where two bytes can't say the total, then as the reader refuses, then 6
 unfoldable pub packOf : List ℕ → ℕ → Written

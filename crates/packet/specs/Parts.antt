@@ -1,4 +1,4 @@
--- The same without a walk: what it is for bytes to be messages one after another.
+-- What `Packet` says by a walk, said without one: what it is for bytes to be messages one after another.
 use Prim.Native.Nat.{ℕ, _≤_}
 use mathlib.Core.Path.{_≡_}
 use mathlib.Core.List.{List, [], _∷_, _++_}
@@ -19,7 +19,7 @@ pub data Cut : List ℕ → List (List ℕ) → Type 0 where
   done : Cut [] []
   next : {p s : List ℕ} {ps : List (List ℕ)} → Part p → Cut s ps → Cut (p ++ s) (p ∷ ps)
 
--- THE MESSAGES that bytes are, one after another, each read from a part of its own, all of it
+-- THE MESSAGES that bytes are, one after another, each read from a part of its own and using all of it
 pub data Carries : List ℕ → List Piece → Type 0 where
   done : Carries [] []
   next : {m : Message} {p s : List ℕ} {ps : List Piece} → readOf p ≡ Accepted m (length p) → Carries s ps

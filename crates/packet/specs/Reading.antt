@@ -17,12 +17,12 @@ pub data Found : Type 0 where
   ends : Found
   nowhere : Found
 
--- at the place `at`, where the first of these stands at the place `from`
+-- what is at the place `at`, where the pieces stand one after another from the place `from` on
 unfoldable pub findIn : ℕ → List Piece → ℕ → Found
 findIn from [] at = if eqb at from then ends else nowhere
 findIn from (p ∷ ps) at = if eqb at from then starts p else findIn (from + length (p .part)) ps at
 
--- places are counted in the packet
+-- of an accepted packet; places are counted in it
 abbrev pub foundIn : List ℕ → ℕ → Found
 foundIn s at = findIn totalBytes (pieces (packetOf s)) at
 
@@ -36,7 +36,7 @@ abbrev pub nextIn : Contents → ℕ → Next
 nextIn (refused e) at = Refused e
 nextIn (carries ps) at = nextFound at (findIn totalBytes ps at)
 
--- THE NEXT MESSAGE: 22 or a bad message's refusal of the packet, last 22 for the place
+-- THE NEXT MESSAGE: first the packet's own refusal, last 22 for the place
 unfoldable pub nextOf : List ℕ → ℕ → Next
 nextOf s at = nextIn (packetOf s) at
 

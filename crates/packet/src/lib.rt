@@ -1,4 +1,5 @@
-// Packets: messages one after another behind a total of two bytes (document 02, L1). Nothing of a packet is given unless all of it is accepted.
+// Packets (document 02, L1): the packet's length in two bytes, the total, then messages one after another. Nothing of a packet is given unless all of it
+// is accepted.
 ghost use mathlib.Core.Path.{_≡_};
 ghost use mathlib.Core.Bool.{true};
 ghost use Prim.Native.Nat.{_+_, _*_, _≤_};
@@ -16,7 +17,7 @@ use wire::Message;
 use wire::Parsed;
 use wire::Written;
 
-// The bytes of the total. The first message stands behind it.
+// The bytes of the total, and so the place of the first message.
 pub const TOTAL_BYTES: usize = 2;
 
 // The largest total.
@@ -97,6 +98,7 @@ fn first_bad(bytes: &[u8], from: usize) -> Verdict
     Verdict::Accepted
 }
 
+// 22 by the walk, then the first bad message's refusal.
 fn judge(bytes: &[u8], from: usize) -> Verdict
     requires { ⌜ from ≤ length (now bytes) ⌝ }
     ensures { λ r. ⌜ r ≡ judged (contentsOf (drop from (now (bytes .entry)))) ⌝ }
@@ -107,7 +109,7 @@ fn judge(bytes: &[u8], from: usize) -> Verdict
     first_bad(bytes, from)
 }
 
-// The total, 0 where the bytes are too few for one or for what it says.
+// The total; 0 for under two bytes, a total under 2, or one above the bytes lent.
 fn total_of(packet: &[u8]) -> usize
     ensures { λ r. ⌜ r ≡ totalOf (now (packet .entry)) ⌝ }
 {
@@ -124,9 +126,9 @@ fn total_of(packet: &[u8]) -> usize
     total
 }
 
-// The first place of `at` and those behind it where a message starts or the packet ends.
+// The first place from `at` on where a message starts or the packet ends.
 fn reach(bytes: &[u8], at: usize) -> usize
-    requires { ⌜ (at ≤ length (now bytes)) × Reached (now bytes) at totalBytes ⌝ }
+    requires { ⌜ (at ≤ length (now bytes)) × (totalBytes ≤ length (now bytes)) × (judged (contentsOf (drop totalBytes (now bytes))) ≡ Accepted) ⌝ }
     ensures { λ r. ⌜ (at ≤ r) × Reached (now (bytes .entry)) at r ⌝ }
 {
     let mut place = TOTAL_BYTES;
@@ -138,26 +140,28 @@ fn reach(bytes: &[u8], at: usize) -> usize
 
 // What is at a place of a packet whose messages are all accepted.
 fn message_at(bytes: &[u8], at: usize) -> Next
-    requires { ⌜ Reached (now bytes) at totalBytes ⌝ }
+    requires { ⌜ (totalBytes ≤ length (now bytes)) × (judged (contentsOf (drop totalBytes (now bytes))) ≡ Accepted) ⌝ }
     ensures { λ r. ⌜ r ≡ nextFound at (findIn totalBytes (pieces (contentsOf (drop totalBytes (now (bytes .entry))))) at) ⌝ }
 {
     if bytes.len() < at {
         return Next::Refused(Refusal::PacketMalformed);
     }
-    if reach(bytes, at) != at {
+    let place = reach(bytes, at);
+    if place != at {
         return Next::Refused(Refusal::PacketMalformed);
     }
-    if at == bytes.len() {
+    let end = place + size_at(bytes, place);
+    if place == bytes.len() {
         return Next::End;
     }
-    let end = at + size_at(bytes, at);
-    match wire::read(&bytes[at..end]) {
+    match wire::read(&bytes[place..end]) {
         Parsed::Accepted(m, _) => Next::Message(m, end),
+        // Not met: the packet was judged.
         Parsed::Refused(e) => Next::Refused(e),
     }
 }
 
-// The message at a place of the packet, which is judged whole first. Bytes behind its total are not looked at.
+// The message at a place of the packet, which is judged whole first. Bytes behind the packet are not looked at.
 pub fn next_at(packet: &[u8], at: usize) -> Next
     ensures { λ r. ⌜ r ≡ nextOf (now (packet .entry)) at ⌝ }
     ensures numbers { λ r. ⌜ nextSays r ≡ packetSays (now (packet .entry)) at ⌝ }
@@ -231,7 +235,7 @@ impl<'a> Reader<'a> {
         Given { next, part }
     }
 
-    // The reader at another place: behind the message that it gave.
+    // The reader at another place, such as the one behind the message that it gave.
     pub fn moved(self, at: usize) -> Reader<'a>
         ensures { λ r. ⌜ (r .packet ≡ self .entry .packet) × (r .at ≡ at) ⌝ }
     {
@@ -242,7 +246,7 @@ impl<'a> Reader<'a> {
     }
 }
 
-// The bytes behind a total of their own, at the start of `out`.
+// Writes the total and then the bytes at the start of `out`.
 fn put_packet(bytes: &[u8], out: &mut [u8])
     requires { ⌜ (packedBytes (now bytes) ≤ length (now out)) × (packedBytes (now bytes) ≤ maxTotal) ⌝ }
     ensures { λ _. ⌜ now (out .exit) ≡ sets (now (out .entry)) 0 (packed (now (bytes .entry))) ⌝ }

@@ -1,11 +1,11 @@
 -- What an accepted step wrote is packed without a refusal but 6: every number in it is in range, and it is far shorter than a packet may be.
 use Prim.Native.Nat.{ℕ, _+_, _*_, _≤_}
 use native.Mathlib.Omega.{arith}
-use mathlib.Core.Path.{_≡_, refl}
+use mathlib.Core.Path.{_≡_, refl, ap, _∙_}
 use mathlib.Core.Bool.{Bool, true, false, not}
 use mathlib.Core.List.{List, _++_}
 use lib.Dec.{eqb, ltb, leb}
-use lib.ListN.{length, drop}
+use lib.ListN.{length, take, drop}
 use lib.Seq.{sets, sets-eq, take-at}
 use borrow.Author.Tests.{eqb-true, leb-true, le-leb, ltb-false, not-false}
 use Rattle.ids.specs.Choice.{if_then_else_}
@@ -44,15 +44,17 @@ use Rattle.sends.proofs.ServerSends.{never, entered}
 use Rattle.sends.proofs.ClientSends as of-client
 use Rattle.packet.specs.Packet.{totalBytes, maxTotal}
 use Rattle.packet_steps.specs.Packs.{Packs}
-use Rattle.packet.proofs.RoundTrip.{messages-packed}
+use Rattle.packet.proofs.RoundTrip.{messages-packed, packed-messages-read}
 
 -- of messages in range that fit the buffer and a packet
 written-packs : (buffer : List ℕ) (ms : List Message) → sizeOfAll ms ≤ length buffer → every format.valid ms ≡ true → totalBytes + sizeOfAll ms ≤ maxTotal
     → Packs (sets buffer 0 (bytesOfAll ms)) ms
-written-packs buffer ms room v short r =
+written-packs buffer ms room v short =
     let l = length-bytesOfAll ms in
     let s : sets buffer 0 (bytesOfAll ms) ≡ bytesOfAll ms ++ drop (0 + length (bytesOfAll ms)) buffer = sets-eq (bytesOfAll ms) buffer 0 (omega arith) in
-    rw (s, take-at (bytesOfAll ms) (drop (0 + length (bytesOfAll ms)) buffer) (sizeOfAll ms) l) (messages-packed ms v short r)
+    let t : take (sizeOfAll ms) (sets buffer 0 (bytesOfAll ms)) ≡ bytesOfAll ms =
+    ap (take (sizeOfAll ms)) s ∙ take-at (bytesOfAll ms) (drop (0 + length (bytesOfAll ms)) buffer) (sizeOfAll ms) l in
+    record { packs = λ r. rw t (messages-packed ms v short r); arrives = λ x. rw t (packed-messages-read ms v short x) }
 
 -- an outcome that stands with the room there is
 room-kept : {A : Type 0} (room : ℕ) (o : Outcome A) (p : Step A) → withRoom room o ≡ stepped p → (o ≡ stepped p) × (sizeOfAll (p .sent) ≤ room)

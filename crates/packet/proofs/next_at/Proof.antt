@@ -1,5 +1,5 @@
 -- `packet::next_at` meets its contract: the total, then the judgement of what stands behind it, then the place.
-use Rattle.packet.proofs.PlaceLaws.{next-frameless, its-length, next-refused, next-reached, next-found}
+use Rattle.packet.proofs.PlaceLaws.{next-frameless, its-length, next-refused, next-carried, next-found}
 use Rattle.packet.proofs.SaysLaws.{next-said}
 use native.Mathlib.Omega.{arith}
 use mathlib.Core.Path.{sym, _∙_}
@@ -20,7 +20,7 @@ next-at-spec =
     (λ c. search needs)
     (λ c κs.
     let b = c .before .before .before .before in
-    next-reached _ _ _ (b .before .total-of .ensures) (b .if1 .left) (sym (c .enum-told .given .1) ∙ c .before .before .judge .ensures))
+    next-carried _ 0 _ (b .before .total-of .ensures) (b .if1 .left) (sym (c .enum-told .given .1) ∙ c .before .before .judge .ensures))
     (λ c. search needs)
     (λ c.
     let b = c .before .before .before .before .before in

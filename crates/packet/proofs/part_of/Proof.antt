@@ -11,8 +11,8 @@ part-of-spec =
     tie.close
     (tie.spec
     (λ c. search needs)
-    (λ c. shows _ _ _ _ (sym (c .before .before .before .pre) ∙ c .before .next .given .1) .order)
-    (λ c. shows _ _ _ _ (sym (c .before .before .before .pre) ∙ c .before .next .given .1) .order)
+    (λ c. omega (arith, shows _ _ _ _ (sym (c .before .before .before .pre) ∙ c .before .next .given .1) .order))
+    (λ c. omega (arith, shows _ _ _ _ (sym (c .before .before .before .pre) ∙ c .before .next .given .1) .order))
     (λ c. let w = shows _ _ _ _ (sym (c .before .before .before .pre) ∙ c .before .next .given .1) in omega (arith, w .within, w .lent))
     (λ c. search needs)
     (λ c. search needs)

@@ -2,7 +2,7 @@
 use Prim.Native.Nat.{_-_}
 use native.Mathlib.Omega.{arith}
 use Rattle.packet.specs.Inner.{Reached}
-use Rattle.packet.proofs.ContentsLaws.{here, reached-more}
+use Rattle.packet.proofs.ContentsLaws.{reached-first, here, reached-more}
 use borrow.Author.Needs.{needs}
 use Rattle.packet.proofs.reach.Statement.{statement}
 use Rattle.packet.proofs.reach.Tie as tie
@@ -19,7 +19,7 @@ reach-spec =
     (tie.spec
     Inv-loop
     μ-loop
-    (λ c. search needs)
+    (λ c. search reached-first)
     (λ c κs. search needs)
     (λ c. omega (arith, here _ _ _ _ (c .before .before .loop .inv) (omega (arith, c .before .loop-test .taken, c .before .before .before .before .pre .0)) (c .size-at .ensures) .within))
     (λ c. omega (arith, here _ _ _ _ (c .before .before .loop .inv) (omega (arith, c .before .loop-test .taken, c .before .before .before .before .pre .0)) (c .size-at .ensures) .least))
