@@ -10,3 +10,4 @@ pub mod Whole
 pub mod Behind
 pub mod RoundTrip
 pub mod Numbers
+pub mod Samples

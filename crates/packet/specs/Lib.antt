@@ -4,3 +4,4 @@ pub mod Reading
 pub mod Packing
 pub mod Says
 pub mod Inner
+pub mod Samples
