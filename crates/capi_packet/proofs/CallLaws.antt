@@ -28,7 +28,9 @@ use Rattle.capi_packet.specs.Calls.{nextCode, nextWords}
 
 -- `answer`: by the room there is
 abbrev Answers : List ℕ → Fields → ℕ → ℕ → List ℕ → Type 0
-Answers ws f used r l = (r ≡ (if ltb (length ws) readSize then code RoomShort else 0)) × (l ≡ (if ltb (length ws) readSize then ws else sets ws 0 (readValues f used)))
+Answers ws f used r l =
+    (r ≡ (if ltb (length ws) readSize then code RoomShort else 0))
+    × (l ≡ (if ltb (length ws) readSize then ws else sets ws 0 (readValues f used)))
 
 module _ (ws : List ℕ) (f : Fields) (used : ℕ) where
   pub answer-short : (r : ℕ) → length ws < readSize → r ≡ code RoomShort → Answers ws f used r ws

@@ -32,7 +32,11 @@ module _ (s t : List ℕ) (f : framed s ≡ true) where
   behind-framed =
       let g = is-framed s f in
       let l = length-append (upToTotal s) t in
-      to-framed other (record { two = omega (arith, its-length, g .least); least = omega (arith, same-total, g .least); within = omega (arith, same-total, its-length) })
+      to-framed other (record {
+        two = omega (arith, its-length, g .least);
+        least = omega (arith, same-total, g .least);
+        within = omega (arith, same-total, its-length);
+      })
 
   pub packet-behind : packetOf other ≡ packetOf s
   unfolding packetOf

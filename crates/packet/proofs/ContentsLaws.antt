@@ -110,13 +110,15 @@ module _ (s : List ℕ) (from : ℕ) where
         pub judging-more : (m : Message) (n : ℕ) → q ≡ Accepted m n → Judging s from (at + size)
         judging-more m n a =
             let p = its-part in
-            let j = first-accepted (take size (drop at s)) (readOf (take size (drop at s))) m n (contentsOf (drop (at + size) s)) (sym (lent-part s at size q r) ∙ a) in
+            let b : readOf (take size (drop at s)) ≡ Accepted m n = sym (lent-part s at size q r) ∙ a in
+            let j = first-accepted (take size (drop at s)) (readOf (take size (drop at s))) m n (contentsOf (drop (at + size) s)) b in
             record { within = p .within; walks = p .walked-on; same = sym (ap judged (p .contents) ∙ j) ∙ inv .same }
 
         pub judging-bad : (x : Refusal) → q ≡ NotRead x → Refused x ≡ judged (contentsOf (drop from s))
         judging-bad x a =
             let p = its-part in
-            let j = first-refused (take size (drop at s)) (readOf (take size (drop at s))) x (contentsOf (drop (at + size) s)) (sym (lent-part s at size q r) ∙ a) in
+            let b : readOf (take size (drop at s)) ≡ NotRead x = sym (lent-part s at size q r) ∙ a in
+            let j = first-refused (take size (drop at s)) (readOf (take size (drop at s))) x (contentsOf (drop (at + size) s)) b in
             sym (ap judged (p .contents) ∙ j) ∙ inv .same
 
 -- bytes that carry messages: the walk ends with them, and the first is accepted

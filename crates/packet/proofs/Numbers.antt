@@ -25,7 +25,8 @@ use Rattle.packet.specs.declared.Next.the-variants.{Refused}
 use Rattle.packet.proofs.Parts.{cut-only}
 
 -- a choice that gave a refusal: the one of its first branch, if its test held, or one of the second
-chosen : (b : Bool) (e x : Refusal) (y : Parsed) → (b ≡ true → PacketRefusal e) → (b ≡ false → y ≡ NotRead x → PacketRefusal x) → (if b then NotRead e else y) ≡ NotRead x → PacketRefusal x
+chosen : (b : Bool) (e x : Refusal) (y : Parsed) → (b ≡ true → PacketRefusal e) → (b ≡ false → y ≡ NotRead x → PacketRefusal x)
+    → (if b then NotRead e else y) ≡ NotRead x → PacketRefusal x
 chosen true e x y f g h = let i : e ≡ x = cc in subst PacketRefusal i (f refl)
 chosen false e x y f g h = g refl h
 
@@ -39,7 +40,8 @@ read-told p g x h =
     (λ c. absurd (omega (arith, ltb-true (length p) (lengthOf (kindIn p)) c, eqb-true (lengthIn p) (lengthOf (kindIn p)) (not-false _ l), g .is)))
     (λ _. chosen (not (valid (messageOf (fieldsIn p)))) NumberOutOfRange x _ (λ _. range) (λ _ a. let z : _≡_ {A = ℕ} 0 1 = cc in absurd (omega arith)))))) h
 
-first-told : (p : List ℕ) (q : Parsed) (rest : Contents) (x : Refusal) → (q ≡ NotRead x → PacketRefusal x) → (rest ≡ refused x → PacketRefusal x) → inFront p q rest ≡ refused x → PacketRefusal x
+first-told : (p : List ℕ) (q : Parsed) (rest : Contents) (x : Refusal) → (q ≡ NotRead x → PacketRefusal x) → (rest ≡ refused x → PacketRefusal x)
+    → inFront p q rest ≡ refused x → PacketRefusal x
 first-told p (NotRead e) rest x f g h = let i : e ≡ x = cc in f (rw i refl)
 first-told p (Accepted m n) (refused e) x f g h = g h
 first-told p (Accepted m n) (carries ps) x f g h = let z : _≡_ {A = ℕ} 0 1 = cc in absurd (omega arith)
@@ -90,7 +92,8 @@ module _ (bytes : List ℕ) (room : ℕ) (x : Refusal) where
   packed-told (refused e) p h = let i : e ≡ x = cc in inl (contents-told bytes x (rw i at p))
   packed-told (carries ps) p h = room-told (ltb room (packedBytes bytes)) (packedBytes bytes) h
 
-  long-told : (b : Bool) → (if b then NotWritten PacketMalformed else packIn (contentsOf bytes) (packedBytes bytes) room) ≡ NotWritten x → PacketRefusal x ⊎ (x ≡ RoomShort)
+  long-told : (b : Bool) → (if b then NotWritten PacketMalformed else packIn (contentsOf bytes) (packedBytes bytes) room) ≡ NotWritten x
+      → PacketRefusal x ⊎ (x ≡ RoomShort)
   long-told true h = let i : PacketMalformed ≡ x = cc in inl (subst PacketRefusal i malformed)
   long-told false h = packed-told (contentsOf bytes) refl h
 

@@ -40,9 +40,12 @@ module _ (o bytes : List ℕ) where
     pub laying-done : length bytes ≤ i → l ≡ sets o totalBytes bytes
     laying-done h = inv .laid ∙ ap (sets o totalBytes) (take-all i bytes h)
 
-pub laid-packet : (o l bytes : List ℕ) (t : ℕ) → t ≡ packedBytes bytes → l ≡ sets (set (set o 0 (t % 256)) 1 (t / 256 % 256)) totalBytes bytes → l ≡ sets o 0 (packed bytes)
+pub laid-packet : (o l bytes : List ℕ) (t : ℕ) → t ≡ packedBytes bytes → l ≡ sets (set (set o 0 (t % 256)) 1 (t / 256 % 256)) totalBytes bytes
+    → l ≡ sets o 0 (packed bytes)
 unfolding packed
-laid-packet o l bytes t e h = stored-on o (sets o 0 (littleEndian totalBytes (packedBytes bytes))) l (littleEndian totalBytes (packedBytes bytes)) bytes 0 totalBytes refl (rw e at h) refl
+laid-packet o l bytes t e h =
+    let total : List ℕ = littleEndian totalBytes (packedBytes bytes) in
+    stored-on o (sets o 0 total) l total bytes 0 totalBytes refl (rw e at h) refl
 
 -- what `pack` answers and leaves
 module _ (bytes o : List ℕ) where

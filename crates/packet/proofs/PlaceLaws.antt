@@ -51,7 +51,8 @@ module _ (s : List ℕ) (at : ℕ) where
   pub place-past : totalBytes ≤ length s → judged (contentsOf (drop totalBytes s)) ≡ Good → length s < at → Refused PacketMalformed ≡ answer
   place-past two good h =
       let b : List ℕ = drop totalBytes s in
-      let j : joined (pieces (contentsOf b)) ≡ b = carried-joined b (pieces (contentsOf b)) (carried-only b (pieces (contentsOf b)) (good-carries (contentsOf b) good)) in
+      let j : joined (pieces (contentsOf b)) ≡ b =
+      carried-joined b (pieces (contentsOf b)) (carried-only b (pieces (contentsOf b)) (good-carries (contentsOf b) good)) in
       let l : length (joined (pieces (contentsOf b))) ≡ length b = ap length j in
       sym (ap (nextFound at) (found-past totalBytes (pieces (contentsOf b)) at (omega (arith, l, length-drop totalBytes s))))
 
@@ -78,7 +79,8 @@ module _ (s : List ℕ) (at : ℕ) where
             let l : at + length (take size (drop place s)) ≡ place + size = omega (arith, here s at place size r h e .long) in
             let p : Piece = record { message = its-message .message; part = take size (drop place s) } in
             let rest : List Piece = pieces (contentsOf (drop (place + size) s)) in
-            let f : findIn place (pieces (contentsOf (drop place s))) at ≡ starts p = ap (λ ps. findIn place ps at) (its-list s at place size r h e) ∙ found-here place p rest at (sym there) in
+            let f : findIn place (pieces (contentsOf (drop place s))) at ≡ starts p =
+            ap (λ ps. findIn place ps at) (its-list s at place size r h e) ∙ found-here place p rest at (sym there) in
             rw l at (to-answer (starts p) f)
 
         module _ (q : Parsed) (read : q ≡ readOf (take (place + size - place) (drop place s))) where

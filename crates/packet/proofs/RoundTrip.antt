@@ -47,7 +47,11 @@ module _ (bytes t : List ℕ) (short : packedBytes bytes ≤ maxTotal) where
   pub packed-framed : framed (packed bytes ++ t) ≡ true
   packed-framed =
       let l = length-append (packed bytes) t in
-      to-framed (packed bytes ++ t) (record { two = omega (arith, packed-length); least = omega (arith, its-total); within = omega (arith, its-total, packed-length) })
+      to-framed (packed bytes ++ t) (record {
+        two = omega (arith, packed-length);
+        least = omega (arith, its-total);
+        within = omega (arith, its-total, packed-length);
+      })
 
   its-body : bodyOf (packed bytes ++ t) ≡ bytes
   unfolding packed
@@ -62,7 +66,8 @@ module _ (bytes o : List ℕ) (n : ℕ) (written : packOf bytes (length o) ≡ B
   refused-not-written : (x : Refusal) → _≡_ {A = Written} (Refused x) (Bytes n) → ⊥
   refused-not-written x h = let z : _≡_ {A = ℕ} 0 1 = cc in omega arith
 
-  by-contents : (c : Contents) → contentsOf bytes ≡ c → packIn c (packedBytes bytes) (length o) ≡ Bytes n → (packedBytes bytes ≤ length o) × (ps : List Piece) × (contentsOf bytes ≡ carries ps)
+  by-contents : (c : Contents) → contentsOf bytes ≡ c → packIn c (packedBytes bytes) (length o) ≡ Bytes n
+      → (packedBytes bytes ≤ length o) × (ps : List Piece) × (contentsOf bytes ≡ carries ps)
   by-contents (refused x) e h = absurd (refused-not-written x h)
   by-contents (carries ps) e h = (ltb-false _ _ (passed (ltb (length o) (packedBytes bytes)) (refused-not-written RoomShort) h .0), ps, e)
 
@@ -146,7 +151,8 @@ module _ (s : List ℕ) (ps : List Piece) (accepted : packetOf s ≡ carries ps)
       let g = is-framed s its-frame in
       let l : length (upToTotal s) ≡ totalIn s = length-take-le (totalIn s) s (g .within) in
       let n : packedBytes (bodyOf s) ≡ totalIn s = omega (arith, length-drop totalBytes (upToTotal s), l, g .least) in
-      let h : littleEndian totalBytes (totalIn s) ≡ take totalBytes (upToTotal s) = littleEndian-number totalBytes bytes (g .two) ∙ sym (take-take totalBytes (totalIn s) s (g .least)) in
+      let h : littleEndian totalBytes (totalIn s) ≡ take totalBytes (upToTotal s) =
+      littleEndian-number totalBytes bytes (g .two) ∙ sym (take-take totalBytes (totalIn s) s (g .least)) in
       ap (λ k. littleEndian totalBytes k ++ bodyOf s) n ∙ (ap (λ f. f ++ bodyOf s) h ∙ take-append-drop totalBytes (upToTotal s))
 
   -- and packed again they are the same bytes

@@ -88,7 +88,9 @@ module _ (s : List ℕ) (at : ℕ) where
 module _ (bytes : List ℕ) (room : ℕ) where
   pack-contents : (c : Contents) → contentsOf bytes ≡ c
       → writtenSays (packIn c (packedBytes bytes) room)
-      ≡ (if not (eqb (bodyNumber bytes) 0) then refuses (bodyNumber bytes) else if ltb room (packedBytes bytes) then refuses 6 else accepts (packedBytes bytes ∷ []))
+      ≡ (if not (eqb (bodyNumber bytes) 0) then refuses (bodyNumber bytes)
+      else if ltb room (packedBytes bytes) then refuses 6
+      else accepts (packedBytes bytes ∷ []))
   pack-contents (refused e) h = let n : bodyNumber bytes ≡ code e = sym (body-number bytes) ∙ ap numberOf h in rw (n, some-number e)
   pack-contents (carries ps) h =
       let n : bodyNumber bytes ≡ 0 = sym (body-number bytes) ∙ ap numberOf h in

@@ -61,7 +61,8 @@ stands from (q ∷ ps) at p h =
     (decided (eqb at from))
 
 -- a message that is found is what its part is read as, all of it
-pub found-read : (s : List ℕ) (ps : List Piece) → Carries s ps → (from at : ℕ) (q : Piece) → findIn from ps at ≡ starts q → readOf (q .part) ≡ Accepted (q .message) (length (q .part))
+pub found-read : (s : List ℕ) (ps : List Piece) → Carries s ps → (from at : ℕ) (q : Piece) → findIn from ps at ≡ starts q
+    → readOf (q .part) ≡ Accepted (q .message) (length (q .part))
 unfolding findIn
 found-read whole all done from at q h =
     ⊎-elim (λ (e : eqb at from ≡ true). absurd (ends-not-starts q (rw e at h))) (λ (e : eqb at from ≡ false). absurd (nowhere-not-starts q (rw e at h)))
@@ -130,7 +131,8 @@ module _ (s : List ℕ) (at : ℕ) (m : Message) (next : ℕ) where
         let a : totalBytes + (at - totalBytes) ≡ at = omega (arith, w .behind) in
         let inside : at + length (p .part) ≤ totalIn s = omega (arith, w .within, l, k, length-drop totalBytes (upToTotal s), g .least) in
         let d : drop (at - totalBytes) (bodyOf s) ≡ drop at (upToTotal s) = rw a at (drop-drop (at - totalBytes) totalBytes (upToTotal s)) in
-        let t : take (length (p .part)) (drop at s) ≡ p .part = sym (stretch s (totalIn s) at (length (p .part)) inside (g .within)) ∙ rw (j, d) at (w .there) in
+        let t : take (length (p .part)) (drop at s) ≡ p .part =
+        sym (stretch s (totalIn s) at (length (p .part)) inside (g .within)) ∙ rw (j, d) at (w .there) in
         let z : next - at ≡ length (p .part) = omega arith in
         record {
           carried = ps;
@@ -154,7 +156,8 @@ module _ (s : List ℕ) (at : ℕ) (m : Message) (next : ℕ) where
 
 -- where no message is given, no part is shown
 module _ (s : List ℕ) (at : ℕ) where
-  none-found : (ps : List Piece) (f : Found) → findIn totalBytes ps at ≡ f → ((m : Message) (next : ℕ) → nextFound at f ≡ Gave m next → ⊥) → partFound (findIn totalBytes ps at) ≡ []
+  none-found : (ps : List Piece) (f : Found) → findIn totalBytes ps at ≡ f → ((m : Message) (next : ℕ) → nextFound at f ≡ Gave m next → ⊥)
+      → partFound (findIn totalBytes ps at) ≡ []
   none-found ps ends e n = rw e
   none-found ps nowhere e n = rw e
   none-found ps (starts p) e n = absurd (n (p .message) (at + length (p .part)) refl)

@@ -167,5 +167,6 @@ module _ (s : List ℕ) (from : ℕ) where
         ⊎-elim
         (λ (h : eqb at (length s) ≡ true). h ∙ (sym (walked-empty (drop at s) (omega (arith, eqb-true at (length s) h, length-drop at s))) ∙ inv .same))
         (λ (h : eqb at (length s) ≡ false).
-        h ∙ (sym (walked-stuck (drop at s) (λ l. eqb-false at (length s) h (omega (arith, length-drop at s, inv .within))) (unfit (drop at s) (sym z ∙ inv .next))) ∙ inv .same))
+        let n : length (drop at s) ≡ 0 → ⊥ = λ l. eqb-false at (length s) h (omega (arith, length-drop at s, inv .within)) in
+        h ∙ (sym (walked-stuck (drop at s) n (unfit (drop at s) (sym z ∙ inv .next))) ∙ inv .same))
         (decided (eqb at (length s)))

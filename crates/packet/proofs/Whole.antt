@@ -47,17 +47,19 @@ module _ (s : List ℕ) (all : List Piece) (accepted : packetOf s ≡ carries al
   unfolding partOf
   part-is at f e = rw (accepted, e)
 
-  read-on : (front : List Piece) (at : ℕ) (t : List ℕ) (ps : List Piece) → Carries t ps → Long front → at ≡ totalBytes + length (joined front) → front ++ ps ≡ all → ReadFrom s at ps
+  read-on : (front : List Piece) (at : ℕ) (t : List ℕ) (ps : List Piece) → Carries t ps → Long front → at ≡ totalBytes + length (joined front)
+      → front ++ ps ≡ all → ReadFrom s at ps
   unfolding findIn
   read-on front at t ps done l e a =
       let f : findIn totalBytes all at ≡ ends = rw (a, eq-eqb at at refl) at (found-after totalBytes at front [] l e) in
       ended (next-is at ends f)
-  read-on front at t all-of (next {m} {p} {s} {ps} r c) l e a =
+  read-on front at t all-of (next {m} {p} {s} {ps} read c) l e a =
       let q : Piece = record { message = m; part = p } in
-      let h : 0 < length p = omega (arith, read-part p m r .least) in
+      let h : 0 < length p = omega (arith, read-part p m read .least) in
       let f : findIn totalBytes all at ≡ starts q = rw (a, eq-eqb at at refl) at (found-after totalBytes at front (q ∷ ps) l e) in
       let b : (front ++ q ∷ []) ++ ps ≡ all = append-assoc front (q ∷ []) ps ∙ a in
-      let g = gave (next-is at (starts q) f) (read-on (front ++ q ∷ []) (at + length p) s ps c (long-snoc front q l h) (omega (arith, joined-snoc front q)) b) in
+      let r = read-on (front ++ q ∷ []) (at + length p) s ps c (long-snoc front q l h) (omega (arith, joined-snoc front q)) b in
+      let g = gave (next-is at (starts q) f) r in
       rw (part-is at (starts q) f) at g
 
   -- from the first place to the end: the packet's messages, each with its part
@@ -86,11 +88,13 @@ module _ (s : List ℕ) where
 
   -- a message or the end is given of an accepted packet alone
   module _ (at : ℕ) where
-    by-contents : (c : Contents) → packetOf s ≡ c → (answer : Next) → nextIn c at ≡ answer → ((x : Refusal) → answer ≡ Refused x → ⊥) → (ps : List Piece) × (packetOf s ≡ carries ps)
+    by-contents : (c : Contents) → packetOf s ≡ c → (answer : Next) → nextIn c at ≡ answer → ((x : Refusal) → answer ≡ Refused x → ⊥)
+        → (ps : List Piece) × (packetOf s ≡ carries ps)
     by-contents (refused x) e answer h n = absurd (n x (sym h))
     by-contents (carries ps) e answer h n = (ps, e)
 
-    pub nothing-unless-accepted : (answer : Next) → nextOf s at ≡ answer → ((x : Refusal) → answer ≡ Refused x → ⊥) → (ps : List Piece) × (packetOf s ≡ carries ps)
+    pub nothing-unless-accepted : (answer : Next) → nextOf s at ≡ answer → ((x : Refusal) → answer ≡ Refused x → ⊥)
+        → (ps : List Piece) × (packetOf s ≡ carries ps)
     unfolding nextOf
     nothing-unless-accepted answer h n = by-contents (packetOf s) refl answer h n
 

@@ -133,7 +133,8 @@ module _ (c : Client) (p : Step client-figure.State) where
     abbrev into : Outcome client-figure.State → List ℕ
     into o = sentInto buffer (withRoom (length buffer) o)
 
-    pub client-message-packs : (m : Message) → withRoom (length buffer) (client-calls.messageOutcome c m) ≡ stepped p → Packs (into (client-calls.messageOutcome c m)) (p .sent)
+    pub client-message-packs : (m : Message) → withRoom (length buffer) (client-calls.messageOutcome c m) ≡ stepped p
+        → Packs (into (client-calls.messageOutcome c m)) (p .sent)
     client-message-packs m h =
         let e = room-kept (length buffer) (client-calls.messageOutcome c m) p h .0 in
         step-packs buffer (client-calls.messageOutcome c m) p h (message-valid m e) (short (of-client.message-accepted c p m e))
@@ -158,13 +159,15 @@ module _ (s : Server) (p : Step server-figure.State) where
         let (z, w) = within-range (s .head .id .0) (s .head .n) b in
         rw (le-leb 1 (s .head .id .0) z, le-leb (s .head .id .0) maxServers (omega arith))
 
-    taken-valid : (tag : Tag) (k : ClientId) (j : ServerId) (t : Timestamp) → validStamped k j t ≡ true → server-calls.taken s tag k j t ≡ stepped p → every format.valid (p .sent) ≡ true
+    taken-valid : (tag : Tag) (k : ClientId) (j : ServerId) (t : Timestamp) → validStamped k j t ≡ true → server-calls.taken s tag k j t ≡ stepped p
+        → every format.valid (p .sent) ≡ true
     taken-valid tag k j t w e =
         let x : Step server-figure.State = server-figure.receive (s .head .id) tag (record { client = k; timestamp = t }) (server.view s) in
         let (b, f) = passed (ltb (length (s .row)) (2 * length (x .state .queue))) (never QueueFull p)
         (entered (eqb (j .0) (s .head .id .0)) (never NotForServer p) e) in
         let g : x ≡ p = cc in
-        rw (← g) (of-server.receive-valid (s .head .id) its-id tag (record { client = k; timestamp = t }) (server.view s) (stamped-request maxServers k j t w) (view-good maxServers s v .1))
+        let q = stamped-request maxServers k j t w in
+        rw (← g) (of-server.receive-valid (s .head .id) its-id tag (record { client = k; timestamp = t }) (server.view s) q (view-good maxServers s v .1))
 
     server-received-valid : (m : Message) → format.valid m ≡ true → server-calls.received s m ≡ stepped p → every format.valid (p .sent) ≡ true
     unfolding format.validUpTo
@@ -175,7 +178,9 @@ module _ (s : Server) (p : Step server-figure.State) where
     server-received-valid (Response k j o) w e = absurd (never NotForServer p e)
     server-received-valid (Check k j t) w e = absurd (never NotForServer p e)
 
-    suspected-valid : (o : Owner) → byOwner {B = Outcome server-figure.State} o (refused NoOwner) (λ x. stepped (server-figure.suspect (s .head .id) (server.view s))) ≡ stepped p → every format.valid (p .sent) ≡ true
+    suspected-valid : (o : Owner)
+        → byOwner {B = Outcome server-figure.State} o (refused NoOwner) (λ x. stepped (server-figure.suspect (s .head .id) (server.view s))) ≡ stepped p
+        → every format.valid (p .sent) ≡ true
     suspected-valid Nobody e = absurd (never NoOwner p e)
     suspected-valid (Of x) e =
         let g : server-figure.suspect (s .head .id) (server.view s) ≡ p = cc in
@@ -206,12 +211,14 @@ module _ (s : Server) (p : Step server-figure.State) where
     abbrev server-into : Outcome server-figure.State → List ℕ
     server-into o = sentInto buffer (withRoom (length buffer) o)
 
-    pub server-message-packs : (m : Message) → withRoom (length buffer) (server-calls.messageOutcome s m) ≡ stepped p → Packs (server-into (server-calls.messageOutcome s m)) (p .sent)
+    pub server-message-packs : (m : Message) → withRoom (length buffer) (server-calls.messageOutcome s m) ≡ stepped p
+        → Packs (server-into (server-calls.messageOutcome s m)) (p .sent)
     server-message-packs m h =
         let e = room-kept (length buffer) (server-calls.messageOutcome s m) p h .0 in
         step-packs buffer (server-calls.messageOutcome s m) p h (server-message-valid m e) (server-short (of-server.message-accepted s p m e))
 
-    pub server-suspect-packs : withRoom (length buffer) (server-calls.suspectOutcome s) ≡ stepped p → Packs (server-into (server-calls.suspectOutcome s)) (p .sent)
+    pub server-suspect-packs : withRoom (length buffer) (server-calls.suspectOutcome s) ≡ stepped p
+        → Packs (server-into (server-calls.suspectOutcome s)) (p .sent)
     server-suspect-packs h =
         let e = room-kept (length buffer) (server-calls.suspectOutcome s) p h .0 in
         step-packs buffer (server-calls.suspectOutcome s) p h (suspect-valid e) (server-short (of-server.suspect-accepted s p e))

@@ -50,7 +50,9 @@ message-at-spec =
     (λ c. search needs)
     (λ c.
     let b = c .before .before .before .before .before in
-    place-message _ _ _ (reached b) (b .before .before .if2 .left) _ (inside b) (b .before .size-at .ensures) _ (c .before .before .before .read .ensures .0) _ _ (c .before .m .given .1))
+    let r = c .before .before .before .read .ensures .0 in
+    place-message _ _ _ (reached b) (b .before .before .if2 .left) _ (inside b) (b .before .size-at .ensures) _ r _ _ (c .before .m .given .1))
     (λ c.
     let b = c .before .before .before .before .before in
-    place-bad _ _ _ (reached b) (b .before .before .if2 .left) _ (inside b) (b .before .size-at .ensures) _ (c .before .before .before .read .ensures .0) _ (c .before .e .given .1)))
+    let r = c .before .before .before .read .ensures .0 in
+    place-bad _ _ _ (reached b) (b .before .before .if2 .left) _ (inside b) (b .before .size-at .ensures) _ r _ (c .before .e .given .1)))

@@ -24,7 +24,9 @@ next-at-spec =
     (λ c. search needs)
     (λ c.
     let b = c .before .before .before .before .before in
-    next-said _ _ _ (next-found _ _ _ (b .before .total-of .ensures) (b .if1 .left) (sym (c .before .enum-told .given .1) ∙ c .before .before .before .judge .ensures) _ (c .message-at .ensures)))
+    let j = sym (c .before .enum-told .given .1) ∙ c .before .before .before .judge .ensures in
+    next-said _ _ _ (next-found _ _ _ (b .before .total-of .ensures) (b .if1 .left) j _ (c .message-at .ensures)))
     (λ c.
     let b = c .before .before .before .before .before in
-    next-said _ _ _ (next-refused _ _ _ (b .before .total-of .ensures) (b .if1 .left) _ (sym (c .before .e .given .1) ∙ c .before .before .before .judge .ensures))))
+    let j = sym (c .before .e .given .1) ∙ c .before .before .before .judge .ensures in
+    next-said _ _ _ (next-refused _ _ _ (b .before .total-of .ensures) (b .if1 .left) _ j)))

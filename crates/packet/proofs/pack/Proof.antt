@@ -27,4 +27,5 @@ pack-spec =
     (λ c.
     let r = c .before .before .before .before in
     let j = r .before .before .before in
-    pack-said _ _ _ _ (pack-done _ _ (j .before .if1 .left) (sym (r .before .enum-told .given .1) ∙ j .judge .ensures) _ refl (r .if2 .left) _ (c .before .before .put-packet .ensures))))
+    let g = sym (r .before .enum-told .given .1) ∙ j .judge .ensures in
+    pack-said _ _ _ _ (pack-done _ _ (j .before .if1 .left) g _ refl (r .if2 .left) _ (c .before .before .put-packet .ensures))))
