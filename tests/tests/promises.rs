@@ -88,23 +88,32 @@ fn changed(functions: &Functions, edit: &Path) -> BTreeSet<String> {
     changed
 }
 
-/// The edits that the table names, as crate/name.
-fn named() -> BTreeSet<String> {
+/// The edits that the table names, as crate/name, each with the change request of its row (`L1, ..`); of the base's rows with none.
+fn named() -> BTreeMap<String, String> {
     let page = text(&root().join("docs/PROMISES.md"));
     let (_, section) = page.split_once("## Wrong answers that the contracts rule out").expect("the section");
     let table = section.split("\n## ").next().unwrap_or_default();
-    let rows = table.lines().filter(|line| line.starts_with("| "));
-    rows.flat_map(|row| row.split('`').skip(1).step_by(2)).filter(|word| word.contains('/')).map(String::from).collect()
+    let rows = table.lines().filter_map(|line| line.strip_prefix("| "));
+    let request =
+        |row: &str| row.split(", ").next().filter(|word| word.starts_with('L') && !word.contains(' ')).map(String::from);
+    let words =
+        |row: &'_ str| row.split('`').skip(1).step_by(2).filter(|word| word.contains('/')).map(String::from).collect::<Vec<_>>();
+    rows.flat_map(|row| words(row).into_iter().map(move |edit| (edit, request(row).unwrap_or_default()))).collect()
 }
 
 #[test]
 fn the_table_of_wrong_answers_names_the_edits() {
-    let (named, there): (BTreeSet<String>, BTreeSet<String>) = (named(), edits().into_keys().collect());
+    let requests = named();
+    let (named, there): (BTreeSet<String>, BTreeSet<String>) =
+        (requests.keys().cloned().collect(), edits().into_keys().collect());
     let missing: Vec<&String> = named.difference(&there).collect();
     let unnamed: Vec<&String> = there.difference(&named).collect();
     assert!(missing.is_empty() && unnamed.is_empty(), "named and not there: {missing:?}; there and not named: {unnamed:?}");
-    let requests = fs::read_dir(root().join("docs/changes")).expect("the notes of the change requests").count();
-    assert!((100..=120 + 10 * requests).contains(&there.len()), "{}", there.len());
+    let mut counts: BTreeMap<String, usize> = BTreeMap::new();
+    requests.into_values().for_each(|request| *counts.entry(request).or_default() += 1);
+    let base = counts.remove("").unwrap_or_default();
+    assert!((100..=120).contains(&base), "of the base: {base}");
+    assert!(counts.values().all(|&count| count <= 10), "of a request: {counts:?}");
 }
 
 #[test]

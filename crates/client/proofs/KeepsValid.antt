@@ -337,7 +337,7 @@ module _ {limit : ℕ} (n m : ℕ) (k : ClientId) (s : State) (R : InRangeUpTo l
 never : (e : Refusal) (s : Step State) → refused e ≡ stepped s → ⊥
 never e s h = let z : _≡_ {A = ℕ} 0 1 = cc in omega arith
 
-taken : {A : Type 0} {x y z : A} (b : Bool) → (y ≡ z → ⊥) → (if b then x else y) ≡ z → (b ≡ true) × (x ≡ z)
+pub taken : {A : Type 0} {x y z : A} (b : Bool) → (y ≡ z → ⊥) → (if b then x else y) ≡ z → (b ≡ true) × (x ≡ z)
 taken true n h = (refl, h)
 taken false n h = absurd (n h)
 

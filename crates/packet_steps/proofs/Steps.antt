@@ -1,14 +1,13 @@
 -- What an accepted step wrote is packed without a refusal but 6: every number in it is in range, and it is far shorter than a packet may be.
 use Prim.Native.Nat.{ℕ, _+_, _*_, _≤_}
 use native.Mathlib.Omega.{arith}
-use mathlib.Core.Path.{_≡_, refl, ap, _∙_}
-use mathlib.Core.Bool.{Bool, true, false, not}
+use mathlib.Core.Path.{_≡_, refl, sym, ap, _∙_}
+use mathlib.Core.Bool.{true, not}
 use mathlib.Core.List.{List, _++_}
-use lib.Dec.{eqb, ltb, leb}
+use lib.Dec.{eqb, ltb}
 use lib.ListN.{length, take, drop}
 use lib.Seq.{sets, sets-eq, take-at}
-use borrow.Author.Tests.{eqb-true, leb-true, le-leb, ltb-false, not-false}
-use Rattle.ids.specs.Choice.{if_then_else_}
+use borrow.Author.Tests.{leb-true, le-leb, ltb-false, not-false}
 use Rattle.ids.specs.Limits.{maxServers, within, validServer, validStamped}
 use Rattle.ids.specs.Lists.{every}
 use Rattle.ids.specs.Requests.{byOwner}
@@ -31,7 +30,8 @@ use Rattle.client.specs.Record as client
 use Rattle.client.specs.Calls as client-calls
 use Rattle.client.specs.declared.Client.{Client}
 use Rattle.client.proofs.ValidLaws.{valid-known}
-use Rattle.client.proofs.KeepsValid.{Fits, view-fits}
+use Rattle.client.proofs.StepLaws.{its-client}
+use Rattle.client.proofs.KeepsValid.{Fits, view-fits, taken}
 use Rattle.server_votes.specs.Figure1 as server-figure
 use Rattle.server_votes.specs.declared.Tag.{Tag}
 use Rattle.server_votes.specs.declared.Tag.the-variants.{Request as REQUEST, Yield as YIELD, Release as RELEASE, Inquiry as INQUIRY}
@@ -70,11 +70,6 @@ step-packs : {A : Type 0} (buffer : List ℕ) (o : Outcome A) (p : Step A) → w
     → totalBytes + sizeOfAll (p .sent) ≤ maxTotal → Packs (sentInto buffer (withRoom (length buffer) o)) (p .sent)
 step-packs buffer o p h v short = rw h (written-packs buffer (p .sent) (room-kept (length buffer) o p h .1) v short)
 
--- an `if` that gave something else than its second branch took the first
-taken-branch : {A : Type 0} {x y z : A} (b : Bool) → (y ≡ z → ⊥) → (if b then x else y) ≡ z → (b ≡ true) × (x ≡ z)
-taken-branch true n h = (refl, h)
-taken-branch false n h = absurd (n h)
-
 -- a client's accepted steps
 module _ (c : Client) (p : Step client-figure.State) where
   abbrev n : ℕ
@@ -83,17 +78,14 @@ module _ (c : Client) (p : Step client-figure.State) where
   fits : client.valid c ≡ true → Fits n (c .head .m) (c .head .id) (client.view c)
   fits v = view-fits c (valid-known c v)
 
-  same-id : (k : ClientId) → eqb (k .0) (c .head .id .0) ≡ true → k ≡ c .head .id
-  same-id k e = let z = eqb-true _ _ e in λ i. record { 0 = z i }
-
   received-valid : client.valid c ≡ true → (m : Message) → format.valid m ≡ true → client-calls.received c m ≡ stepped p → every format.valid (p .sent) ≡ true
   received-valid v (Request k j t) w e = absurd (never NotForClient p e)
   received-valid v (Yield k j t) w e = absurd (never NotForClient p e)
   received-valid v (Release k j t) w e = absurd (never NotForClient p e)
   received-valid v (Inquiry k j t) w e = absurd (never NotForClient p e)
   received-valid v (Response k j o) w e =
-      let (a, b) = taken-branch (client-calls.forClient (c .head) k j) (never NotForClient p) e in
-      let i = same-id k (both (eqb (k .0) (c .head .id .0)) (leb (j .0) n) a .0) in
+      let (a, b) = taken (client-calls.forClient (c .head) k j) (never NotForClient p) e in
+      let i = its-client (c .head) (c .row) k j true (sym a) refl in
       let g : client-figure.responds (client-figure.enough (c .head .m)) n k j o (client.view c) ≡ p = cc in
       let r = of-client.responds-valid n (c .head .m) (c .head .id) (client.view c) (fits v) (client-figure.enough (c .head .m)) j o in
       rw (← g, i) r
@@ -114,7 +106,7 @@ module _ (c : Client) (p : Step client-figure.State) where
   begin-valid e =
       let (a, h₁) = passed (not (client.valid c)) (never InvalidRecord p) e in
       let h₂ = entered (client-figure.isRemainder (client.view c .section)) (never WrongSection p) h₁ in
-      let (b, h₃) = taken-branch (client-figure.mayTry (client.view c)) (never TimestampsSpent p) h₂ in
+      let (b, h₃) = taken (client-figure.mayTry (client.view c)) (never TimestampsSpent p) h₂ in
       let g : client-figure.tries n (c .head .id) (client.view c) ≡ p = cc in
       rw (← g) (of-client.tries-valid n (c .head .m) (c .head .id) (client.view c) (fits (not-false _ a)) (leb-true _ _ b))
 
@@ -122,7 +114,7 @@ module _ (c : Client) (p : Step client-figure.State) where
   unfolding client-calls.exitOutcome
   exit-valid e =
       let (a, h₁) = passed (not (client.valid c)) (never InvalidRecord p) e in
-      let (b, h₂) = taken-branch (client-figure.isCritical (client.view c .section)) (never WrongSection p) h₁ in
+      let (b, h₂) = taken (client-figure.isCritical (client.view c .section)) (never WrongSection p) h₁ in
       let g : client-figure.exits n (c .head .id) (client.view c) ≡ p = cc in
       rw (← g) (of-client.exits-valid n (c .head .m) (c .head .id) (client.view c) (fits (not-false _ a)) b)
 
