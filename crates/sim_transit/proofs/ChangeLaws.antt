@@ -5,12 +5,13 @@ use native.Mathlib.Omega.{arith}
 use mathlib.Core.Path.{_≡_, ap, _∙_}
 use mathlib.Core.Bool.{true}
 use mathlib.Core.List.{List, [], _∷_, _++_, map, map-append}
+use lib.Dec.{eqb}
 use lib.ListN.{length, set, take, drop, length-set}
 use lib.Seq.{sets, drop-drop, take-set-le, take-set-lt, drop-set-lt, drop-set-add}
 use Rattle.ids.specs.Lists.{every}
-use Rattle.system.specs.Transit.{InTransit, replaced, keeping}
+use Rattle.system.specs.Transit.{InTransit, replaced}
 use Rattle.sim_transit.specs.Slots.{slotOf, slotAt, rows, slots, validSlot, ascending, transitSize, slotSize}
-use Rattle.sim_transit.specs.Calls.{Valid, marked}
+use Rattle.sim_transit.specs.Calls.{Valid, marked, markedAs}
 use Rattle.sim_transit.proofs.Means.{Marks}
 use Rattle.ids.proofs.Choice.{both}
 use Rattle.sim_transit.proofs.RowsLaws.{rows-around, rows-same}
@@ -69,8 +70,8 @@ module _ (t : List ℕ) (i v : ℕ) where
   pub store-here : take slotSize (drop (slotSize * i) (set t (slotSize * i + 1) v)) ≡ set (take slotSize (drop (slotSize * i) t)) 1 v
   store-here = rw (drop-set-add (slotSize * i) t 1 v) (take-set-lt slotSize (drop (slotSize * i) t) 1 v (omega arith))
 
--- marking: the message stays, delivered
-module _ (t : List ℕ) (i : ℕ) (size : length t ≡ transitSize) (used : i < systemMessages) where
+-- marking: the message stays, delivered or pending
+module _ (t : List ℕ) (i v : ℕ) (bit : v ≤ 1) (size : length t ≡ transitSize) (used : i < systemMessages) where
   module _ (n clients sent len k : ℕ) (e : len ≡ i + suc k) (ok : Valid n clients sent len t) where
     its-known : Known n clients sent (i + suc k) t
     its-known = rw e at (known n clients sent len t ok)
@@ -78,29 +79,29 @@ module _ (t : List ℕ) (i : ℕ) (size : length t ≡ transitSize) (used : i < 
     its-slot : validSlot n clients (take slotSize (drop (slotSize * i) t)) ≡ true
     its-slot = slot-valid-at n clients sent len t ok i (omega arith)
 
-    now-slot : slotAt (set t (slotSize * i + 1) 1) i ≡ record { number = slotAt t i .number; delivered = true; message = slotAt t i .message }
-    now-slot = ap slotOf (store-here t i 1) ∙ slot-marked n clients (row-seven t i size used)
+    now-slot : slotAt (set t (slotSize * i + 1) v) i ≡ record { number = slotAt t i .number; delivered = eqb v 1; message = slotAt t i .message }
+    now-slot = ap slotOf (store-here t i v) ∙ slot-marked n clients v (row-seven t i size used)
 
-    marked-known : Valid n clients sent len (set t (slotSize * i + 1) 1)
+    marked-known : Valid n clients sent len (set t (slotSize * i + 1) v)
     marked-known =
-        let v : validSlot n clients (take slotSize (drop (slotSize * i) (set t (slotSize * i + 1) 1))) ≡ true = rw (store-here t i 1)
-        (marked-valid n clients (row-seven t i size used) its-slot) in
-        let l : length (set t (slotSize * i + 1) 1) ≡ transitSize = length-set t (slotSize * i + 1) 1 ∙ size in
+        let z : validSlot n clients (take slotSize (drop (slotSize * i) (set t (slotSize * i + 1) v))) ≡ true = rw (store-here t i v)
+        (marked-valid n clients v (row-seven t i size used) bit its-slot) in
+        let l : length (set t (slotSize * i + 1) v) ≡ transitSize = length-set t (slotSize * i + 1) v ∙ size in
         let K = its-known in
-        rw e (known-valid n clients sent (i + suc k) (set t (slotSize * i + 1) 1)
-        (changed-known t (set t (slotSize * i + 1) 1) i k size l (K .few) (store-before t i 1) (store-behind t i 1) n clients sent K v
+        rw e (known-valid n clients sent (i + suc k) (set t (slotSize * i + 1) v)
+        (changed-known t (set t (slotSize * i + 1) v) i k size l (K .few) (store-before t i v) (store-behind t i v) n clients sent K z
         (ap (λ (x : InTransit). x .number) now-slot)))
 
-    marked-after : slots len (set t (slotSize * i + 1) 1) ≡ replaced (slotAt t i .number) keeping (slots len t)
+    marked-after : slots len (set t (slotSize * i + 1) v) ≡ replaced (slotAt t i .number) (markedAs v) (slots len t)
     marked-after =
-        let l : length (set t (slotSize * i + 1) 1) ≡ transitSize = length-set t (slotSize * i + 1) 1 ∙ size in
+        let l : length (set t (slotSize * i + 1) v) ≡ transitSize = length-set t (slotSize * i + 1) v ∙ size in
         let K = its-known in
         let o : ascending 0 sent (slots i t ++ (slotAt t i ∷ slots k (drop (slotSize * suc i) t))) ≡ true = rw (slots-around i k t) at (K .ordered) in
-        let p = slots-changed t (set t (slotSize * i + 1) 1) i k size l (K .few) (store-before t i 1) (store-behind t i 1) in
-        let q = replaced-there sent keeping 0 (slots i t) (slotAt t i) (slots k (drop (slotSize * suc i) t)) o in
+        let p = slots-changed t (set t (slotSize * i + 1) v) i k size l (K .few) (store-before t i v) (store-behind t i v) in
+        let q = replaced-there sent (markedAs v) 0 (slots i t) (slotAt t i) (slots k (drop (slotSize * suc i) t)) o in
         rw (e, p, now-slot, slots-around i k t, q)
 
-  pub marks : Marks i t (marked i t)
+  pub marks : Marks i v t (marked i v t)
   marks =
       record {
         valid = λ n clients sent len ok h. marked-known n clients sent len (len - suc i) (omega arith) ok;

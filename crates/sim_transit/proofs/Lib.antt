@@ -5,7 +5,6 @@ pub mod ValidLaws
 pub mod ChangeLaws
 pub mod Means
 pub mod RemoveLaws
-pub mod RestartLaws
 pub mod FindLaws
 pub mod PostLaws
 pub mod Kept

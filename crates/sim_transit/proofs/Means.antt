@@ -2,15 +2,14 @@
 use Prim.Native.Nat.{ℕ, _+_, _-_, _<_, _≤_}
 use mathlib.Core.Path.{_≡_}
 use mathlib.Core.Bool.{true, false}
-use mathlib.Core.List.{List, _++_, map}
+use mathlib.Core.List.{List, _++_}
 use mathlib.Core.Option.{none, some}
 use lib.ListN.{length}
-use Rattle.ids.specs.declared.ServerId.{ServerId}
 use Rattle.wire.specs.declared.Message.{Message}
 use Rattle.ids.specs.Lists.{every}
-use Rattle.system.specs.Transit.{numbered, pending, present, replaced, gone, keeping, again}
+use Rattle.system.specs.Transit.{numbered, pending, present, replaced, gone}
 use Rattle.sim_transit.specs.Slots.{slots, slotAt, names}
-use Rattle.sim_transit.specs.Calls.{Valid}
+use Rattle.sim_transit.specs.Calls.{Valid, markedAs}
 
 -- r is the slot of the pending message with this number, or len where there is none
 pub record FindsPending (number len : ℕ) (t : List ℕ) (r : ℕ) : Type 0 where
@@ -26,20 +25,15 @@ pub record FindsPresent (number len : ℕ) (t : List ℕ) (r : ℕ) : Type 0 whe
   pub found : r < len → present number (slots len t) ≡ true
   pub missing : r ≡ len → present number (slots len t) ≡ false
 
--- in t′ the message of slot i is delivered
-pub record Marks (i : ℕ) (t t′ : List ℕ) : Type 0 where
+-- in t′ the message of slot i is delivered or pending, as v says
+pub record Marks (i v : ℕ) (t t′ : List ℕ) : Type 0 where
   pub valid : (n clients sent len : ℕ) → Valid n clients sent len t → i < len → Valid n clients sent len t′
-  pub after : (n clients sent len : ℕ) → Valid n clients sent len t → i < len → slots len t′ ≡ replaced (slotAt t i .number) keeping (slots len t)
+  pub after : (n clients sent len : ℕ) → Valid n clients sent len t → i < len → slots len t′ ≡ replaced (slotAt t i .number) (markedAs v) (slots len t)
 
 -- in t′ the message of slot i is gone
 pub record Removes (len i : ℕ) (t t′ : List ℕ) : Type 0 where
   pub valid : (n clients sent : ℕ) → Valid n clients sent len t → Valid n clients sent (len - 1) t′
   pub after : (n clients sent : ℕ) → Valid n clients sent len t → slots (len - 1) t′ ≡ replaced (slotAt t i .number) gone (slots len t)
-
--- in t′ what was delivered to server j is pending again
-pub record Restarts (len : ℕ) (j : ServerId) (t t′ : List ℕ) : Type 0 where
-  pub valid : (n clients sent : ℕ) → Valid n clients sent len t → Valid n clients sent len t′
-  pub after : (n clients sent : ℕ) → Valid n clients sent len t → slots len t′ ≡ map (again j) (slots len t)
 
 -- in t′ the messages l follow, as sent after number `sent`
 pub record Posts (len sent : ℕ) (l : List Message) (t t′ : List ℕ) : Type 0 where

@@ -58,15 +58,6 @@ module _ (sent : ℕ) where
       let r = rising last z (a ++ x ∷ b) e in
       ascends last z (a ++ y ∷ b) (r .above) (r .sent-by) (ascends-changed (z .number) a x y b n (r .others))
 
-  pub ascends-map : (f : InTransit → InTransit) → ((x : InTransit) → f x .number ≡ x .number) → (last : ℕ) (l : List InTransit)
-      → ascending last sent l ≡ true → ascending last sent (map f l) ≡ true
-  unfolding ascending
-  ascends-map f n last [] e = refl
-  ascends-map f n last (x ∷ l) e =
-      let r = rising last x l e in
-      let o : ascending (f x .number) sent (map f l) ≡ true = rw (n x) (ascends-map f n (x .number) l (r .others)) in
-      ascends last (f x) (map f l) (omega (arith, n x, r .above)) (omega (arith, n x, r .sent-by)) o
-
   -- by its number a message is replaced where it stands
   module _ (f : InTransit → List InTransit) where
     replaced-none : (i last : ℕ) (l : List InTransit) → i ≤ last → ascending last sent l ≡ true → replaced i f l ≡ l

@@ -12,7 +12,6 @@ use lib.Seq.{take-add, drop-at, length-take-le, getD-take, getD-drop, drop-drop}
 use borrow.Author.Tests.{le-leb, lt-leb, leb-true, not-true, not-false}
 use Rattle.ids.specs.Choice.{if_then_else_, maybe}
 use Rattle.ids.specs.Limits.{within, maxServers, maxShort}
-use Rattle.ids.specs.declared.ServerId.{ServerId}
 use Rattle.ids.proofs.Choice.{both, decided}
 use Rattle.ids.proofs.LimitsLaws.{within-range}
 use Rattle.wire.specs.Format.{known, words, fieldsOf, messageOf, valid, validFields, validFieldsUpTo}
@@ -23,10 +22,10 @@ use Rattle.wire.proofs.NumbersLaws.{valid-sound, message-fields, valid-message,
 use Rattle.words.specs.Messages.{fits, fieldsFrom, crossing, asMessage, messageIn, messageOr}
 use Rattle.words.specs.declared.Crossed.{Crossed}
 use Rattle.words.specs.declared.Crossed.the-variants.{Numbers, TooLarge}
-use Rattle.system.specs.Transit.{InTransit, isFor, again}
+use Rattle.system.specs.Transit.{InTransit}
 use Rattle.sim_transit.specs.Slots.{slotOf, slotAt, names, validSlot, slotSize, transitSize}
 use Rattle.sim_transit.specs.Inner.{namedFields}
-use Rattle.sim_transit.specs.Calls.{slotWords, againWord}
+use Rattle.sim_transit.specs.Calls.{slotWords}
 use Rattle.system.specs.Limits.{systemMessages}
 
 -- seven words
@@ -117,17 +116,17 @@ module _ (n clients : ℕ) (x : InTransit) (v : valid (x .message) ≡ true) whe
       flag true = refl
       flag false = refl
 
--- a delivered slot, and one that is pending again
-module _ (n clients : ℕ) where
-  pub slot-marked : {ws : List ℕ} → Seven ws → slotOf (set ws 1 1) ≡ record { number = slotOf ws .number; delivered = true; message = slotOf ws .message }
+-- a slot marked as delivered or pending
+module _ (n clients v : ℕ) where
+  pub slot-marked : {ws : List ℕ} → Seven ws → slotOf (set ws 1 v) ≡ record { number = slotOf ws .number; delivered = eqb v 1; message = slotOf ws .message }
   unfolding slotOf
   slot-marked (seven a b c d e f g) = refl
 
-  pub marked-valid : {ws : List ℕ} → Seven ws → validSlot n clients ws ≡ true → validSlot n clients (set ws 1 1) ≡ true
-  marked-valid (seven a b c d e f g) h =
+  pub marked-valid : {ws : List ℕ} → Seven ws → v ≤ 1 → validSlot n clients ws ≡ true → validSlot n clients (set ws 1 v) ≡ true
+  marked-valid (seven a b c d e f g) l h =
       let F = slot-fitting n clients (a ∷ (b ∷ (c ∷ (d ∷ (e ∷ (f ∷ (g ∷ []))))))) h in
-      fitting-slot n clients (a ∷ (1 ∷ (c ∷ (d ∷ (e ∷ (f ∷ (g ∷ [])))))))
-      (record { flag = omega arith; crosses = F .crosses; range = F .range; named = F .named })
+      fitting-slot n clients (a ∷ (v ∷ (c ∷ (d ∷ (e ∷ (f ∷ (g ∷ [])))))))
+      (record { flag = l; crosses = F .crosses; range = F .range; named = F .named })
 
 -- where a slot's words stand
 pub number-at : (t : List ℕ) (i : ℕ) → slotAt t i .number ≡ getD t (slotSize * i) 0
@@ -226,51 +225,6 @@ module _ (n clients : ℕ) (t : List ℕ) (i : ℕ) (size : length t ≡ transit
     pub numbers-found : (f : Fields) (r : Bool) → g ≡ Numbers f → r ≡ namedFields n clients f → r ≡ validSlot n clients (take slotSize (drop (slotSize * i) t))
     numbers-found f r q x = slot-numbers n clients (take slotSize (drop (slotSize * i) t)) (rw flag-at h) g from-row f r q x
 
-known-kind : (f : Fields) → validFields f ≡ true → known (f .kind) ≡ true
+pub known-kind : (f : Fields) → validFields f ≡ true → known (f .kind) ≡ true
 unfolding validFieldsUpTo
 known-kind f v = both (known (f .kind)) (validNumbers f) v .0
-
--- server j has gone down
-for-server : (j : ServerId) (kind client server timestamp owner : ℕ) → known kind ≡ true
-    → isFor j (messageOf (record { kind = kind; client = client; server = server; timestamp = timestamp; owner = owner })) ≡ (leb kind 4 && eqb server (j .0))
-unfolding messageOf
-for-server j zero k s t o h = absurd (omega (arith, within-range 0 6 h))
-for-server j (suc zero) k s t o h = refl
-for-server j (suc (suc zero)) k s t o h = refl
-for-server j (suc (suc (suc zero))) k s t o h = refl
-for-server j (suc (suc (suc (suc zero)))) k s t o h = refl
-for-server j (suc (suc (suc (suc (suc zero))))) k s t o h = refl
-for-server j (suc (suc (suc (suc (suc (suc zero)))))) k s t o h = refl
-for-server j (suc (suc (suc (suc (suc (suc (suc n))))))) k s t o h = absurd (omega (arith, within-range (suc (suc (suc (suc (suc (suc (suc n))))))) 6 h))
-
--- a slot's words once server j has gone down
-abbrev pub restarted : ServerId → List ℕ → List ℕ
-restarted j ws = set ws 1 (againWord (j .0) (getD ws 1 0) (getD ws 2 0) (getD ws 4 0))
-
-module _ (n clients : ℕ) (j : ServerId) where
-  pub slot-restarted : {ws : List ℕ} → Seven ws → validSlot n clients ws ≡ true → slotOf (restarted j ws) ≡ again j (slotOf ws)
-  unfolding slotOf againWord
-  slot-restarted (seven a b c d e f g) h =
-      let F = slot-fitting n clients (a ∷ (b ∷ (c ∷ (d ∷ (e ∷ (f ∷ (g ∷ []))))))) h in
-      let v : validFields (record { kind = c; client = d; server = e; timestamp = f; owner = g }) ≡ true = F .range in
-      let r = for-server j c d e f g (known-kind (record { kind = c; client = d; server = e; timestamp = f; owner = g }) v) in
-      let w : eqb (if leb c 4 && eqb e (j .0) then 0 else b) 1 ≡ (if isFor j
-      (messageOf (record { kind = c; client = d; server = e; timestamp = f; owner = g })) then false else eqb b 1) = rw r (go
-      (leb c 4 && eqb e (j .0))) in
-      λ i. record { number = a; delivered = w i; message = messageOf (record { kind = c; client = d; server = e; timestamp = f; owner = g }) }
-    where
-      go : (x : Bool) → eqb (if x then 0 else b) 1 ≡ (if x then false else eqb b 1)
-      go true = refl
-      go false = refl
-
-  pub restarted-valid : {ws : List ℕ} → Seven ws → validSlot n clients ws ≡ true → validSlot n clients (restarted j ws) ≡ true
-  unfolding againWord
-  restarted-valid (seven a b c d e f g) h =
-      let F = slot-fitting n clients (a ∷ (b ∷ (c ∷ (d ∷ (e ∷ (f ∷ (g ∷ []))))))) h in
-      let w : ℕ = if leb c 4 && eqb e (j .0) then 0 else b in
-      fitting-slot n clients (a ∷ (w ∷ (c ∷ (d ∷ (e ∷ (f ∷ (g ∷ [])))))))
-      (record { flag = go (leb c 4 && eqb e (j .0)) (F .flag); crosses = F .crosses; range = F .range; named = F .named })
-    where
-      go : (x : Bool) → b ≤ 1 → (if x then 0 else b) ≤ 1
-      go true h = omega arith
-      go false h = h

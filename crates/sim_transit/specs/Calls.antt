@@ -8,7 +8,6 @@ use lib.Dec.{eqb, leb}
 use lib.ListN.{length, getD, set, take, drop, replicate}
 use lib.Seq.{sets, paste}
 use Rattle.ids.specs.Choice.{if_then_else_}
-use Rattle.ids.specs.declared.ServerId.{ServerId}
 use Rattle.wire.specs.Format.{words, fieldsOf}
 use Rattle.wire.specs.declared.Message.{Message}
 use Rattle.words.specs.Messages.{messageIn, messageOr}
@@ -45,26 +44,18 @@ isNumbered number x = eqb (x .number) number
 abbrev pub messageAt : List ℕ → ℕ → Message
 messageAt t i = messageOr (messageIn (drop 2 (take slotSize (drop (slotSize * i) t))))
 
--- the message in slot i is delivered
-abbrev pub marked : ℕ → List ℕ → List ℕ
-marked i t = set t (slotSize * i + 1) 1
+-- the message in slot i is delivered if v is 1, and pending if it is 0
+abbrev pub marked : ℕ → ℕ → List ℕ → List ℕ
+marked i v t = set t (slotSize * i + 1) v
+
+abbrev pub markedAs : ℕ → InTransit → List InTransit
+markedAs v x = record { number = x .number; delivered = eqb v 1; message = x .message } ∷ []
 
 -- the message in slot i of len is gone: the slots behind it move up by one, and the last of them is empty
 abbrev pub removed : ℕ → ℕ → List ℕ → List ℕ
 removed len i t =
     let behind : ℕ = slotSize * (len - 1 - i) in
     sets (paste t (slotSize * i) (drop (slotSize * i + slotSize) t) behind) (slotSize * i + behind) (replicate slotSize 0)
-
--- the delivered word of a slot once server j has gone down, by the message's kind and server: a message for that server is pending
-unfoldable pub againWord : ℕ → ℕ → ℕ → ℕ → ℕ
-againWord j delivered kind server = if leb kind 4 && eqb server j then 0 else delivered
-
--- in the first so many slots what was delivered to server j is pending again
-unfoldable pub pendingAgain : ℕ → ServerId → List ℕ → List ℕ
-pendingAgain zero j t = t
-pendingAgain (suc i) j t =
-    let u : List ℕ = pendingAgain i j t in
-    set u (slotSize * i + 1) (againWord (j .0) (getD u (slotSize * i + 1) 0) (getD u (slotSize * i + 2) 0) (getD u (slotSize * i + 4) 0))
 
 -- the words of a message's slot, and of slots one after another
 unfoldable pub slotWords : InTransit → List ℕ

@@ -9,10 +9,9 @@ ghost use lib.Dec.{eqb};
 ghost use Rattle.ids.specs.Lists.{every};
 ghost use Rattle.wire.specs.Format.{words as wordsOf, valid as validMessage};
 ghost use Rattle.sim_transit.specs.Slots.{rows, slots, slotAt, validSlot, ascending, validSlots, messagesIn, transitSize, slotSize};
-ghost use Rattle.sim_transit.specs.Calls.{Sized, Ordered, firstSlot, isPending, isNumbered, messageAt, marked, removed, againWord, pendingAgain, posted};
+ghost use Rattle.sim_transit.specs.Calls.{Sized, Ordered, firstSlot, isPending, isNumbered, messageAt, marked, removed, posted};
 ghost use Rattle.sim_transit.specs.Inner.{namedFields, Bound, PostsOne};
 ghost use Rattle.system.specs.Limits.{systemMessages, lastNumber};
-use ids::ServerId;
 use system::MessageNumber;
 use wire::Fields;
 use wire::Message;
@@ -20,7 +19,7 @@ use wire::Numbers;
 use words::Crossed;
 
 // The words of a slot, how many slots there are, and the words of all.
-const SLOT: usize = 7;
+pub const SLOT: usize = 7;
 
 const MESSAGES: usize = system::MAX_MESSAGES as usize;
 
@@ -202,12 +201,12 @@ pub fn message_at(t: &[u32], i: usize) -> Message
     words::message_in(&t[from..end])
 }
 
-// The message in slot `i`, a used one, is delivered and stays. For the simulation, whose words are valid.
-pub fn mark(t: &mut [u32], i: usize)
+// The message in slot `i`, a used one, stays: it is delivered if `mark` is 1, and pending if it is 0. For the simulation, whose words are valid.
+pub fn put_mark(t: &mut [u32], i: usize, mark: u32)
     requires { ⌜ (length (now t) ≡ transitSize) × (i < systemMessages) ⌝ }
-    ensures { λ _. ⌜ now (t .exit) ≡ marked i (now (t .entry)) ⌝ }
+    ensures { λ _. ⌜ now (t .exit) ≡ marked i mark (now (t .entry)) ⌝ }
 {
-    t[SLOT * i + 1] = 1;
+    t[SLOT * i + 1] = mark;
 }
 
 // So many words from `from` on are those that stood seven words behind.
@@ -244,33 +243,6 @@ pub fn remove(t: &mut [u32], len: usize, i: usize)
     let behind = len - 1 - i;
     move_up(t, SLOT * i, SLOT * behind);
     clear(t, SLOT * i + SLOT * behind);
-}
-
-fn delivered_after(j: u32, delivered: u32, kind: u32, server: u32) -> u32
-    ensures { λ r. ⌜ r ≡ againWord j delivered kind server ⌝ }
-{
-    if 4 < kind {
-        return delivered;
-    }
-    if server != j {
-        return delivered;
-    }
-    0
-}
-
-// Server `j` has gone down: what was delivered to it is pending again. For the simulation, whose words are valid.
-pub fn restart(t: &mut [u32], len: usize, j: ServerId)
-    requires { ⌜ Sized len (now t) ⌝ }
-    ensures { λ _. ⌜ now (t .exit) ≡ pendingAgain len j (now (t .entry)) ⌝ }
-{
-    let down = j.0 as u32;
-    let mut i: usize = 0;
-    while i < len {
-        let at = SLOT * i;
-        let w = delivered_after(down, t[at + 1], t[at + 2], t[at + 4]);
-        t[at + 1] = w;
-        i += 1;
-    }
 }
 
 fn put_slot(t: &mut [u32], at: usize, number: u32, f: Fields)
