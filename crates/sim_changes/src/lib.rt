@@ -84,19 +84,20 @@ pub enum ServerAct {
 // The message in slot `i` is gone.
 pub fn remove_message(w: &mut [u32], i: usize)
     requires { ⌜ HasSlot (now w) i ⌝ }
-    ensures { λ _. ⌜ Becomes (now (w .entry)) (now (w .exit)) (withTransit (view (now (w .entry))) (replaced (slotAt (transitWords (now (w .entry))) i .number) gone (view (now (w .entry)) .transit))) ⌝ }
+    ensures { λ _. ⌜ Becomes (now (w .entry)) (now (w .exit)) (withTransit (view (now (w .entry))) (replaced (slotIn (transitWords (now (w .entry))) i .number) gone (view (now (w .entry)) .transit))) ⌝ }
 {
     let len = w[LENGTH] as usize;
-    sim_transit::remove(&mut w[TRANSIT_FROM..SIMULATION_WORDS], len, i);
+    sim_indexed::remove(&mut w[TRANSIT_FROM..SIMULATION_WORDS], len, i);
     w[LENGTH] = (len - 1) as u32;
 }
 
 // The message in slot `i` is delivered, and stays.
 fn mark_message(w: &mut [u32], i: usize)
     requires { ⌜ HasSlot (now w) i ⌝ }
-    ensures { λ _. ⌜ Becomes (now (w .entry)) (now (w .exit)) (withTransit (view (now (w .entry))) (replaced (slotAt (transitWords (now (w .entry))) i .number) keeping (view (now (w .entry)) .transit))) ⌝ }
+    ensures { λ _. ⌜ Becomes (now (w .entry)) (now (w .exit)) (withTransit (view (now (w .entry))) (replaced (slotIn (transitWords (now (w .entry))) i .number) keeping (view (now (w .entry)) .transit))) ⌝ }
 {
-    sim_transit::mark(&mut w[TRANSIT_FROM..SIMULATION_WORDS], i);
+    let len = w[LENGTH] as usize;
+    sim_indexed::mark(&mut w[TRANSIT_FROM..SIMULATION_WORDS], len, i);
 }
 
 // What was delivered to server `j` is pending again.
@@ -105,7 +106,7 @@ pub fn restart_messages(w: &mut [u32], j: ServerId)
     ensures { λ _. ⌜ Becomes (now (w .entry)) (now (w .exit)) (withTransit (view (now (w .entry))) (map (again j) (view (now (w .entry)) .transit))) ⌝ }
 {
     let len = w[LENGTH] as usize;
-    sim_transit::restart(&mut w[TRANSIT_FROM..SIMULATION_WORDS], len, j);
+    sim_indexed::restart(&mut w[TRANSIT_FROM..SIMULATION_WORDS], len, j);
 }
 
 // Whether so many messages may be sent once `gone` messages are gone.
@@ -130,7 +131,7 @@ fn send(w: &mut [u32], bytes: &[u8], count: usize)
 {
     let len = w[LENGTH] as usize;
     let sent = w[SENT];
-    sim_transit::post(
+    sim_indexed::post(
         &mut w[TRANSIT_FROM..SIMULATION_WORDS],
         len,
         sent,
@@ -158,7 +159,7 @@ fn send_message(w: &mut [u32], m: Message)
 {
     let len = w[LENGTH] as usize;
     let sent = w[SENT];
-    sim_transit::post_message(&mut w[TRANSIT_FROM..SIMULATION_WORDS], len, sent, m);
+    sim_indexed::post_message(&mut w[TRANSIT_FROM..SIMULATION_WORDS], len, sent, m);
     w[LENGTH] = (len + 1) as u32;
     w[SENT] = sent + 1;
 }

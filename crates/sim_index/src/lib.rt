@@ -30,13 +30,13 @@ pub fn start(x: &[u32], p: usize) -> usize
     requires { ⌜ (length (now x) ≡ indexSize) × (p ≤ receivers) × (startOf p (now x) ≤ systemMessages) ⌝ }
     ensures { λ r. ⌜ r ≡ startOf p (now (x .entry)) ⌝ }
 {
-    let mut total: usize = 0;
+    let mut total: u32 = 0;
     let mut i: usize = 0;
     while i < p {
-        total += x[i] as usize;
+        total += x[i];
         i += 1;
     }
-    total
+    total as usize
 }
 
 // The first word from place `from` to place `to` that is `v`, or `to`.

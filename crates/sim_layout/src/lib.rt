@@ -17,7 +17,9 @@ ghost use Rattle.sim_blocks.specs.Blocks.{clientPlace, serverPlace, clientRecor
 ghost use Rattle.sim_blocks.specs.Regions.{blocks};
 ghost use Rattle.sim_layout.specs.Layout.{clientWords as clientsPart, serverWords as serversPart, transitWords, settingOf, lengthOf, sentOf, view, validFrom, itself, blank, valid as isValid, serversFrom, simulationSize};
 ghost use Rattle.sim_transit.specs.Calls.{firstSlot, isPending, isNumbered};
-ghost use Rattle.sim_transit.specs.Slots.{slotAt, validSlots};
+ghost use Rattle.sim_index.specs.Index.{receivers};
+ghost use Rattle.sim_indexed.specs.Indexed.{slotIn, validIndexed, entriesAt, listedAt};
+ghost use Rattle.system.specs.Index.{indexOf};
 ghost use Rattle.sim_layout.specs.Parts.{clientBlockOf, serverBlockOf, withClientBlock, withServerBlock, ClientIn, ServerIn};
 ghost use Rattle.sim_layout.specs.Inner.{blocksValid, partsValid};
 ghost use Rattle.system.specs.Limits.{systemServers, systemClients};
@@ -26,7 +28,9 @@ use ids::ClientId;
 use ids::ServerId;
 use sim_blocks::CLIENT_BLOCK;
 use sim_blocks::SERVER_BLOCK;
+use sim_indexed::Listed;
 use system::MessageNumber;
+use system::Receiver;
 use wire::Message;
 
 // The words of the head: the setting, the messages in transit, the messages sent, and the most servers down within an epoch. Only this
@@ -51,7 +55,9 @@ const SERVERS_FROM: usize = CLIENTS_FROM + CLIENT_BLOCK * system::MAX_CLIENTS as
 
 pub const TRANSIT_FROM: usize = SERVERS_FROM + SERVER_BLOCK * system::MAX_SERVERS as usize;
 
-pub const SIMULATION_WORDS: usize = TRANSIT_FROM + sim_transit::TRANSIT_WORDS;
+const INDEX_FROM: usize = TRANSIT_FROM + sim_indexed::TABLE;
+
+pub const SIMULATION_WORDS: usize = TRANSIT_FROM + sim_indexed::INDEXED_WORDS;
 
 pub fn is_living(w: &[u32], k: ClientId) -> bool
     requires { ⌜ ClientIn (now w) k ⌝ }
@@ -328,12 +334,12 @@ fn blocks_valid(w: &[u32], n: u16, m: u32, clients: u16) -> bool
 }
 
 fn transit_valid(w: &[u32], n: u32, clients: u32) -> bool
-    requires { ⌜ length (now w) ≡ simulationSize ⌝ }
-    ensures { λ r. ⌜ r ≡ validSlots n clients (sentOf (now (w .entry))) (lengthOf (now (w .entry))) (transitWords (now (w .entry))) ⌝ }
+    requires { ⌜ (length (now w) ≡ simulationSize) × (n ≤ systemServers) × (clients ≤ systemClients) ⌝ }
+    ensures { λ r. ⌜ r ≡ validIndexed n clients (sentOf (now (w .entry))) (lengthOf (now (w .entry))) (transitWords (now (w .entry))) ⌝ }
 {
     let len = w[LENGTH];
     let sent = w[SENT];
-    sim_transit::valid(
+    sim_indexed::valid(
         &w[TRANSIT_FROM..SIMULATION_WORDS],
         len as usize,
         sent,
@@ -442,7 +448,7 @@ pub fn find_pending(w: &[u32], number: MessageNumber) -> usize
     ensures { λ r. ⌜ r ≡ firstSlot (isPending (number .0)) (view (now (w .entry)) .transit) ⌝ }
 {
     let len = w[LENGTH] as usize;
-    sim_transit::find_pending(&w[TRANSIT_FROM..SIMULATION_WORDS], len, number)
+    sim_transit::find_pending(&w[TRANSIT_FROM..INDEX_FROM], len, number)
 }
 
 pub fn find_present(w: &[u32], number: MessageNumber) -> usize
@@ -450,27 +456,58 @@ pub fn find_present(w: &[u32], number: MessageNumber) -> usize
     ensures { λ r. ⌜ r ≡ firstSlot (isNumbered (number .0)) (view (now (w .entry)) .transit) ⌝ }
 {
     let len = w[LENGTH] as usize;
-    sim_transit::find_present(&w[TRANSIT_FROM..SIMULATION_WORDS], len, number)
+    sim_transit::find_present(&w[TRANSIT_FROM..INDEX_FROM], len, number)
 }
 
 // The message in slot `i`, its number, and whether it is delivered.
 pub fn message_at(w: &[u32], i: usize) -> Message
     requires { ⌜ (isValid (now w) ≡ true) × (i < lengthOf (now w)) ⌝ }
-    ensures { λ m. ⌜ m ≡ slotAt (transitWords (now (w .entry))) i .message ⌝ }
+    ensures { λ m. ⌜ m ≡ slotIn (transitWords (now (w .entry))) i .message ⌝ }
 {
-    sim_transit::message_at(&w[TRANSIT_FROM..SIMULATION_WORDS], i)
+    sim_transit::message_at(&w[TRANSIT_FROM..INDEX_FROM], i)
 }
 
 pub fn number_at(w: &[u32], i: usize) -> MessageNumber
     requires { ⌜ (isValid (now w) ≡ true) × (i < lengthOf (now w)) ⌝ }
-    ensures { λ r. ⌜ r .0 ≡ slotAt (transitWords (now (w .entry))) i .number ⌝ }
+    ensures { λ r. ⌜ r .0 ≡ slotIn (transitWords (now (w .entry))) i .number ⌝ }
 {
-    sim_transit::number_at(&w[TRANSIT_FROM..SIMULATION_WORDS], i)
+    sim_transit::number_at(&w[TRANSIT_FROM..INDEX_FROM], i)
 }
 
 pub fn is_delivered(w: &[u32], i: usize) -> bool
     requires { ⌜ (isValid (now w) ≡ true) × (i < lengthOf (now w)) ⌝ }
-    ensures { λ r. ⌜ r ≡ slotAt (transitWords (now (w .entry))) i .delivered ⌝ }
+    ensures { λ r. ⌜ r ≡ slotIn (transitWords (now (w .entry))) i .delivered ⌝ }
 {
-    sim_transit::is_delivered(&w[TRANSIT_FROM..SIMULATION_WORDS], i)
+    sim_transit::is_delivered(&w[TRANSIT_FROM..INDEX_FROM], i)
+}
+
+// The i-th entry of the receiver at a place in the index.
+fn entry_at(w: &[u32], p: usize, i: usize) -> Listed
+    requires { ⌜ (isValid (now w) ≡ true) × (p < receivers) ⌝ }
+    ensures { λ e. ⌜ e ≡ listedAt (entriesAt p (view (now (w .entry)) .transit)) i ⌝ }
+{
+    let len = w[LENGTH] as usize;
+    sim_indexed::listed(&w[TRANSIT_FROM..SIMULATION_WORDS], len, p, i)
+}
+
+// The i-th of the messages in transit to a receiver, counted from 0, pending or delivered. Nothing past the last of them, and of a receiver that the
+// setting lacks. Only the receiver's own entries are looked at.
+pub fn entry_of(w: &[u32], r: Receiver, i: usize) -> Listed
+    requires { ⌜ isValid (now w) ≡ true ⌝ }
+    ensures { λ e. ⌜ e ≡ listedAt (indexOf r (view (now (w .entry)) .transit)) i ⌝ }
+{
+    match r {
+        Receiver::Client(k) => {
+            if !has_client(w, k) {
+                return Listed::Nothing;
+            }
+            entry_at(w, system::MAX_SERVERS as usize + (k.0 as usize - 1), i)
+        }
+        Receiver::Server(j) => {
+            if !has_server(w, j) {
+                return Listed::Nothing;
+            }
+            entry_at(w, j.0 as usize - 1, i)
+        }
+    }
 }
