@@ -1,46 +1,16 @@
+-- `sim_index::find` meets its contract. The invariant: the place looked for is the one looked for from place i on.
+use Prim.Native.Nat.{_-_}
+use native.Mathlib.Omega.{arith}
+use Rattle.sim_index.proofs.LoopLaws.{Looking, looking-none, looking-found, looking-more, looking-all}
 use borrow.Author.Needs.{needs}
 use Rattle.sim_index.proofs.find.Statement.{statement}
 use Rattle.sim_index.proofs.find.Tie as tie
-use Rattle.sim_index.proofs.find.Reads as reads
-use Rattle.sim_index.proofs.find.Lts as lts
 
 abbrev Inv-loop : tie.InvT-loop
-Inv-loop x from to v i₀ i = ?
+Inv-loop x from to v i₀ i = Looking x from to v i
 
 abbrev μ-loop : tie.MeasureT-loop
-μ-loop x from to v i₀ i = ?
-
--- src/lib.rt:48:5
-loop-holds : tie.Need-loop-holds Inv-loop μ-loop
-loop-holds c = search needs
-
--- src/lib.rt:49:12
-mul-if1 : tie.Need-mul-if1 Inv-loop μ-loop
-mul-if1 c = search needs
-
--- src/lib.rt:49:12
-shared-slice-read-if1 : tie.Need-shared-slice-read-if1 Inv-loop μ-loop
-shared-slice-read-if1 c = search needs
-
--- src/lib.rt:50:13
-returns : tie.Need-returns Inv-loop μ-loop
-returns c = search needs
-
--- src/lib.rt:52:9
-add-i : tie.Need-add-i Inv-loop μ-loop
-add-i c = search needs
-
--- src/lib.rt:48:5
-loop-less : tie.Need-loop-less Inv-loop μ-loop
-loop-less c = search needs
-
--- src/lib.rt:48:5
-loop-again : tie.Need-loop-again Inv-loop μ-loop
-loop-again c = search needs
-
--- src/lib.rt:43:1
-returns-2 : tie.Need-returns-2 Inv-loop μ-loop
-returns-2 c = search needs
+μ-loop x from to v i₀ i = to - i
 
 pub find-spec : {M : Type 1} → statement M
 find-spec =
@@ -48,11 +18,11 @@ find-spec =
     (tie.spec
     Inv-loop
     μ-loop
-    loop-holds
-    mul-if1
-    shared-slice-read-if1
-    returns
-    add-i
-    loop-less
-    loop-again
-    returns-2)
+    (λ c. search looking-none)
+    (λ c. search needs)
+    (λ c. search needs)
+    (λ c. search looking-found)
+    (λ c. search needs)
+    (λ c. omega arith)
+    (λ c. search looking-more)
+    (λ c. search looking-all))

@@ -1,66 +1,16 @@
+-- `sim_index::insert` meets its contract. The invariant: the words from place i on have moved back.
+use Prim.Native.Nat.{_-_}
+use native.Mathlib.Omega.{arith}
+use Rattle.sim_index.proofs.LoopLaws.{Opening, opening-none, opening-more, opening-all}
 use borrow.Author.Needs.{needs}
 use Rattle.sim_index.proofs.insert.Statement.{statement}
 use Rattle.sim_index.proofs.insert.Tie as tie
-use Rattle.sim_index.proofs.insert.Reads as reads
-use Rattle.sim_index.proofs.insert.Lts as lts
 
 abbrev Inv-loop : tie.InvT-loop
-Inv-loop x₀ at end v i₀ x i = ?
+Inv-loop x₀ at end v i₀ x i = Opening x₀ at end x i
 
 abbrev μ-loop : tie.MeasureT-loop
-μ-loop x₀ at end v i₀ x i = ?
-
--- src/lib.rt:63:5
-loop-holds : tie.Need-loop-holds Inv-loop μ-loop
-loop-holds c = search needs
-
--- src/lib.rt:64:19
-sub-w : tie.Need-sub-w Inv-loop μ-loop
-sub-w c = search needs
-
--- src/lib.rt:64:17
-mul-w : tie.Need-mul-w Inv-loop μ-loop
-mul-w c = search needs
-
--- src/lib.rt:64:17
-slice-read-w : tie.Need-slice-read-w Inv-loop μ-loop
-slice-read-w c = search needs
-
--- src/lib.rt:65:9
-mul-x : tie.Need-mul-x Inv-loop μ-loop
-mul-x c = search needs
-
--- src/lib.rt:65:9
-slice-write-x : tie.Need-slice-write-x Inv-loop μ-loop
-slice-write-x c = search needs
-
--- src/lib.rt:66:9
-sub-i : tie.Need-sub-i Inv-loop μ-loop
-sub-i c = search needs
-
--- src/lib.rt:63:5
-loop-less : tie.Need-loop-less Inv-loop μ-loop
-loop-less c = search needs
-
--- src/lib.rt:63:5
-loop-again : tie.Need-loop-again Inv-loop μ-loop
-loop-again c = search needs
-
--- src/lib.rt:68:5
-mul-x-2 : tie.Need-mul-x-2 Inv-loop μ-loop
-mul-x-2 c = search needs
-
--- src/lib.rt:68:5
-slice-write-x-2 : tie.Need-slice-write-x-2 Inv-loop μ-loop
-slice-write-x-2 c = search needs
-
--- src/lib.rt:58:1
-same-length : tie.Need-same-length Inv-loop μ-loop
-same-length c = search needs
-
--- src/lib.rt:58:1
-returns : tie.Need-returns Inv-loop μ-loop
-returns c = search needs
+μ-loop x₀ at end v i₀ x i = i - at
 
 pub insert-spec : {M : Type 1} → statement M
 insert-spec =
@@ -68,16 +18,16 @@ insert-spec =
     (tie.spec
     Inv-loop
     μ-loop
-    loop-holds
-    sub-w
-    mul-w
-    slice-read-w
-    mul-x
-    slice-write-x
-    sub-i
-    loop-less
-    loop-again
-    mul-x-2
-    slice-write-x-2
-    same-length
-    returns)
+    (λ c. search opening-none)
+    (λ c. search needs)
+    (λ c. search needs)
+    (λ c. search needs)
+    (λ c. search needs)
+    (λ c. search needs)
+    (λ c. search needs)
+    (λ c. omega arith)
+    (λ c. search opening-more)
+    (λ c. search needs)
+    (λ c. search needs)
+    (λ c. search needs)
+    (λ c. search opening-all))

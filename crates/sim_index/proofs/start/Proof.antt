@@ -1,50 +1,16 @@
+-- `sim_index::start` meets its contract. The invariant: the total is that of the places before place i.
+use Prim.Native.Nat.{_-_}
+use native.Mathlib.Omega.{arith}
+use Rattle.sim_index.proofs.LoopLaws.{Summing, summing-none, summing-few, summing-more, summing-all}
 use borrow.Author.Needs.{needs}
 use Rattle.sim_index.proofs.start.Statement.{statement}
 use Rattle.sim_index.proofs.start.Tie as tie
-use Rattle.sim_index.proofs.start.Reads as reads
-use Rattle.sim_index.proofs.start.Lts as lts
 
 abbrev Inv-loop : tie.InvT-loop
-Inv-loop x p total₀ i₀ total i = ?
+Inv-loop x p total₀ i₀ total i = Summing x p total i
 
 abbrev μ-loop : tie.MeasureT-loop
-μ-loop x p total₀ i₀ total i = ?
-
--- src/lib.rt:35:5
-loop-holds : tie.Need-loop-holds Inv-loop μ-loop
-loop-holds c = search needs
-
--- src/lib.rt:36:18
-mul-total : tie.Need-mul-total Inv-loop μ-loop
-mul-total c = search needs
-
--- src/lib.rt:36:18
-shared-slice-read-total : tie.Need-shared-slice-read-total Inv-loop μ-loop
-shared-slice-read-total c = search needs
-
--- src/lib.rt:36:18
-cast-total : tie.Need-cast-total Inv-loop μ-loop
-cast-total c = search needs
-
--- src/lib.rt:36:9
-add-total : tie.Need-add-total Inv-loop μ-loop
-add-total c = search needs
-
--- src/lib.rt:37:9
-add-i : tie.Need-add-i Inv-loop μ-loop
-add-i c = search needs
-
--- src/lib.rt:35:5
-loop-less : tie.Need-loop-less Inv-loop μ-loop
-loop-less c = search needs
-
--- src/lib.rt:35:5
-loop-again : tie.Need-loop-again Inv-loop μ-loop
-loop-again c = search needs
-
--- src/lib.rt:29:1
-returns : tie.Need-returns Inv-loop μ-loop
-returns c = search needs
+μ-loop x p total₀ i₀ total i = p - i
 
 pub start-spec : {M : Type 1} → statement M
 start-spec =
@@ -52,12 +18,12 @@ start-spec =
     (tie.spec
     Inv-loop
     μ-loop
-    loop-holds
-    mul-total
-    shared-slice-read-total
-    cast-total
-    add-total
-    add-i
-    loop-less
-    loop-again
-    returns)
+    (λ c. search summing-none)
+    (λ c. search needs)
+    (λ c. search needs)
+    (λ c. record { fits = omega (arith, summing-few _ _ _ _ (c .before .before .loop .inv) (omega arith)) })
+    (λ c. record { fits = omega (arith, summing-few _ _ _ _ (c .before .before .loop .inv) (omega arith)) })
+    (λ c. search needs)
+    (λ c. omega arith)
+    (λ c. search summing-more)
+    (λ c. search summing-all))
