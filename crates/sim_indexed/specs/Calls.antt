@@ -14,8 +14,8 @@ use Rattle.sim_indexed.specs.Indexed.{inTransit, slotIn, validIndexed}
 
 -- so many servers and clients have their places in the index
 pub record Few (n clients : ℕ) : Type 0 where
-  pub servers : n ≤ systemServers
-  pub clients : clients ≤ systemClients
+  pub few-servers : n ≤ systemServers
+  pub few-clients : clients ≤ systemClients
 
 abbrev pub Valid : ℕ → ℕ → ℕ → ℕ → List ℕ → Type 0
 Valid n clients sent len t = validIndexed n clients sent len t ≡ true

@@ -7,7 +7,7 @@ ghost use Prim.Native.Nat.{_≤_, _<_, _+_, _-_};
 ghost use lib.ListN.{length};
 ghost use Rattle.wire.specs.Format.{valid as validMessage};
 ghost use Rattle.system.specs.Limits.{systemMessages, systemServers, systemClients};
-ghost use Rattle.sim_transit.specs.Slots.{slots, slotAt, messagesIn};
+ghost use Rattle.sim_transit.specs.Slots.{transitSize, slots, slotAt, messagesIn};
 ghost use Rattle.sim_index.specs.Index.{receivers, indexSize};
 ghost use Rattle.sim_indexed.specs.Indexed.{validIndexed, table, index, inTransit, cardOf, afresh, entriesAt, listedAt};
 ghost use Rattle.sim_indexed.specs.Calls.{Held, Marks, Removes, Restarts, Posts, CanPost, Place};
@@ -36,7 +36,7 @@ fn place_by(kind: u32, client: u32, server: u32) -> usize
 
 // The entry of the message in slot `i` of a table, with its receiver.
 fn card_at(t: &[u32], i: usize) -> Card
-    requires { ⌜ Readable i (now t) ⌝ }
+    requires { ⌜ Readable i (now t) × (length (now t) ≡ transitSize) × (i < systemMessages) ⌝ }
     ensures { λ c. ⌜ c ≡ cardOf (slotAt (now (t .entry)) i) ⌝ }
 {
     let at = SLOT * i;
@@ -87,7 +87,7 @@ pub enum Listed {
 }
 
 // Entry `i`, counted from 0, of the receiver at place `p`.
-pub fn listed(t: &[u32], len: usize, p: usize, i: usize) -> Listed
+pub fn read_entry(t: &[u32], len: usize, p: usize, i: usize) -> Listed
     requires { ⌜ Held len (now t) × (p < receivers) ⌝ }
     ensures { λ r. ⌜ r ≡ listedAt (entriesAt p (inTransit len (now (t .entry)))) i ⌝ }
 {

@@ -487,7 +487,7 @@ fn entry_at(w: &[u32], p: usize, i: usize) -> Listed
     ensures { λ e. ⌜ e ≡ listedAt (entriesAt p (view (now (w .entry)) .transit)) i ⌝ }
 {
     let len = w[LENGTH] as usize;
-    sim_indexed::listed(&w[TRANSIT_FROM..SIMULATION_WORDS], len, p, i)
+    sim_indexed::read_entry(&w[TRANSIT_FROM..SIMULATION_WORDS], len, p, i)
 }
 
 // The i-th of the messages in transit to a receiver, counted from 0, pending or delivered. Nothing past the last of them, and of a receiver that the

@@ -1,0 +1,43 @@
+-- A server's restart, entry by entry: after k of its entries the first k of its messages are pending, and after all of them the messages are what
+-- the system says. An entry of the server's list is a message to the server, for its place is no other receiver's.
+use Prim.Native.Nat.{ℕ, zero, suc, _+_, _-_, _<_, _≤_}
+use native.Mathlib.Omega.{arith}
+use mathlib.Core.Path.{_≡_, refl, sym, ap, _∙_}
+use mathlib.Core.Logic.{inl, inr}
+use mathlib.Core.Bool.{Bool, true, false, not}
+use mathlib.Core.List.{List, [], _∷_, _++_, map}
+use lib.Dec.{eqb}
+use lib.ListN.{length, getD, length-append}
+use borrow.Author.Tests.{eqb-true, eq-eqb, ne-eqb, eqb-false}
+use Rattle.ids.specs.Choice.{if_then_else_}
+use Rattle.ids.specs.declared.ServerId.{ServerId}
+use Rattle.ids.proofs.Choice.{decided, Test}
+use Rattle.wire.specs.Format.{fieldsOf}
+use Rattle.wire.specs.declared.Message.{Message}
+use Rattle.wire.specs.declared.Message.the-variants.{Request, Yield, Release, Inquiry, Response, Check}
+use Rattle.system.specs.Limits.{systemServers}
+use Rattle.system.specs.Transit.{InTransit, isFor, again}
+use Rattle.system.specs.Index.{receiverOf}
+use Rattle.system.proofs.Tokens.{All, empty, more}
+use Rattle.sim_transit.specs.Slots.{slots}
+use Rattle.sim_transit.specs.Calls.{markedAs}
+use Rattle.sim_transit.proofs.Kept.{Kept, Named, names-named, valid-kept}
+use Rattle.sim_index.specs.Index.{sorted, ofPlace, receivers}
+use Rattle.sim_index.specs.Calls.{startOf}
+use Rattle.sim_index.specs.declared.Card.{Card}
+use Rattle.sim_index.proofs.Means.{start-is}
+use Rattle.sim_indexed.specs.Indexed.{table, index, inTransit, placeOf, cardOf}
+use Rattle.sim_indexed.specs.Calls.{Few, Valid, Held, Place, Restarts}
+use Rattle.sim_indexed.specs.Inner.{EntryAt, Pends, entryPlace}
+use Rattle.sim_indexed.proofs.IndexedLaws.{parts}
+
+-- the first k messages to server j are pending
+upTo : ℕ → ServerId → List InTransit → List InTransit
+upTo zero j l = l
+upTo (suc k) j [] = []
+upTo (suc k) j (x ∷ l) = if isFor j (x .message) then again j x ∷ upTo k j l else x ∷ upTo (suc k) j l
+
+-- how many there are
+count : ServerId → List InTransit → ℕ
+count j [] = 0
+count j (x ∷ l) = if isFor j (x .message) then suc (count j l) else count j l
