@@ -1,2 +1,4 @@
 pub mod LoopLaws
 pub mod EntryLaws
+pub mod WordLaws
+pub mod PlaceLaws
