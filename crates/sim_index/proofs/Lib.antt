@@ -2,3 +2,4 @@ pub mod LoopLaws
 pub mod EntryLaws
 pub mod WordLaws
 pub mod PlaceLaws
+pub mod Means

@@ -8,7 +8,7 @@ use mathlib.Core.List.{List, [], _∷_, _++_, append-assoc, append-nil}
 use mathlib.Core.Logic.{inl, inr}
 use lib.Dec.{eqb, ltb}
 use lib.ListN.{length, getD, set, take, length-append, length-set}
-use lib.Seq.{take-all, take-append-le, getD-take, getD-at, ext-getD, getD-set-same, getD-set-other}
+use lib.Seq.{take-all, take-append-le, getD-take, getD-at, ext-getD, getD-set-same, getD-set-other, set-set, set-getD}
 use borrow.Author.Tests.{eq-eqb, ne-eqb, eqb-true, eqb-false, ltb-true, ltb-false}
 use Rattle.ids.specs.Choice.{if_then_else_}
 use Rattle.ids.specs.Lists.{every}
@@ -56,20 +56,23 @@ unfoldable pub beyond : ℕ → ℕ → List Card → List Card
 beyond p zero l = []
 beyond p (suc k) l = beyond p k l ++ ofPlace (suc p + k) l
 
-pub sorted-around : (p k : ℕ) (l : List Card) → sorted (suc p + k) l ≡ sorted p l ++ (ofPlace p l ++ beyond p k l)
+sorted-on : (p k : ℕ) (l : List Card) → sorted (suc p + k) l ≡ sorted p l ++ (ofPlace p l ++ beyond p k l)
 unfolding beyond sorted
-sorted-around p zero l = let z : suc p + 0 ≡ suc p = omega arith in rw (z, append-nil)
-sorted-around p (suc k) l =
+sorted-on p zero l = let z : suc p + 0 ≡ suc p = omega arith in rw (z, append-nil)
+sorted-on p (suc k) l =
     let z : suc p + suc k ≡ suc (suc p + k) = omega arith in
-    rw (z, sorted-around p k l) (simp append-assoc)
+    rw (z, sorted-on p k l) (simp append-assoc)
 
-sorted-none : (n : ℕ) → sorted n [] ≡ []
+pub sorted-around : (n p : ℕ) (l : List Card) → p < n → sorted n l ≡ sorted p l ++ (ofPlace p l ++ beyond p (n - suc p) l)
+sorted-around n p l h = let z : suc p + (n - suc p) ≡ n = omega arith in rw z at (sorted-on p (n - suc p) l)
+
+pub sorted-none : (n : ℕ) → sorted n [] ≡ []
 unfolding sorted ofPlace
 sorted-none zero = refl
 sorted-none (suc n) = rw (sorted-none n)
 
 module _ (a : List Card) (c : Card) (b : List Card) where
-  sorted-below : (n : ℕ) → n ≤ c .place → sorted n (a ++ (c ∷ b)) ≡ sorted n (a ++ b)
+  pub sorted-below : (n : ℕ) → n ≤ c .place → sorted n (a ++ (c ∷ b)) ≡ sorted n (a ++ b)
   unfolding sorted
   sorted-below zero h = refl
   sorted-below (suc n) h = rw (sorted-below n (omega arith), of-other a c b n (λ e. omega (arith, e)))
@@ -87,18 +90,13 @@ abbrev pub behind : ℕ → ℕ → List Card → List Card → List Card
 behind n p a b = ofPlace p b ++ beyond p (n - suc p) (a ++ b)
 
 pub sorted-without : (n p : ℕ) (a b : List Card) → p < n → sorted n (a ++ b) ≡ before p a b ++ behind n p a b
-sorted-without n p a b h =
-    let z : suc p + (n - suc p) ≡ n = omega arith in
-    let e = rw z at (sorted-around p (n - suc p) (a ++ b)) in
-    e ∙ rw (of-append p a b) (simp append-assoc)
+sorted-without n p a b h = sorted-around n p (a ++ b) h ∙ rw (of-append p a b) (simp append-assoc)
 
 module _ (n : ℕ) (a : List Card) (c : Card) (b : List Card) (h : c .place < n) where
   pub sorted-with : sorted n (a ++ (c ∷ b)) ≡ before (c .place) a b ++ (c ∷ behind n (c .place) a b)
   sorted-with =
-      let p : ℕ = c .place in
-      let z : suc (c .place) + (n - suc (c .place)) ≡ n = omega arith in
-      let e = rw z at (sorted-around (c .place) (n - suc (c .place)) (a ++ (c ∷ b))) in
-      e ∙ rw (of-own a c b, sorted-below a c b (c .place) (omega arith), beyond-same a c b (n - suc (c .place))) (simp append-assoc)
+      let same = beyond-same a c b (n - suc (c .place)) in
+      sorted-around n (c .place) (a ++ (c ∷ b)) h ∙ rw (of-own a c b, sorted-below a c b (c .place) (omega arith), same) (simp append-assoc)
 
   pub sorted-longer : length (sorted n (a ++ (c ∷ b))) ≡ suc (length (sorted n (a ++ b)))
   sorted-longer =
@@ -170,3 +168,11 @@ module _ (n : ℕ) (a : List Card) (c : Card) (b : List Card) (h : c .place < n)
       let l = length-counts n (a ++ (c ∷ b)) in
       let m = length-set (counts n (a ++ b)) (c .place) (suc (length (ofPlace (c .place) (a ++ b)))) ∙ length-counts n (a ++ b) in
       ext-getD 0 (counts n (a ++ (c ∷ b))) now-have (l ∙ sym m) (λ i lt. at-place i (omega (arith, lt, l)) (decided (eqb i (c .place))))
+
+  pub counts-without : set (counts n (a ++ (c ∷ b))) (c .place) (length (ofPlace (c .place) (a ++ (c ∷ b))) - 1) ≡ counts n (a ++ b)
+  counts-without =
+      let m : ℕ = length (ofPlace (c .place) (a ++ b)) in
+      let z : length (ofPlace (c .place) (a ++ (c ∷ b))) - 1 ≡ getD (counts n (a ++ b)) (c .place) 0 =
+          omega (arith, one-more, counts-at n (c .place) (a ++ b) h) in
+      rw (z, counts-with)
+      (set-set (counts n (a ++ b)) (c .place) (suc m) (getD (counts n (a ++ b)) (c .place) 0) ∙ set-getD (counts n (a ++ b)) (c .place) 0)

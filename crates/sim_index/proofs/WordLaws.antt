@@ -38,9 +38,6 @@ module _ (f : Card → ℕ) (a e : List ℕ) (u v : List Card) (from i n : ℕ)
   abbrev rest : List ℕ
   rest = replicate (systemMessages - suc n) 0 ++ e
 
-  length-u : length (map f u) ≡ i
-  length-u = length-map u f ∙ first
-
   without : a ++ (padded (map f (u ++ v)) ++ e) ≡ (a ++ map f u) ++ (map f v ++ (0 ∷ rest))
   unfolding padded
   without =
@@ -123,45 +120,52 @@ module _ (cs : List ℕ) (many : length cs ≡ receivers) where
       rw (e, drop-at (cs ++ numbersOf u) (numbersOf v ++ rest) (numbersFrom + length u) front)
       (take-at (numbersOf v) rest (length v) (length-map v numberOf))
 
-  -- a card between the cards u and v, of which there are n
-  module _ (u v : List Card) (i n : ℕ) (first : length u ≡ i) (all : length u + length v ≡ n) (few : n < systemMessages) (c : Card) where
-    abbrev l : List Card
-    l = u ++ (c ∷ v)
+-- the first i of n cards are u, and the others v
+pub record Between (cs : List ℕ) (u v : List Card) (i n : ℕ) : Type 0 where
+  pub many : length cs ≡ receivers
+  pub first : length u ≡ i
+  pub all : length u + length v ≡ n
+  pub few : n < systemMessages
 
-    marks-with : length (cs ++ padded (numbersOf l)) ≡ marksFrom
-    marks-with = marks-here l (omega (arith, length-append u (c ∷ v), all))
+module _ {cs : List ℕ} {u v : List Card} {i n : ℕ} (B : Between cs u v i n) (c : Card) where
+  abbrev l : List Card
+  l = u ++ (c ∷ v)
 
-    marks-without : length (cs ++ padded (numbersOf (u ++ v))) ≡ marksFrom
-    marks-without = marks-here (u ++ v) (omega (arith, length-append u v, all))
+  marks-with : length (cs ++ padded (numbersOf l)) ≡ marksFrom
+  marks-with = marks-here cs (B .many) l (omega (arith, length-append u (c ∷ v), B .all, B .few))
 
-    pub card-number : getD (wordsOf cs (u ++ (c ∷ v))) (numbersFrom + i) 0 ≡ c .number
-    card-number = there numberOf cs (padded (marksOf l)) u v numbersFrom i n many first all few c
+  marks-without : length (cs ++ padded (numbersOf (u ++ v))) ≡ marksFrom
+  marks-without = marks-here cs (B .many) (u ++ v) (omega (arith, length-append u v, B .all, B .few))
 
-    pub card-mark : getD (wordsOf cs (u ++ (c ∷ v))) (marksFrom + i) 0 ≡ c .mark
-    card-mark =
-        rw (marks-part cs (numbersOf l) (marksOf l)) (there markOf (cs ++ padded (numbersOf l)) [] u v marksFrom i n marks-with first all few c)
+  pub card-number : getD (wordsOf cs (u ++ (c ∷ v))) (numbersFrom + i) 0 ≡ c .number
+  card-number = there numberOf cs (padded (marksOf l)) u v numbersFrom i n (B .many) (B .first) (B .all) (B .few) c
 
-    pub card-marked : (m : ℕ)
-        → set (wordsOf cs (u ++ (c ∷ v))) (marksFrom + i) m ≡ wordsOf cs (u ++ (record { place = c .place; number = c .number; mark = m } ∷ v))
-    card-marked m =
-        let d : Card = record { place = c .place; number = c .number; mark = m } in
-        let same : numbersOf (u ++ (d ∷ v)) ≡ numbersOf l = map-append numberOf u (d ∷ v) ∙ sym (map-append numberOf u (c ∷ v)) in
-        rw (same, marks-part cs (numbersOf l) (marksOf l), marks-part cs (numbersOf l) (marksOf (u ++ (d ∷ v))))
-        (another markOf (cs ++ padded (numbersOf l)) [] u v marksFrom i n marks-with first all few c d)
+  pub card-mark : getD (wordsOf cs (u ++ (c ∷ v))) (marksFrom + i) 0 ≡ c .mark
+  card-mark =
+      rw (marks-part cs (numbersOf l) (marksOf l))
+      (there markOf (cs ++ padded (numbersOf l)) [] u v marksFrom i n marks-with (B .first) (B .all) (B .few) c)
 
-    pub card-put :
-        inserted (marksFrom + i) (marksFrom + n) (c .mark) (inserted (numbersFrom + i) (numbersFrom + n) (c .number) (wordsOf cs (u ++ v)))
-        ≡ wordsOf cs (u ++ (c ∷ v))
-    card-put =
-        ap (inserted (marksFrom + i) (marksFrom + n) (c .mark))
-        (put numberOf cs (padded (marksOf (u ++ v))) u v numbersFrom i n many first all few c) ∙
-        rw (marks-part cs (numbersOf l) (marksOf (u ++ v)), marks-part cs (numbersOf l) (marksOf l))
-        (put markOf (cs ++ padded (numbersOf l)) [] u v marksFrom i n marks-with first all few c)
+  pub card-marked : (m : ℕ)
+      → set (wordsOf cs (u ++ (c ∷ v))) (marksFrom + i) m ≡ wordsOf cs (u ++ (record { place = c .place; number = c .number; mark = m } ∷ v))
+  card-marked m =
+      let d : Card = record { place = c .place; number = c .number; mark = m } in
+      let same : numbersOf (u ++ (d ∷ v)) ≡ numbersOf l = map-append numberOf u (d ∷ v) ∙ sym (map-append numberOf u (c ∷ v)) in
+      rw (same, marks-part cs (numbersOf l) (marksOf l), marks-part cs (numbersOf l) (marksOf (u ++ (d ∷ v))))
+      (another markOf (cs ++ padded (numbersOf l)) [] u v marksFrom i n marks-with (B .first) (B .all) (B .few) c d)
 
-    pub card-taken :
-        deleted (marksFrom + i) (marksFrom + n) (deleted (numbersFrom + i) (numbersFrom + n) (wordsOf cs (u ++ (c ∷ v)))) ≡ wordsOf cs (u ++ v)
-    card-taken =
-        ap (deleted (marksFrom + i) (marksFrom + n))
-        (taken numberOf cs (padded (marksOf l)) u v numbersFrom i n many first all few c) ∙
-        rw (marks-part cs (numbersOf (u ++ v)) (marksOf l), marks-part cs (numbersOf (u ++ v)) (marksOf (u ++ v)))
-        (taken markOf (cs ++ padded (numbersOf (u ++ v))) [] u v marksFrom i n marks-without first all few c)
+  pub card-put :
+      inserted (marksFrom + i) (marksFrom + n) (c .mark) (inserted (numbersFrom + i) (numbersFrom + n) (c .number) (wordsOf cs (u ++ v)))
+      ≡ wordsOf cs (u ++ (c ∷ v))
+  card-put =
+      ap (inserted (marksFrom + i) (marksFrom + n) (c .mark))
+      (put numberOf cs (padded (marksOf (u ++ v))) u v numbersFrom i n (B .many) (B .first) (B .all) (B .few) c) ∙
+      rw (marks-part cs (numbersOf l) (marksOf (u ++ v)), marks-part cs (numbersOf l) (marksOf l))
+      (put markOf (cs ++ padded (numbersOf l)) [] u v marksFrom i n marks-with (B .first) (B .all) (B .few) c)
+
+  pub card-taken :
+      deleted (marksFrom + i) (marksFrom + n) (deleted (numbersFrom + i) (numbersFrom + n) (wordsOf cs (u ++ (c ∷ v)))) ≡ wordsOf cs (u ++ v)
+  card-taken =
+      ap (deleted (marksFrom + i) (marksFrom + n))
+      (taken numberOf cs (padded (marksOf l)) u v numbersFrom i n (B .many) (B .first) (B .all) (B .few) c) ∙
+      rw (marks-part cs (numbersOf (u ++ v)) (marksOf l), marks-part cs (numbersOf (u ++ v)) (marksOf (u ++ v)))
+      (taken markOf (cs ++ padded (numbersOf (u ++ v))) [] u v marksFrom i n marks-without (B .first) (B .all) (B .few) c)
