@@ -1,3 +1,5 @@
 pub mod LoopLaws
 pub mod EntryLaws
+pub mod WordLaws
+pub mod PlaceLaws
 pub mod Means

@@ -1,15 +1,203 @@
--- (to come)
-use Prim.Native.Nat.{ℕ}
-use mathlib.Core.Path.{_≡_}
-use mathlib.Core.Bool.{true, not}
-use mathlib.Core.List.{List}
+-- The words of an index, and what the calls make of them: a call on the index of some cards leaves the index of the cards with one more, with one
+-- less, or with another mark. Nothing else is in the words: how many cards a receiver has, where its cards begin and what stands there follow
+-- from the cards.
+use Prim.Native.Nat.{ℕ, zero, suc, _+_, _-_, _<_, _≤_}
+use native.Mathlib.Omega.{arith}
+use mathlib.Core.Path.{_≡_, refl, sym, ap, _∙_}
+use mathlib.Core.Bool.{Bool, true, false, not}
+use mathlib.Core.List.{List, [], _∷_, _++_, map, map-append, append-assoc, append-nil}
+use mathlib.Core.Logic.{inl, inr}
 use lib.Dec.{eqb, ltb}
+use lib.ListN.{length, getD, set, take, drop, replicate, length-append, length-map, replicate-append-replicate}
+use lib.Seq.{take-append-le}
+use borrow.Author.Tests.{eq-eqb, eqb-true, lt-ltb, ltb-true, ltb-false, not-true}
 use Rattle.ids.specs.Lists.{every}
-use Rattle.sim_index.specs.Index.{receivers}
+use Rattle.ids.specs.Choice.{if_then_else_}
+use Rattle.ids.proofs.Choice.{both, decided, Test, clash}
+use Rattle.ids.proofs.ListLaws.{every-parts, every-append}
+use Rattle.system.specs.Limits.{systemMessages}
 use Rattle.sim_index.specs.declared.Card.{Card}
+use Rattle.sim_index.specs.Index.{receivers, numbersFrom, marksFrom, indexSize, ofPlace, sorted, counts, padded, numbersOf, marksOf, indexWords}
+use Rattle.sim_index.specs.Calls.{sum, startOf, firstOf, inserted, deleted, entryOf, added, withdrawn, Sized, same}
+use Rattle.sim_index.proofs.WordLaws.{wordsOf, Between, length-words, words-count, words-set, words-run, card-number, card-mark, card-marked, card-put, card-taken}
+use Rattle.sim_index.proofs.PlaceLaws.{of-append, of-own, of-every, sorted-none, sorted-below, before, behind, beyond, sorted-around, sorted-without, sorted-with, sorted-longer}
+use Rattle.sim_index.proofs.PlaceLaws.{length-counts, counts-below, counts-at, counts-sum, counts-with, counts-without}
 
+-- every card has a receiver; no card has this card's number
 abbrev pub Placed : List Card → Type 0
 Placed l = every (λ (c : Card). ltb (c .place) receivers) l ≡ true
 
 abbrev pub Other : Card → List Card → Type 0
 Other c l = every (λ (d : Card). not (eqb (d .number) (c .number))) l ≡ true
+
+pub sorted-few : (p : ℕ) (l : List Card) → length (sorted p l) ≤ length l
+sorted-few p [] = rw (sorted-none p) (omega arith)
+sorted-few p (c ∷ l) = by-test (decided (ltb (c .place) p)) (sorted-few p l)
+  where
+    by-test : Test (ltb (c .place) p) → length (sorted p l) ≤ length l → length (sorted p (c ∷ l)) ≤ suc (length l)
+    by-test (inl e) h = omega (arith, h, sorted-longer p [] c l (ltb-true (c .place) p e))
+    by-test (inr e) h = rw (sorted-below [] c l p (ltb-false (c .place) p e)) (omega (arith, h))
+
+pub sorted-all : (l : List Card) → Placed l → length (sorted receivers l) ≡ length l
+sorted-all [] h = rw (sorted-none receivers)
+sorted-all (c ∷ l) h =
+    let (p, r) = both (ltb (c .place) receivers) (every (λ (d : Card). ltb (d .place) receivers) l) h in
+    omega (arith, sorted-longer receivers [] c l (ltb-true (c .place) receivers p), sorted-all l r)
+
+-- the words: counts, then numbers and marks
+index-is : (l : List Card) → indexWords l ≡ wordsOf (counts receivers l) (sorted receivers l)
+unfolding indexWords
+index-is l = refl
+
+pub length-index : (l : List Card) → length l ≤ systemMessages → length (indexWords l) ≡ indexSize
+length-index l h =
+    rw (index-is l) (length-words (counts receivers l) (length-counts receivers l) (sorted receivers l) (omega (arith, h, sorted-few receivers l)))
+
+pub index-none : indexWords [] ≡ replicate indexSize 0
+unfolding indexWords counts sorted ofPlace padded
+index-none = refl
+
+pub start-is : (p : ℕ) (l : List Card) → p ≤ receivers → startOf p (indexWords l) ≡ length (sorted p l)
+start-is p l h =
+    let e : take p (indexWords l) ≡ counts p l =
+        rw (index-is l)
+        (take-append-le p (counts receivers l) _ (omega (arith, length-counts receivers l)) ∙ counts-below receivers p l h) in
+    rw (e) (counts-sum p l)
+
+pub count-is : (p : ℕ) (l : List Card) → p < receivers → getD (indexWords l) p 0 ≡ length (ofPlace p l)
+count-is p l h =
+    rw (index-is l)
+    (words-count (counts receivers l) (length-counts receivers l) (sorted receivers l) p h ∙ counts-at receivers p l h)
+
+pub index-sized : (p : ℕ) (l : List Card) → p < receivers → length l ≤ systemMessages → Placed l → Sized (length l) p (indexWords l)
+index-sized p l h few placed =
+    record { size = length-index l few; few = few; place = h; within = rw (start-is (suc p) l h) (sorted-few (suc p) l) }
+
+-- the numbers of a receiver's cards, where they begin
+run-is : (p : ℕ) (l : List Card) → p < receivers
+    → take (getD (indexWords l) p 0) (drop (numbersFrom + startOf p (indexWords l)) (indexWords l)) ≡ numbersOf (ofPlace p l)
+run-is p l h =
+    rw (count-is p l h, start-is p l (omega arith), index-is l, sorted-around receivers p l h)
+    (words-run (counts receivers l) (length-counts receivers l) (sorted p l) (ofPlace p l) (beyond p (receivers - suc p) l))
+
+first-past : (c : Card) (l : List Card) (r : List ℕ) → Other c l → firstOf (c .number) (numbersOf l ++ (c .number ∷ r)) ≡ length l
+unfolding firstOf
+first-past c [] r h = rw (eq-eqb (c .number) (c .number) refl)
+first-past c (d ∷ l) r h =
+    let (x, y) = both (not (eqb (d .number) (c .number))) (every (λ (d : Card). not (eqb (d .number) (c .number))) l) h in
+    rw (not-true (eqb (d .number) (c .number)) x) (ap suc (first-past c l r y))
+
+-- a card between others ---------------------------------------------------------------------------------------------------------------------
+
+module _ (a : List Card) (c : Card) (b : List Card) (own : c .place < receivers) where
+  abbrev u : List Card
+  u = before (c .place) a b
+
+  abbrev v : List Card
+  v = behind receivers (c .place) a b
+
+  index-with : indexWords (a ++ (c ∷ b)) ≡ wordsOf (counts receivers (a ++ (c ∷ b))) (u ++ (c ∷ v))
+  index-with = index-is (a ++ (c ∷ b)) ∙ ap (wordsOf (counts receivers (a ++ (c ∷ b)))) (sorted-with receivers a c b own)
+
+  index-without : indexWords (a ++ b) ≡ wordsOf (counts receivers (a ++ b)) (u ++ v)
+  index-without = index-is (a ++ b) ∙ ap (wordsOf (counts receivers (a ++ b))) (sorted-without receivers (c .place) a b own)
+
+  -- the receiver's count, one more and one less
+  module _ (x : List ℕ) where
+    counted : x ≡ wordsOf (counts receivers (a ++ b)) (u ++ (c ∷ v)) → set x (c .place) (suc (getD x (c .place) 0)) ≡ indexWords (a ++ (c ∷ b))
+    counted e =
+        let cs : List ℕ = counts receivers (a ++ b) in
+        let many : length cs ≡ receivers = length-counts receivers (a ++ b) in
+        let m : getD (wordsOf cs (u ++ (c ∷ v))) (c .place) 0 ≡ length (ofPlace (c .place) (a ++ b)) =
+            words-count cs many (u ++ (c ∷ v)) (c .place) own ∙ counts-at receivers (c .place) (a ++ b) own in
+        rw (e, m, index-with, counts-with receivers a c b own)
+        (words-set cs many (u ++ (c ∷ v)) (c .place) (suc (length (ofPlace (c .place) (a ++ b)))) own)
+
+    uncounted : x ≡ wordsOf (counts receivers (a ++ (c ∷ b))) (u ++ v) → set x (c .place) (getD x (c .place) 0 - 1) ≡ indexWords (a ++ b)
+    uncounted e =
+        let cs : List ℕ = counts receivers (a ++ (c ∷ b)) in
+        let many : length cs ≡ receivers = length-counts receivers (a ++ (c ∷ b)) in
+        let m : getD (wordsOf cs (u ++ v)) (c .place) 0 ≡ length (ofPlace (c .place) (a ++ (c ∷ b))) =
+            words-count cs many (u ++ v) (c .place) own ∙ counts-at receivers (c .place) (a ++ (c ∷ b)) own in
+        rw (e, m, index-without)
+        (words-set cs many (u ++ v) (c .place) (length (ofPlace (c .place) (a ++ (c ∷ b))) - 1) own ∙
+        ap (λ (ks : List ℕ). wordsOf ks (u ++ v)) (counts-without receivers a c b own))
+
+module _ (a : List Card) (c : Card) (b : List Card) (placed : Placed (a ++ (c ∷ b))) (few : length (a ++ (c ∷ b)) ≤ systemMessages) where
+  abbrev pub position : ℕ
+  position = length (sorted (c .place) (a ++ (c ∷ b))) + length (ofPlace (c .place) a)
+
+  own : c .place < receivers
+  own =
+      let f : Card → Bool = λ (d : Card). ltb (d .place) receivers in
+      let (_, q) = every-parts f a (c ∷ b) placed in
+      ltb-true (c .place) receivers (both (f c) (every f b) q .0)
+
+  first : length (before (c .place) a b) ≡ position
+  first = rw (sorted-below a c b (c .place) (omega arith)) (length-append (sorted (c .place) (a ++ b)) (ofPlace (c .place) a))
+
+  one-more : length (a ++ (c ∷ b)) ≡ suc (length (a ++ b))
+  one-more = omega (arith, length-append a (c ∷ b), length-append a b)
+
+  all : length (before (c .place) a b) + length (behind receivers (c .place) a b) ≡ length (a ++ b)
+  all =
+      let l : List Card = before (c .place) a b in
+      let r : List Card = behind receivers (c .place) a b in
+      let e : length (sorted receivers (a ++ (c ∷ b))) ≡ length (l ++ (c ∷ r)) = ap length (sorted-with receivers a c b own) in
+      omega (arith, e, sorted-all (a ++ (c ∷ b)) placed, length-append l (c ∷ r), one-more)
+
+  between : (l : List Card) → Between (counts receivers l) (before (c .place) a b) (behind receivers (c .place) a b) position (length (a ++ b))
+  between l = record { many = length-counts receivers l; first = first; all = all; few = omega (arith, few, one-more) }
+
+  pub position-within : position < length (a ++ (c ∷ b))
+  position-within = omega (arith, first, all, one-more)
+
+  pub count-some : 1 ≤ getD (indexWords (a ++ (c ∷ b))) (c .place) 0
+  count-some =
+      let l : List Card = ofPlace (c .place) a in
+      let r : List Card = ofPlace (c .place) b in
+      rw (count-is (c .place) (a ++ (c ∷ b)) own, of-own a c b) (omega (arith, length-append l (c ∷ r)))
+
+  pub number-there : getD (indexWords (a ++ (c ∷ b))) (numbersFrom + position) 0 ≡ c .number
+  number-there = rw (index-with a c b own) (card-number (between (a ++ (c ∷ b))) c)
+
+  pub mark-there : getD (indexWords (a ++ (c ∷ b))) (marksFrom + position) 0 ≡ c .mark
+  mark-there = rw (index-with a c b own) (card-mark (between (a ++ (c ∷ b))) c)
+
+  pub marks-again : (v : ℕ) → set (indexWords (a ++ (c ∷ b))) (marksFrom + position) v
+      ≡ indexWords (a ++ (record { place = c .place; number = c .number; mark = v } ∷ b))
+  marks-again v =
+      let d : Card = record { place = c .place; number = c .number; mark = v } in
+      let same : counts receivers (a ++ (d ∷ b)) ≡ counts receivers (a ++ (c ∷ b)) =
+          counts-with receivers a d b own ∙ sym (counts-with receivers a c b own) in
+      rw (index-with a c b own, index-with a d b own, same) (card-marked (between (a ++ (c ∷ b))) c v)
+
+  pub entry-is : Other c a → entryOf (c .place) (c .number) (indexWords (a ++ (c ∷ b))) ≡ position
+  unfolding entryOf
+  entry-is other =
+      let p : ℕ = c .place in
+      let passed = first-past c (ofPlace p a) (numbersOf (ofPlace p b)) (of-every (λ (d : Card). not (eqb (d .number) (c .number))) p a other) in
+      let split = map-append (λ (d : Card). d .number) (ofPlace p a) (c ∷ ofPlace p b) in
+      rw (run-is p (a ++ (c ∷ b)) own, start-is p (a ++ (c ∷ b)) (omega (arith, own)), of-own a c b, split, passed)
+
+  pub withdraws : Other c a → withdrawn (length (a ++ (c ∷ b))) (c .place) (c .number) (indexWords (a ++ (c ∷ b))) ≡ indexWords (a ++ b)
+  unfolding withdrawn
+  withdraws other =
+      let z : length (a ++ (c ∷ b)) - 1 ≡ length (a ++ b) = omega (arith, one-more) in
+      rw (entry-is other, z, index-with a c b own) (uncounted a c b own _ (card-taken (between (a ++ (c ∷ b))) c))
+
+  joins : ofPlace (c .place) b ≡ [] → added (length (a ++ b)) c (indexWords (a ++ b)) ≡ indexWords (a ++ (c ∷ b))
+  unfolding added sorted
+  joins last =
+      let e : sorted (suc (c .place)) (a ++ b) ≡ before (c .place) a b = rw (of-append (c .place) a b, last, append-nil) in
+      let at : startOf (suc (c .place)) (indexWords (a ++ b)) ≡ position = start-is (suc (c .place)) (a ++ b) own ∙ (ap length e ∙ first) in
+      rw (at, index-without a c b own) (counted a c b own _ (card-put (between (a ++ b)) c))
+
+pub adds : (l : List Card) (c : Card) → Placed l → c .place < receivers → length l < systemMessages
+    → added (length l) c (indexWords l) ≡ indexWords (l ++ (c ∷ []))
+unfolding ofPlace
+adds l c placed h few =
+    let f : Card → Bool = λ (d : Card). ltb (d .place) receivers in
+    let one : every f (c ∷ []) ≡ true = rw (lt-ltb (c .place) receivers h) in
+    let long : length (l ++ (c ∷ [])) ≤ systemMessages = omega (arith, length-append l (c ∷ [])) in
+    rw (append-nil l) at (joins l c [] (every-append f l (c ∷ []) placed one) long refl)
