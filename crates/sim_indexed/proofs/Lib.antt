@@ -1,1 +1,3 @@
 pub mod CardLaws
+pub mod IndexedLaws
+pub mod ListingLaws
