@@ -5,20 +5,19 @@ use Prim.Native.Nat.{ℕ, zero, suc, _+_, _-_, _<_, _≤_}
 use native.Mathlib.Omega.{arith}
 use mathlib.Core.Path.{_≡_, refl, sym, ap, _∙_}
 use mathlib.Core.Bool.{Bool, true, false, not}
-use mathlib.Core.List.{List, [], _∷_, _++_, map, map-append, append-assoc, append-nil}
+use mathlib.Core.List.{List, [], _∷_, _++_, map-append, append-nil}
 use mathlib.Core.Logic.{inl, inr}
 use lib.Dec.{eqb, ltb}
-use lib.ListN.{length, getD, set, take, drop, replicate, length-append, length-map, replicate-append-replicate}
+use lib.ListN.{length, getD, set, take, drop, replicate, length-append}
 use lib.Seq.{take-append-le}
 use borrow.Author.Tests.{eq-eqb, eqb-true, lt-ltb, ltb-true, ltb-false, not-true}
 use Rattle.ids.specs.Lists.{every}
-use Rattle.ids.specs.Choice.{if_then_else_}
 use Rattle.ids.proofs.Choice.{both, decided, Test, clash}
 use Rattle.ids.proofs.ListLaws.{every-parts, every-append}
 use Rattle.system.specs.Limits.{systemMessages}
 use Rattle.sim_index.specs.declared.Card.{Card}
-use Rattle.sim_index.specs.Index.{receivers, numbersFrom, marksFrom, indexSize, ofPlace, sorted, counts, padded, numbersOf, marksOf, indexWords}
-use Rattle.sim_index.specs.Calls.{sum, startOf, firstOf, inserted, deleted, entryOf, added, withdrawn, Sized, same}
+use Rattle.sim_index.specs.Index.{receivers, numbersFrom, marksFrom, indexSize, ofPlace, sorted, counts, padded, numbersOf, indexWords}
+use Rattle.sim_index.specs.Calls.{startOf, firstOf, entryOf, added, withdrawn, Sized, same}
 use Rattle.sim_index.proofs.WordLaws.{wordsOf, Between, length-words, words-count, words-set, words-run, card-number, card-mark, card-marked, card-put, card-taken}
 use Rattle.sim_index.proofs.PlaceLaws.{of-append, of-own, of-every, sorted-none, sorted-below, before, behind, beyond, sorted-around, sorted-without, sorted-with, sorted-longer}
 use Rattle.sim_index.proofs.PlaceLaws.{length-counts, counts-below, counts-at, counts-sum, counts-with, counts-without}
@@ -201,3 +200,67 @@ adds l c placed h few =
     let one : every f (c ∷ []) ≡ true = rw (lt-ltb (c .place) receivers h) in
     let long : length (l ++ (c ∷ [])) ≤ systemMessages = omega (arith, length-append l (c ∷ [])) in
     rw (append-nil l) at (joins l c [] (every-append f l (c ∷ []) placed one) long refl)
+
+-- card k of the receiver at place p, counted from 0, and the cards around it
+pub record Split (p k : ℕ) (l : List Card) : Type 0 where
+  pub before : List Card
+  pub card : Card
+  pub behind : List Card
+  pub whole : l ≡ before ++ (card ∷ behind)
+  pub here : card .place ≡ p
+  pub count : length (ofPlace p before) ≡ k
+
+module _ (p : ℕ) (c : Card) (l : List Card) where
+  first-split : c .place ≡ p → Split p 0 (c ∷ l)
+  unfolding ofPlace
+  first-split h = record { before = []; card = c; behind = l; whole = refl; here = h; count = refl }
+
+  -- behind a card of the receiver, and behind another's
+  own-split : (k : ℕ) → eqb (c .place) p ≡ true → Split p k l → Split p (suc k) (c ∷ l)
+  unfolding ofPlace
+  own-split k e s = record {
+    before = c ∷ s .before;
+    card = s .card;
+    behind = s .behind;
+    whole = ap (λ (r : List Card). c ∷ r) (s .whole);
+    here = s .here;
+    count = rw e (ap suc (s .count));
+  }
+
+  other-split : (k : ℕ) → eqb (c .place) p ≡ false → Split p k l → Split p k (c ∷ l)
+  unfolding ofPlace
+  other-split k e s = record {
+    before = c ∷ s .before;
+    card = s .card;
+    behind = s .behind;
+    whole = ap (λ (r : List Card). c ∷ r) (s .whole);
+    here = s .here;
+    count = rw e (s .count);
+  }
+
+pub splits : (p k : ℕ) (l : List Card) → k < length (ofPlace p l) → Split p k l
+unfolding ofPlace
+splits p k [] h = absurd (omega (arith, h))
+splits p k (c ∷ l) h = by-test k (decided (eqb (c .place) p)) (λ m. splits p m l) h
+  where
+    by-test : (k : ℕ) → Test (eqb (c .place) p) → ((m : ℕ) → m < length (ofPlace p l) → Split p m l) → k < length (ofPlace p (c ∷ l)) → Split p k (c ∷ l)
+    by-test zero (inl e) more h = first-split p c l (eqb-true (c .place) p e)
+    by-test (suc k) (inl e) more h =
+        own-split p c l k e (more k (let g : suc k < suc (length (ofPlace p l)) = rw e at h in omega (arith, g)))
+    by-test k (inr e) more h = other-split p c l k e (more k (rw e at h))
+
+-- the test of two indexes ---------------------------------------------------------------------------------------------------------------------
+
+pub same-words : (a b : List ℕ) → same a b ≡ true → a ≡ b
+unfolding same
+same-words [] [] h = refl
+same-words [] (y ∷ b) h = clash false h refl
+same-words (x ∷ a) [] h = clash false h refl
+same-words (x ∷ a) (y ∷ b) h =
+    let (p, r) = both (eqb x y) (same a b) h in
+    rw (eqb-true x y p, same-words a b r)
+
+pub same-itself : (a : List ℕ) → same a a ≡ true
+unfolding same
+same-itself [] = refl
+same-itself (x ∷ a) = rw (eq-eqb x x refl) (same-itself a)
