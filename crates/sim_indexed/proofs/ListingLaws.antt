@@ -47,8 +47,8 @@ module _ (i : ℕ) (t : List ℕ) (R : Readable i t) where
   sized : transit.Sized (R .len) t
   sized = valid-sized (R .n) (R .clients) (R .sent) (R .len) t (R .valid)
 
-  pub read-size : (length t ≡ transitSize) × (i < systemMessages)
-  read-size = (sized .size, omega (arith, sized .few, R .used))
+  pub card-may : Readable i t × (length t ≡ transitSize) × (i < systemMessages)
+  card-may = (R, sized .size, omega (arith, sized .few, R .used))
 
   counted : length cards ≡ i
   counted = length-map (slots i t) cardOf ∙ length-slots i t
@@ -78,6 +78,12 @@ module _ (i : ℕ) (t : List ℕ) (R : Readable i t) where
       let s : map cardOf (slots (suc i) t) ≡ cards ++ (cardOf (slotAt t i) ∷ []) = ap (map cardOf) (slots-next i t) ∙ map-append cardOf (slots i t) (slotAt t i ∷ []) in
       rw add-one (g ∙ (rw (e, f) a′ ∙ ap indexWords (sym s)))
 
+  pub listed-size : (x y : List ℕ) (c : Card) → x ≡ afresh (slots i t) → c ≡ cardOf (slotAt t i) → y ≡ added i c x → length y ≡ length x
+  listed-size x y c e f g =
+      let a = afresh-long (slots i t) (omega (arith, length-slots i t, sized .few, R .used)) in
+      let b = afresh-long (slots (i + 1) t) (omega (arith, length-slots (i + 1) t, sized .few, R .used)) in
+      ap length (listed-next x y c e f g) ∙ (b ∙ sym (ap length e ∙ a))
+
 -- the same where the index stands behind the table
 module _ (i : ℕ) (t : List ℕ) (L : Listing i t) where
   listing-index : index t ≡ afresh (slots i (table t))
@@ -91,6 +97,16 @@ module _ (i : ℕ) (t : List ℕ) (L : Listing i t) where
   slot-listed c y f g =
       let g′ = rw (lent-index t (L .size)) at g in
       index-back t (L .size) y ∙ ap (λ (x : List ℕ). table t ++ x) (listed-next i (table t) (L .readable) (index t) y c listing-index f g′)
+
+  pub slot-size : (c : Card) (y : List ℕ) → c ≡ cardOf (slotAt (table t) i) → y ≡ added i c (take (indexedSize - transitSize) (drop transitSize t))
+      → length (putMid transitSize (indexedSize - transitSize) t y) ≡ length t
+  slot-size c y f g =
+      let g′ = rw (lent-index t (L .size)) at g in
+      let s = listed-size i (table t) (L .readable) (index t) y c listing-index f g′ in
+      ap length (index-back t (L .size) y) ∙ omega (arith, length-append (table t) y, table-long t (L .size), index-long t (L .size), L .size, s)
+
+  pub slot-card : Readable i (table t) × (length (table t) ≡ transitSize) × (i < systemMessages)
+  slot-card = card-may i (table t) (L .readable)
 
 -- what `list_slots` knows before slot i: the index is that of the slots before it
 pub record Joining (from to : ℕ) (o t : List ℕ) (i : ℕ) : Type 0 where
@@ -110,10 +126,13 @@ module _ (from to : ℕ) (o : List ℕ) where
     few : to ≤ systemMessages
     few = let U = J .begun in valid-sized (U .n) (U .clients) (U .sent) to (table o) (U .valid) .few
 
-    pub joining-size : length t ≡ indexedSize
+    joining-size : length t ≡ indexedSize
     joining-size =
         let l : length (slots i (table o)) ≤ systemMessages = omega (arith, length-slots i (table o), few, J .within) in
         ap length (J .so-far) ∙ omega (arith, length-append (table o) (afresh (slots i (table o))), table-long o (J .begun .size), afresh-long (slots i (table o)) l)
+
+    pub joining-same : length t ≡ length o
+    joining-same = joining-size ∙ sym (J .begun .size)
 
     pub joining-slot : i < to → Listing i t
     joining-slot h =
