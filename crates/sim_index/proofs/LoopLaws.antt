@@ -226,4 +226,6 @@ module _ (o : List ℕ) (at last : ℕ) where
         let long : length (take at o ++ moved) ≡ last = length-paste-head o at (drop (suc at) o) (last - at) before enough′ ∙ stop in
         let d : x ≡ (take at o ++ moved) ++ (getD o last 0 ∷ drop (suc last) o) =
             rw (z, stop, drop-cons o last 0 room) at (C .done) in
-        rw d (set-at (take at o ++ moved) (getD o last 0) (drop (suc last) o) 0 last long ∙ append-assoc (take at o) moved (0 ∷ drop (suc last) o))
+        rw d
+        (set-at (take at o ++ moved) (getD o last 0) (drop (suc last) o) 0 last long ∙
+        append-assoc (take at o) moved (0 ∷ drop (suc last) o))
