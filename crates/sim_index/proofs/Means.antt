@@ -67,8 +67,8 @@ index-none = refl
 pub start-is : (p : ℕ) (l : List Card) → p ≤ receivers → startOf p (indexWords l) ≡ length (sorted p l)
 start-is p l h =
     let e : take p (indexWords l) ≡ counts p l =
-        rw (index-is l)
-        (take-append-le p (counts receivers l) _ (omega (arith, length-counts receivers l)) ∙ counts-below receivers p l h) in
+    rw (index-is l)
+    (take-append-le p (counts receivers l) _ (omega (arith, length-counts receivers l)) ∙ counts-below receivers p l h) in
     rw e (counts-sum p l)
 
 pub count-is : (p : ℕ) (l : List Card) → p < receivers → getD (indexWords l) p 0 ≡ length (ofPlace p l)
@@ -118,7 +118,7 @@ module _ (a : List Card) (c : Card) (b : List Card) (own : c .place < receivers)
       let many : length cs ≡ receivers = length-counts receivers (a ++ b) in
       let l : List Card = front a c b ++ (c ∷ back a c b) in
       let m : getD (wordsOf cs l) (c .place) 0 ≡ length (ofPlace (c .place) (a ++ b)) =
-          words-count cs many l (c .place) own ∙ counts-at receivers (c .place) (a ++ b) own in
+      words-count cs many l (c .place) own ∙ counts-at receivers (c .place) (a ++ b) own in
       rw (e, m, index-with, counts-with receivers a c b own)
       (words-set cs many l (c .place) (suc (length (ofPlace (c .place) (a ++ b)))) own)
 
@@ -129,7 +129,7 @@ module _ (a : List Card) (c : Card) (b : List Card) (own : c .place < receivers)
       let many : length cs ≡ receivers = length-counts receivers (a ++ (c ∷ b)) in
       let l : List Card = front a c b ++ back a c b in
       let m : getD (wordsOf cs l) (c .place) 0 ≡ length (ofPlace (c .place) (a ++ (c ∷ b))) =
-          words-count cs many l (c .place) own ∙ counts-at receivers (c .place) (a ++ (c ∷ b)) own in
+      words-count cs many l (c .place) own ∙ counts-at receivers (c .place) (a ++ (c ∷ b)) own in
       rw (e, m, index-without)
       (words-set cs many l (c .place) (length (ofPlace (c .place) (a ++ (c ∷ b))) - 1) own ∙
       ap (λ (ks : List ℕ). wordsOf ks l) (counts-without receivers a c b own))
@@ -144,7 +144,7 @@ module _ (a : List Card) (c : Card) (b : List Card) (placed : Placed (a ++ (c �
   cut : Cut (front a c b) (back a c b) position (length (a ++ b))
   cut =
       let n : length (front a c b ++ (c ∷ back a c b)) ≡ length (a ++ (c ∷ b)) =
-          ap length (sym (sorted-with receivers a c b own)) ∙ sorted-all (a ++ (c ∷ b)) placed in
+      ap length (sym (sorted-with receivers a c b own)) ∙ sorted-all (a ++ (c ∷ b)) placed in
       record {
         first = rw (sorted-below a c b (c .place) (omega arith)) (length-append (sorted (c .place) (a ++ b)) (ofPlace (c .place) a));
         all = omega (arith, n, length-append (front a c b) (c ∷ back a c b), length-more a c b);
@@ -174,7 +174,7 @@ module _ (a : List Card) (c : Card) (b : List Card) (placed : Placed (a ++ (c �
   marks-again v =
       let d : Card = record { place = c .place; number = c .number; mark = v } in
       let same : counts receivers (a ++ (d ∷ b)) ≡ counts receivers (a ++ (c ∷ b)) =
-          counts-with receivers a d b own ∙ sym (counts-with receivers a c b own) in
+      counts-with receivers a d b own ∙ sym (counts-with receivers a c b own) in
       rw (index-with a c b own, index-with a d b own, same) (card-marked cut cs many c v)
 
   pub entry-is : Other c a → entryOf (c .place) (c .number) (indexWords (a ++ (c ∷ b))) ≡ position

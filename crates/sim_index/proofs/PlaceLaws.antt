@@ -171,6 +171,6 @@ module _ (n : ℕ) (a : List Card) (c : Card) (b : List Card) (h : c .place < n)
   counts-without =
       let m : ℕ = length (ofPlace (c .place) (a ++ b)) in
       let z : length (ofPlace (c .place) (a ++ (c ∷ b))) - 1 ≡ getD (counts n (a ++ b)) (c .place) 0 =
-          omega (arith, of-longer a c b, counts-at n (c .place) (a ++ b) h) in
+      omega (arith, of-longer a c b, counts-at n (c .place) (a ++ b) h) in
       rw (z, counts-with)
       (set-set (counts n (a ++ b)) (c .place) (suc m) (getD (counts n (a ++ b)) (c .place) 0) ∙ set-getD (counts n (a ++ b)) (c .place) 0)

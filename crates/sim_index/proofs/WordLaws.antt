@@ -22,14 +22,14 @@ module _ (a b d : List ℕ) (w at end : ℕ) (e : length a ≡ at) (f : at + len
   put-before : (z : ℕ) → inserted at end w (a ++ (b ++ (z ∷ d))) ≡ a ++ (w ∷ (b ++ d))
   put-before z =
       let behind : drop (suc end) (a ++ (b ++ (z ∷ d))) ≡ d =
-          past (length b + 1) (suc end) (b ++ (z ∷ d)) (omega (arith, f)) ∙ drop-append-add b (z ∷ d) 1 in
+      past (length b + 1) (suc end) (b ++ (z ∷ d)) (omega (arith, f)) ∙ drop-append-add b (z ∷ d) 1 in
       rw (take-at a (b ++ (z ∷ d)) at e, drop-at a (b ++ (z ∷ d)) at e, take-at b (z ∷ d) (end - at) count, behind)
 
   taken-before : deleted at end (a ++ (w ∷ (b ++ d))) ≡ a ++ (b ++ (0 ∷ d))
   taken-before =
       let next : drop (suc at) (a ++ (w ∷ (b ++ d))) ≡ b ++ d = past 1 (suc at) (w ∷ (b ++ d)) (omega arith) in
       let behind : drop (suc end) (a ++ (w ∷ (b ++ d))) ≡ d =
-          past (suc (length b)) (suc end) (w ∷ (b ++ d)) (omega (arith, f)) ∙ drop-at b d (length b) refl in
+      past (suc (length b)) (suc end) (w ∷ (b ++ d)) (omega (arith, f)) ∙ drop-at b d (length b) refl in
       rw (take-at a (w ∷ (b ++ d)) at e, next, take-at b d (end - at) count, behind)
 
 -- the first i of n cards are u, the others v, and there is room for one more
@@ -47,14 +47,14 @@ module _ {u v : List Card} {i n : ℕ} (C : Cut u v i n) (f : Card → ℕ) (a e
   unfolding padded
   without =
       let z : systemMessages - length (map f u ++ map f v) ≡ suc (systemMessages - suc n) =
-          omega (arith, length-append (map f u) (map f v), length-map u f, length-map v f, C .all) in
+      omega (arith, length-append (map f u) (map f v), length-map u f, length-map v f, C .all) in
       rw (map-append f u v, z) (simp append-assoc)
 
   with : (c : Card) → a ++ (padded (map f (u ++ (c ∷ v))) ++ e) ≡ (a ++ map f u) ++ (f c ∷ (map f v ++ rest))
   unfolding padded
   with c =
       let z : systemMessages - length (map f u ++ (f c ∷ map f v)) ≡ systemMessages - suc n =
-          omega (arith, length-append (map f u) (f c ∷ map f v), length-map u f, length-map v f, C .all) in
+      omega (arith, length-append (map f u) (f c ∷ map f v), length-map u f, length-map v f, C .all) in
       rw (map-append f u (c ∷ v), z) (simp append-assoc)
 
   place : length (a ++ map f u) ≡ from + i
@@ -120,9 +120,9 @@ module _ (cs : List ℕ) (many : length cs ≡ receivers) where
       let t : List Card = u ++ (v ++ w) in
       let rest : List ℕ = numbersOf w ++ (replicate (systemMessages - length (numbersOf t)) 0 ++ padded (marksOf t)) in
       let e : wordsOf cs t ≡ (cs ++ numbersOf u) ++ (numbersOf v ++ rest) =
-          rw (map-append numberOf u (v ++ w), map-append numberOf v w) (simp append-assoc) in
+      rw (map-append numberOf u (v ++ w), map-append numberOf v w) (simp append-assoc) in
       let front : length (cs ++ numbersOf u) ≡ numbersFrom + length u =
-          omega (arith, many, length-append cs (numbersOf u), length-map u numberOf) in
+      omega (arith, many, length-append cs (numbersOf u), length-map u numberOf) in
       rw (e, drop-at (cs ++ numbersOf u) (numbersOf v ++ rest) (numbersFrom + length u) front)
       (take-at (numbersOf v) rest (length v) (length-map v numberOf))
 

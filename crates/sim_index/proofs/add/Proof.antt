@@ -47,7 +47,7 @@ add-spec =
     (λ c. search needs)
     (λ c. search needs)
     (λ c. let p = c .before .before .before in
-      record { fits = omega (arith, left p .count, entries-few _ _ _ (start p .pre .0), start p .pre .1) })
+    record { fits = omega (arith, left p .count, entries-few _ _ _ (start p .pre .0), start p .pre .1) })
     (λ c. search needs)
     (λ c. let p = c .before .before .before in length-set (p .insert2 .last .0) _ _ ∙ left p .size)
     (λ c. search added-is))
