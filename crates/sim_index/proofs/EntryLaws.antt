@@ -86,17 +86,19 @@ module _ (len p : ℕ) (x : List ℕ) (S : Sized len p x) where
         → y ≡ inserted (numbersFrom + at) (numbersFrom + len) number x → z ≡ inserted (marksFrom + at) (marksFrom + len) mark y → Left p x z
     put-left number mark le few f g =
         let place = S .place in
-        let a : Left p x y = rw f (inserted-left p (numbersFrom + at) x (omega arith) (numbersFrom + len) number (omega arith) (omega (arith, S .size))) in
+        let fits : numbersFrom + len < length x = omega (arith, S .size) in
+        let a : Left p x y = rw f (inserted-left p (numbersFrom + at) x (omega arith) (numbersFrom + len) number (omega arith) fits) in
         let room : marksFrom + len < length y = omega (arith, a .size, S .size) in
         let b : Left p y z = rw g (inserted-left p (marksFrom + at) y (omega arith) (marksFrom + len) mark (omega arith) room) in
         left-twice p x y z a b
 
-    pub taken-left : at < len → y ≡ deleted (numbersFrom + at) (numbersFrom + (len - 1)) x → z ≡ deleted (marksFrom + at) (marksFrom + (len - 1)) y
-        → Left p x z
+    pub taken-left : at < len
+        → y ≡ deleted (numbersFrom + at) (numbersFrom + (len - 1)) x → z ≡ deleted (marksFrom + at) (marksFrom + (len - 1)) y → Left p x z
     taken-left lt f g =
         let place = S .place in
         let few = S .few in
-        let a : Left p x y = rw f (deleted-left p (numbersFrom + at) x (omega arith) (numbersFrom + (len - 1)) (omega arith) (omega (arith, S .size))) in
+        let fits : numbersFrom + (len - 1) < length x = omega (arith, S .size) in
+        let a : Left p x y = rw f (deleted-left p (numbersFrom + at) x (omega arith) (numbersFrom + (len - 1)) (omega arith) fits) in
         let room : marksFrom + (len - 1) < length y = omega (arith, a .size, S .size) in
         let b : Left p y z = rw g (deleted-left p (marksFrom + at) y (omega arith) (marksFrom + (len - 1)) (omega arith) room) in
         left-twice p x y z a b

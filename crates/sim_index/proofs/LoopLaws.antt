@@ -149,9 +149,9 @@ module _ (o : List ℕ) (at end : ℕ) where
         let fits : i < length o = omega (arith, O .within, O .room) in
         let lt : i - 1 < length (take (suc i) o) = omega (arith, length-take-le (suc i) o fits) in
         let w : getD x (i - 1) 0 ≡ getD o (i - 1) 0 =
-            rw (O .done) (List·getD-append (take (suc i) o) l 0 (i - 1) lt ∙ getD-take (suc i) o (i - 1) 0 (omega arith)) in
+        rw (O .done) (List·getD-append (take (suc i) o) l 0 (i - 1) lt ∙ getD-take (suc i) o (i - 1) 0 (omega arith)) in
         let p : take (end - (i - 1)) (drop (i - 1) o) ≡ getD o (i - 1) 0 ∷ take (end - i) (drop i o) =
-            rw z at (part-cons o (i - 1) end (omega (arith, O .within)) (omega (arith, O .room))) in
+        rw z at (part-cons o (i - 1) end (omega (arith, O .within)) (omega (arith, O .room))) in
         record {
           begun = omega arith;
           within = omega (arith, O .within);
@@ -201,9 +201,9 @@ module _ (o : List ℕ) (at last : ℕ) where
     closing-more h =
         let s : List ℕ = drop (suc at) o in
         let next : i + 1 - at ≡ suc (i - at) = omega (arith, C .begun) in
+        let z : suc at + (i - at) ≡ i + 1 = omega (arith, C .begun) in
         let word : getD x (i + 1) 0 ≡ getD s (i - at) 0 =
-            let z : suc at + (i - at) ≡ i + 1 = omega (arith, C .begun) in
-            rw (getD-drop (suc at) o (i - at) 0, z, ← getD-drop i x 1 0, ← getD-drop i o 1 0, untouched) in
+        rw (getD-drop (suc at) o (i - at) 0, z, ← getD-drop i x 1 0, ← getD-drop i o 1 0, untouched) in
         let hd : at + (i - at) < length o = omega (arith, C .begun, C .within, C .room) in
         let hs : i - at < length s = simp length-drop (omega (arith, C .begun, C .room)) in
         record {
@@ -225,5 +225,7 @@ module _ (o : List ℕ) (at last : ℕ) where
         let enough′ : last - at ≤ length (drop (suc at) o) = rw z at enough in
         let long : length (take at o ++ moved) ≡ last = length-paste-head o at (drop (suc at) o) (last - at) before enough′ ∙ stop in
         let d : x ≡ (take at o ++ moved) ++ (getD o last 0 ∷ drop (suc last) o) =
-            rw (z, stop, drop-cons o last 0 room) at (C .done) in
-        rw d (set-at (take at o ++ moved) (getD o last 0) (drop (suc last) o) 0 last long ∙ append-assoc (take at o) moved (0 ∷ drop (suc last) o))
+        rw (z, stop, drop-cons o last 0 room) at (C .done) in
+        rw d
+        (set-at (take at o ++ moved) (getD o last 0) (drop (suc last) o) 0 last long ∙
+        append-assoc (take at o) moved (0 ∷ drop (suc last) o))

@@ -1,6 +1,5 @@
--- The words of an index, and what the calls make of them: a call on the index of some cards leaves the index of the cards with one more, with one
--- less, or with another mark. Nothing else is in the words: how many cards a receiver has, where its cards begin and what stands there follow
--- from the cards.
+-- The words of an index, and what the calls make of them: a call on the index of some cards leaves the index of the cards with one more,
+-- with one less, or with another mark. How many cards a receiver has, where they begin and what stands there follow from the cards.
 use Prim.Native.Nat.{ℕ, zero, suc, _+_, _-_, _<_, _≤_}
 use native.Mathlib.Omega.{arith}
 use mathlib.Core.Path.{_≡_, refl, sym, ap, _∙_}
@@ -18,8 +17,10 @@ use Rattle.system.specs.Limits.{systemMessages}
 use Rattle.sim_index.specs.declared.Card.{Card}
 use Rattle.sim_index.specs.Index.{receivers, numbersFrom, marksFrom, indexSize, ofPlace, sorted, counts, padded, numbersOf, indexWords}
 use Rattle.sim_index.specs.Calls.{startOf, firstOf, entryOf, added, withdrawn, Sized, same}
-use Rattle.sim_index.proofs.WordLaws.{wordsOf, Between, length-words, words-count, words-set, words-run, card-number, card-mark, card-marked, card-put, card-taken}
-use Rattle.sim_index.proofs.PlaceLaws.{of-append, of-own, of-every, sorted-none, sorted-below, before, behind, beyond, sorted-around, sorted-without, sorted-with, sorted-longer}
+use Rattle.sim_index.proofs.WordLaws.{wordsOf, length-words, words-count, words-set, words-run}
+use Rattle.sim_index.proofs.WordLaws.{Cut, card-number, card-mark, card-marked, card-put, card-taken}
+use Rattle.sim_index.proofs.PlaceLaws.{length-more, of-append, of-own, of-longer, of-every, before, behind, beyond}
+use Rattle.sim_index.proofs.PlaceLaws.{sorted-none, sorted-below, sorted-around, sorted-without, sorted-with, sorted-longer}
 use Rattle.sim_index.proofs.PlaceLaws.{length-counts, counts-below, counts-at, counts-sum, counts-with, counts-without}
 
 -- every card has a receiver; no card has this card's number
@@ -28,6 +29,12 @@ Placed l = every (λ (c : Card). ltb (c .place) receivers) l ≡ true
 
 abbrev pub Other : Card → List Card → Type 0
 Other c l = every (λ (d : Card). not (eqb (d .number) (c .number))) l ≡ true
+
+abbrev fits : Card → Bool
+fits c = ltb (c .place) receivers
+
+abbrev apart : Card → Card → Bool
+apart c d = not (eqb (d .number) (c .number))
 
 pub sorted-few : (p : ℕ) (l : List Card) → length (sorted p l) ≤ length l
 sorted-few p [] = rw (sorted-none p) (omega arith)
@@ -40,7 +47,7 @@ sorted-few p (c ∷ l) = by-test (decided (ltb (c .place) p)) (sorted-few p l)
 pub sorted-all : (l : List Card) → Placed l → length (sorted receivers l) ≡ length l
 sorted-all [] h = rw (sorted-none receivers)
 sorted-all (c ∷ l) h =
-    let (p, r) = both (ltb (c .place) receivers) (every (λ (d : Card). ltb (d .place) receivers) l) h in
+    let (p, r) = both (fits c) (every fits l) h in
     omega (arith, sorted-longer receivers [] c l (ltb-true (c .place) receivers p), sorted-all l r)
 
 -- the words: counts, then numbers and marks
@@ -50,7 +57,8 @@ index-is l = refl
 
 pub length-index : (l : List Card) → length l ≤ systemMessages → length (indexWords l) ≡ indexSize
 length-index l h =
-    rw (index-is l) (length-words (counts receivers l) (length-counts receivers l) (sorted receivers l) (omega (arith, h, sorted-few receivers l)))
+    let room : length (sorted receivers l) ≤ systemMessages = omega (arith, h, sorted-few receivers l) in
+    rw (index-is l) (length-words (counts receivers l) (length-counts receivers l) (sorted receivers l) room)
 
 pub index-none : indexWords [] ≡ replicate indexSize 0
 unfolding indexWords counts sorted ofPlace padded
@@ -59,9 +67,9 @@ index-none = refl
 pub start-is : (p : ℕ) (l : List Card) → p ≤ receivers → startOf p (indexWords l) ≡ length (sorted p l)
 start-is p l h =
     let e : take p (indexWords l) ≡ counts p l =
-        rw (index-is l)
-        (take-append-le p (counts receivers l) _ (omega (arith, length-counts receivers l)) ∙ counts-below receivers p l h) in
-    rw (e) (counts-sum p l)
+    rw (index-is l)
+    (take-append-le p (counts receivers l) _ (omega (arith, length-counts receivers l)) ∙ counts-below receivers p l h) in
+    rw e (counts-sum p l)
 
 pub count-is : (p : ℕ) (l : List Card) → p < receivers → getD (indexWords l) p 0 ≡ length (ofPlace p l)
 count-is p l h =
@@ -83,123 +91,122 @@ first-past : (c : Card) (l : List Card) (r : List ℕ) → Other c l → firstOf
 unfolding firstOf
 first-past c [] r h = rw (eq-eqb (c .number) (c .number) refl)
 first-past c (d ∷ l) r h =
-    let (x, y) = both (not (eqb (d .number) (c .number))) (every (λ (d : Card). not (eqb (d .number) (c .number))) l) h in
+    let (x, y) = both (apart c d) (every (apart c) l) h in
     rw (not-true (eqb (d .number) (c .number)) x) (ap suc (first-past c l r y))
 
--- a card between others ---------------------------------------------------------------------------------------------------------------------
+-- a card between others --------------------------------------------------------------------------------------------------------------------
+
+-- the cards that stand before it and behind it, receiver by receiver
+abbrev front : List Card → Card → List Card → List Card
+front a c b = before (c .place) a b
+
+abbrev back : List Card → Card → List Card → List Card
+back a c b = behind receivers (c .place) a b
 
 module _ (a : List Card) (c : Card) (b : List Card) (own : c .place < receivers) where
-  abbrev u : List Card
-  u = before (c .place) a b
-
-  abbrev v : List Card
-  v = behind receivers (c .place) a b
-
-  index-with : indexWords (a ++ (c ∷ b)) ≡ wordsOf (counts receivers (a ++ (c ∷ b))) (u ++ (c ∷ v))
+  index-with : indexWords (a ++ (c ∷ b)) ≡ wordsOf (counts receivers (a ++ (c ∷ b))) (front a c b ++ (c ∷ back a c b))
   index-with = index-is (a ++ (c ∷ b)) ∙ ap (wordsOf (counts receivers (a ++ (c ∷ b)))) (sorted-with receivers a c b own)
 
-  index-without : indexWords (a ++ b) ≡ wordsOf (counts receivers (a ++ b)) (u ++ v)
+  index-without : indexWords (a ++ b) ≡ wordsOf (counts receivers (a ++ b)) (front a c b ++ back a c b)
   index-without = index-is (a ++ b) ∙ ap (wordsOf (counts receivers (a ++ b))) (sorted-without receivers (c .place) a b own)
 
   -- the receiver's count, one more and one less
-  module _ (x : List ℕ) where
-    counted : x ≡ wordsOf (counts receivers (a ++ b)) (u ++ (c ∷ v)) → set x (c .place) (suc (getD x (c .place) 0)) ≡ indexWords (a ++ (c ∷ b))
-    counted e =
-        let cs : List ℕ = counts receivers (a ++ b) in
-        let many : length cs ≡ receivers = length-counts receivers (a ++ b) in
-        let m : getD (wordsOf cs (u ++ (c ∷ v))) (c .place) 0 ≡ length (ofPlace (c .place) (a ++ b)) =
-            words-count cs many (u ++ (c ∷ v)) (c .place) own ∙ counts-at receivers (c .place) (a ++ b) own in
-        rw (e, m, index-with, counts-with receivers a c b own)
-        (words-set cs many (u ++ (c ∷ v)) (c .place) (suc (length (ofPlace (c .place) (a ++ b)))) own)
+  counted : (x : List ℕ) → x ≡ wordsOf (counts receivers (a ++ b)) (front a c b ++ (c ∷ back a c b))
+      → set x (c .place) (suc (getD x (c .place) 0)) ≡ indexWords (a ++ (c ∷ b))
+  counted x e =
+      let cs : List ℕ = counts receivers (a ++ b) in
+      let many : length cs ≡ receivers = length-counts receivers (a ++ b) in
+      let l : List Card = front a c b ++ (c ∷ back a c b) in
+      let m : getD (wordsOf cs l) (c .place) 0 ≡ length (ofPlace (c .place) (a ++ b)) =
+      words-count cs many l (c .place) own ∙ counts-at receivers (c .place) (a ++ b) own in
+      rw (e, m, index-with, counts-with receivers a c b own)
+      (words-set cs many l (c .place) (suc (length (ofPlace (c .place) (a ++ b)))) own)
 
-    uncounted : x ≡ wordsOf (counts receivers (a ++ (c ∷ b))) (u ++ v) → set x (c .place) (getD x (c .place) 0 - 1) ≡ indexWords (a ++ b)
-    uncounted e =
-        let cs : List ℕ = counts receivers (a ++ (c ∷ b)) in
-        let many : length cs ≡ receivers = length-counts receivers (a ++ (c ∷ b)) in
-        let m : getD (wordsOf cs (u ++ v)) (c .place) 0 ≡ length (ofPlace (c .place) (a ++ (c ∷ b))) =
-            words-count cs many (u ++ v) (c .place) own ∙ counts-at receivers (c .place) (a ++ (c ∷ b)) own in
-        rw (e, m, index-without)
-        (words-set cs many (u ++ v) (c .place) (length (ofPlace (c .place) (a ++ (c ∷ b))) - 1) own ∙
-        ap (λ (ks : List ℕ). wordsOf ks (u ++ v)) (counts-without receivers a c b own))
+  uncounted : (x : List ℕ) → x ≡ wordsOf (counts receivers (a ++ (c ∷ b))) (front a c b ++ back a c b)
+      → set x (c .place) (getD x (c .place) 0 - 1) ≡ indexWords (a ++ b)
+  uncounted x e =
+      let cs : List ℕ = counts receivers (a ++ (c ∷ b)) in
+      let many : length cs ≡ receivers = length-counts receivers (a ++ (c ∷ b)) in
+      let l : List Card = front a c b ++ back a c b in
+      let m : getD (wordsOf cs l) (c .place) 0 ≡ length (ofPlace (c .place) (a ++ (c ∷ b))) =
+      words-count cs many l (c .place) own ∙ counts-at receivers (c .place) (a ++ (c ∷ b)) own in
+      rw (e, m, index-without)
+      (words-set cs many l (c .place) (length (ofPlace (c .place) (a ++ (c ∷ b))) - 1) own ∙
+      ap (λ (ks : List ℕ). wordsOf ks l) (counts-without receivers a c b own))
 
 module _ (a : List Card) (c : Card) (b : List Card) (placed : Placed (a ++ (c ∷ b))) (few : length (a ++ (c ∷ b)) ≤ systemMessages) where
   abbrev pub position : ℕ
   position = length (sorted (c .place) (a ++ (c ∷ b))) + length (ofPlace (c .place) a)
 
   own : c .place < receivers
-  own =
-      let f : Card → Bool = λ (d : Card). ltb (d .place) receivers in
-      let (_, q) = every-parts f a (c ∷ b) placed in
-      ltb-true (c .place) receivers (both (f c) (every f b) q .0)
+  own = let (_, q) = every-parts fits a (c ∷ b) placed in ltb-true (c .place) receivers (both (fits c) (every fits b) q .0)
 
-  first : length (before (c .place) a b) ≡ position
-  first = rw (sorted-below a c b (c .place) (omega arith)) (length-append (sorted (c .place) (a ++ b)) (ofPlace (c .place) a))
+  cut : Cut (front a c b) (back a c b) position (length (a ++ b))
+  cut =
+      let n : length (front a c b ++ (c ∷ back a c b)) ≡ length (a ++ (c ∷ b)) =
+      ap length (sym (sorted-with receivers a c b own)) ∙ sorted-all (a ++ (c ∷ b)) placed in
+      record {
+        first = rw (sorted-below a c b (c .place) (omega arith)) (length-append (sorted (c .place) (a ++ b)) (ofPlace (c .place) a));
+        all = omega (arith, n, length-append (front a c b) (c ∷ back a c b), length-more a c b);
+        room = omega (arith, few, length-more a c b);
+      }
 
-  one-more : length (a ++ (c ∷ b)) ≡ suc (length (a ++ b))
-  one-more = omega (arith, length-append a (c ∷ b), length-append a b)
+  abbrev cs : List ℕ
+  cs = counts receivers (a ++ (c ∷ b))
 
-  all : length (before (c .place) a b) + length (behind receivers (c .place) a b) ≡ length (a ++ b)
-  all =
-      let l : List Card = before (c .place) a b in
-      let r : List Card = behind receivers (c .place) a b in
-      let e : length (sorted receivers (a ++ (c ∷ b))) ≡ length (l ++ (c ∷ r)) = ap length (sorted-with receivers a c b own) in
-      omega (arith, e, sorted-all (a ++ (c ∷ b)) placed, length-append l (c ∷ r), one-more)
-
-  between : (l : List Card) → Between (counts receivers l) (before (c .place) a b) (behind receivers (c .place) a b) position (length (a ++ b))
-  between l = record { many = length-counts receivers l; first = first; all = all; few = omega (arith, few, one-more) }
+  many : length cs ≡ receivers
+  many = length-counts receivers (a ++ (c ∷ b))
 
   pub position-within : position < length (a ++ (c ∷ b))
-  position-within = omega (arith, first, all, one-more)
+  position-within = omega (arith, cut .first, cut .all, length-more a c b)
 
   pub count-some : 1 ≤ getD (indexWords (a ++ (c ∷ b))) (c .place) 0
-  count-some =
-      let l : List Card = ofPlace (c .place) a in
-      let r : List Card = ofPlace (c .place) b in
-      rw (count-is (c .place) (a ++ (c ∷ b)) own, of-own a c b) (omega (arith, length-append l (c ∷ r)))
+  count-some = rw (count-is (c .place) (a ++ (c ∷ b)) own, of-longer a c b) (omega arith)
 
   pub number-there : getD (indexWords (a ++ (c ∷ b))) (numbersFrom + position) 0 ≡ c .number
-  number-there = rw (index-with a c b own) (card-number (between (a ++ (c ∷ b))) c)
+  number-there = rw (index-with a c b own) (card-number cut cs many c)
 
   pub mark-there : getD (indexWords (a ++ (c ∷ b))) (marksFrom + position) 0 ≡ c .mark
-  mark-there = rw (index-with a c b own) (card-mark (between (a ++ (c ∷ b))) c)
+  mark-there = rw (index-with a c b own) (card-mark cut cs many c)
 
   pub marks-again : (v : ℕ) → set (indexWords (a ++ (c ∷ b))) (marksFrom + position) v
       ≡ indexWords (a ++ (record { place = c .place; number = c .number; mark = v } ∷ b))
   marks-again v =
       let d : Card = record { place = c .place; number = c .number; mark = v } in
       let same : counts receivers (a ++ (d ∷ b)) ≡ counts receivers (a ++ (c ∷ b)) =
-          counts-with receivers a d b own ∙ sym (counts-with receivers a c b own) in
-      rw (index-with a c b own, index-with a d b own, same) (card-marked (between (a ++ (c ∷ b))) c v)
+      counts-with receivers a d b own ∙ sym (counts-with receivers a c b own) in
+      rw (index-with a c b own, index-with a d b own, same) (card-marked cut cs many c v)
 
   pub entry-is : Other c a → entryOf (c .place) (c .number) (indexWords (a ++ (c ∷ b))) ≡ position
   unfolding entryOf
   entry-is other =
       let p : ℕ = c .place in
-      let passed = first-past c (ofPlace p a) (numbersOf (ofPlace p b)) (of-every (λ (d : Card). not (eqb (d .number) (c .number))) p a other) in
+      let passed = first-past c (ofPlace p a) (numbersOf (ofPlace p b)) (of-every (apart c) p a other) in
       let split = map-append (λ (d : Card). d .number) (ofPlace p a) (c ∷ ofPlace p b) in
       rw (run-is p (a ++ (c ∷ b)) own, start-is p (a ++ (c ∷ b)) (omega (arith, own)), of-own a c b, split, passed)
 
   pub withdraws : Other c a → withdrawn (length (a ++ (c ∷ b))) (c .place) (c .number) (indexWords (a ++ (c ∷ b))) ≡ indexWords (a ++ b)
   unfolding withdrawn
   withdraws other =
-      let z : length (a ++ (c ∷ b)) - 1 ≡ length (a ++ b) = omega (arith, one-more) in
-      rw (entry-is other, z, index-with a c b own) (uncounted a c b own _ (card-taken (between (a ++ (c ∷ b))) c))
+      let z : length (a ++ (c ∷ b)) - 1 ≡ length (a ++ b) = omega (arith, length-more a c b) in
+      rw (entry-is other, z, index-with a c b own) (uncounted a c b own _ (card-taken cut cs many c))
 
   joins : ofPlace (c .place) b ≡ [] → added (length (a ++ b)) c (indexWords (a ++ b)) ≡ indexWords (a ++ (c ∷ b))
   unfolding added sorted
   joins last =
       let e : sorted (suc (c .place)) (a ++ b) ≡ before (c .place) a b = rw (of-append (c .place) a b, last, append-nil) in
-      let at : startOf (suc (c .place)) (indexWords (a ++ b)) ≡ position = start-is (suc (c .place)) (a ++ b) own ∙ (ap length e ∙ first) in
-      rw (at, index-without a c b own) (counted a c b own _ (card-put (between (a ++ b)) c))
+      let at : startOf (suc (c .place)) (indexWords (a ++ b)) ≡ position = start-is (suc (c .place)) (a ++ b) own ∙ (ap length e ∙ cut .first) in
+      rw (at, index-without a c b own) (counted a c b own _ (card-put cut (counts receivers (a ++ b)) (length-counts receivers (a ++ b)) c))
 
 pub adds : (l : List Card) (c : Card) → Placed l → c .place < receivers → length l < systemMessages
     → added (length l) c (indexWords l) ≡ indexWords (l ++ (c ∷ []))
 unfolding ofPlace
 adds l c placed h few =
-    let f : Card → Bool = λ (d : Card). ltb (d .place) receivers in
-    let one : every f (c ∷ []) ≡ true = rw (lt-ltb (c .place) receivers h) in
+    let one : every fits (c ∷ []) ≡ true = rw (lt-ltb (c .place) receivers h) in
     let long : length (l ++ (c ∷ [])) ≤ systemMessages = omega (arith, length-append l (c ∷ [])) in
-    rw (append-nil l) at (joins l c [] (every-append f l (c ∷ []) placed one) long refl)
+    rw (append-nil l) at (joins l c [] (every-append fits l (c ∷ []) placed one) long refl)
+
+-- a card of a receiver by its place among them ----------------------------------------------------------------------------------------------
 
 -- card k of the receiver at place p, counted from 0, and the cards around it
 pub record Split (p k : ℕ) (l : List Card) : Type 0 where
@@ -211,31 +218,23 @@ pub record Split (p k : ℕ) (l : List Card) : Type 0 where
   pub count : length (ofPlace p before) ≡ k
 
 module _ (p : ℕ) (c : Card) (l : List Card) where
-  first-split : c .place ≡ p → Split p 0 (c ∷ l)
+  -- a card in front is the receiver's, or it is not
+  first-own : eqb (c .place) p ≡ true → length (ofPlace p (c ∷ l)) ≡ suc (length (ofPlace p l))
   unfolding ofPlace
-  first-split h = record { before = []; card = c; behind = l; whole = refl; here = h; count = refl }
+  first-own e = rw e
 
-  -- behind a card of the receiver, and behind another's
-  own-split : (k : ℕ) → eqb (c .place) p ≡ true → Split p k l → Split p (suc k) (c ∷ l)
+  first-other : eqb (c .place) p ≡ false → length (ofPlace p (c ∷ l)) ≡ length (ofPlace p l)
   unfolding ofPlace
-  own-split k e s = record {
+  first-other e = rw e
+
+  later : (k m : ℕ) (s : Split p m l) → length (ofPlace p (c ∷ s .before)) ≡ k → Split p k (c ∷ l)
+  later k m s e = record {
     before = c ∷ s .before;
     card = s .card;
     behind = s .behind;
     whole = ap (λ (r : List Card). c ∷ r) (s .whole);
     here = s .here;
-    count = rw e (ap suc (s .count));
-  }
-
-  other-split : (k : ℕ) → eqb (c .place) p ≡ false → Split p k l → Split p k (c ∷ l)
-  unfolding ofPlace
-  other-split k e s = record {
-    before = c ∷ s .before;
-    card = s .card;
-    behind = s .behind;
-    whole = ap (λ (r : List Card). c ∷ r) (s .whole);
-    here = s .here;
-    count = rw e (s .count);
+    count = e;
   }
 
 pub splits : (p k : ℕ) (l : List Card) → k < length (ofPlace p l) → Split p k l
@@ -243,13 +242,17 @@ unfolding ofPlace
 splits p k [] h = absurd (omega (arith, h))
 splits p k (c ∷ l) h = by-test k (decided (eqb (c .place) p)) (λ m. splits p m l) h
   where
-    by-test : (k : ℕ) → Test (eqb (c .place) p) → ((m : ℕ) → m < length (ofPlace p l) → Split p m l) → k < length (ofPlace p (c ∷ l)) → Split p k (c ∷ l)
-    by-test zero (inl e) more h = first-split p c l (eqb-true (c .place) p e)
+    by-test : (k : ℕ) → Test (eqb (c .place) p) → ((m : ℕ) → m < length (ofPlace p l) → Split p m l)
+        → k < length (ofPlace p (c ∷ l)) → Split p k (c ∷ l)
+    by-test zero (inl e) more h = record { before = []; card = c; behind = l; whole = refl; here = eqb-true (c .place) p e; count = refl }
     by-test (suc k) (inl e) more h =
-        own-split p c l k e (more k (let g : suc k < suc (length (ofPlace p l)) = rw e at h in omega (arith, g)))
-    by-test k (inr e) more h = other-split p c l k e (more k (rw e at h))
+        let s = more k (omega (arith, h, first-own p c l e)) in
+        later p c l (suc k) k s (first-own p c (s .before) e ∙ ap suc (s .count))
+    by-test k (inr e) more h =
+        let s = more k (omega (arith, h, first-other p c l e)) in
+        later p c l k k s (first-other p c (s .before) e ∙ s .count)
 
--- the test of two indexes ---------------------------------------------------------------------------------------------------------------------
+-- the test of two indexes ------------------------------------------------------------------------------------------------------------------
 
 pub same-words : (a b : List ℕ) → same a b ≡ true → a ≡ b
 unfolding same

@@ -17,6 +17,9 @@ use Rattle.sim_index.specs.Index.{ofPlace, sorted, counts}
 use Rattle.sim_index.specs.Calls.{sum}
 use Rattle.sim_index.proofs.LoopLaws.{sum-append}
 
+pub length-more : (a : List Card) (c : Card) (b : List Card) → length (a ++ (c ∷ b)) ≡ suc (length (a ++ b))
+length-more a c b = omega (arith, length-append a (c ∷ b), length-append a b)
+
 -- the cards of one place -------------------------------------------------------------------------------------------------------------------
 
 pub of-append : (p : ℕ) (a b : List Card) → ofPlace p (a ++ b) ≡ ofPlace p a ++ ofPlace p b
@@ -24,7 +27,8 @@ unfolding ofPlace
 of-append p [] b = refl
 of-append p (c ∷ a) b = by-test (decided (eqb (c .place) p)) (of-append p a b)
   where
-    by-test : Test (eqb (c .place) p) → ofPlace p (a ++ b) ≡ ofPlace p a ++ ofPlace p b → ofPlace p (c ∷ (a ++ b)) ≡ ofPlace p (c ∷ a) ++ ofPlace p b
+    by-test : Test (eqb (c .place) p) → ofPlace p (a ++ b) ≡ ofPlace p a ++ ofPlace p b
+        → ofPlace p (c ∷ (a ++ b)) ≡ ofPlace p (c ∷ a) ++ ofPlace p b
     by-test (inl e) h = rw e (ap (λ (l : List Card). c ∷ l) h)
     by-test (inr e) h = rw e h
 
@@ -35,7 +39,10 @@ module _ (a : List Card) (c : Card) (b : List Card) where
 
   pub of-other : (p : ℕ) → (c .place ≡ p → ⊥) → ofPlace p (a ++ (c ∷ b)) ≡ ofPlace p (a ++ b)
   unfolding ofPlace
-  of-other p n = let e : eqb (c .place) p ≡ false = ne-eqb (c .place) p n in of-append p a (c ∷ b) ∙ (rw e (sym (of-append p a b)))
+  of-other p n = let e : eqb (c .place) p ≡ false = ne-eqb (c .place) p n in of-append p a (c ∷ b) ∙ rw e (sym (of-append p a b))
+
+  pub of-longer : length (ofPlace (c .place) (a ++ (c ∷ b))) ≡ suc (length (ofPlace (c .place) (a ++ b)))
+  of-longer = rw (of-own, of-append (c .place) a b) (length-more (ofPlace (c .place) a) c (ofPlace (c .place) b))
 
 pub of-every : (f : Card → Bool) (p : ℕ) (l : List Card) → every f l ≡ true → every f (ofPlace p l) ≡ true
 unfolding ofPlace
@@ -99,9 +106,7 @@ module _ (n : ℕ) (a : List Card) (c : Card) (b : List Card) (h : c .place < n)
 
   pub sorted-longer : length (sorted n (a ++ (c ∷ b))) ≡ suc (length (sorted n (a ++ b)))
   sorted-longer =
-      let l : List Card = before (c .place) a b in
-      let r : List Card = behind n (c .place) a b in
-      rw (sorted-with, sorted-without n (c .place) a b h) (omega (arith, length-append l (c ∷ r), length-append l r))
+      rw (sorted-with, sorted-without n (c .place) a b h) (length-more (before (c .place) a b) c (behind n (c .place) a b))
 
 -- how many each place has ------------------------------------------------------------------------------------------------------------------
 
@@ -140,21 +145,15 @@ counts-sum (suc p) l =
     )
 
 module _ (n : ℕ) (a : List Card) (c : Card) (b : List Card) (h : c .place < n) where
-  one-more : length (ofPlace (c .place) (a ++ (c ∷ b))) ≡ suc (length (ofPlace (c .place) (a ++ b)))
-  one-more =
-      let l : List Card = ofPlace (c .place) a in
-      let r : List Card = ofPlace (c .place) b in
-      rw (of-own a c b, of-append (c .place) a b) (omega (arith, length-append l (c ∷ r), length-append l r))
+  abbrev grown : List ℕ
+  grown = set (counts n (a ++ b)) (c .place) (suc (length (ofPlace (c .place) (a ++ b))))
 
-  abbrev now-have : List ℕ
-  now-have = set (counts n (a ++ b)) (c .place) (suc (length (ofPlace (c .place) (a ++ b))))
-
-  at-place : (i : ℕ) → i < n → Test (eqb i (c .place)) → getD (counts n (a ++ (c ∷ b))) i 0 ≡ getD now-have i 0
+  at-place : (i : ℕ) → i < n → Test (eqb i (c .place)) → getD (counts n (a ++ (c ∷ b))) i 0 ≡ getD grown i 0
   at-place i lt (inl e) =
       let z : i ≡ c .place = eqb-true i (c .place) e in
       let room : c .place < length (counts n (a ++ b)) = omega (arith, length-counts n (a ++ b)) in
       rw (z, getD-set-same (counts n (a ++ b)) (c .place) (suc (length (ofPlace (c .place) (a ++ b)))) 0 room)
-      (counts-at n (c .place) (a ++ (c ∷ b)) h ∙ one-more)
+      (counts-at n (c .place) (a ++ (c ∷ b)) h ∙ of-longer a c b)
   at-place i lt (inr e) =
       let ne = eqb-false i (c .place) e in
       let v : ℕ = suc (length (ofPlace (c .place) (a ++ b))) in
@@ -166,12 +165,12 @@ module _ (n : ℕ) (a : List Card) (c : Card) (b : List Card) (h : c .place < n)
   counts-with =
       let l = length-counts n (a ++ (c ∷ b)) in
       let m = length-set (counts n (a ++ b)) (c .place) (suc (length (ofPlace (c .place) (a ++ b)))) ∙ length-counts n (a ++ b) in
-      ext-getD 0 (counts n (a ++ (c ∷ b))) now-have (l ∙ sym m) (λ i lt. at-place i (omega (arith, lt, l)) (decided (eqb i (c .place))))
+      ext-getD 0 (counts n (a ++ (c ∷ b))) grown (l ∙ sym m) (λ i lt. at-place i (omega (arith, lt, l)) (decided (eqb i (c .place))))
 
   pub counts-without : set (counts n (a ++ (c ∷ b))) (c .place) (length (ofPlace (c .place) (a ++ (c ∷ b))) - 1) ≡ counts n (a ++ b)
   counts-without =
       let m : ℕ = length (ofPlace (c .place) (a ++ b)) in
       let z : length (ofPlace (c .place) (a ++ (c ∷ b))) - 1 ≡ getD (counts n (a ++ b)) (c .place) 0 =
-          omega (arith, one-more, counts-at n (c .place) (a ++ b) h) in
+      omega (arith, of-longer a c b, counts-at n (c .place) (a ++ b) h) in
       rw (z, counts-with)
       (set-set (counts n (a ++ b)) (c .place) (suc m) (getD (counts n (a ++ b)) (c .place) 0) ∙ set-getD (counts n (a ++ b)) (c .place) 0)

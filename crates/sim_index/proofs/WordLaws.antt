@@ -22,19 +22,24 @@ module _ (a b d : List ℕ) (w at end : ℕ) (e : length a ≡ at) (f : at + len
   put-before : (z : ℕ) → inserted at end w (a ++ (b ++ (z ∷ d))) ≡ a ++ (w ∷ (b ++ d))
   put-before z =
       let behind : drop (suc end) (a ++ (b ++ (z ∷ d))) ≡ d =
-          past (length b + 1) (suc end) (b ++ (z ∷ d)) (omega (arith, f)) ∙ drop-append-add b (z ∷ d) 1 in
+      past (length b + 1) (suc end) (b ++ (z ∷ d)) (omega (arith, f)) ∙ drop-append-add b (z ∷ d) 1 in
       rw (take-at a (b ++ (z ∷ d)) at e, drop-at a (b ++ (z ∷ d)) at e, take-at b (z ∷ d) (end - at) count, behind)
 
   taken-before : deleted at end (a ++ (w ∷ (b ++ d))) ≡ a ++ (b ++ (0 ∷ d))
   taken-before =
       let next : drop (suc at) (a ++ (w ∷ (b ++ d))) ≡ b ++ d = past 1 (suc at) (w ∷ (b ++ d)) (omega arith) in
       let behind : drop (suc end) (a ++ (w ∷ (b ++ d))) ≡ d =
-          past (suc (length b)) (suc end) (w ∷ (b ++ d)) (omega (arith, f)) ∙ drop-at b d (length b) refl in
+      past (suc (length b)) (suc end) (w ∷ (b ++ d)) (omega (arith, f)) ∙ drop-at b d (length b) refl in
       rw (take-at a (w ∷ (b ++ d)) at e, next, take-at b d (end - at) count, behind)
 
--- what f says of the cards u and v, in a padded part behind the words a: what stands there, and what a card between them changes
-module _ (f : Card → ℕ) (a e : List ℕ) (u v : List Card) (from i n : ℕ)
-    (here : length a ≡ from) (first : length u ≡ i) (all : length u + length v ≡ n) (few : n < systemMessages) where
+-- the first i of n cards are u, the others v, and there is room for one more
+pub record Cut (u v : List Card) (i n : ℕ) : Type 0 where
+  pub first : length u ≡ i
+  pub all : length u + length v ≡ n
+  pub room : n < systemMessages
+
+-- what f says of these cards, in a padded part behind the words a: what stands there, and what a card between u and v changes
+module _ {u v : List Card} {i n : ℕ} (C : Cut u v i n) (f : Card → ℕ) (a e : List ℕ) (from : ℕ) (here : length a ≡ from) where
   abbrev rest : List ℕ
   rest = replicate (systemMessages - suc n) 0 ++ e
 
@@ -42,21 +47,21 @@ module _ (f : Card → ℕ) (a e : List ℕ) (u v : List Card) (from i n : ℕ)
   unfolding padded
   without =
       let z : systemMessages - length (map f u ++ map f v) ≡ suc (systemMessages - suc n) =
-          omega (arith, length-append (map f u) (map f v), length-map u f, length-map v f, all) in
+      omega (arith, length-append (map f u) (map f v), length-map u f, length-map v f, C .all) in
       rw (map-append f u v, z) (simp append-assoc)
 
   with : (c : Card) → a ++ (padded (map f (u ++ (c ∷ v))) ++ e) ≡ (a ++ map f u) ++ (f c ∷ (map f v ++ rest))
   unfolding padded
   with c =
       let z : systemMessages - length (map f u ++ (f c ∷ map f v)) ≡ systemMessages - suc n =
-          omega (arith, length-append (map f u) (f c ∷ map f v), length-map u f, length-map v f, all) in
+      omega (arith, length-append (map f u) (f c ∷ map f v), length-map u f, length-map v f, C .all) in
       rw (map-append f u (c ∷ v), z) (simp append-assoc)
 
   place : length (a ++ map f u) ≡ from + i
-  place = omega (arith, length-append a (map f u), here, length-map u f, first)
+  place = omega (arith, length-append a (map f u), here, length-map u f, C .first)
 
   stop : from + i + length (map f v) ≡ from + n
-  stop = omega (arith, length-map v f, first, all)
+  stop = omega (arith, length-map v f, C .first, C .all)
 
   put : (c : Card) → inserted (from + i) (from + n) (f c) (a ++ (padded (map f (u ++ v)) ++ e)) ≡ a ++ (padded (map f (u ++ (c ∷ v))) ++ e)
   put c = rw (without, with c) (put-before (a ++ map f u) (map f v) rest (f c) (from + i) (from + n) place stop 0)
@@ -115,35 +120,29 @@ module _ (cs : List ℕ) (many : length cs ≡ receivers) where
       let t : List Card = u ++ (v ++ w) in
       let rest : List ℕ = numbersOf w ++ (replicate (systemMessages - length (numbersOf t)) 0 ++ padded (marksOf t)) in
       let e : wordsOf cs t ≡ (cs ++ numbersOf u) ++ (numbersOf v ++ rest) =
-          rw (map-append numberOf u (v ++ w), map-append numberOf v w) (simp append-assoc) in
-      let front : length (cs ++ numbersOf u) ≡ numbersFrom + length u = omega (arith, many, length-append cs (numbersOf u), length-map u numberOf) in
+      rw (map-append numberOf u (v ++ w), map-append numberOf v w) (simp append-assoc) in
+      let front : length (cs ++ numbersOf u) ≡ numbersFrom + length u =
+      omega (arith, many, length-append cs (numbersOf u), length-map u numberOf) in
       rw (e, drop-at (cs ++ numbersOf u) (numbersOf v ++ rest) (numbersFrom + length u) front)
       (take-at (numbersOf v) rest (length v) (length-map v numberOf))
 
--- the first i of n cards are u, and the others v
-pub record Between (cs : List ℕ) (u v : List Card) (i n : ℕ) : Type 0 where
-  pub many : length cs ≡ receivers
-  pub first : length u ≡ i
-  pub all : length u + length v ≡ n
-  pub few : n < systemMessages
-
-module _ {cs : List ℕ} {u v : List Card} {i n : ℕ} (B : Between cs u v i n) (c : Card) where
+module _ {u v : List Card} {i n : ℕ} (C : Cut u v i n) (cs : List ℕ) (many : length cs ≡ receivers) (c : Card) where
   abbrev l : List Card
   l = u ++ (c ∷ v)
 
   marks-with : length (cs ++ padded (numbersOf l)) ≡ marksFrom
-  marks-with = marks-here cs (B .many) l (omega (arith, length-append u (c ∷ v), B .all, B .few))
+  marks-with = marks-here cs many l (omega (arith, length-append u (c ∷ v), C .all, C .room))
 
   marks-without : length (cs ++ padded (numbersOf (u ++ v))) ≡ marksFrom
-  marks-without = marks-here cs (B .many) (u ++ v) (omega (arith, length-append u v, B .all, B .few))
+  marks-without = marks-here cs many (u ++ v) (omega (arith, length-append u v, C .all, C .room))
 
   pub card-number : getD (wordsOf cs (u ++ (c ∷ v))) (numbersFrom + i) 0 ≡ c .number
-  card-number = there numberOf cs (padded (marksOf l)) u v numbersFrom i n (B .many) (B .first) (B .all) (B .few) c
+  card-number = there C numberOf cs (padded (marksOf l)) numbersFrom many c
 
   pub card-mark : getD (wordsOf cs (u ++ (c ∷ v))) (marksFrom + i) 0 ≡ c .mark
   card-mark =
       rw (marks-part cs (numbersOf l) (marksOf l))
-      (there markOf (cs ++ padded (numbersOf l)) [] u v marksFrom i n marks-with (B .first) (B .all) (B .few) c)
+      (there C markOf (cs ++ padded (numbersOf l)) [] marksFrom marks-with c)
 
   pub card-marked : (m : ℕ)
       → set (wordsOf cs (u ++ (c ∷ v))) (marksFrom + i) m ≡ wordsOf cs (u ++ (record { place = c .place; number = c .number; mark = m } ∷ v))
@@ -151,21 +150,21 @@ module _ {cs : List ℕ} {u v : List Card} {i n : ℕ} (B : Between cs u v i n) 
       let d : Card = record { place = c .place; number = c .number; mark = m } in
       let same : numbersOf (u ++ (d ∷ v)) ≡ numbersOf l = map-append numberOf u (d ∷ v) ∙ sym (map-append numberOf u (c ∷ v)) in
       rw (same, marks-part cs (numbersOf l) (marksOf l), marks-part cs (numbersOf l) (marksOf (u ++ (d ∷ v))))
-      (another markOf (cs ++ padded (numbersOf l)) [] u v marksFrom i n marks-with (B .first) (B .all) (B .few) c d)
+      (another C markOf (cs ++ padded (numbersOf l)) [] marksFrom marks-with c d)
 
   pub card-put :
       inserted (marksFrom + i) (marksFrom + n) (c .mark) (inserted (numbersFrom + i) (numbersFrom + n) (c .number) (wordsOf cs (u ++ v)))
       ≡ wordsOf cs (u ++ (c ∷ v))
   card-put =
       ap (inserted (marksFrom + i) (marksFrom + n) (c .mark))
-      (put numberOf cs (padded (marksOf (u ++ v))) u v numbersFrom i n (B .many) (B .first) (B .all) (B .few) c) ∙
+      (put C numberOf cs (padded (marksOf (u ++ v))) numbersFrom many c) ∙
       rw (marks-part cs (numbersOf l) (marksOf (u ++ v)), marks-part cs (numbersOf l) (marksOf l))
-      (put markOf (cs ++ padded (numbersOf l)) [] u v marksFrom i n marks-with (B .first) (B .all) (B .few) c)
+      (put C markOf (cs ++ padded (numbersOf l)) [] marksFrom marks-with c)
 
   pub card-taken :
       deleted (marksFrom + i) (marksFrom + n) (deleted (numbersFrom + i) (numbersFrom + n) (wordsOf cs (u ++ (c ∷ v)))) ≡ wordsOf cs (u ++ v)
   card-taken =
       ap (deleted (marksFrom + i) (marksFrom + n))
-      (taken numberOf cs (padded (marksOf l)) u v numbersFrom i n (B .many) (B .first) (B .all) (B .few) c) ∙
+      (taken C numberOf cs (padded (marksOf l)) numbersFrom many c) ∙
       rw (marks-part cs (numbersOf (u ++ v)) (marksOf l), marks-part cs (numbersOf (u ++ v)) (marksOf (u ++ v)))
-      (taken markOf (cs ++ padded (numbersOf (u ++ v))) [] u v marksFrom i n marks-without (B .first) (B .all) (B .few) c)
+      (taken C markOf (cs ++ padded (numbersOf (u ++ v))) [] marksFrom marks-without c)

@@ -17,16 +17,20 @@ module _ (c : tie.After-start) where
   within : c .start .result ≤ begun .args .len
   within = next-within _ _ _ (begun .pre .0) _ (c .start .ensures)
 
--- both are put in
-module _ (c : tie.After-insert2) where
+-- the number is put in
+module _ (c : tie.After-insert-arg2) where
   abbrev started : tie.After-start
-  started = c .before .before .before .before .before .before
+  started = c .before .before .before .before .before
 
-  left : Left (begun started .args .c .place) (now (begun started .args .x)) (c .insert2 .last .0)
+-- and the mark
+module _ (c : tie.After-insert2) where
+  abbrev start : tie.Start
+  start = begun (started (c .before))
+
+  left : Left (start .args .c .place) (now (start .args .x)) (c .insert2 .last .0)
   left =
-      let s = started in
-      let b = begun s in
-      put-left _ _ _ (b .pre .0) _ _ _ _ _ (within s) (b .pre .1) (c .before .before .before .before .insert .ensures) (c .insert2 .ensures)
+      put-left _ _ _ (start .pre .0) _ _ _ _ _ (within (started (c .before))) (start .pre .1)
+      (c .before .before .before .before .insert .ensures) (c .insert2 .ensures)
 
 pub add-spec : {M : Type 1} → statement M
 add-spec =
@@ -37,13 +41,13 @@ add-spec =
     (λ c. record { fits = omega (arith, within (c .before)) })
     (λ c. search needs)
     (λ c κs. (omega (arith, within (c .before)), search needs))
-    (λ c. record { fits = omega (arith, within (c .before .before .before .before .before)) })
+    (λ c. record { fits = omega (arith, within (started c)) })
     (λ c. search needs)
-    (λ c κs. (omega (arith, within (c .before .before .before .before .before)), search needs))
+    (λ c κs. (omega (arith, within (started c)), search needs))
     (λ c. search needs)
     (λ c. search needs)
     (λ c. let p = c .before .before .before in
-      record { fits = omega (arith, left p .count, entries-few _ _ _ (begun (started p) .pre .0), begun (started p) .pre .1) })
+    record { fits = omega (arith, left p .count, entries-few _ _ _ (start p .pre .0), start p .pre .1) })
     (λ c. search needs)
     (λ c. let p = c .before .before .before in length-set (p .insert2 .last .0) _ _ ∙ left p .size)
     (λ c. search added-is))
