@@ -1,3 +1,4 @@
 pub mod CardLaws
 pub mod IndexedLaws
 pub mod ListingLaws
+pub mod ChangeLaws

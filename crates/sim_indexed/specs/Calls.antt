@@ -10,7 +10,7 @@ use Rattle.wire.specs.declared.Message.{Message}
 use Rattle.system.specs.Limits.{systemServers, systemClients, systemMessages, lastNumber}
 use Rattle.system.specs.Transit.{numbered, replaced, gone, keeping, again}
 use Rattle.sim_transit.specs.Slots.{names}
-use Rattle.sim_indexed.specs.Indexed.{inTransit, slotIn, validIndexed}
+use Rattle.sim_indexed.specs.Indexed.{indexedSize, inTransit, slotIn, validIndexed}
 
 -- so many servers and clients have their places in the index
 pub record Few (n clients : ℕ) : Type 0 where
@@ -27,6 +27,7 @@ pub record Held (len : ℕ) (t : List ℕ) : Type 0 where
   pub sent : ℕ
   pub few : Few n clients
   pub valid : Valid n clients sent len t
+  pub size : length t ≡ indexedSize
 
 -- in t′ the message of slot i is delivered, and stays
 pub record Marks (len i : ℕ) (t t′ : List ℕ) : Type 0 where
@@ -64,5 +65,6 @@ pub record CanPost (len sent : ℕ) (l : List Message) (t : List ℕ) : Type 0 w
   pub few : Few n clients
   pub valid : Valid n clients sent len t
   pub named : every (names n clients) l ≡ true
+  pub size : length t ≡ indexedSize
   pub room : len + length l ≤ systemMessages
   pub numbers : sent + length l ≤ lastNumber
