@@ -13,8 +13,9 @@ use borrow.Author.Tests.{ne-eqb, eq-eqb, not-true, not-false}
 use borrow.Rule.Slice.PartMut.{putMid}
 use Rattle.ids.specs.Lists.{every}
 use Rattle.ids.proofs.ListLaws.{every-parts}
+use Rattle.ids.proofs.Choice.{holds}
 use Rattle.wire.specs.declared.Message.{Message}
-use Rattle.system.specs.Limits.{systemMessages}
+use Rattle.system.specs.Limits.{systemClients, systemServers, systemMessages, lastNumber}
 use Rattle.system.specs.Transit.{InTransit, numbered}
 use Rattle.sim_transit.specs.Slots.{transitSize, slotSize, slotOf, slotAt, rows, slots, validSlots, names}
 use Rattle.sim_transit.specs.Calls as transit
@@ -150,68 +151,92 @@ module _ (from to : ℕ) (o : List ℕ) where
     joining-all h = let z : i ≡ to = omega (arith, J .within) in rw z at (J .so-far)
 
 -- messages posted: the table has them, and then the index
-module _ (len sent : ℕ) (l : List Message) (t tb : List ℕ) (C : CanPost len sent l t) (P : means.Posts len sent l (take (transitSize - 0) t) tb) where
+module _ (len sent : ℕ) (l : List Message) (t : List ℕ) (C : CanPost len sent l t) where
   old : Parts (C .n) (C .clients) sent len t
   old = parts (C .n) (C .clients) sent len t (C .valid)
 
-  new : validSlots (C .n) (C .clients) (sent + length l) (len + length l) tb ≡ true
-  new = P .valid (C .n) (C .clients) (old .fit) (C .named)
+  pub post-may : transit.Sized (len + length l) (table t) × (sent + length l ≤ lastNumber)
+  post-may = (record { size = table-long t (C .size); few = C .room }, C .numbers)
 
-  tb-long : length tb ≡ transitSize
-  tb-long = valid-sized (C .n) (C .clients) (sent + length l) (len + length l) tb new .size
+  module _ (tb : List ℕ) (P : means.Posts len sent l (table t) tb) where
+    new : validSlots (C .n) (C .clients) (sent + length l) (len + length l) tb ≡ true
+    new = P .valid (C .n) (C .clients) (old .fit) (C .named)
 
-  first-slots : slots len tb ≡ slots len (table t)
-  first-slots =
-      let e : slots len tb ++ slots (length l) (drop (slotSize * len) tb) ≡ slots len (table t) ++ numbered sent l = sym (slots-split len (length l) tb) ∙ P .after in
-      sym (take-at (slots len tb) _ len (length-slots len tb)) ∙ (ap (take len) e ∙ take-at (slots len (table t)) (numbered sent l) len (length-slots len (table t)))
+    tb-long : length tb ≡ transitSize
+    tb-long = valid-sized (C .n) (C .clients) (sent + length l) (len + length l) tb new .size
 
-  pub post-unlisted : Unlisted len (len + length l) (putMid 0 (transitSize - 0) t tb)
-  post-unlisted =
-      let h = table-first tb (index t) tb-long in
-      record {
-        n = C .n;
-        clients = C .clients;
-        sent = sent + length l;
-        few = C .few;
-        valid = rw h new;
-        within = omega arith;
-        size = omega (arith, length-append tb (index t), tb-long, index-long t (old .size));
-        listed = rw (h, first-slots) (ap (λ (x : List ℕ). tb ++ x) (old .listed));
-      }
+    first-slots : slots len tb ≡ slots len (table t)
+    first-slots =
+        let e : slots len tb ++ slots (length l) (drop (slotSize * len) tb) ≡ slots len (table t) ++ numbered sent l =
+        sym (slots-split len (length l) tb) ∙ P .after in
+        sym (take-at (slots len tb) _ len (length-slots len tb)) ∙
+        (ap (take len) e ∙ take-at (slots len (table t)) (numbered sent l) len (length-slots len (table t)))
 
-  pub posts-both : (t′ : List ℕ) → t′ ≡ withIndex (len + length l) (putMid 0 (transitSize - 0) t tb) → Posts len sent l t t′
-  unfolding inTransit
-  posts-both t′ e =
-      let h = table-first tb (index t) tb-long in
-      let e′ : t′ ≡ tb ++ afresh (slots (len + length l) tb) = rw h at e in
-      rw e′ (record {
-        valid = λ n clients F v q. joined-valid n clients (sent + length l) (len + length l) tb _ (P .valid n clients (parts n clients sent len t v .fit) q) refl;
-        after = λ n clients F v q. joined-messages n clients (sent + length l) (len + length l) tb _ (P .valid n clients (parts n clients sent len t v .fit) q) refl
-            ∙ P .after;
-      })
+    pub post-unlisted : Unlisted len (len + length l) (putMid 0 (transitSize - 0) t tb)
+    post-unlisted =
+        let h = table-first tb (index t) tb-long in
+        record {
+          n = C .n;
+          clients = C .clients;
+          sent = sent + length l;
+          few = C .few;
+          valid = rw h new;
+          within = omega arith;
+          size = omega (arith, length-append tb (index t), tb-long, index-long t (C .size));
+          listed = rw (h, first-slots) (ap (λ (x : List ℕ). tb ++ x) (old .listed));
+        }
+
+    module _ (t′ : List ℕ) (e : t′ ≡ withIndex (len + length l) (putMid 0 (transitSize - 0) t tb)) where
+      all-listed : t′ ≡ tb ++ afresh (slots (len + length l) tb)
+      all-listed = rw (table-first tb (index t) tb-long) at e
+
+      pub posts-both : Posts len sent l t t′
+      unfolding inTransit
+      posts-both =
+          let new : (n clients : ℕ) → Valid n clients sent len t → every (names n clients) l ≡ true
+              → validSlots n clients (sent + length l) (len + length l) tb ≡ true = λ n clients v q. P .valid n clients (parts n clients sent len t v .fit) q in
+          rw all-listed (record {
+            valid = λ n clients F v q. joined-valid n clients (sent + length l) (len + length l) tb _ (new n clients v q) refl;
+            after = λ n clients F v q. joined-messages n clients (sent + length l) (len + length l) tb _ (new n clients v q) refl ∙ P .after;
+          })
+
+      pub posts-same : length t′ ≡ length t
+      posts-same =
+          let v = joined-valid (C .n) (C .clients) (sent + length l) (len + length l) tb _ new refl in
+          ap length all-listed ∙ (parts (C .n) (C .clients) (sent + length l) (len + length l) _ v .size ∙ sym (C .size))
 
 -- what `valid` knows before slot i: the index made so far is that of the slots before it
 pub record Making (n clients sent len : ℕ) (t x : List ℕ) (i : ℕ) : Type 0 where
   pub within : i ≤ len
   pub few : Few n clients
   pub valid : validSlots n clients sent len t ≡ true
+  pub long : indexSize ≡ length x
   pub so-far : x ≡ afresh (slots i t)
 
 module _ (n clients sent len : ℕ) (t : List ℕ) where
-  pub making-none : Few n clients → validSlots n clients sent len t ≡ true → Making n clients sent len t (replicate indexSize 0) 0
-  making-none F ok = record { within = omega arith; few = F; valid = ok; so-far = sym (ap afresh (slots-none t) ∙ index-none) }
+  pub making-none : (n ≤ systemServers) × (clients ≤ systemClients) → (v : Bool) → v ≡ validSlots n clients sent len t → not v ≡ false
+      → Making n clients sent len t (replicate indexSize 0) 0
+  making-none few v e h =
+      record {
+        within = omega arith;
+        few = record { few-servers = few .0; few-clients = few .1 };
+        valid = holds v (validSlots n clients sent len t) e h;
+        long = refl;
+        so-far = sym (ap afresh (slots-none t) ∙ index-none);
+      }
 
   module _ (x : List ℕ) (i : ℕ) (M : Making n clients sent len t x i) where
     pub making-slot : i < len → Readable i t
     making-slot h = record { n = n; clients = clients; sent = sent; len = len; few = M .few; valid = M .valid; used = h }
 
     pub making-more : i < len → (y : List ℕ) → y ≡ afresh (slots (i + 1) t) → Making n clients sent len t y (i + 1)
-    making-more h y e = record { within = omega arith; few = M .few; valid = M .valid; so-far = e }
-
-    pub making-long : length x ≡ indexSize
-    making-long =
+    making-more h y e =
         let few = valid-sized n clients sent len t (M .valid) .few in
-        ap length (M .so-far) ∙ afresh-long (slots i t) (omega (arith, length-slots i t, few, M .within))
+        let l = afresh-long (slots (i + 1) t) (omega (arith, length-slots (i + 1) t, few)) in
+        record { within = omega arith; few = M .few; valid = M .valid; long = sym (ap length e ∙ l); so-far = e }
+
+    pub making-long : (y : List ℕ) → length y ≡ indexedSize → length (take (indexedSize - transitSize) (drop transitSize y)) ≡ length x
+    making-long y s = ap length (lent-index y s) ∙ (index-long y s ∙ M .long)
 
     pub making-all : len ≤ i → x ≡ afresh (slots len t)
     making-all h = let z : i ≡ len = omega (arith, M .within) in rw z at (M .so-far)
