@@ -2,3 +2,4 @@ pub mod CardLaws
 pub mod IndexedLaws
 pub mod ListingLaws
 pub mod ChangeLaws
+pub mod ReadLaws
