@@ -52,7 +52,7 @@ not-marked x b e = ap (λ (y : InTransit). y ∷ b) (λ i. record { number = x .
     go false e = refl
 
 -- the index as it is lent
-abbrev lent : List ℕ → List ℕ
+abbrev pub lent : List ℕ → List ℕ
 lent t = take (indexedSize - transitSize) (drop transitSize t)
 
 module _ (len at : ℕ) (t : List ℕ) (E : EntryAt len at t) where
