@@ -184,7 +184,7 @@ module _ (len : ℕ) (t : List ℕ) (H : Held len t) where
   unfolding inTransit
   starts q h = rw (lent-index t (its-parts .size), its-parts .listed) (start-is q (map cardOf (slots len (table t))) h)
 
-  pub start-may : (q : ℕ) → q ≤ receivers → (length (lent t) ≡ indexSize) × (q ≤ receivers) × (startOf q (lent t) ≤ systemMessages)
+  start-may : (q : ℕ) → q ≤ receivers → (length (lent t) ≡ indexSize) × (q ≤ receivers) × (startOf q (lent t) ≤ systemMessages)
   unfolding inTransit
   start-may q h =
       let l : length (lent t) ≡ indexSize = ap length (lent-index t (its-parts .size)) ∙ index-long t (its-parts .size) in
@@ -192,6 +192,14 @@ module _ (len : ℕ) (t : List ℕ) (H : Held len t) where
       let cards : List Card = map cardOf (slots len (table t)) in
       let n : length cards ≡ len = length-map (slots len (table t)) cardOf ∙ length-slots len (table t) in
       (l, h, omega (arith, starts q h, sorted-few q cards, n, few))
+
+  -- those of server j, and those behind them
+  module _ (j : ServerId) (J : Place j) where
+    pub first-may : (length (lent t) ≡ indexSize) × (j .0 - 1 ≤ receivers) × (startOf (j .0 - 1) (lent t) ≤ systemMessages)
+    first-may = start-may (j .0 - 1) (omega (arith, J .last))
+
+    pub last-may : (length (lent t) ≡ indexSize) × (j .0 - 1 + 1 ≤ receivers) × (startOf (j .0 - 1 + 1) (lent t) ≤ systemMessages)
+    last-may = start-may (j .0 - 1 + 1) (omega (arith, J .last))
 
 -- what `restart` knows before entry `at`: the first k messages at place p are pending
 pub record Restarting (len p end : ℕ) (o t : List ℕ) (at : ℕ) : Type 0 where
@@ -203,26 +211,27 @@ pub record Restarting (len p end : ℕ) (o t : List ℕ) (at : ℕ) : Type 0 whe
   pub valid : (n clients sent : ℕ) → Few n clients → Valid n clients sent len o → Valid n clients sent len t
   pub so-far : inTransit len t ≡ upTo k p (inTransit len o)
 
-module _ (len p at end : ℕ) (o : List ℕ) where
-  pub restarting-none : Held len o → p < receivers → at ≡ startOf p (lent o) → end ≡ startOf (p + 1) (lent o) → Restarting len p end o o at
+module _ (len at end : ℕ) (o : List ℕ) where
+  abbrev l : List InTransit
+  l = inTransit len o
+
+  pub restarting-none : Held len o → (j : ServerId) → Place j → at ≡ startOf (j .0 - 1) (lent o) → end ≡ startOf (j .0 - 1 + 1) (lent o)
+      → Restarting len (j .0 - 1) end o o at
   unfolding upTo sorted
-  restarting-none H h e f =
-      let l : List InTransit = inTransit len o in
-      let f′ : end ≡ begins (suc p) l = rw add-one at (f ∙ starts len o H (p + 1) (omega arith)) in
+  restarting-none H j J e f =
+      let p : ℕ = j .0 - 1 in
+      let f′ : end ≡ begins (suc p) l = rw add-one at (f ∙ starts len o H (p + 1) (omega (arith, J .last))) in
       record {
         held = H;
         k = 0;
         within = omega arith;
-        here = omega (arith, e, starts len o H p (omega arith));
+        here = omega (arith, e, starts len o H p (omega (arith, J .last)));
         last = f′ ∙ length-append (sorted p (map cardOf l)) (ofPlace p (map cardOf l));
         valid = λ n clients sent F v. v;
         so-far = refl;
       }
 
-  module _ (t : List ℕ) (R : Restarting len p end o t at) where
-    abbrev l : List InTransit
-    l = inTransit len o
-
+  module _ (p : ℕ) (t : List ℕ) (R : Restarting len p end o t at) where
     abbrev H : Held len o
     H = R .held
 
