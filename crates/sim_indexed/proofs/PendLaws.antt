@@ -21,18 +21,18 @@ use Rattle.sim_transit.proofs.Means.{FindsPresent}
 use Rattle.sim_transit.proofs.FindLaws.{finds-present, valid-ordered}
 use Rattle.sim_transit.proofs.Kept.{valid-sized}
 use Rattle.sim_index.specs.Index.{indexSize, numbersFrom, marksFrom}
-use Rattle.sim_indexed.specs.Indexed.{indexedSize, table, index, inTransit, cardOf, markOf}
+use Rattle.sim_indexed.specs.Indexed.{indexedSize, table, index, inTransit, markOf}
 use Rattle.sim_indexed.specs.Calls.{Few, Valid}
 use Rattle.sim_indexed.specs.Inner.{EntryAt, Pends, entryPlace}
 use Rattle.sim_indexed.proofs.IndexedLaws.{Parts, parts, table-first, index-last, index-back, lent-index, table-long, index-long}
-use Rattle.sim_indexed.proofs.IndexedLaws.{its-few, entry-within, entry-number, entry-mark, remarked-valid, remarked-after}
+use Rattle.sim_indexed.proofs.IndexedLaws.{entry-within, entry-number, entry-mark, remarked-valid, remarked-after}
 
 -- both parts are back, the index first
 module _ (t : List ℕ) (size : length t ≡ indexedSize) (x : List ℕ) where
-  pub both-back : (tb : List ℕ) → putMid 0 (transitSize - 0) (putMid transitSize (indexedSize - transitSize) t x) tb ≡ tb ++ x
+  both-back : (tb : List ℕ) → putMid 0 (transitSize - 0) (putMid transitSize (indexedSize - transitSize) t x) tb ≡ tb ++ x
   both-back tb = ap (λ (u : List ℕ). tb ++ index u) (index-back t size x) ∙ ap (λ (u : List ℕ). tb ++ u) (index-last (table t) x (table-long t size))
 
-  pub still-table : table (putMid transitSize (indexedSize - transitSize) t x) ≡ table t
+  still-table : table (putMid transitSize (indexedSize - transitSize) t x) ≡ table t
   still-table = ap table (index-back t size x) ∙ table-first (table t) x (table-long t size)
 
 present-there : (a : List InTransit) (x : InTransit) (b : List InTransit) → present (x .number) (a ++ (x ∷ b)) ≡ true

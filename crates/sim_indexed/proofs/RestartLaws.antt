@@ -20,14 +20,13 @@ use Rattle.system.specs.Limits.{systemServers, systemMessages}
 use Rattle.system.specs.Transit.{InTransit, isFor, again}
 use Rattle.system.specs.Index.{receiverOf}
 use Rattle.system.proofs.Tokens.{All, empty, more}
-use Rattle.sim_transit.specs.Slots.{transitSize, slots}
-use Rattle.sim_transit.specs.Calls.{markedAs}
+use Rattle.sim_transit.specs.Slots.{slots}
 use Rattle.sim_transit.proofs.Kept.{Kept, Named, names-named, valid-kept, length-slots}
 use Rattle.sim_index.specs.Index.{indexSize, sorted, ofPlace, receivers}
 use Rattle.sim_index.specs.Calls.{startOf}
 use Rattle.sim_index.specs.declared.Card.{Card}
 use Rattle.sim_index.proofs.Means.{start-is, sorted-few}
-use Rattle.sim_indexed.specs.Indexed.{indexedSize, table, index, inTransit, placeOf, cardOf}
+use Rattle.sim_indexed.specs.Indexed.{indexedSize, table, inTransit, placeOf, cardOf}
 use Rattle.sim_indexed.specs.Calls.{Few, Valid, Held, Place, Restarts}
 use Rattle.sim_indexed.specs.Inner.{EntryAt, Pends, entryPlace}
 use Rattle.sim_indexed.proofs.IndexedLaws.{Parts, parts, lent-index, index-long, its-few}

@@ -14,6 +14,25 @@ module _ (c : tie.After-find-present) where
   found : Found (entry .args .len) (entry .args .at) (now (entry .args .t)) (c .find-present .result)
   found = record { entry = entry .pre; number = _; read = c .before .before .before .number-at .ensures; slot = c .find-present .ensures }
 
+-- the entry is marked
+module _ (c : tie.After-put-mark) where
+  abbrev looked : tie.After-find-present
+  looked = c .before .before
+
+-- the slot is marked
+module _ (c : tie.After-put-mark2) where
+  abbrev marked : tie.After-put-mark
+  marked = c .before .before .before .before
+
+put-mark-requires-2 : tie.Need-put-mark-requires-2
+put-mark-requires-2 c κs = let m = c .before .before .before in slot-may (found (looked m)) (m .put-mark .ensures)
+
+same-length-2 : tie.Need-same-length-2
+same-length-2 c = let d = c .before .before in let m = marked d in pends-size (found (looked m)) (m .put-mark .ensures) (d .put-mark2 .ensures)
+
+returns-2 : tie.Need-returns-2
+returns-2 c = let d = c .before .before in let m = marked d in pends (found (looked m)) (m .put-mark .ensures) (d .put-mark2 .ensures)
+
 pub pend-spec : {M : Type 1} → statement M
 pend-spec =
     tie.close
@@ -39,6 +58,6 @@ pend-spec =
     (λ c. search needs)
     (λ c. search needs)
     (λ c. search still-inside)
-    (λ c κs. slot-may (found (c .before .before .before .before .before)) (c .before .before .before .put-mark .ensures))
-    (λ c. pends-size (found (c .before .before .before .before .before .before .before .before)) (c .before .before .before .before .before .before .put-mark .ensures) (c .before .before .put-mark2 .ensures))
-    (λ c. pends (found (c .before .before .before .before .before .before .before .before)) (c .before .before .before .before .before .before .put-mark .ensures) (c .before .before .put-mark2 .ensures)))
+    put-mark-requires-2
+    same-length-2
+    returns-2)
