@@ -60,7 +60,6 @@ module _ (len i : ℕ) (t : List ℕ) (H : Held len t) (used : i < len) where
     marks-valid = rw entry-is (remarked-valid n clients sent len t F ok before message behind split 1 (omega arith) i used refl)
 
     marks-after : inTransit len (transit.marked i 1 (table t) ++ set (index t) (marksFrom + entry) 1) ≡ replaced (slotIn t i .number) keeping (inTransit len t)
-    unfolding slotIn inTransit
     marks-after = rw entry-is (remarked-after n clients sent len t F ok before message behind split 1 (omega arith) i used refl)
         ∙ sym (replaces n clients sent len t F ok i used keeping)
 
@@ -69,7 +68,6 @@ module _ (len i : ℕ) (t : List ℕ) (H : Held len t) (used : i < len) where
 
     removes-after : inTransit (len - 1) (transit.removed len i (table t) ++ withdrawn len (cardOf message .place) (message .number) (index t))
         ≡ replaced (slotIn t i .number) gone (inTransit len t)
-    unfolding slotIn inTransit
     removes-after = removed-after n clients sent len t F ok before message behind split i used refl ∙ sym (replaces n clients sent len t F ok i used gone)
 
   entry-here : entry ≡ entryPlace before message behind

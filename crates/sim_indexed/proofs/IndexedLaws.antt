@@ -39,14 +39,14 @@ pub record Parts (n clients sent len : ℕ) (t : List ℕ) : Type 0 where
   pub listed : index t ≡ afresh (slots len (table t))
 
 pub parts : (n clients sent len : ℕ) (t : List ℕ) → Valid n clients sent len t → Parts n clients sent len t
-unfolding validIndexed inTransit
+unfolding validIndexed
 parts n clients sent len t e =
     let (a, c) = both (eqb (length t) indexedSize && validSlots n clients sent len (table t)) (same (index t) (afresh (slots len (table t)))) e in
     let (l, f) = both (eqb (length t) indexedSize) (validSlots n clients sent len (table t)) a in
     record { size = eqb-true (length t) indexedSize l; fit = f; listed = same-words (index t) (afresh (slots len (table t))) c }
 
 pub from-parts : (n clients sent len : ℕ) (t : List ℕ) → Parts n clients sent len t → Valid n clients sent len t
-unfolding validIndexed inTransit
+unfolding validIndexed
 from-parts n clients sent len t P = rw (eq-eqb (length t) indexedSize (P .size), P .fit, P .listed) (same-itself (afresh (slots len (table t))))
 
 pub afresh-long : (l : List InTransit) → length l ≤ systemMessages → length (afresh l) ≡ indexSize
@@ -75,7 +75,6 @@ module _ (n clients sent len : ℕ) (tb x : List ℕ) (ok : validSlots n clients
       })
 
   pub joined-messages : inTransit len (tb ++ x) ≡ slots len tb
-  unfolding inTransit
   joined-messages = ap (slots len) (table-first tb x tb-long)
 
 -- the parts lent one after the other, and what is there when both are back

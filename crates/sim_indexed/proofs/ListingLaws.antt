@@ -191,7 +191,6 @@ module _ (len sent : ℕ) (l : List Message) (t : List ℕ) (C : CanPost len sen
       all-listed = rw (table-first tb (index t) tb-long) at e
 
       pub posts-both : Posts len sent l t t′
-      unfolding inTransit
       posts-both =
           let new : (n clients : ℕ) → Valid n clients sent len t → every (names n clients) l ≡ true
               → validSlots n clients (sent + length l) (len + length l) tb ≡ true = λ n clients v q. P .valid n clients (parts n clients sent len t v .fit) q in
@@ -254,5 +253,5 @@ module _ (n clients sent len : ℕ) (t : List ℕ) where
 
     pub index-decides : not v ≡ false → (made : List ℕ) → made ≡ afresh (slots len (table t)) → (r : Bool)
         → r ≡ same (take (indexedSize - transitSize) (drop transitSize t)) made → r ≡ validIndexed n clients sent len t
-    unfolding validIndexed inTransit
+    unfolding validIndexed
     index-decides h made m r f = rw (eq-eqb (length t) indexedSize size, ← e, not-false v h) (rw (lent-index t size, m) at f)

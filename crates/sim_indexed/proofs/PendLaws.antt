@@ -76,7 +76,6 @@ module _ (len at : ℕ) (t : List ℕ) (E : EntryAt len at t) where
   still-inside y = rw (index-back t its-size y) (omega (arith, length-append (table t) y, table-long t its-size))
 
   pub entry-may : (length (lent t) ≡ indexSize) × (at < systemMessages)
-  unfolding inTransit
   entry-may =
       let w = entry-within (E .n) (E .clients) (E .sent) len t (E .few) (E .valid) (E .before) (E .message) (E .behind) (E .whole) in
       (ap length (lent-index t its-size) ∙ index-long t its-size, omega (arith, w, E .here, its-sized .few))
@@ -86,7 +85,6 @@ module _ (len at : ℕ) (t : List ℕ) (E : EntryAt len at t) where
 
   -- the message is pending already
   pub pends-none : (v : ℕ) → v ≡ getD (lent t) (marksFrom + at) 0 → v ≡ 0 → Pends len at t t
-  unfolding inTransit
   pends-none v e z = record {
     valid = λ n clients sent F ok. ok;
     after = λ n clients sent F ok a x b whole here.
@@ -116,11 +114,9 @@ module _ {len at : ℕ} {t : List ℕ} {i : ℕ} (S : Found len at t i) where
   module _ (n clients sent : ℕ) (F : Few n clients) (ok : Valid n clients sent len t)
       (a : List InTransit) (x : InTransit) (b : List InTransit) (whole : inTransit len t ≡ a ++ (x ∷ b)) (here : at ≡ entryPlace a x b) where
     number-is : S .number ≡ x .number
-    unfolding inTransit
     number-is = S .read ∙ (rw (lent-index t size, here) (entry-number n clients sent len t F ok a x b whole))
 
     used : i < len
-    unfolding inTransit
     used = by-test (decided (ltb i len))
       where
         by-test : Test (ltb i len) → i < len
@@ -134,11 +130,9 @@ module _ {len at : ℕ} {t : List ℕ} {i : ℕ} (S : Found len at t i) where
     same-number = finds .numbered used ∙ number-is
 
     it-valid : Valid n clients sent len remarked
-    unfolding inTransit
     it-valid = rw here (remarked-valid n clients sent len t F ok a x b whole 0 (omega arith) i used same-number)
 
     it-pends : inTransit len remarked ≡ a ++ (markedAs 0 x ++ b)
-    unfolding inTransit
     it-pends = rw here (remarked-after n clients sent len t F ok a x b whole 0 (omega arith) i used same-number)
 
   -- the index marked, as the code has it

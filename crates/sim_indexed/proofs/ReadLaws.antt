@@ -138,7 +138,6 @@ module _ (len p : ℕ) (t : List ℕ) (H : Held len t) (there : p < receivers) w
 
     module _ (i : ℕ) where
       pub none-there : end - from ≤ i → Nothing ≡ listedAt (entriesAt p (inTransit len t)) i
-      unfolding inTransit
       none-there h = listed-past (entriesAt p messages) i (omega (arith, ends, entries-many p messages))
 
       module _ (h : i < end - from) where
@@ -158,7 +157,6 @@ module _ (len p : ℕ) (t : List ℕ) (H : Held len t) (there : p < receivers) w
 
         pub entry-there : (number mark : ℕ) → number ≡ getD lent (numbersFrom + (from + i)) 0 → mark ≡ getD lent (marksFrom + (from + i)) 0
             → At (record { 0 = number }) (eqb mark 1) ≡ listedAt (entriesAt p (inTransit len t)) i
-        unfolding inTransit
         entry-there number mark a b =
             let F = its-found in
             let x : InTransit = F .message in

@@ -180,11 +180,9 @@ module _ (len : ℕ) (t : List ℕ) (H : Held len t) where
   index-inside = omega (arith, its-parts .size)
 
   starts : (q : ℕ) → q ≤ receivers → startOf q (lent t) ≡ begins q (inTransit len t)
-  unfolding inTransit
   starts q h = rw (lent-index t (its-parts .size), its-parts .listed) (start-is q (map cardOf (slots len (table t))) h)
 
   start-may : (q : ℕ) → q ≤ receivers → (length (lent t) ≡ indexSize) × (q ≤ receivers) × (startOf q (lent t) ≤ systemMessages)
-  unfolding inTransit
   start-may q h =
       let l : length (lent t) ≡ indexSize = ap length (lent-index t (its-parts .size)) ∙ index-long t (its-parts .size) in
       let few = its-few (H .n) (H .clients) (H .sent) len t (H .few) (H .valid) in
@@ -278,7 +276,6 @@ module _ (len at end : ℕ) (o : List ℕ) where
       }
 
     pub restarting-all : end ≤ at → (j : ServerId) → Place j → p ≡ j .0 - 1 → Restarts len j o t
-    unfolding inTransit
     restarting-all h j J e =
         let z : R .k ≡ many p l = omega (arith, R .here, R .last, R .within) in
         let a = rw (← e) at (upto-all j J (valid-kept (H .n) (H .clients) (H .sent) len (table o) (its-parts len o H .fit))) in

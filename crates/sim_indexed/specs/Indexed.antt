@@ -28,10 +28,10 @@ abbrev pub index : List ℕ → List ℕ
 index t = drop transitSize t
 
 -- the messages in the first len slots, and the message in slot i, counted from 0
-unfoldable pub inTransit : ℕ → List ℕ → List InTransit
+abbrev pub inTransit : ℕ → List ℕ → List InTransit
 inTransit len t = slots len (table t)
 
-unfoldable pub slotIn : List ℕ → ℕ → InTransit
+abbrev pub slotIn : List ℕ → ℕ → InTransit
 slotIn t i = slotAt (table t) i
 
 -- a receiver's place in the index: the servers first, for what was delivered to them stays in transit, so that the entries that come and go most
