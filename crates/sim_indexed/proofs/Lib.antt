@@ -5,3 +5,4 @@ pub mod ChangeLaws
 pub mod PendLaws
 pub mod RestartLaws
 pub mod ReadLaws
+pub mod Determined

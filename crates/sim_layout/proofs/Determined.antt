@@ -14,8 +14,9 @@ use Rattle.system.specs.Places.{System}
 use Rattle.sim_blocks.specs.Regions.{blocks}
 use Rattle.sim_blocks.specs.Blocks.{clientBlock, serverBlock, clientPlace, serverPlace, validClientBlock, validServerBlock}
 use Rattle.sim_blocks.proofs.Determined.{same-client, same-server}
-use Rattle.sim_transit.specs.Slots.{transitSize, slots}
-use Rattle.sim_transit.proofs.Determined as transit
+use Rattle.sim_transit.proofs.Determined.{zeros-same}
+use Rattle.sim_indexed.specs.Indexed.{indexedSize, inTransit}
+use Rattle.sim_indexed.proofs.Determined as indexed
 use Rattle.sim_layout.specs.Layout.{clientsFrom, clientsSize, serversFrom, serversSize, transitFrom, simulationSize, settingOf, clientWords, serverWords, transitWords, lengthOf, sentOf, view, validFrom, blank, itself, valid}
 use Rattle.sim_layout.proofs.ValidLaws.{Facts, facts}
 
@@ -40,7 +41,7 @@ parts : (w : List ℕ) → length w ≡ simulationSize → take clientsFrom w ++
 unfolding clientWords serverWords transitWords
 parts w l =
     rw (
-      take-all transitSize (drop transitFrom w) (omega (arith, length-drop transitFrom w)),
+      take-all indexedSize (drop transitFrom w) (omega (arith, length-drop transitFrom w)),
       ← drop-drop serversSize serversFrom w,
       take-append-drop serversSize (drop serversFrom w),
       ← drop-drop clientsSize clientsFrom w,
@@ -58,7 +59,7 @@ module _ (w : List ℕ) (l : length w ≡ simulationSize) where
 
 -- words that are 0 to the same place
 same-blank : (a b : List ℕ) (k : ℕ) → length a ≡ length b → blank (drop k a) ≡ true → blank (drop k b) ≡ true → drop k a ≡ drop k b
-same-blank a b k l p q = transit.zeros-same (drop k a) (drop k b) (omega (arith, length-drop k a, length-drop k b)) p q
+same-blank a b k l p q = zeros-same (drop k a) (drop k b) (omega (arith, length-drop k a, length-drop k b)) p q
 
 module _ (w w′ : List ℕ) (ok : valid w ≡ true) (ok′ : valid w′ ≡ true) (s : settingOf w ≡ settingOf w′) (e : view w ≡ view w′) where
   abbrev F : Facts w
@@ -90,13 +91,13 @@ module _ (w w′ : List ℕ) (ok : valid w ≡ true) (ok′ : valid w′ ≡ tru
 
   same-length : lengthOf w ≡ lengthOf w′
   unfolding view
-  same-length = transit.same-count (lengthOf w) (lengthOf w′) (transitWords w) (transitWords w′) (ap (λ (u : System). u .transit) e)
+  same-length = indexed.same-count (lengthOf w) (lengthOf w′) (transitWords w) (transitWords w′) (ap (λ (u : System). u .transit) e)
 
   same-transit : transitWords w ≡ transitWords w′
   unfolding view
   same-transit =
-      let messages : slots (lengthOf w) (transitWords w) ≡ slots (lengthOf w′) (transitWords w′) = ap (λ (u : System). u .transit) e in
-      transit.same-words (settingOf w .n) (settingOf w .clients) (sentOf w) (settingOf w′ .n) (settingOf w′ .clients) (sentOf w′) (lengthOf w)
+      let messages : inTransit (lengthOf w) (transitWords w) ≡ inTransit (lengthOf w′) (transitWords w′) = ap (λ (u : System). u .transit) e in
+      indexed.same-words (settingOf w .n) (settingOf w .clients) (sentOf w) (settingOf w′ .n) (settingOf w′ .clients) (sentOf w′) (lengthOf w)
       (transitWords w) (transitWords w′) (F .transit)
       (rw (← same-length) at (F′ .transit)) (rw (← same-length) at messages)
 

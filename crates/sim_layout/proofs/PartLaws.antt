@@ -9,7 +9,7 @@ use Rattle.sim_blocks.specs.Regions.{blocks}
 use Rattle.sim_blocks.proofs.RegionLaws.{take-sets-after}
 use Rattle.system.specs.Places.{System}
 use Rattle.sim_blocks.specs.Blocks.{clientBlock, serverBlock, clientPlace, serverPlace}
-use Rattle.sim_transit.specs.Slots.{slots, transitSize}
+use Rattle.sim_indexed.specs.Indexed.{inTransit, indexedSize}
 use Rattle.system.specs.declared.Setting.{Setting}
 use Rattle.sim_layout.specs.Layout.{simulationSize, settingOf, clientWords, serverWords, transitWords, view, clientsSize, serversSize, serversFrom, transitFrom, clientsFrom}
 use Rattle.sim_layout.proofs.ViewLaws.{in-clients, clients-servers, clients-transit, servers-clients, in-servers, servers-transit, transit-clients, transit-servers, in-transit}
@@ -46,7 +46,7 @@ module _ {w h c s t : List ℕ} (p : Is w h c s t) where
         transit = servers-transit w a vs le ∙ p .transit;
       }
 
-  pub is-transit-store : (a : ℕ) (vs : List ℕ) → a + length vs ≤ transitSize → Is (sets w (transitFrom + a) vs) h c s (sets t a vs)
+  pub is-transit-store : (a : ℕ) (vs : List ℕ) → a + length vs ≤ indexedSize → Is (sets w (transitFrom + a) vs) h c s (sets t a vs)
   is-transit-store a vs le =
       record {
         long = length-sets w (transitFrom + a) vs ∙ p .long;
@@ -64,7 +64,7 @@ module _ {w h c s t : List ℕ} (p : Is w h c s t) where
         head = take-set-lt clientsFrom w i v lt ∙ ap (λ (l : List ℕ). set l i v) (p .head);
         clients = ap (take clientsSize) (drop-set-lt clientsFrom w i v (omega arith)) ∙ p .clients;
         servers = ap (take serversSize) (drop-set-lt serversFrom w i v (omega arith)) ∙ p .servers;
-        transit = ap (take transitSize) (drop-set-lt transitFrom w i v (omega arith)) ∙ p .transit;
+        transit = ap (take indexedSize) (drop-set-lt transitFrom w i v (omega arith)) ∙ p .transit;
       }
 
 -- the setting and the system of the parts
@@ -76,7 +76,7 @@ systemIn h c s t =
     record {
       clients = blocks clientBlock clientPlace (getD h 3 0) c;
       servers = blocks serverBlock serverPlace (getD h 0 0) s;
-      transit = slots (getD h 4 0) t;
+      transit = inTransit (getD h 4 0) t;
       sent = getD h 5 0;
       most = getD h 6 0;
     }

@@ -10,7 +10,7 @@ use borrow.Author.Tests.{le-leb, lt-leb, leb-true}
 use Rattle.ids.specs.Limits.{within}
 use Rattle.quorum.specs.Check.{inRangeUpTo}
 use Rattle.quorum.proofs.CheckLaws.{range}
-use Rattle.sim_transit.specs.Slots.{validSlots, transitSize}
+use Rattle.sim_indexed.specs.Indexed.{validIndexed, indexedSize}
 use lib.Seq.{drop-drop}
 use Rattle.ids.proofs.Choice.{both, clash, holds, fails}
 use Rattle.sim_blocks.specs.Regions.{blocks}
@@ -93,7 +93,7 @@ module _ (n m clients : ℕ) (w : List ℕ) (r : (length w ≡ simulationSize) �
 -- parts_valid
 module _ (n m clients : ℕ) (w : List ℕ) (a : Bool) (p : a ≡ blocksValid n m clients w) where
   abbrev T : Bool
-  T = validSlots n clients (sentOf w) (lengthOf w) (transitWords w)
+  T = validIndexed n clients (sentOf w) (lengthOf w) (transitWords w)
 
   pub blocks-bad : not a ≡ true → false ≡ partsValid n m clients w
   unfolding partsValid
@@ -142,7 +142,7 @@ module _ (w : List ℕ) where
   facts-of l r k h =
       let d = both _ (leb (worst (blocks clientBlock clientPlace (settingOf w .clients) (clientWords w))) (mostOf w)) h in
       let c = both _ (leb (mostOf w) (settingOf w .n)) (d .0) in
-      let b = both _ (validSlots (settingOf w .n) (settingOf w .clients) (sentOf w) (lengthOf w) (transitWords w)) (c .0) in
+      let b = both _ (validIndexed (settingOf w .n) (settingOf w .clients) (sentOf w) (lengthOf w) (transitWords w)) (c .0) in
       let e = both _ (blank (drop (settingOf w .n * serverBlock) (serverWords w))) (b .0) in
       let f = both _ (validFrom (λ (i : ℕ). validServerBlock (settingOf w .n) (settingOf w .clients) (serverNo i)) 1
       (blocks serverBlock itself (settingOf w .n) (serverWords w))) (e .0) in
@@ -205,6 +205,6 @@ module _ (w : List ℕ) where
 
 -- transit_valid
 pub transit-part : (n clients : ℕ) (w : List ℕ)
-    → validSlots n clients (sentOf w) (lengthOf w) (transitWords w) ≡ validSlots n clients (getD w 5 0) (getD w 4 0) (take transitSize (drop transitFrom w))
+    → validIndexed n clients (sentOf w) (lengthOf w) (transitWords w) ≡ validIndexed n clients (getD w 5 0) (getD w 4 0) (take indexedSize (drop transitFrom w))
 unfolding transitWords
 transit-part n clients w = refl

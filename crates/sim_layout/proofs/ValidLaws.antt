@@ -17,7 +17,7 @@ use Rattle.sim_blocks.proofs.RegionBlocks.{block-stored, block-at, length-block
 use Rattle.system.specs.Limits.{systemClients, systemServers}
 use Rattle.system.specs.Places.{worst}
 use Rattle.sim_blocks.specs.Blocks.{clientBlock, serverBlock, validClientBlock, validServerBlock}
-use Rattle.sim_transit.specs.Slots.{validSlots}
+use Rattle.sim_indexed.specs.Indexed.{validIndexed}
 use Rattle.sim_layout.specs.Layout.{simulationSize, settingOf, clientWords, serverWords, transitWords, lengthOf, sentOf, mostOf, view, validFrom, blank, itself, valid}
 use Rattle.system.specs.Numbered.{clientNo, serverNo}
 
@@ -88,7 +88,7 @@ pub record Facts (w : List ℕ) : Type 0 where
   pub servers : validFrom (λ (i : ℕ). validServerBlock (settingOf w .n) (settingOf w .clients) (serverNo i)) 1
       (blocks serverBlock itself (settingOf w .n) (serverWords w)) ≡ true
   pub noServers : blank (drop (settingOf w .n * serverBlock) (serverWords w)) ≡ true
-  pub transit : validSlots (settingOf w .n) (settingOf w .clients) (sentOf w) (lengthOf w) (transitWords w) ≡ true
+  pub transit : validIndexed (settingOf w .n) (settingOf w .clients) (sentOf w) (lengthOf w) (transitWords w) ≡ true
   pub few : mostOf w ≤ settingOf w .n
   pub noted : worst (view w .clients) ≤ mostOf w
 
@@ -97,7 +97,7 @@ unfolding valid
 facts w h =
     let j = both _ (leb (worst (view w .clients)) (mostOf w)) h in
     let i = both _ (leb (mostOf w) (settingOf w .n)) (j .0) in
-    let g = both _ (validSlots (settingOf w .n) (settingOf w .clients) (sentOf w) (lengthOf w) (transitWords w)) (i .0) in
+    let g = both _ (validIndexed (settingOf w .n) (settingOf w .clients) (sentOf w) (lengthOf w) (transitWords w)) (i .0) in
     let f = both _ (blank (drop (settingOf w .n * serverBlock) (serverWords w))) (g .0) in
     let e = both _ (validFrom (λ (i : ℕ). validServerBlock (settingOf w .n) (settingOf w .clients) (serverNo i)) 1
     (blocks serverBlock itself (settingOf w .n) (serverWords w))) (f .0) in

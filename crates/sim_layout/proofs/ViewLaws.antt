@@ -10,7 +10,7 @@ use Rattle.sim_blocks.proofs.RegionLaws.{region-inside, region-before, region-b
 use Rattle.sim_blocks.proofs.RegionBlocks.{block-stored}
 use Rattle.sim_blocks.specs.Blocks.{clientPlace, serverPlace, clientBlock, serverBlock}
 use Rattle.sim_layout.specs.Layout.{settingOf, clientWords, serverWords, transitWords, view, clientsSize, serversFrom, serversSize, transitFrom, clientsFrom}
-use Rattle.sim_transit.specs.Slots.{transitSize}
+use Rattle.sim_indexed.specs.Indexed.{indexedSize}
 use Rattle.system.specs.Limits.{systemClients, systemServers}
 
 -- the head's words, after a store behind the head
@@ -44,7 +44,7 @@ module _ (w : List ℕ) (a : ℕ) (vs : List ℕ) (h : a + length vs ≤ clients
 
   pub clients-transit : transitWords (sets w (clientsFrom + a) vs) ≡ transitWords w
   unfolding transitWords
-  clients-transit = region-before transitFrom transitSize w (clientsFrom + a) vs (omega arith)
+  clients-transit = region-before transitFrom indexedSize w (clientsFrom + a) vs (omega arith)
 
 -- a store in the server blocks
 module _ (w : List ℕ) (a : ℕ) (vs : List ℕ) (h : a + length vs ≤ serversSize) where
@@ -58,10 +58,10 @@ module _ (w : List ℕ) (a : ℕ) (vs : List ℕ) (h : a + length vs ≤ servers
 
   pub servers-transit : transitWords (sets w (serversFrom + a) vs) ≡ transitWords w
   unfolding transitWords
-  servers-transit = region-before transitFrom transitSize w (serversFrom + a) vs (omega arith)
+  servers-transit = region-before transitFrom indexedSize w (serversFrom + a) vs (omega arith)
 
 -- a store in the messages in transit
-module _ (w : List ℕ) (a : ℕ) (vs : List ℕ) (h : a + length vs ≤ transitSize) where
+module _ (w : List ℕ) (a : ℕ) (vs : List ℕ) (h : a + length vs ≤ indexedSize) where
   pub transit-clients : clientWords (sets w (transitFrom + a) vs) ≡ clientWords w
   unfolding clientWords
   transit-clients = let z : transitFrom + a ≡ clientsFrom + clientsSize + (serversSize + a) = omega arith in ap
@@ -73,7 +73,7 @@ module _ (w : List ℕ) (a : ℕ) (vs : List ℕ) (h : a + length vs ≤ transit
 
   pub in-transit : transitWords (sets w (transitFrom + a) vs) ≡ sets (transitWords w) a vs
   unfolding transitWords
-  in-transit = region-inside transitFrom transitSize w a vs h
+  in-transit = region-inside transitFrom indexedSize w a vs h
 
 -- client block i, counted from 0
 pub client-stored : (w : List ℕ) (i a : ℕ) (vs : List ℕ) → i < settingOf w .clients → settingOf w .clients ≤ systemClients → a + length vs ≤ clientBlock →

@@ -6,7 +6,7 @@ use lib.ListN.{drop}
 use Rattle.sim_blocks.specs.Regions.{blocks}
 use Rattle.sim_blocks.specs.Blocks.{clientBlock, serverBlock, clientPlace, validClientBlock, validServerBlock}
 use Rattle.sim_layout.specs.Layout.{clientWords, serverWords, transitWords, lengthOf, sentOf, mostOf, validFrom, itself, blank}
-use Rattle.sim_transit.specs.Slots.{validSlots}
+use Rattle.sim_indexed.specs.Indexed.{validIndexed}
 use Rattle.system.specs.Places.{worst}
 use lib.Dec.{leb}
 use Rattle.system.specs.Numbered.{clientNo, serverNo}
@@ -22,5 +22,5 @@ blocksValid n m clients w =
 -- all that stands behind the setting
 unfoldable pub partsValid : ℕ → ℕ → ℕ → List ℕ → Bool
 partsValid n m clients w =
-    blocksValid n m clients w && validSlots n clients (sentOf w) (lengthOf w) (transitWords w) && leb (mostOf w) n
+    blocksValid n m clients w && validIndexed n clients (sentOf w) (lengthOf w) (transitWords w) && leb (mostOf w) n
     && leb (worst (blocks clientBlock clientPlace clients (clientWords w))) (mostOf w)

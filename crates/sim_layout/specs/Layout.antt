@@ -1,4 +1,5 @@
--- The simulation's state as words: a head, the client blocks, the server blocks, the slots of messages in transit. 0 is none.
+-- The simulation's state as words: a head, the client blocks, the server blocks, the slots of messages in transit, and their index by receiver.
+-- 0 is none.
 -- Document 01 says gallery for simulation.
 use Prim.Native.Nat.{ℕ, suc, _+_, _*_}
 use mathlib.Core.Bool.{Bool, true, _&&_}
@@ -13,7 +14,7 @@ use Rattle.system.specs.declared.Setting.{Setting}
 use Rattle.system.specs.Places.{System, worst}
 use Rattle.sim_blocks.specs.Regions.{blocks, region}
 use Rattle.sim_blocks.specs.Blocks.{clientBlock, serverBlock, clientPlace, serverPlace, validClientBlock, validServerBlock}
-use Rattle.sim_transit.specs.Slots.{transitSize, slots, validSlots}
+use Rattle.sim_indexed.specs.Indexed.{indexedSize, inTransit, validIndexed}
 use Rattle.system.specs.Numbered.{clientNo, serverNo}
 
 -- the head: n, m, f, the number of clients, the messages in transit, the messages sent, the most servers down within an epoch
@@ -33,13 +34,13 @@ abbrev pub transitFrom : ℕ
 transitFrom = serversFrom + serversSize
 
 abbrev pub simulationSize : ℕ
-simulationSize = transitFrom + transitSize
+simulationSize = transitFrom + indexedSize
 
 -- the setting
 unfoldable pub settingOf : List ℕ → Setting
 settingOf w = record { n = getD w 0 0; m = getD w 1 0; f = getD w 2 0; clients = getD w 3 0 }
 
--- the parts
+-- the parts; the messages in transit stand with their index
 unfoldable pub clientWords : List ℕ → List ℕ
 clientWords w = region clientsFrom clientsSize w
 
@@ -47,7 +48,7 @@ unfoldable pub serverWords : List ℕ → List ℕ
 serverWords w = region serversFrom serversSize w
 
 unfoldable pub transitWords : List ℕ → List ℕ
-transitWords w = region transitFrom transitSize w
+transitWords w = region transitFrom indexedSize w
 
 abbrev pub lengthOf : List ℕ → ℕ
 lengthOf w = getD w 4 0
@@ -64,7 +65,7 @@ view w =
     record {
       clients = blocks clientBlock clientPlace (settingOf w .clients) (clientWords w);
       servers = blocks serverBlock serverPlace (settingOf w .n) (serverWords w);
-      transit = slots (lengthOf w) (transitWords w);
+      transit = inTransit (lengthOf w) (transitWords w);
       sent = sentOf w;
       most = mostOf w;
     }
@@ -80,8 +81,8 @@ blank l = every (eqb 0) l
 abbrev pub itself : List ℕ → List ℕ
 itself b = b
 
--- valid: the setting in range, every block and message as its setting says, the places behind them empty, and no epoch has more
--- servers down than was noted
+-- valid: the setting in range, every block and message as its setting says, the places behind them empty, the index the one made afresh
+-- from the messages, and no epoch has more servers down than was noted
 unfoldable pub valid : List ℕ → Bool
 valid w =
     eqb (length w) simulationSize
@@ -90,5 +91,5 @@ valid w =
     && blank (drop (settingOf w .clients * clientBlock) (clientWords w))
     && validFrom (λ (i : ℕ). validServerBlock (settingOf w .n) (settingOf w .clients) (serverNo i)) 1 (blocks serverBlock itself (settingOf w .n) (serverWords w))
     && blank (drop (settingOf w .n * serverBlock) (serverWords w))
-    && validSlots (settingOf w .n) (settingOf w .clients) (sentOf w) (lengthOf w) (transitWords w)
+    && validIndexed (settingOf w .n) (settingOf w .clients) (sentOf w) (lengthOf w) (transitWords w)
     && leb (mostOf w) (settingOf w .n) && leb (worst (view w .clients)) (mostOf w)
