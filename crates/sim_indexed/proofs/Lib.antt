@@ -3,6 +3,7 @@ pub mod IndexedLaws
 pub mod ListingLaws
 pub mod ChangeLaws
 pub mod PendLaws
+pub mod ReceiverLaws
 pub mod RestartLaws
 pub mod ReadLaws
 pub mod Determined
