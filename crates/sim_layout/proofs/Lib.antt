@@ -8,3 +8,4 @@ pub mod LoopLaws
 pub mod TestLaws
 pub mod HolderLaws
 pub mod Determined
+pub mod EntryLaws
