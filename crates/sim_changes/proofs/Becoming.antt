@@ -26,8 +26,8 @@ use Rattle.sim_blocks.proofs.Facts.{client-facts, server-facts}
 use Rattle.sim_blocks.proofs.FlagLaws.{none-flagged}
 use Rattle.sim_blocks.proofs.ClientLaws.{ClientIs}
 use Rattle.sim_blocks.proofs.ServerLaws.{ServerIs}
-use Rattle.sim_transit.specs.Slots.{slots, validSlots, transitSize}
-use Rattle.sim_transit.proofs.Kept.{valid-sized}
+use Rattle.sim_indexed.specs.Indexed.{inTransit, validIndexed, indexedSize}
+use Rattle.sim_indexed.proofs.IndexedLaws.{parts}
 use Rattle.sim_layout.specs.Layout.{simulationSize, settingOf, clientWords, serverWords, transitWords, lengthOf, sentOf, mostOf, view, validFrom, itself, blank}
 use Rattle.sim_layout.specs.Layout.{valid, clientsSize, serversFrom, serversSize, transitFrom, clientsFrom}
 use Rattle.sim_layout.specs.Parts.{clientBlockOf, serverBlockOf}
@@ -52,7 +52,7 @@ pub record Sound (w : List ℕ) : Type 0 where
   pub servers : validFrom (λ (i : ℕ). validServerBlock (settingOf w .n) (settingOf w .clients) (serverNo i)) 1
       (blocks serverBlock itself (settingOf w .n) (serverWords w)) ≡ true
   pub noServers : blank (drop (settingOf w .n * serverBlock) (serverWords w)) ≡ true
-  pub transit : validSlots (settingOf w .n) (settingOf w .clients) (sentOf w) (lengthOf w) (transitWords w) ≡ true
+  pub transit : validIndexed (settingOf w .n) (settingOf w .clients) (sentOf w) (lengthOf w) (transitWords w) ≡ true
   pub few : mostOf w ≤ settingOf w .n
 
 pub sound : (w : List ℕ) → valid w ≡ true → Sound w
@@ -236,15 +236,15 @@ module _ (w : List ℕ) (F : Sound w) (j : ℕ) (b : List ℕ) (q : ServerPlace)
       (record { system = server-system; setting = setting-kept w (serversFrom + server-at) b (omega arith); again = server-sound })
 
 -- the messages in transit, their number and the number of messages sent are stored
-module _ (w : List ℕ) (F : Sound w) (t : List ℕ) (len sent : ℕ) (ok′ : validSlots (settingOf w .n) (settingOf w .clients) sent len t ≡ true) where
+module _ (w : List ℕ) (F : Sound w) (t : List ℕ) (len sent : ℕ) (ok′ : validIndexed (settingOf w .n) (settingOf w .clients) sent len t ≡ true) where
   abbrev posted : List ℕ
   posted = set (set (sets w transitFrom t) 4 len) 5 sent
 
-  slots-long : length t ≡ transitSize
-  slots-long = valid-sized (settingOf w .n) (settingOf w .clients) sent len t ok′ .size
+  slots-long : length t ≡ indexedSize
+  slots-long = parts (settingOf w .n) (settingOf w .clients) sent len t ok′ .size
 
-  old-long : length (transitWords w) ≡ transitSize
-  old-long = valid-sized (settingOf w .n) (settingOf w .clients) (sentOf w) (lengthOf w) (transitWords w) (F .transit) .size
+  old-long : length (transitWords w) ≡ indexedSize
+  old-long = parts (settingOf w .n) (settingOf w .clients) (sentOf w) (lengthOf w) (transitWords w) (F .transit) .size
 
   posted-parts : Is posted (set (set (take clientsFrom w) 4 len) 5 sent) (clientWords w) (serverWords w) t
   posted-parts =
@@ -284,7 +284,7 @@ module _ (w : List ℕ) (F : Sound w) (t : List ℕ) (len sent : ℕ) (ok′ : v
   posted-most : getD posted 6 0 ≡ getD w 6 0
   posted-most = posted-word 6 (omega arith) (λ e. omega arith) (λ e. omega arith)
 
-  posted-system : view posted ≡ record { clients = view w .clients; servers = view w .servers; transit = slots len t; sent = sent; most = view w .most }
+  posted-system : view posted ≡ record { clients = view w .clients; servers = view w .servers; transit = inTransit len t; sent = sent; most = view w .most }
   unfolding view
   posted-system =
       let P = posted-parts in
@@ -419,9 +419,9 @@ module _ (w : List ℕ) (ok : valid w ≡ true) where
       }
 
   -- with the number of messages and the number of messages sent
-  pub sent-becomes : (t : List ℕ) (len sent : ℕ) → validSlots (settingOf w .n) (settingOf w .clients) sent len t ≡ true
+  pub sent-becomes : (t : List ℕ) (len sent : ℕ) → validIndexed (settingOf w .n) (settingOf w .clients) sent len t ≡ true
       → Becomes w (set (set (sets w transitFrom t) 4 len) 5 sent)
-      (record { clients = view w .clients; servers = view w .servers; transit = slots len t; sent = sent; most = view w .most })
+      (record { clients = view w .clients; servers = view w .servers; transit = inTransit len t; sent = sent; most = view w .most })
   sent-becomes t len sent ok′ =
       let F = sound w ok in
       let e = posted-system w F t len sent ok′ in
@@ -433,19 +433,19 @@ module _ (w : List ℕ) (ok : valid w ≡ true) where
       }
 
   -- with the number of messages
-  pub length-becomes : (t : List ℕ) (len : ℕ) → validSlots (settingOf w .n) (settingOf w .clients) (sentOf w) len t ≡ true
-      → Becomes w (set (sets w transitFrom t) 4 len) (withTransit (view w) (slots len t))
+  pub length-becomes : (t : List ℕ) (len : ℕ) → validIndexed (settingOf w .n) (settingOf w .clients) (sentOf w) len t ≡ true
+      → Becomes w (set (sets w transitFrom t) 4 len) (withTransit (view w) (inTransit len t))
   unfolding view
   length-becomes t len ok′ =
       let five : getD (set (sets w transitFrom t) 4 len) 5 0 ≡ sentOf w =
       getD-set-other (sets w transitFrom t) 4 5 len 0 (λ e. omega arith) ∙ head-kept w transitFrom t 5 (omega arith) in
       let same : set (set (sets w transitFrom t) 4 len) 5 (sentOf w) ≡ set (sets w transitFrom t) 4 len =
       ap (λ (x : ℕ). set (set (sets w transitFrom t) 4 len) 5 x) (sym five) ∙ set-getD (set (sets w transitFrom t) 4 len) 5 0 in
-      subst (λ (x : List ℕ). Becomes w x (withTransit (view w) (slots len t))) same (sent-becomes t len (sentOf w) ok′)
+      subst (λ (x : List ℕ). Becomes w x (withTransit (view w) (inTransit len t))) same (sent-becomes t len (sentOf w) ok′)
 
-  pub transit-becomes : (t : List ℕ) → validSlots (settingOf w .n) (settingOf w .clients) (sentOf w) (lengthOf w) t ≡ true
-      → Becomes w (sets w transitFrom t) (withTransit (view w) (slots (lengthOf w) t))
+  pub transit-becomes : (t : List ℕ) → validIndexed (settingOf w .n) (settingOf w .clients) (sentOf w) (lengthOf w) t ≡ true
+      → Becomes w (sets w transitFrom t) (withTransit (view w) (inTransit (lengthOf w) t))
   transit-becomes t ok′ =
       let same : set (sets w transitFrom t) 4 (lengthOf w) ≡ sets w transitFrom t =
       ap (λ (x : ℕ). set (sets w transitFrom t) 4 x) (sym (head-kept w transitFrom t 4 (omega arith))) ∙ set-getD (sets w transitFrom t) 4 0 in
-      subst (λ (x : List ℕ). Becomes w x (withTransit (view w) (slots (lengthOf w) t))) same (length-becomes t (lengthOf w) ok′)
+      subst (λ (x : List ℕ). Becomes w x (withTransit (view w) (inTransit (lengthOf w) t))) same (length-becomes t (lengthOf w) ok′)

@@ -40,7 +40,8 @@ use Rattle.system.specs.Runs.{after}
 use Rattle.system.proofs.PlaceLaws.{put-numbered}
 use Rattle.system.specs.Transit.{replaced, gone}
 use Rattle.system.specs.Limits.{systemServers}
-use Rattle.sim_transit.specs.Slots.{messagesIn, slotAt}
+use Rattle.sim_transit.specs.Slots.{messagesIn}
+use Rattle.sim_indexed.specs.Indexed.{slotIn}
 use Rattle.sim_blocks.specs.Blocks.{clientRecord, clientPlace, clientBlock, named}
 use Rattle.sim_blocks.proofs.Facts.{ClientBlock, client-facts}
 use Rattle.sim_blocks.proofs.ClientSteps.{begin-outcome, exit-outcome, client-after}
@@ -501,7 +502,7 @@ module _ {w : List ℕ} {k : ClientId} {c : Client} {a : ClientAct} (S : ClientS
         → Becomes w w₂ (clientStored w k a)
     exit-stored e B = rw e (exit-stores w k c (rw e at S) w₁ B w₂ z)
 
-    module _ (i : ℕ) (B : Becomes w w₁ (withTransit (view w) (replaced (slotAt (transitWords w) i .number) gone (view w .transit)))) where
+    module _ (i : ℕ) (B : Becomes w w₁ (withTransit (view w) (replaced (slotIn (transitWords w) i .number) gone (view w .transit)))) where
       pub response-stored : (j : ServerId) (o : Owner) → a ≡ act.Response i j o → Becomes w w₂ (clientStored w k a)
       response-stored j o e = rw e (response-stores w k c i j o (rw e at S) w₁ B w₂ z)
 

@@ -1,6 +1,6 @@
--- The messages in transit are lent, and come back changed: the simulation differs in them alone.
+-- The messages in transit are lent with their index, and come back changed: the simulation differs in them alone.
 use mathlib.Core.Path.{_≡_, refl, ap, _∙_}
-use Prim.Native.Nat.{ℕ, _-_, _<_}
+use Prim.Native.Nat.{ℕ, _-_, _≤_, _<_}
 use native.Mathlib.Omega.{arith}
 use mathlib.Core.Bool.{true}
 use mathlib.Core.List.{List, map}
@@ -8,76 +8,68 @@ use lib.ListN.{length, set, take, drop}
 use lib.Seq.{sets, length-sets}
 use borrow.Rule.Slice.PartMut.{putMid}
 use Rattle.ids.specs.declared.ServerId.{ServerId}
+use Rattle.system.specs.Limits.{systemMessages}
 use Rattle.system.specs.Transit.{replaced, keeping, gone, again}
-use Rattle.sim_transit.specs.Slots.{slots, slotAt, transitSize}
-use Rattle.sim_transit.specs.Calls.{Sized, Valid, marked, removed, pendingAgain}
-use Rattle.sim_transit.proofs.Means.{Marks, Removes, Restarts}
-use Rattle.sim_transit.proofs.ChangeLaws.{marks}
-use Rattle.sim_transit.proofs.RemoveLaws.{removes}
-use Rattle.sim_transit.proofs.RestartLaws.{restarts}
-use Rattle.sim_transit.proofs.Kept.{valid-sized}
+use Rattle.sim_indexed.specs.Indexed.{indexedSize, inTransit, slotIn}
+use Rattle.sim_indexed.specs.Calls.{Valid, Place, Marks, Removes, Restarts}
+use Rattle.sim_indexed.proofs.IndexedLaws.{parts}
 use Rattle.sim_layout.specs.Layout.{settingOf, lengthOf, sentOf, transitWords, view, valid, transitFrom, simulationSize}
 use Rattle.sim_layout.proofs.ValidLaws.{facts}
+use Rattle.sim_layout.proofs.ReadLaws.{lent-sized, few-servers}
+use Rattle.sim_layout.proofs.EntryLaws.{few, lent-valid}
 use Rattle.sim_layout.proofs.LendLaws.{came-back}
-use Rattle.sim_changes.specs.Changes.{Becomes, withTransit}
+use Rattle.sim_changes.specs.Changes.{Becomes, HasServer, withTransit}
 use Rattle.sim_changes.proofs.Becoming.{transit-becomes, length-becomes}
 
--- the words that are lent
-pub lent-is : (w : List ℕ) → take transitSize (drop transitFrom w) ≡ transitWords w
-unfolding transitWords
-lent-is w = refl
+pub server-place : (w : List ℕ) (j : ServerId) → HasServer w j → Place j
+server-place w j H = record { first = H .first; last = omega (arith, H .last, few-servers w (H .valid)) }
 
 module _ (w : List ℕ) (ok : valid w ≡ true) where
-  old : Valid (settingOf w .n) (settingOf w .clients) (sentOf w) (lengthOf w) (transitWords w)
-  old = facts w ok .transit
+  pub transit-count : lengthOf w ≤ systemMessages
+  transit-count = lent-sized w ok .few
 
-  pub lent-sized : Sized (lengthOf w) (take transitSize (drop transitFrom w))
-  lent-sized = rw (lent-is w) (valid-sized (settingOf w .n) (settingOf w .clients) (sentOf w) (lengthOf w) (transitWords w) old)
+  abbrev lent : List ℕ
+  lent = take indexedSize (drop transitFrom w)
 
-  pub its-transit : slots (lengthOf w) (transitWords w) ≡ view w .transit
-  unfolding view
+  old : Valid (settingOf w .n) (settingOf w .clients) (sentOf w) (lengthOf w) lent
+  old = lent-valid w ok
+
+  its-transit : inTransit (lengthOf w) lent ≡ view w .transit
+  unfolding view transitWords
   its-transit = refl
 
+  its-slot : (i : ℕ) → slotIn lent i .number ≡ slotIn (transitWords w) i .number
+  unfolding transitWords
+  its-slot i = refl
+
   -- t came back, as so many messages
-  stored : (t : List ℕ) (len : ℕ) → Valid (settingOf w .n) (settingOf w .clients) (sentOf w) len t → putMid transitFrom transitSize w t ≡ sets w transitFrom t
-  stored t len ok′ = came-back w transitFrom transitSize t (valid-sized (settingOf w .n) (settingOf w .clients) (sentOf w) len t ok′ .size)
+  stored : (t : List ℕ) (len : ℕ) → Valid (settingOf w .n) (settingOf w .clients) (sentOf w) len t → putMid transitFrom indexedSize w t ≡ sets w transitFrom t
+  stored t len ok′ = came-back w transitFrom indexedSize t (parts (settingOf w .n) (settingOf w .clients) (sentOf w) len t ok′ .size)
       (omega (arith, facts w ok .long))
 
-  pub restart-becomes : (j : ServerId) (t : List ℕ) → t ≡ pendingAgain (lengthOf w) j (take transitSize (drop transitFrom w))
-      → Becomes w (putMid transitFrom transitSize w t) (withTransit (view w) (map (again j) (view w .transit)))
-  unfolding transitWords
-  restart-becomes j t p =
-      let R : Restarts (lengthOf w) j (transitWords w) t = rw p (restarts j (transitWords w) (lengthOf w) lent-sized) in
-      let ok′ = R .valid (settingOf w .n) (settingOf w .clients) (sentOf w) old in
-      let e = R .after (settingOf w .n) (settingOf w .clients) (sentOf w) old in
+  pub restart-becomes : (j : ServerId) (t : List ℕ) → Restarts (lengthOf w) j lent t
+      → Becomes w (putMid transitFrom indexedSize w t) (withTransit (view w) (map (again j) (view w .transit)))
+  restart-becomes j t R =
+      let ok′ = R .valid (settingOf w .n) (settingOf w .clients) (sentOf w) (few w ok) old in
+      let e = R .after (settingOf w .n) (settingOf w .clients) (sentOf w) (few w ok) old in
       rw (stored t (lengthOf w) ok′, ← its-transit, ← e) (transit-becomes w ok t ok′)
 
-  pub mark-becomes : (i : ℕ) (t : List ℕ) → i < lengthOf w → t ≡ marked i (take transitSize (drop transitFrom w))
-      → Becomes w (putMid transitFrom transitSize w t) (withTransit (view w) (replaced (slotAt (transitWords w) i .number) keeping (view w .transit)))
-  unfolding transitWords
-  mark-becomes i t h p =
-      let M : Marks i (transitWords w) t = rw p (marks (transitWords w) i (lent-sized .size) (omega (arith, h, lent-sized .few))) in
-      let ok′ = M .valid (settingOf w .n) (settingOf w .clients) (sentOf w) (lengthOf w) old h in
-      let e = M .after (settingOf w .n) (settingOf w .clients) (sentOf w) (lengthOf w) old h in
-      rw (stored t (lengthOf w) ok′, ← its-transit, ← e) (transit-becomes w ok t ok′)
+  pub mark-becomes : (i : ℕ) (t : List ℕ) → Marks (lengthOf w) i lent t
+      → Becomes w (putMid transitFrom indexedSize w t) (withTransit (view w) (replaced (slotIn (transitWords w) i .number) keeping (view w .transit)))
+  mark-becomes i t M =
+      let ok′ = M .valid (settingOf w .n) (settingOf w .clients) (sentOf w) (few w ok) old in
+      let e = M .after (settingOf w .n) (settingOf w .clients) (sentOf w) (few w ok) old in
+      rw (stored t (lengthOf w) ok′, ← its-slot i, ← its-transit, ← e) (transit-becomes w ok t ok′)
 
-  its-removal : (i : ℕ) (t : List ℕ) → i < lengthOf w → t ≡ removed (lengthOf w) i (take transitSize (drop transitFrom w))
-      → Removes (lengthOf w) i (transitWords w) t
-  unfolding transitWords
-  its-removal i t h p = rw p (removes (transitWords w) (lengthOf w) i (lent-sized .size) (lent-sized .few) h)
+  module _ (i : ℕ) (t : List ℕ) (R : Removes (lengthOf w) i lent t) where
+    fewer : Valid (settingOf w .n) (settingOf w .clients) (sentOf w) (lengthOf w - 1) t
+    fewer = R .valid (settingOf w .n) (settingOf w .clients) (sentOf w) (few w ok) old
 
-  pub remove-becomes : (i : ℕ) (t : List ℕ) → i < lengthOf w → t ≡ removed (lengthOf w) i (take transitSize (drop transitFrom w))
-      → Becomes w (set (putMid transitFrom transitSize w t) 4 (lengthOf w - 1))
-      (withTransit (view w) (replaced (slotAt (transitWords w) i .number) gone (view w .transit)))
-  unfolding transitWords
-  remove-becomes i t h p =
-      let R = its-removal i t h p in
-      let ok′ = R .valid (settingOf w .n) (settingOf w .clients) (sentOf w) old in
-      let e = R .after (settingOf w .n) (settingOf w .clients) (sentOf w) old in
-      rw (stored t (lengthOf w - 1) ok′, ← its-transit, ← e) (length-becomes w ok t (lengthOf w - 1) ok′)
+    pub remove-becomes : Becomes w (set (putMid transitFrom indexedSize w t) 4 (lengthOf w - 1))
+        (withTransit (view w) (replaced (slotIn (transitWords w) i .number) gone (view w .transit)))
+    remove-becomes =
+        let e = R .after (settingOf w .n) (settingOf w .clients) (sentOf w) (few w ok) old in
+        rw (stored t (lengthOf w - 1) fewer, ← its-slot i, ← its-transit, ← e) (length-becomes w ok t (lengthOf w - 1) fewer)
 
-  pub removed-long : (i : ℕ) (t : List ℕ) → i < lengthOf w → t ≡ removed (lengthOf w) i (take transitSize (drop transitFrom w))
-      → length (putMid transitFrom transitSize w t) ≡ simulationSize
-  unfolding transitWords
-  removed-long i t h p = ap length (stored t (lengthOf w - 1) (its-removal i t h p .valid (settingOf w .n) (settingOf w .clients) (sentOf w) old))
-      ∙ (length-sets w transitFrom t ∙ facts w ok .long)
+    pub removed-long : length (putMid transitFrom indexedSize w t) ≡ simulationSize
+    removed-long = ap length (stored t (lengthOf w - 1) fewer) ∙ (length-sets w transitFrom t ∙ facts w ok .long)

@@ -35,7 +35,7 @@ use Rattle.sim_blocks.proofs.BlockParts.{covered}
 use Rattle.sim_blocks.proofs.ClientLaws.{ClientIs, Frame}
 use Rattle.sim_blocks.proofs.ClientSteps.{fresh-block}
 use Rattle.sim_blocks.proofs.ServerLaws.{ServerIs, idle-block, empty-row}
-use Rattle.sim_transit.proofs.Kept.{valid-none, slots-none}
+use Rattle.sim_indexed.proofs.Kept.{valid-none, none-there}
 use Rattle.sim_layout.specs.Layout.{settingOf, clientWords, serverWords, transitWords, view, valid, validFrom, itself, blank, serversFrom, simulationSize}
 use Rattle.sim_layout.specs.Layout.{clientsSize, serversSize, transitFrom, clientsFrom}
 use Rattle.sim_layout.specs.Parts.{clientBlockOf, serverBlockOf, ClientIn, ServerIn}
@@ -47,7 +47,7 @@ use Rattle.sim_changes.specs.Opening.{Starts}
 use Rattle.sim_changes.specs.Inner.{Cleared, newClient, newServer, inTurn}
 use Rattle.sim_changes.proofs.Stores.{sets-over, client-block-from, server-block-stored}
 use Rattle.system.specs.Limits.{systemClients, systemServers}
-use Rattle.sim_transit.specs.Slots.{transitSize}
+use Rattle.sim_indexed.specs.Indexed.{indexedSize}
 use Rattle.system.specs.Numbered.{clientNo, serverNo}
 use Rattle.words.specs.Records.{maxWord}
 
@@ -414,11 +414,11 @@ module _ (n m f clients : ℕ) (z : List ℕ) (long : length z ≡ simulationSiz
   no-transit : blank (transitWords whole) ≡ true
   unfolding transitWords
   no-transit = rw (servers-are .transit, clients-are .transit, headed-is .transit)
-      (blank-take transitSize (drop transitFrom z) (blank-drop transitFrom z zeros))
+      (blank-take indexedSize (drop transitFrom z) (blank-drop transitFrom z zeros))
 
-  transit-long : length (transitWords whole) ≡ transitSize
+  transit-long : length (transitWords whole) ≡ indexedSize
   unfolding transitWords
-  transit-long = length-take-le transitSize (drop transitFrom whole) (omega (arith, length-drop transitFrom whole, servers-are .long))
+  transit-long = length-take-le indexedSize (drop transitFrom whole) (omega (arith, length-drop transitFrom whole, servers-are .long))
 
   whole-is : Is whole headWords (clientWords whole) (serverWords whole) (transitWords whole)
   whole-is = record {
@@ -446,7 +446,7 @@ module _ (n m f clients : ℕ) (z : List ℕ) (long : length z ≡ simulationSiz
 
   started-system : view whole ≡ start n (enough m) clients
   unfolding systemIn start
-  started-system = view-is whole-is ∙ rw (all-clients, all-servers, slots-none (transitWords whole))
+  started-system = view-is whole-is ∙ rw (all-clients, all-servers, none-there (transitWords whole))
 
   started-setting : settingOf whole ≡ record { n = n; m = m; f = f; clients = clients }
   unfolding settingIn

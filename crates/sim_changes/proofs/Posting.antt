@@ -21,17 +21,19 @@ use Rattle.server_votes.specs.declared.Mail.the-variants.{Nothing, One}
 use Rattle.server.specs.Parts.{threeMails}
 use Rattle.system.specs.Places.{System}
 use Rattle.system.specs.Transit.{numbered}
-use Rattle.sim_transit.specs.Slots.{names, transitSize}
-use Rattle.sim_transit.specs.Calls.{Sized, Valid}
-use Rattle.sim_transit.proofs.Means.{Posts}
-use Rattle.sim_transit.proofs.Kept.{valid-sized, length-slots}
+use Rattle.sim_transit.specs.Slots.{names}
+use Rattle.sim_transit.proofs.Kept.{length-slots}
+use Rattle.sim_indexed.specs.Indexed.{indexedSize, table}
+use Rattle.sim_indexed.specs.Calls.{Valid, CanPost, Posts}
+use Rattle.sim_indexed.proofs.IndexedLaws.{parts}
 use Rattle.sim_layout.specs.Layout.{settingOf, lengthOf, sentOf, transitWords, view, valid, transitFrom, simulationSize}
 use Rattle.sim_layout.proofs.ValidLaws.{facts}
 use Rattle.sim_layout.proofs.LendLaws.{came-back}
+use Rattle.sim_layout.proofs.ReadLaws as layout
+use Rattle.sim_layout.proofs.EntryLaws.{few, lent-valid, lent-size}
 use Rattle.sim_changes.specs.Changes.{Becomes}
 use Rattle.sim_changes.specs.Inner.{CanSend, hasRoom, sending}
 use Rattle.sim_changes.proofs.Becoming.{sent-becomes}
-use Rattle.sim_changes.proofs.Messages.{lent-sized}
 use Rattle.system.specs.Limits.{systemMessages, lastNumber}
 
 -- the room test
@@ -58,7 +60,7 @@ module _ (w : List ℕ) (gone count : ℕ) where
 
 -- what the words that were lent say
 pub transit-few : (w : List ℕ) → valid w ≡ true → lengthOf w ≤ systemMessages
-transit-few w ok = valid-sized (settingOf w .n) (settingOf w .clients) (sentOf w) (lengthOf w) (transitWords w) (facts w ok .transit) .few
+transit-few w ok = layout.lent-sized w ok .few
 
 -- messages are posted
 module _ (w : List ℕ) (count : ℕ) (l : List Message) (ok : valid w ≡ true) (whole : length l ≡ count) (room : hasRoom w 0 count ≡ true)
@@ -73,32 +75,42 @@ module _ (w : List ℕ) (count : ℕ) (l : List Message) (ok : valid w ≡ true)
       (omega (arith, leb-true (lengthOf w - 0 + count) systemMessages a), leb-true (sentOf w + count) lastNumber b))
       (decided (eqb count 0))
 
-  pub sized-with : lengthOf w + count ≤ systemMessages → Sized (lengthOf w + count) (take transitSize (drop transitFrom w))
-  sized-with h = record { size = lent-sized w ok .size; few = h }
+  pub can-post : (lengthOf w + count ≤ systemMessages) × (sentOf w + count ≤ lastNumber) → CanPost (lengthOf w) (sentOf w) l (take indexedSize (drop transitFrom w))
+  can-post r =
+      record {
+        n = settingOf w .n;
+        clients = settingOf w .clients;
+        few = few w ok;
+        valid = lent-valid w ok;
+        named = named;
+        size = lent-size w ok;
+        room = omega (arith, r, whole);
+        numbers = omega (arith, r, whole);
+      }
 
-  module _ (t : List ℕ) (P : Posts (lengthOf w) (sentOf w) l (take transitSize (drop transitFrom w)) t) where
+  module _ (t : List ℕ) (P : Posts (lengthOf w) (sentOf w) l (take indexedSize (drop transitFrom w)) t) where
     posted : Valid (settingOf w .n) (settingOf w .clients) (sentOf w + length l) (lengthOf w + length l) t
-    unfolding transitWords
-    posted = P .valid (settingOf w .n) (settingOf w .clients) (facts w ok .transit) named
+    posted = P .valid (settingOf w .n) (settingOf w .clients) (few w ok) (lent-valid w ok) named
 
-    back : putMid transitFrom transitSize w t ≡ sets w transitFrom t
+    back : putMid transitFrom indexedSize w t ≡ sets w transitFrom t
     back =
-        came-back w transitFrom transitSize t (valid-sized (settingOf w .n) (settingOf w .clients) (sentOf w + length l) (lengthOf w + length l) t posted .size)
+        came-back w transitFrom indexedSize t (parts (settingOf w .n) (settingOf w .clients) (sentOf w + length l) (lengthOf w + length l) t posted .size)
         (omega (arith, facts w ok .long))
 
-    pub posted-long : length (putMid transitFrom transitSize w t) ≡ simulationSize
+    pub posted-long : length (putMid transitFrom indexedSize w t) ≡ simulationSize
     posted-long = ap length back ∙ (length-sets w transitFrom t ∙ facts w ok .long)
 
-    pub counted-long : (x : ℕ) → length (set (putMid transitFrom transitSize w t) 4 x) ≡ simulationSize
-    counted-long x = length-set (putMid transitFrom transitSize w t) 4 x ∙ posted-long
+    pub counted-long : (x : ℕ) → length (set (putMid transitFrom indexedSize w t) 4 x) ≡ simulationSize
+    counted-long x = length-set (putMid transitFrom indexedSize w t) 4 x ∙ posted-long
 
-    pub send-becomes : Becomes w (set (set (putMid transitFrom transitSize w t) 4 (lengthOf w + count)) 5 (sentOf w + count)) (sending (view w) l)
+    pub send-becomes : Becomes w (set (set (putMid transitFrom indexedSize w t) 4 (lengthOf w + count)) 5 (sentOf w + count)) (sending (view w) l)
     unfolding transitWords view
     send-becomes =
         let B = sent-becomes w ok t (lengthOf w + length l) (sentOf w + length l) posted in
         let z : lengthOf w + count ≡ lengthOf w + length l = omega (arith, whole) in
         let y : sentOf w + count ≡ sentOf w + length l = omega (arith, whole) in
-        rw (back, z, y) (rw (P .after) at B)
+        let e = P .after (settingOf w .n) (settingOf w .clients) (few w ok) (lent-valid w ok) named in
+        rw (back, z, y) (rw e at B)
 
 -- what can be sent, one part after another
 pub length-numbered : (i : ℕ) (l : List Message) → length (numbered i l) ≡ length l
@@ -164,7 +176,7 @@ room-then w w₁ a b l s r =
 -- the counts in the words are the system's
 pub view-long : (w : List ℕ) → length (view w .transit) ≡ lengthOf w
 unfolding view
-view-long w = length-slots (lengthOf w) (transitWords w)
+view-long w = length-slots (lengthOf w) (table (transitWords w))
 
 pub view-sent : (w : List ℕ) → view w .sent ≡ sentOf w
 unfolding view

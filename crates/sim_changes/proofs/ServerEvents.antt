@@ -39,7 +39,7 @@ use Rattle.words.specs.Records.{serverFrom, serverHeadFrom, serverWords, record
 use Rattle.system.specs.declared.Event.the-variants.{Miss}
 use Rattle.system.specs.Numbered.{has, serverNo}
 use Rattle.system.specs.Transit.{replaced, keeping}
-use Rattle.sim_transit.specs.Slots.{slotAt}
+use Rattle.sim_indexed.specs.Indexed.{slotIn}
 use Rattle.system.specs.Places.{System, ServerPlace, serverAt}
 use Rattle.system.specs.Events.{event, serverMoves, serverTook}
 use Rattle.server_votes.proofs.Tagged.{message, message-request}
@@ -315,7 +315,7 @@ module _ {w : List ℕ} {j : ServerId} {a : ServerAct} {h : Head} {row : List �
     pub take-slot : HasSlot w i
     take-slot = pends .slot
 
-    pub take-stored : {w₁ w₂ : List ℕ} → Becomes w w₁ (withTransit (view w) (replaced (slotAt (transitWords w) i .number) keeping (view w .transit)))
+    pub take-stored : {w₁ w₂ : List ℕ} → Becomes w w₁ (withTransit (view w) (replaced (slotIn (transitWords w) i .number) keeping (view w .transit)))
         → w₂ ≡ sets w₁ (serversFrom + serverBlock * (j .0 - 1)) (sets (serverBlockOf w₁ j) 1 (serverWords (serverOf h row)))
         → Becomes w w₂ (serverStored w j a)
     take-stored {w₁} {w₂} B z =

@@ -23,7 +23,9 @@ use Rattle.system.specs.Transit.{InTransit, replaced, gone, keeping}
 use Rattle.system.specs.Places.{System, clientAt}
 use Rattle.system.specs.Events.{event, deliver, toServer, need, responseTook, checkTook}
 use Rattle.server_votes.proofs.Tagged.{message}
-use Rattle.sim_transit.specs.Slots.{slots, slotAt, ascending}
+use Rattle.sim_transit.specs.Slots.{slots, slotAt, ascending, validSlots}
+use Rattle.sim_indexed.specs.Indexed.{table, slotIn}
+use Rattle.sim_indexed.proofs.IndexedLaws.{parts}
 use Rattle.sim_transit.proofs.Kept.{Kept, slot-kept, length-slots, Named, names-named}
 use Rattle.sim_transit.proofs.NumbersLaws.{replaced-there}
 use Rattle.sim_transit.proofs.ValidLaws.{known, slots-around}
@@ -34,10 +36,13 @@ use Rattle.sim_changes.proofs.Answers.{takes}
 
 module _ (w : List ℕ) (i : ℕ) (H : HasSlot w i) where
   abbrev t : List ℕ
-  t = transitWords w
+  t = table (transitWords w)
 
   abbrev rest : ℕ
   rest = lengthOf w - suc i
+
+  fit : validSlots (settingOf w .n) (settingOf w .clients) (sentOf w) (lengthOf w) t ≡ true
+  fit = parts (settingOf w .n) (settingOf w .clients) (sentOf w) (lengthOf w) (transitWords w) (facts w (H .valid) .transit) .fit
 
   around : view w .transit ≡ slots i t ++ (slotAt t i ∷ slots rest (drop (clientsFrom * suc i) t))
   unfolding view
@@ -45,22 +50,22 @@ module _ (w : List ℕ) (i : ℕ) (H : HasSlot w i) where
 
   ordered : ascending 0 (sentOf w) (view w .transit) ≡ true
   unfolding view
-  ordered = known (settingOf w .n) (settingOf w .clients) (sentOf w) (lengthOf w) t (facts w (H .valid) .transit) .ordered
+  ordered = known (settingOf w .n) (settingOf w .clients) (sentOf w) (lengthOf w) t fit .ordered
 
   length-replaced : (f : InTransit → List InTransit) → length (replaced (slotAt t i .number) f (view w .transit)) ≡ i + (length (f (slotAt t i)) + rest)
   length-replaced f =
       let e = replaced-there (sentOf w) f 0 (slots i t) (slotAt t i) (slots rest (drop (clientsFrom * suc i) t)) (rw around at ordered) in
       rw (around, e, length-append, length-append, length-slots, length-slots)
 
-  pub length-kept : length (replaced (slotAt (transitWords w) i .number) keeping (view w .transit)) ≡ lengthOf w - 0
+  pub length-kept : length (replaced (slotIn (transitWords w) i .number) keeping (view w .transit)) ≡ lengthOf w - 0
   length-kept = omega (arith, length-replaced keeping, H .used)
 
-  pub length-gone : length (replaced (slotAt (transitWords w) i .number) gone (view w .transit)) ≡ lengthOf w - 1
+  pub length-gone : length (replaced (slotIn (transitWords w) i .number) gone (view w .transit)) ≡ lengthOf w - 1
   length-gone = omega (arith, length-replaced gone, H .used)
 
   -- what is known of its message
-  pub slot-message : Kept (settingOf w .n) (settingOf w .clients) (sentOf w) (slotAt (transitWords w) i)
-  slot-message = slot-kept (settingOf w .n) (settingOf w .clients) (sentOf w) (lengthOf w) t (facts w (H .valid) .transit) i (H .used)
+  pub slot-message : Kept (settingOf w .n) (settingOf w .clients) (sentOf w) (slotIn (transitWords w) i)
+  slot-message = slot-kept (settingOf w .n) (settingOf w .clients) (sentOf w) (lengthOf w) t fit i (H .used)
 
 -- what is known of a pending message
 module _ (w : List ℕ) (i : ℕ) (m : Message) (P : Pends w i m) where

@@ -17,7 +17,7 @@ use Rattle.system.specs.declared.MessageNumber.{MessageNumber}
 use Rattle.system.specs.Transit.{InTransit, pending, again}
 use Rattle.system.specs.Places.{System, ClientPlace, clientAt, serverAt, worst}
 use Rattle.sim_layout.specs.Layout.{settingOf, lengthOf, transitWords, view, valid}
-use Rattle.sim_transit.specs.Slots.{slotAt}
+use Rattle.sim_indexed.specs.Indexed.{slotIn}
 
 -- w′ is a simulation of w's setting, and its system is u
 pub record Becomes (w w′ : List ℕ) (u : System) : Type 0 where
@@ -50,13 +50,13 @@ pub record Missing (w : List ℕ) (j : ServerId) : Type 0 where
 
 -- the number of the message in slot i
 abbrev pub numberAt : List ℕ → ℕ → MessageNumber
-numberAt w i = record { 0 = slotAt (transitWords w) i .number }
+numberAt w i = record { 0 = slotIn (transitWords w) i .number }
 
 -- m is the message in slot i, and it is pending
 pub record Pends (w : List ℕ) (i : ℕ) (m : Message) : Type 0 where
   pub slot : HasSlot w i
-  pub holds : slotAt (transitWords w) i .message ≡ m
-  pub waits : pending (slotAt (transitWords w) i .number) (view w .transit) ≡ some m
+  pub holds : slotIn (transitWords w) i .message ≡ m
+  pub waits : pending (slotIn (transitWords w) i .number) (view w .transit) ≡ some m
 
 -- the message of client k to server j with this tag
 abbrev pub tagged : Tag → ClientId → ServerId → Timestamp → Message

@@ -22,7 +22,8 @@ use Rattle.words.specs.Records.{clientFrom, serverFrom, maxWord, clientWords, s
 use Rattle.system.specs.Numbered.{put}
 use Rattle.system.specs.Transit.{InTransit, replaced, gone, keeping, numbered}
 use Rattle.system.specs.Places.{System, clientAt, serverAt, downFrom, ClientPlace, ServerPlace}
-use Rattle.sim_transit.specs.Slots.{slotAt, names, messagesIn}
+use Rattle.sim_transit.specs.Slots.{names, messagesIn}
+use Rattle.sim_indexed.specs.Indexed.{slotIn}
 use Rattle.sim_blocks.specs.Blocks.{clientRecord, serverRecord}
 use Rattle.sim_layout.specs.Layout.{settingOf, transitWords, view, lengthOf, sentOf, valid, blank}
 use Rattle.sim_layout.specs.Parts.{clientBlockOf, serverBlockOf, withClientBlock, withServerBlock}
@@ -121,8 +122,8 @@ clientStep w k (client-act.Check i j t) = client.checked k j t (clientAt (view w
 abbrev pub clientRest : List ℕ → ClientAct → List InTransit
 clientRest w client-act.Try = view w .transit
 clientRest w client-act.Exit = view w .transit
-clientRest w (client-act.Response i j o) = replaced (slotAt (transitWords w) i .number) gone (view w .transit)
-clientRest w (client-act.Check i j t) = replaced (slotAt (transitWords w) i .number) gone (view w .transit)
+clientRest w (client-act.Response i j o) = replaced (slotIn (transitWords w) i .number) gone (view w .transit)
+clientRest w (client-act.Check i j t) = replaced (slotIn (transitWords w) i .number) gone (view w .transit)
 
 abbrev pub clientGone : ClientAct → ℕ
 clientGone client-act.Try = 0
@@ -165,7 +166,7 @@ serverStep w j (server-act.Take i tag k t) = votes.receive j tag (record { clien
 abbrev pub serverRest : List ℕ → ServerAct → List InTransit
 serverRest w server-act.Check = view w .transit
 serverRest w server-act.Suspect = view w .transit
-serverRest w (server-act.Take i tag k t) = replaced (slotAt (transitWords w) i .number) keeping (view w .transit)
+serverRest w (server-act.Take i tag k t) = replaced (slotIn (transitWords w) i .number) keeping (view w .transit)
 
 -- h and row are server j's record after its call
 pub record ServerStores (w : List ℕ) (j : ServerId) (a : ServerAct) (h : server-head.Head) (row : List ℕ) : Type 0 where

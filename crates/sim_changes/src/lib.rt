@@ -13,7 +13,8 @@ ghost use Rattle.system.specs.Transit.{replaced, keeping, gone, again};
 ghost use Rattle.system.specs.Places.{clientAt, serverAt, inEpoch, downFrom, downed, worst};
 ghost use Rattle.server_votes.specs.Places.{mails};
 ghost use Rattle.server.specs.Parts.{threeMails};
-ghost use Rattle.sim_transit.specs.Slots.{messagesIn, slotAt};
+ghost use Rattle.sim_transit.specs.Slots.{messagesIn};
+ghost use Rattle.sim_indexed.specs.Indexed.{slotIn};
 ghost use Rattle.sim_blocks.specs.Blocks.{serverPlace};
 ghost use Rattle.sim_layout.specs.Layout.{settingOf, lengthOf, mostOf, transitWords, view, valid, simulationSize};
 ghost use Rattle.sim_layout.specs.Parts.{serverBlockOf, ClientIn, ServerIn};
@@ -102,7 +103,7 @@ fn mark_message(w: &mut [u32], i: usize)
 
 // What was delivered to server `j` is pending again.
 pub fn restart_messages(w: &mut [u32], j: ServerId)
-    requires { ⌜ valid (now w) ≡ true ⌝ }
+    requires { ⌜ HasServer (now w) j ⌝ }
     ensures { λ _. ⌜ Becomes (now (w .entry)) (now (w .exit)) (withTransit (view (now (w .entry))) (map (again j) (view (now (w .entry)) .transit))) ⌝ }
 {
     let len = w[LENGTH] as usize;

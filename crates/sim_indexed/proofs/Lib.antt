@@ -7,3 +7,4 @@ pub mod ReceiverLaws
 pub mod RestartLaws
 pub mod ReadLaws
 pub mod Determined
+pub mod Kept

@@ -4,7 +4,7 @@ use native.Mathlib.Omega.{arith}
 use mathlib.Core.Path.{_≡_, refl, ap, _∙_}
 use mathlib.Core.Bool.{Bool, true, false, not}
 use mathlib.Core.List.{List, []}
-use lib.ListN.{take, drop}
+use lib.ListN.{length, take, drop}
 use Rattle.ids.specs.Limits.{within}
 use Rattle.ids.specs.declared.ClientId.{ClientId}
 use Rattle.ids.specs.declared.ServerId.{ServerId}
@@ -18,7 +18,7 @@ use Rattle.system.proofs.Tokens.{All}
 use Rattle.sim_transit.proofs.Kept.{Kept, valid-kept}
 use Rattle.sim_index.specs.Index.{receivers}
 use Rattle.sim_indexed.specs.Indexed.{indexedSize, table, inTransit, entriesAt, listedAt}
-use Rattle.sim_indexed.specs.Calls.{Few, Held}
+use Rattle.sim_indexed.specs.Calls.{Few, Valid, Held}
 use Rattle.sim_indexed.specs.declared.Listed.{Listed}
 use Rattle.sim_indexed.specs.declared.Listed.the-variants.{Nothing}
 use Rattle.sim_indexed.proofs.IndexedLaws.{parts}
@@ -36,11 +36,15 @@ module _ (w : List ℕ) (ok : valid w ≡ true) where
   few = record { few-servers = few-servers w ok; few-clients = few-clients w ok }
 
   -- the words that are lent
-  pub held-lent : Held (lengthOf w) (take indexedSize (drop transitFrom w))
+  pub lent-valid : Valid (settingOf w .n) (settingOf w .clients) (sentOf w) (lengthOf w) (take indexedSize (drop transitFrom w))
   unfolding transitWords
-  held-lent =
-      let P = parts (settingOf w .n) (settingOf w .clients) (sentOf w) (lengthOf w) (transitWords w) (facts w ok .transit) in
-      record { n = settingOf w .n; clients = settingOf w .clients; sent = sentOf w; few = few; valid = facts w ok .transit; size = P .size }
+  lent-valid = facts w ok .transit
+
+  pub lent-size : length (take indexedSize (drop transitFrom w)) ≡ indexedSize
+  lent-size = parts (settingOf w .n) (settingOf w .clients) (sentOf w) (lengthOf w) (take indexedSize (drop transitFrom w)) lent-valid .size
+
+  pub held-lent : Held (lengthOf w) (take indexedSize (drop transitFrom w))
+  held-lent = record { n = settingOf w .n; clients = settingOf w .clients; sent = sentOf w; few = few; valid = lent-valid; size = lent-size }
 
   pub entries-lent : (p i : ℕ) (e : Listed) → e ≡ listedAt (entriesAt p (inTransit (lengthOf w) (take indexedSize (drop transitFrom w)))) i
       → e ≡ listedAt (entriesAt p (view w .transit)) i

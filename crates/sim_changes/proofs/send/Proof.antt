@@ -1,4 +1,4 @@
--- `sim_changes::send` meets its contract: the slots come back with the messages, and the two words that count them are stored.
+-- `sim_changes::send` meets its contract: the slots and the index come back with the messages, and the two words that count them are stored.
 -- A section for each place on the way says what holds there; the needs below it cite these.
 use denote.Ref.{now}
 use native.Mathlib.Omega.{arith}
@@ -8,12 +8,12 @@ use mathlib.Core.List.{List}
 use lib.ListN.{length, take, drop}
 use Rattle.wire.specs.declared.Message.{Message}
 use Rattle.system.specs.Limits.{systemMessages, lastNumber}
-use Rattle.sim_transit.specs.Slots.{messagesIn, transitSize}
+use Rattle.sim_transit.specs.Slots.{messagesIn}
+use Rattle.sim_indexed.specs.Indexed.{indexedSize}
+use Rattle.sim_indexed.specs.Calls.{Posts}
 use Rattle.sim_layout.specs.Layout.{lengthOf, sentOf, transitFrom, simulationSize}
-use Rattle.sim_transit.proofs.Means.{Posts}
-use Rattle.sim_transit.proofs.PostLaws.{posts-read}
 use Rattle.sim_changes.proofs.Parties.{words-long}
-use Rattle.sim_changes.proofs.Posting.{transit-few, room-left, posted-long, counted-long, send-becomes, sized-with}
+use Rattle.sim_changes.proofs.Posting.{transit-few, room-left, posted-long, counted-long, send-becomes, can-post}
 use borrow.Author.Needs.{needs}
 use Rattle.sim_changes.proofs.send.Statement.{statement}
 use Rattle.sim_changes.proofs.send.Tie as tie
@@ -45,13 +45,9 @@ module _ (c : tie.After-slice-known4) where
   abbrev read : tie.After-slice-known3
   read = c .before .before .before .before
 
-  done : Posts (lengthOf (words (entry read))) (sentOf (words (entry read))) (new (entry read)) (take transitSize (drop transitFrom (words (entry read))))
+  done : Posts (lengthOf (words (entry read))) (sentOf (words (entry read))) (new (entry read)) (take indexedSize (drop transitFrom (words (entry read))))
       (c .before .before .post .last .0)
-  done =
-      let d = entry read in
-      let p = d .pre in
-      posts-read _ _ (d .args .count) (now (d .args .bytes)) _ _
-      (sized-with (words d) (d .args .count) (new d) (p .valid) (p .whole) (p .room) (p .named) (room read .0)) (p .whole) (c .before .before .post .ensures)
+  done = c .before .before .post .ensures
 
 slice-read-len : tie.Need-slice-read-len
 slice-read-len c = omega (arith, long (c .before .before .before))
@@ -64,7 +60,7 @@ post-requires c κs =
     let d = entry (c .before) in
     let p = d .pre in
     let r = room (c .before) in
-    (sized-with (words d) (d .args .count) (new d) (p .valid) (p .whole) (p .room) (p .named) (r .0), r .1, p .whole)
+    (can-post (words d) (d .args .count) (new d) (p .valid) (p .whole) (p .room) (p .named) r, p .whole)
 
 add-w : tie.Need-add-w
 add-w c = let r = room (read c) in record { fits = omega (arith, r .0, r .1) }

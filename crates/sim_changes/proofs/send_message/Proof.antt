@@ -1,4 +1,4 @@
--- `sim_changes::send_message` meets its contract: the slots come back with the message, and the two words that count them are stored.
+-- `sim_changes::send_message` meets its contract: the slots and the index come back with the message, and the two words that count them are stored.
 -- A section for each place on the way says what holds there; the needs below it cite these.
 use denote.Ref.{now}
 use native.Mathlib.Omega.{arith}
@@ -11,12 +11,11 @@ use Rattle.ids.proofs.Choice.{both}
 use Rattle.wire.specs.Format as format
 use Rattle.wire.specs.declared.Message.{Message}
 use Rattle.system.specs.Limits.{systemMessages, lastNumber}
-use Rattle.sim_transit.specs.Slots.{transitSize}
-use Rattle.sim_transit.proofs.Means.{Posts}
-use Rattle.sim_transit.proofs.PostLaws.{posts-one}
+use Rattle.sim_indexed.specs.Indexed.{indexedSize}
+use Rattle.sim_indexed.specs.Calls.{Posts}
 use Rattle.sim_layout.specs.Layout.{lengthOf, sentOf, transitFrom, simulationSize}
 use Rattle.sim_changes.proofs.Parties.{words-long}
-use Rattle.sim_changes.proofs.Posting.{transit-few, room-left, posted-long, counted-long, send-becomes, sized-with}
+use Rattle.sim_changes.proofs.Posting.{transit-few, room-left, posted-long, counted-long, send-becomes, can-post}
 use borrow.Author.Needs.{needs}
 use Rattle.sim_changes.proofs.send_message.Statement.{statement}
 use Rattle.sim_changes.proofs.send_message.Tie as tie
@@ -48,13 +47,9 @@ module _ (c : tie.After-slice-known4) where
   abbrev read : tie.After-slice-known3
   read = c .before .before .before .before
 
-  done : Posts (lengthOf (words (entry read))) (sentOf (words (entry read))) (new (entry read)) (take transitSize (drop transitFrom (words (entry read))))
+  done : Posts (lengthOf (words (entry read))) (sentOf (words (entry read))) (new (entry read)) (take indexedSize (drop transitFrom (words (entry read))))
       (c .before .before .post-message .last .0)
-  done =
-      let d = entry read in
-      let p = d .pre in
-      posts-one _ _ (d .args .m) _ _ (sized-with (words d) 1 (new d) (p .valid) refl (p .room) (p .named) (room read .0))
-      (both (format.valid (d .args .m)) true (p .range) .0) (c .before .before .post-message .ensures)
+  done = c .before .before .post-message .ensures
 
 slice-read-len : tie.Need-slice-read-len
 slice-read-len c = omega (arith, long (c .before .before))
@@ -67,7 +62,7 @@ post-message-requires c κs =
     let d = entry (c .before) in
     let p = d .pre in
     let r = room (c .before) in
-    (sized-with (words d) 1 (new d) (p .valid) refl (p .room) (p .named) (r .0), r .1, both (format.valid (d .args .m)) true (p .range) .0)
+    (can-post (words d) 1 (new d) (p .valid) refl (p .room) (p .named) r, both (format.valid (d .args .m)) true (p .range) .0)
 
 add-w : tie.Need-add-w
 add-w c = let r = room (read c) in record { fits = omega (arith, r .0, r .1) }
