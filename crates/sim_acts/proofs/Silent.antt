@@ -30,7 +30,7 @@ use Rattle.sim_blocks.proofs.Facts.{server-facts}
 use Rattle.sim_blocks.proofs.ClientLaws.{ClientIs}
 use Rattle.sim_blocks.proofs.ServerLaws.{ServerIs, rise-block, sink-block}
 use Rattle.sim_blocks.proofs.EpochLaws.{fall-block}
-use Rattle.sim_transit.specs.Slots.{slots, slotAt}
+use Rattle.sim_indexed.specs.Indexed.{table, slotIn}
 use Rattle.sim_transit.specs.Calls.{firstSlot, isNumbered}
 use Rattle.sim_transit.proofs.Means.{FindsPresent}
 use Rattle.sim_transit.proofs.FindLaws.{finds-present}
@@ -44,7 +44,6 @@ use Rattle.sim_changes.specs.Changes.{Becomes, HasClient, HasServer, withTransi
 use Rattle.sim_changes.specs.Inner.{withClient, withServer}
 use Rattle.sim_changes.proofs.Answers.{falls, ups, drops, drops-nothing, downs}
 use Rattle.sim_changes.proofs.Becoming.{sound, client-valid, server-valid, client-becomes, server-becomes}
-use Rattle.sim_changes.proofs.Messages.{its-transit}
 use Rattle.sim_changes.proofs.Leaving.{leaves-refused, leaves-silent, leaves-quiet}
 use Rattle.sim_changes.proofs.Parties.{server-in}
 use Rattle.sim_changes.proofs.ClientEvents.{client-there-in}
@@ -116,8 +115,8 @@ module _ (w : List ℕ) (j : ServerId) (H : HasServer w j) where
     sunk : Becomes w w₁ (withServer (view w) j (record { up = false; state = idle }))
     sunk = rw s (sinking w (j .0) H)
 
-    pub sunk-valid : valid w₁ ≡ true
-    sunk-valid = sunk .again
+    pub sunk-server : HasServer w₁ j
+    sunk-server = record { valid = sunk .again; first = H .first; last = rw (sunk .setting) (H .last) }
 
     module _ {w₂ : List ℕ} (R : Becomes w₁ w₂ (withTransit (view w₁) (map (again j) (view w₁ .transit)))) where
       pub still-server : HasServer w₂ j
@@ -145,32 +144,29 @@ below r n h ne =
 
 -- drop: r is what `find_present` gave, and s how many messages are in transit
 module _ (w : List ℕ) (i : MessageNumber) {r s : ℕ} (ok : valid w ≡ true) (at : r ≡ firstSlot (isNumbered (i .0)) (view w .transit)) (g : s ≡ lengthOf w) where
-  F : FindsPresent (i .0) (lengthOf w) (transitWords w) r
+  F : FindsPresent (i .0) (lengthOf w) (table (transitWords w)) r
   unfolding view
-  F = finds-present (i .0) (lengthOf w) (transitWords w) r at
-
-  there-is : (b : Bool) → present (i .0) (slots (lengthOf w) (transitWords w)) ≡ b → present (i .0) (view w .transit) ≡ b
-  unfolding transitWords
-  there-is b e = rw (← its-transit w ok) e
+  F = finds-present (i .0) (lengthOf w) (table (transitWords w)) r at
 
   pub drop-missing : r ≡ s → Leaves w (Drop i) w × (Refused NoSuchParty ≡ movedOf (happens w (Drop i)))
+  unfolding view
   drop-missing e =
       leaves-refused w (Drop i) NoSuchParty ok
       (drops-nothing (settingOf w .n) (enough (settingOf w .m)) (view w) i
-      (there-is false (F .missing (e ∙ g))))
+      (F .missing (e ∙ g)))
 
   module _ (ne : r ≡ s → ⊥) where
     pub used : r < lengthOf w
     used = below r (lengthOf w) (F .within) (λ e. ne (e ∙ sym g))
 
-    numbered-is : slotAt (transitWords w) r .number ≡ i .0
-    unfolding transitWords
+    numbered-is : slotIn (transitWords w) r .number ≡ i .0
     numbered-is = F .numbered used
 
-    pub drop-leaves : {w′ : List ℕ} → Becomes w w′ (withTransit (view w) (replaced (slotAt (transitWords w) r .number) gone (view w .transit)))
+    pub drop-leaves : {w′ : List ℕ} → Becomes w w′ (withTransit (view w) (replaced (slotIn (transitWords w) r .number) gone (view w .transit)))
         → Leaves w (Drop i) w′ × (Sent 0 ≡ movedOf (happens w (Drop i)))
+    unfolding view
     drop-leaves {w′} B =
         leaves-quiet w (Drop i) (dropped (view w) (i .0)) refl
         (drops (settingOf w .n) (enough (settingOf w .m)) (view w) i
-        (there-is true (F .found used)))
+        (F .found used))
         refl w′ (rw numbered-is at B)

@@ -15,7 +15,7 @@ use Rattle.client_responses.specs.Figure1.{enough}
 use Rattle.system.specs.declared.MessageNumber.{MessageNumber}
 use Rattle.system.specs.declared.Event.the-variants.{Take}
 use Rattle.system.specs.Transit.{pending}
-use Rattle.sim_transit.specs.Slots.{slotAt}
+use Rattle.sim_indexed.specs.Indexed.{table, slotIn}
 use Rattle.sim_transit.specs.Calls.{firstSlot, isPending}
 use Rattle.sim_transit.proofs.Means.{FindsPending}
 use Rattle.sim_transit.proofs.FindLaws.{finds-pending}
@@ -34,9 +34,9 @@ below a b h n =
 
 -- the message with a number is found
 module _ (w : List ℕ) (number : MessageNumber) (ok : valid w ≡ true) (i : ℕ) (at : i ≡ firstSlot (isPending (number .0)) (view w .transit)) where
-  F : FindsPending (number .0) (lengthOf w) (transitWords w) i
+  F : FindsPending (number .0) (lengthOf w) (table (transitWords w)) i
   unfolding view
-  F = finds-pending (number .0) (lengthOf w) (transitWords w) i at
+  F = finds-pending (number .0) (lengthOf w) (table (transitWords w)) i at
 
   none-found : i ≡ lengthOf w → pending (number .0) (view w .transit) ≡ none
   unfolding view
@@ -52,7 +52,7 @@ module _ (w : List ℕ) (number : MessageNumber) (ok : valid w ≡ true) (i : �
     its-number : numberAt w i ≡ number
     its-number = let e = F .numbered take-used in λ x. record { 0 = e x }
 
-    pub take-pends : (m : Message) → m ≡ slotAt (transitWords w) i .message → (m′ : Message) → m ≡ m′ → Pends w i m′
+    pub take-pends : (m : Message) → m ≡ slotIn (transitWords w) i .message → (m′ : Message) → m ≡ m′ → Pends w i m′
     unfolding view
     take-pends m h m′ e =
         let p = F .found take-used in

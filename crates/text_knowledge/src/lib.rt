@@ -15,7 +15,7 @@ ghost use Rattle.text_sheet.specs.Sheet.{sheet as sheetOf, puts};
 ghost use Rattle.rows.specs.Rows.{queueOf, Padded};
 ghost use Rattle.server_votes.specs.Queues.{view as votesView};
 ghost use Rattle.system.specs.Places.{clientAt, serverAt};
-ghost use Rattle.sim_transit.specs.Slots.{slotAt};
+ghost use Rattle.sim_indexed.specs.Indexed.{slotIn};
 ghost use Rattle.wire.specs.declared.Message.the-variants.{Response, Check};
 ghost use Rattle.text_knowledge.specs.Knowledge.{requestText, requestsText, queueText, votesText, serverText, supportText, sectionText, supportersText, stateText, clientText, serversText, clientsText, slipsText};
 ghost use Rattle.text_knowledge.specs.Mail.{timestampText, toServerText, toClientText, ownerText, messageText, inTransitText, mailText, slipsMailText};
@@ -325,7 +325,7 @@ fn put_standing(out: &mut [u8], at: usize, delivered: bool) -> usize
 // The message in slot i, a used one.
 fn put_in_transit(out: &mut [u8], at: usize, w: &[u32], i: usize) -> usize
     requires { ⌜ (valid (now w) ≡ true) × (i < lengthOf (now w)) ⌝ }
-    ensures { λ r. ⌜ sheetOf (now (out .exit)) r ≡ puts (inTransitText (slotAt (transitWords (now (w .entry))) i)) (sheetOf (now (out .entry)) at) ⌝ }
+    ensures { λ r. ⌜ sheetOf (now (out .exit)) r ≡ puts (inTransitText (slotIn (transitWords (now (w .entry))) i)) (sheetOf (now (out .entry)) at) ⌝ }
 {
     let number = sim_layout::number_at(w, i);
     let delivered = sim_layout::is_delivered(w, i);

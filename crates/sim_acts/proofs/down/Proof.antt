@@ -5,7 +5,7 @@ use Rattle.sim_changes.specs.Changes.{HasServer}
 use Rattle.sim_changes.proofs.Parties.{server-in}
 use Rattle.sim_changes.proofs.Answers.{no-server-downs, downs-twice}
 use Rattle.sim_acts.proofs.Guards.{server-missing, server-down, server-here}
-use Rattle.sim_acts.proofs.Silent.{sinkable, sunk-valid, still-server, down-leaves}
+use Rattle.sim_acts.proofs.Silent.{sinkable, sunk-server, still-server, down-leaves}
 use borrow.Author.Needs.{needs}
 use Rattle.sim_acts.proofs.down.Statement.{statement}
 use Rattle.sim_acts.proofs.down.Tie as tie
@@ -39,7 +39,7 @@ returns-2 c = server-down _ _ (here (c .before .before .before)) (c .before .is-
 restart-messages-requires : tie.Need-restart-messages-requires
 restart-messages-requires c κs =
     let s = c .before .before .before in
-    sunk-valid _ _ (here (present (running s))) (s .sink-server .ensures)
+    sunk-server _ _ (here (present (running s))) (s .sink-server .ensures)
 
 note-down-requires : tie.Need-note-down-requires
 note-down-requires c κs =

@@ -4,7 +4,7 @@ use denote.Ref.{now}
 use mathlib.Core.Path.{_≡_, sym}
 use Rattle.sim_layout.specs.Layout.{transitWords}
 use Rattle.text_sheet.proofs.SheetLaws.{then}
-use Rattle.sim_transit.specs.Slots.{slotAt}
+use Rattle.sim_indexed.specs.Indexed.{slotIn}
 use Rattle.text_knowledge.specs.Mail.{inTransitText}
 use borrow.Author.Needs.{needs}
 use Rattle.text_knowledge.proofs.put_in_transit.Statement.{statement}
@@ -15,7 +15,7 @@ module _ (c : tie.After-message-at) where
   abbrev entry : tie.Start
   entry = c .before .before .before .before .before
 
-  its-slot : slotAt (transitWords (now (entry .args .w))) (entry .args .i)
+  its-slot : slotIn (transitWords (now (entry .args .w))) (entry .args .i)
       ≡ record { number = c .before .before .number-at .result .0; delivered = c .before .is-delivered .result; message = c .message-at .result }
   its-slot =
       let e = c .before .before .number-at .ensures in

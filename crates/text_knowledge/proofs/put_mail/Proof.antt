@@ -9,7 +9,7 @@ use Prim.Native.Nat.{ℕ, _-_, _≤_}
 use Rattle.sim_changes.proofs.Messages.{lent-sized, its-transit}
 use Rattle.sim_layout.specs.Layout.{lengthOf, transitWords}
 use Rattle.text_sheet.specs.Sheet.{sheet, puts}
-use Rattle.sim_transit.specs.Slots.{slots}
+use Rattle.sim_indexed.specs.Indexed.{inTransit}
 use Rattle.text_knowledge.specs.Mail.{mailText}
 use Rattle.text_knowledge.proofs.MailLaws.{mail-none, mail-more}
 use borrow.Author.Needs.{needs}
@@ -19,7 +19,7 @@ use Rattle.system.specs.Limits.{systemMessages}
 
 abbrev Inv-loop : tie.InvT-loop
 Inv-loop out₀ at w len end₀ i₀ out end i =
-    (sheet out end ≡ puts (mailText (slots i (transitWords w))) (sheet out₀ end₀)) × (i ≤ len) × (length out ≡ length out₀)
+    (sheet out end ≡ puts (mailText (inTransit i (transitWords w))) (sheet out₀ end₀)) × (i ≤ len) × (length out ≡ length out₀)
 
 abbrev μ-loop : tie.MeasureT-loop
 μ-loop out₀ at w len end₀ i₀ out end i = len - i
