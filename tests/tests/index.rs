@@ -1,7 +1,7 @@
 //! The index beside the table, document 02, L2. After each event every receiver's list in the library's words is the one that the
 //! model makes afresh, and only those that the event is about have another list than before; and no word of it can be another.
 
-use sigma_tests::author::any_script;
+use sigma_tests::author::{any_script, restarts_script, RESTARTS};
 use sigma_tests::files::scripts;
 use sigma_tests::gallery::{Event, Gallery, Kind, GALLERY};
 use sigma_tests::index::{self, List, Receiver, RECEIVERS};
@@ -207,6 +207,19 @@ fn random_scripts_list_by_list() {
         play(&any_script(&mut r), &mut counts);
     }
     enough(&counts, 100);
+}
+
+/// Long lists, and a keeper that goes down or up at each third event.
+#[test]
+fn restarts_list_by_list() {
+    for setting in RESTARTS {
+        let mut counts = Counts::new();
+        play(&restarts_script(setting, 6000), &mut counts);
+        println!("{counts:?}");
+        let downs = counts[&Kind::Down];
+        assert!(downs.accepted >= 800 && 2 * downs.changing >= downs.accepted, "{downs:?}: half of them change a list");
+        assert!(counts.values().all(|count| count.refused == 0), "{counts:?}");
+    }
 }
 
 // Every word damaged ---------------------------------------------------------------------------------------------------------------
