@@ -161,17 +161,18 @@ fn play(script: &[u8], counts: &mut Counts) {
         let message = message.and_then(|kept| Receiver::of(&kept.message));
         let answer = both.give(event);
 
-        let (listed, afresh) = (both.listed(), index::lists(&both.gallery.kept));
+        let listed = both.listed();
+        let may = if answer.is_ok() { touched(&both.gallery, event, message, last) } else { BTreeSet::new() };
+        let other = |receiver: &Receiver| listed[receiver.place()] != before[receiver.place()];
+        let changed: Vec<Receiver> = Receiver::all().filter(other).collect();
+        assert!(changed.iter().all(|receiver| may.contains(receiver)), "{event:?}, {answer:?}: {changed:?}, only {may:?} may");
+
+        let afresh = index::lists(&both.gallery.kept);
         for receiver in Receiver::all() {
             let place = receiver.place();
             assert_eq!(listed[place], afresh[place], "{receiver} behind {event:?}, {answer:?}: listed, and in the table");
         }
         assert!(both.words[INDEX..] == index_of(&both.words), "the words behind the lists, behind {event:?}");
-
-        let may = if answer.is_ok() { touched(&both.gallery, event, message, last) } else { BTreeSet::new() };
-        let other = |receiver: &Receiver| listed[receiver.place()] != before[receiver.place()];
-        let changed: Vec<Receiver> = Receiver::all().filter(other).collect();
-        assert!(changed.iter().all(|receiver| may.contains(receiver)), "{event:?}, {answer:?}: {changed:?}, only {may:?} may");
         before = listed;
 
         let count = counts.entry(event.kind).or_default();
