@@ -65,7 +65,7 @@ pub enum Rule {
     FlagPastKeepers,
     /// Ours: the words behind the kiosks, the keepers and the messages that there are, are 0.
     Blank,
-    /// "A gallery whose index is not its table's": numbers, order, waiting or taken. Its words are those of the index made afresh.
+    /// "A gallery whose index is not its table's": numbers, order, waiting or taken. Its words are those made afresh.
     Index,
 }
 

@@ -1026,8 +1026,8 @@ fn damage(words: &mut [u32], r: &mut Random) {
     }
 }
 
-/// Of the damaged ones, half of them with the index made afresh, the library refuses 21 exactly those that the model calls broken;
-/// the others it goes on with as the model does.
+/// Of the damaged ones, half of them with the index made afresh, the library refuses 21 exactly those that the model calls
+/// broken; the others it goes on with as the model does.
 #[test]
 fn random_damage() {
     let mut r = Random::new(8);

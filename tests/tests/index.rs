@@ -52,7 +52,7 @@ impl Both {
     }
 }
 
-// By hand ------------------------------------------------------------------------------------------------------------------------
+// By hand ---------------------------------------------------------------------------------------------------------------------
 
 #[test]
 fn how_many_words() {
@@ -123,7 +123,7 @@ fn the_words_of_a_small_index() {
     assert!(both.words == words_of(&both.gallery));
 }
 
-// Event by event -----------------------------------------------------------------------------------------------------------------
+// Event by event --------------------------------------------------------------------------------------------------------------
 
 /// Of one kind of events: the accepted, those that changed a list, and the refused.
 #[derive(Clone, Copy, Debug, Default)]
@@ -135,8 +135,8 @@ struct Count {
 
 type Counts = BTreeMap<Kind, Count>;
 
-/// "The receivers of messages sent, taken or dropped, and a keeper that goes down": of an accepted event that the gallery has come
-/// behind, where it kept `message` before and `last` was the last number.
+/// "The receivers of messages sent, taken or dropped, and a keeper that goes down". The event is accepted and the gallery is as it
+/// left it; `message` is the receiver of the message that it names, and `last` the number sent last before it.
 fn touched(gallery: &Gallery, event: Event, message: Option<Receiver>, last: u64) -> BTreeSet<Receiver> {
     let sent = gallery.kept.iter().filter(|kept| kept.number > last).filter_map(|kept| Receiver::of(&kept.message));
     let named = match event.kind {
@@ -223,10 +223,10 @@ fn restarts_list_by_list() {
     }
 }
 
-// Every word damaged ---------------------------------------------------------------------------------------------------------------
+// Every word damaged ----------------------------------------------------------------------------------------------------------
 
-/// Nothing kept; eight messages for three keepers and two kiosks; messages for all keepers of the largest setting, taken and waiting,
-/// and for ten of its kiosks; and 512 messages.
+/// Nothing kept; eight messages for three keepers and two kiosks; messages for all keepers of the largest setting, taken and
+/// waiting, and for ten of its kiosks; and 512 messages.
 fn states() -> [Both; 4] {
     let tries = |count: u64| (1..=count).map(|kiosk| (Kind::Try, kiosk));
     let takes = |numbers: std::ops::RangeInclusive<u64>| numbers.step_by(3).map(|number| (Kind::Take, number));

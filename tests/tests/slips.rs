@@ -339,7 +339,7 @@ fn the_fullest_gallery_is_told_whole() {
 /// All 512 messages in one box: a keeper that took them all, goes down and has them all waiting, and a kiosk with checks.
 #[test]
 fn the_fullest_boxes_are_told_whole() {
-    // Each turn sends a request, its answer and a release, the last of which is message 3 turn.
+    // Turn i sends a request, its answer and a release: messages 3i - 2, 3i - 1 and 3i.
     let turn = |i: usize| format!("try 1\ntake {}\ntake {}\nexit 1\ntake {}\n", 3 * i - 2, 3 * i - 1, 3 * i);
     let keepers = format!("setting 1 1 0 1\n{}down 1\n", (1..=256).map(turn).collect::<String>());
     let kiosks = format!("setting 1 1 0 1\ntry 1\ntake 1\n{}drop 1\ncheck 1\n", "check 1\n".repeat(510));
@@ -347,7 +347,7 @@ fn the_fullest_boxes_are_told_whole() {
         [(keepers, "keeper 1 mail 1 waiting 3 waiting ", 768), (kiosks, "kiosk 1 mail 2 waiting 3 waiting ", 513)]
     {
         let out = compare(script.as_bytes(), Mode::Boxes);
-        let full = out.lines().filter(|line| line.starts_with(party)).next_back().expect("a box");
+        let full = out.lines().rfind(|line| line.starts_with(party)).expect("a box");
         assert_eq!(full.split(' ').count(), 3 + 2 * 512, "{full}");
         assert!(full.ends_with(&format!(" {last} waiting")), "{full}");
     }
@@ -370,14 +370,14 @@ fn the_program_says_what_failed() {
 fn only_last_mail_and_boxes_are_arguments() {
     #[rustfmt::skip]
     let one = [
-        "first", "las", "last1", "", "mai", "mail1", "mails", "Mail", "lail", "mast", "last mail", "box", "boxe", "boxes1", "boxess",
-        "Boxes", "mail boxes", "boxes ", "foxes",
+        "first", "las", "last1", "", "mai", "mail1", "mails", "Mail", "lail", "mast", "last mail", "box", "boxe", "boxes1",
+        "boxess", "Boxes", "mail boxes", "boxes ", "foxes",
     ];
     let one = one.map(|word| vec![word]);
     #[rustfmt::skip]
     let two = [
-        ["last", "last"], ["mail", "mail"], ["last", "mail"], ["mail", "last"], ["mail", ""], ["boxes", "boxes"], ["mail", "boxes"],
-        ["boxes", "last"], ["boxes", ""],
+        ["last", "last"], ["mail", "mail"], ["last", "mail"], ["mail", "last"], ["mail", ""], ["boxes", "boxes"],
+        ["mail", "boxes"], ["boxes", "last"], ["boxes", ""],
     ];
     for words in one.into_iter().chain(two.map(Vec::from)) {
         let run = answer("slips", &words, b"setting 1 1 0 1\ntry 1\n");
