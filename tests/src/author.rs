@@ -1,6 +1,8 @@
-//! Scripts that no person wrote: random ones, valid and malformed, and the long one of the benchmark.
+//! Scripts that no person wrote: random ones, valid and malformed, and the long ones of the benchmark.
 
-use crate::gallery::{Event, Gallery, Kind, GALLERY};
+use crate::gallery::{Event, Gallery, Kind, GALLERY, KIOSKS};
+use crate::kiosk::HOLDING;
+use crate::model::{Message, RESPONSE};
 use crate::random::Random;
 use crate::script::line_of;
 use crate::setting::Setting;
@@ -103,15 +105,30 @@ struct Author {
 }
 
 impl Author {
+    /// With 16 kiosks.
+    fn new(setting: Setting, lines: usize) -> Author {
+        let Setting { n, m, f } = setting;
+        let gallery = Gallery::new(setting, KIOSKS, GALLERY).expect("in range");
+        Author { gallery, script: format!("setting {n} {m} {f} {KIOSKS}\n").into_bytes(), left: lines }
+    }
+
     fn give(&mut self, kind: Kind, number: u64) {
         if self.left == 0 {
             return;
         }
+        if let Err(refusal) = self.offer(kind, number) {
+            panic!("{kind:?} {number} is refused {refusal}");
+        }
+    }
+
+    /// The event, if it is accepted.
+    fn offer(&mut self, kind: Kind, number: u64) -> Result<(), u32> {
         let event = Event { kind, number };
-        self.gallery.event(event).unwrap_or_else(|refusal| panic!("{event:?} is refused {refusal}"));
+        self.gallery.event(event)?;
         self.script.extend(line_of(event).as_bytes());
         self.script.push(b'\n');
         self.left -= 1;
+        Ok(())
     }
 
     /// The waiting messages, in their order, and what they call forth.
@@ -129,22 +146,84 @@ impl Author {
             self.give(Kind::Drop, kept.number);
         }
     }
+
+    /// A kiosk's way to the wall and back, alone.
+    fn turn(&mut self, kiosk: u64) {
+        self.give(Kind::Try, kiosk);
+        self.take_all();
+        self.give(Kind::Exit, kiosk);
+        self.take_all();
+    }
+
+    /// The newest message that waits for a party that can take it.
+    fn newest(&self) -> Option<u64> {
+        let up = |message: &Message| message.kind >= RESPONSE || self.gallery.servers[message.keeper as usize - 1].up;
+        self.gallery.kept.iter().rfind(|kept| !kept.taken && up(&kept.message)).map(|kept| kept.number)
+    }
+
+    /// One event, of those that are accepted and leave enough messages for the restarts.
+    fn work(&mut self, r: &mut Random) {
+        while self.left > 0 {
+            let Gallery { kept, clients, servers, .. } = &self.gallery;
+            let any = r.one_of(kept);
+            let kiosk = r.below(clients.len() as u64);
+            let (kind, number) = match r.below(16) {
+                _ if kept.len() > 480 => (Kind::Drop, kept[0].number),
+                0 if clients[kiosk as usize].record.section == HOLDING => (Kind::Exit, kiosk + 1),
+                0 => (Kind::Try, kiosk + 1),
+                1 => (Kind::Check, 1 + r.below(servers.len() as u64)),
+                2..=5 => (Kind::Take, any.number),
+                _ => (Kind::Take, self.newest().unwrap_or(0)),
+            };
+            let spare = kept.len() > RESTARTS_KEEP;
+            if (spare || kind != Kind::Take) && self.offer(kind, number).is_ok() {
+                return;
+            }
+        }
+    }
 }
 
 /// So many event lines with 31 keepers, threshold 21 and 16 kiosks in turn, all accepted: a try, its requests and their
 /// answers taken, an exit, its releases taken, and all that the keepers took dropped.
 pub fn long_script(lines: usize) -> Vec<u8> {
-    let gallery = Gallery::new(Setting { n: 31, m: 21, f: 10 }, 16, GALLERY).expect("in range");
-    let mut author = Author { gallery, script: b"setting 31 21 10 16\n".to_vec(), left: lines };
+    let mut author = Author::new(Setting { n: 31, m: 21, f: 10 }, lines);
     for kiosk in (1..=16).cycle() {
         if author.left == 0 {
             break;
         }
-        author.give(Kind::Try, kiosk);
-        author.take_all();
-        author.give(Kind::Exit, kiosk);
-        author.take_all();
+        author.turn(kiosk);
         author.drop_all();
+    }
+    author.script
+}
+
+/// The settings of the scripts with restarts: many keepers with short lists of messages, and few with long ones.
+pub const RESTARTS: [Setting; 2] = [Setting { n: 31, m: 21, f: 10 }, Setting { n: 3, m: 2, f: 0 }];
+
+/// The fewest messages kept once the restarts have begun.
+pub const RESTARTS_KEEP: usize = 400;
+
+/// So many event lines with 16 kiosks, all accepted, in which keepers restart all the time beside a table that is nearly full.
+/// First kiosks have their turns, until about 450 messages are kept, all taken by keepers. Then of each three events one is a
+/// keeper's going down or its coming up again, all keepers in turn, and two are others: mostly takes of the newest message and of
+/// old ones that wait again, but also tries, exits, checks, and drops of the oldest message where the places grow few.
+pub fn restarts_script(setting: Setting, lines: usize) -> Vec<u8> {
+    let (mut author, mut r) = (Author::new(setting, lines), Random::new(4));
+    for kiosk in (1..=16).cycle() {
+        if author.left == 0 || author.gallery.kept.len() + 2 * setting.n as usize > 450 {
+            break;
+        }
+        author.turn(kiosk);
+    }
+    for keeper in (1..=u64::from(setting.n)).cycle() {
+        if author.left == 0 {
+            break;
+        }
+        for kind in [Kind::Down, Kind::Up] {
+            author.give(kind, keeper);
+            author.work(&mut r);
+            author.work(&mut r);
+        }
     }
     author.script
 }

@@ -1,10 +1,11 @@
 //! Which rules the words of a gallery break: document 01, the paragraph 'A record is broken if ..' and the sentence 'A gallery
-//! is broken if ..', a rule for each thing that they name. Where the document leaves a choice the rule says what was chosen.
+//! is broken if ..', and document 02, L2, a rule for each thing that they name. Where they leave a choice the rule says what was
+//! chosen.
 
 use crate::gallery::{GALLERY, KIOSKS};
 use crate::kiosk::{HOLDING, REMAINDER, TRYING};
 use crate::model::{in_range, Message, KEEPERS};
-use crate::simulation::{client_at, flags_at, server_at, slot_at, WORDS};
+use crate::simulation::{client_at, flags_at, index_of, server_at, slot_at, INDEX, WORDS};
 
 #[derive(Clone, Copy, Debug, PartialEq, Eq, PartialOrd, Ord)]
 pub enum Rule {
@@ -64,6 +65,8 @@ pub enum Rule {
     FlagPastKeepers,
     /// Ours: the words behind the kiosks, the keepers and the messages that there are, are 0.
     Blank,
+    /// "A gallery whose index is not its table's": numbers, order, waiting or taken. Its words are those made afresh.
+    Index,
 }
 
 /// The rules that do not hold.
@@ -249,10 +252,11 @@ pub fn broken(words: &[u32]) -> Vec<Rule> {
         wrong.extend(parties.message_unmet(slot, before, last));
         before = slot[0];
     }
-    let behind = [client_at(clients)..server_at(0), server_at(servers)..slot_at(0), slot_at(slots)..WORDS];
+    let behind = [client_at(clients)..server_at(0), server_at(servers)..slot_at(0), slot_at(slots)..INDEX];
     wrong.extend(unmet([
         (Rule::Blank, behind.into_iter().all(|part| blank(&words[part]))),
         (Rule::Most, most <= n && downs <= most as usize),
+        (Rule::Index, words[INDEX..] == index_of(words)),
     ]));
     wrong.sort();
     wrong.dedup();

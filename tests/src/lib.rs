@@ -7,6 +7,7 @@ pub mod broken;
 pub mod fault;
 pub mod files;
 pub mod gallery;
+pub mod index;
 pub mod keeper;
 pub mod kiosk;
 pub mod library;

@@ -7,7 +7,7 @@ use crate::kiosk::{Kiosk, REMAINDER};
 use crate::model::{Message, KEEPERS};
 use crate::script::line_of;
 use crate::setting::Setting;
-use crate::{keeper, kiosk, library};
+use crate::{index, keeper, kiosk, library};
 
 /// n, m, f, the kiosks, the messages kept, the last message's number, the most keepers down within an epoch.
 pub const HEAD: usize = 7;
@@ -17,7 +17,9 @@ pub const CLIENT: usize = 1 + kiosk::WORDS + KEEPERS as usize;
 pub const SERVER: usize = 1 + keeper::WORDS;
 /// The message's number, 1 if it is taken, and its five words.
 pub const SLOT: usize = 7;
-pub const WORDS: usize = slot_at(GALLERY.places);
+/// Where the index begins, behind the last slot.
+pub const INDEX: usize = slot_at(GALLERY.places);
+pub const WORDS: usize = INDEX + index::WORDS;
 
 /// Where the block of the kiosk in this place, counted from 0, begins.
 pub const fn client_at(place: usize) -> usize {
@@ -59,7 +61,23 @@ pub fn words_of(gallery: &Gallery) -> Vec<u32> {
         let slot = [*number as u32, u32::from(*taken), kind, kiosk, keeper, ticket, owner];
         words[slot_at(i)..slot_at(i + 1)].copy_from_slice(&slot);
     }
+    words[INDEX..].copy_from_slice(&index::words(&index::lists(&gallery.kept)));
     words
+}
+
+/// The messages in the slots, as they stand there.
+fn kept_in(words: &[u32]) -> Vec<Kept> {
+    let kept = |i: usize| {
+        let slot = &words[slot_at(i)..slot_at(i + 1)];
+        let message = Message { kind: slot[2], kiosk: slot[3], keeper: slot[4], ticket: slot[5], owner: slot[6] };
+        Kept { number: slot[0].into(), message, taken: slot[1] == 1 }
+    };
+    (0..GALLERY.places.min(words[4] as usize)).map(kept).collect()
+}
+
+/// The words of the index made afresh from the slots. Where these are broken it still has all that can be listed.
+pub fn index_of(words: &[u32]) -> Vec<u32> {
+    index::words(&index::lists(&kept_in(words)))
 }
 
 /// The gallery in words that are not broken. An epoch runs while a kiosk lives and is not in remainder.
@@ -73,15 +91,10 @@ pub fn gallery_of(words: &[u32]) -> Result<Gallery, u32> {
     };
     let server =
         |i: usize| Ok(Server { up: words[server_at(i)] == 1, record: Keeper::read(&words[server_at(i) + 1..server_at(i + 1)])? });
-    let kept = |i: usize| {
-        let slot = &words[slot_at(i)..slot_at(i + 1)];
-        let message = Message { kind: slot[2], kiosk: slot[3], keeper: slot[4], ticket: slot[5], owner: slot[6] };
-        Kept { number: slot[0].into(), message, taken: slot[1] == 1 }
-    };
     let mut gallery = Gallery::new(Setting::new(words[0], words[1], words[2])?, words[3], GALLERY)?;
     gallery.clients = (0..words[3] as usize).map(client).collect::<Result<_, u32>>()?;
     gallery.servers = (0..words[0] as usize).map(server).collect::<Result<_, u32>>()?;
-    gallery.kept = (0..words[4] as usize).map(kept).collect();
+    gallery.kept = kept_in(words);
     gallery.last = words[5].into();
     gallery.most_down = words[6] as usize;
     Ok(gallery)
@@ -142,7 +155,8 @@ pub fn by_call(words: &mut [u32], kind: u32, number: u32, room: usize) -> Answer
 /// The state of a script that has answered so many lines, before its simulation: none is begun, and the most holders at once
 /// are as many as there can be.
 const ANSWERED: u32 = 500;
-const STATE: usize = 46;
+/// A script's own words, in front of its simulation's.
+pub const STATE: usize = 46;
 
 fn state_head() -> [u32; STATE] {
     let mut head = [0; STATE];

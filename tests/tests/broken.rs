@@ -3,15 +3,16 @@
 
 use sigma_tests::author::{any_event, any_setting};
 use sigma_tests::broken::{broken, Rule};
-use sigma_tests::gallery::{Client, Event, Gallery, Kept, Kind, Server, GALLERY};
+use sigma_tests::gallery::{Client, Event, Gallery, Kept, Kind, Server, GALLERY, KIOSKS};
+use sigma_tests::index::{self, List, Receiver, MARKS, NUMBERS, RECEIVERS, STARTS};
 use sigma_tests::kiosk::{HOLDING, REMAINDER, TRYING};
 use sigma_tests::model::{KEEPERS, RESPONSE};
 use sigma_tests::random::Random;
 use sigma_tests::records::Pair;
 use sigma_tests::setting::Setting;
 use sigma_tests::simulation::{
-    by_call, by_model, by_script, client_at, flags_at, gallery_of, server_at, slot_at, words_of, Answer, CLIENT, SERVER, SLOT,
-    WORDS,
+    by_call, by_model, by_script, client_at, flags_at, gallery_of, index_of, server_at, slot_at, words_of, Answer, CLIENT, INDEX,
+    SERVER, SLOT, STATE, WORDS,
 };
 use std::collections::{BTreeMap, BTreeSet};
 
@@ -609,8 +610,159 @@ const MESSAGE_BREAKS: &[(&str, &[Rule], Break)] = &[
         |s| { let i = s.message(owned)?; Some(set(slot_at(i) + 6, &[s.kiosks + 1, 65_535])) }),
     ("a word behind the last message", &[Rule::Blank], |s| {
         let first = slot_at(s.gallery.kept.len());
-        (first < WORDS).then(|| [first, first + 6, WORDS - 1].iter().flat_map(|&at| set(at, &[1, LAST])).collect())
+        (first < INDEX).then(|| [first, first + 6, INDEX - 1].iter().flat_map(|&at| set(at, &[1, LAST])).collect())
     }),
+];
+
+type Lists = Vec<List>;
+
+/// The damages to the index's words by which its lists are changed so.
+fn relisted(s: &Scene, changes: &[&dyn Fn(&mut Lists)]) -> Vec<Damage> {
+    let sound = index::lists(&s.gallery.kept);
+    let damage = |change: &&dyn Fn(&mut Lists)| {
+        let mut lists = sound.clone();
+        change(&mut lists);
+        let (from, to) = (index::words(&sound), index::words(&lists));
+        (0..index::WORDS).filter(|&at| from[at] != to[at]).map(|at| (INDEX + at, to[at])).collect()
+    };
+    changes.iter().map(damage).collect()
+}
+
+impl Scene<'_> {
+    /// The places of receivers whose lists have at least so many messages.
+    fn places(&self, least: usize) -> Vec<usize> {
+        let lists = index::lists(&self.gallery.kept);
+        (0..RECEIVERS).filter(|&place| lists[place].len() >= least).collect()
+    }
+
+    /// A receiver with at least so many messages, and which of them.
+    fn listed(&mut self, least: usize) -> Option<(usize, usize)> {
+        let place = self.any(self.places(least))?;
+        let count = index::lists(&self.gallery.kept)[place].len();
+        Some((place, self.r.below(count as u64) as usize))
+    }
+
+    /// Where the mark of some message of these stands in the index.
+    fn mark(&mut self, of: impl Fn(&Kept) -> bool) -> Option<usize> {
+        let i = self.message(of)?;
+        let lists = index::lists(&self.gallery.kept);
+        let at = lists.iter().flatten().position(|&(number, _)| u64::from(number) == self.gallery.kept[i].number)?;
+        Some(INDEX + MARKS + at)
+    }
+
+    /// None where not one message more could be listed.
+    fn room(&self) -> Option<()> {
+        (self.gallery.kept.len() < GALLERY.places).then_some(())
+    }
+}
+
+/// The places of the keepers and of the kiosks beyond the setting.
+fn beyond(s: &Scene) -> Vec<usize> {
+    let keepers = (s.n + 1..=KEEPERS).map(Receiver::Keeper);
+    keepers.chain((s.kiosks + 1..=KIOSKS).map(Receiver::Kiosk)).map(Receiver::place).collect()
+}
+
+#[rustfmt::skip]
+const INDEX_BREAKS: &[(&str, &[Rule], Break)] = &[
+    ("a start", &[Rule::Index], |s| {
+        let (at, kept) = (s.r.below(STARTS as u64) as usize, s.gallery.kept.len() as u32);
+        let start = index_of(&words_of(s.gallery))[at];
+        let others = [start.wrapping_add(1), start.wrapping_sub(1), kept, kept + 1, 512, 513, LAST];
+        Some(set(INDEX + at, &others.into_iter().filter(|&word| word != start).collect::<Vec<_>>()))
+    }),
+    ("a taken message listed as waiting", &[Rule::Index], |s| { let at = s.mark(|kept| kept.taken)?; Some(set(at, &[0])) }),
+    ("a waiting message listed as taken", &[Rule::Index], |s| { let at = s.mark(|kept| !kept.taken)?; Some(set(at, &[1])) }),
+    ("a mark that is neither", &[Rule::Index], |s| { let at = s.mark(|_| true)?; Some(set(at, &[2, 256, 257, LAST])) }),
+    ("waiting again in the table alone", &[Rule::Index],
+        |s| { let i = s.message(|kept| kept.taken)?; Some(vec![vec![(slot_at(i) + 1, 0)]]) }),
+    ("taken in the table alone", &[Rule::Index],
+        |s| { let i = s.message(|kept| !kept.taken)?; Some(vec![vec![(slot_at(i) + 1, 1)]]) }),
+    ("another receiver in the table alone", &[Rule::Index], |s| {
+        let i = s.message(|kept| kept.message.kind < RESPONSE)?;
+        let other = s.other(s.gallery.kept[i].message.keeper)?;
+        Some(vec![vec![(slot_at(i) + 4, other)]])
+    }),
+    ("another number in the table alone", &[Rule::Index], |s| {
+        let i = s.gallery.kept.len().checked_sub(1).filter(|_| s.gallery.last < LAST.into())?;
+        let last = s.gallery.last as u32 + 1;
+        Some(vec![vec![(5, last), (slot_at(i), last)]])
+    }),
+    ("entries of two receivers exchanged", &[Rule::Index], |s| {
+        let (p, i) = s.listed(1)?;
+        let q = s.any(s.places(1).into_iter().filter(|&q| q != p).collect())?;
+        Some(relisted(s, &[
+            &|lists| (lists[p][i], lists[q][0]) = (lists[q][0], lists[p][i]),
+            &|lists| (lists[p][i].0, lists[q][0].0) = (lists[q][0].0, lists[p][i].0),
+            &|lists| lists.swap(p, q),
+        ]))
+    }),
+    ("a list out of order", &[Rule::Index], |s| {
+        let (p, i) = s.listed(2)?;
+        Some(relisted(s, &[
+            &|lists| { let next = (i + 1) % lists[p].len(); lists[p].swap(i, next) },
+            &|lists| lists[p].reverse(),
+        ]))
+    }),
+    ("the marks of a list out of order", &[Rule::Index], |s| {
+        let lists = index::lists(&s.gallery.kept);
+        let mixed = (0..RECEIVERS).filter(|&p| lists[p].windows(2).any(|two| two[0].1 != two[1].1)).collect();
+        let p = s.any(mixed)?;
+        let i = lists[p].windows(2).position(|two| two[0].1 != two[1].1)?;
+        Some(relisted(s, &[&|lists| (lists[p][i].1, lists[p][i + 1].1) = (lists[p][i + 1].1, lists[p][i].1)]))
+    }),
+    ("a message in another's list", &[Rule::Index], |s| {
+        let (p, i) = s.listed(1)?;
+        let q = (p + 1 + s.r.below(RECEIVERS as u64 - 1) as usize) % RECEIVERS;
+        let next = (p + 1) % RECEIVERS;
+        let moved = |lists: &mut Lists, to: usize| {
+            let entry = lists[p].remove(i);
+            lists[to].push(entry);
+            lists[to].sort();
+        };
+        Some(relisted(s, &[&|lists| moved(lists, q), &|lists| moved(lists, next)]))
+    }),
+    ("a list of a party beyond the setting, a message moved", &[Rule::Index], |s| {
+        let ((p, i), past) = (s.listed(1)?, s.any(beyond(s))?);
+        Some(relisted(s, &[&|lists| { let entry = lists[p].remove(i); lists[past].push(entry) }]))
+    }),
+    ("a list of a party beyond the setting, a message more", &[Rule::Index], |s| {
+        s.room()?;
+        let (past, last) = (s.any(beyond(s))?, s.gallery.last as u32);
+        Some(relisted(s, &[&|lists| lists[past].push((last, false)), &|lists| lists[past].push((0, false)),
+            &|lists| lists[past].push((last.wrapping_add(1), true))]))
+    }),
+    ("a message left out", &[Rule::Index], |s| {
+        let (p, i) = s.listed(1)?;
+        Some(relisted(s, &[&|lists| { lists[p].remove(i); }, &|lists| lists[p].clear()]))
+    }),
+    ("a message more than is kept", &[Rule::Index], |s| {
+        s.room()?;
+        let (p, last) = (s.r.below(RECEIVERS as u64) as usize, s.gallery.last as u32);
+        Some(relisted(s, &[&|lists| lists[p].push((last.wrapping_add(1), false)), &|lists| lists[p].insert(0, (0, false))]))
+    }),
+    ("a message listed twice", &[Rule::Index], |s| {
+        s.room()?;
+        let (p, i) = s.listed(1)?;
+        let q = s.r.below(RECEIVERS as u64) as usize;
+        Some(relisted(s, &[&|lists| { let entry = lists[p][i]; lists[p].insert(i, entry) },
+            &|lists| { let entry = lists[p][i]; lists[q].push(entry) }]))
+    }),
+    ("another number", &[Rule::Index], |s| {
+        let (p, i) = s.listed(1)?;
+        Some(relisted(s, &[&|lists| lists[p][i].0 -= 1, &|lists| lists[p][i].0 += 1, &|lists| lists[p][i].0 ^= 1 << 31]))
+    }),
+    ("a word behind the numbers", &[Rule::Index], |s| {
+        s.room()?;
+        let first = INDEX + NUMBERS + s.gallery.kept.len();
+        Some([first, INDEX + MARKS - 1].iter().flat_map(|&at| set(at, &[1, LAST])).collect())
+    }),
+    ("a word behind the marks", &[Rule::Index], |s| {
+        s.room()?;
+        let first = INDEX + MARKS + s.gallery.kept.len();
+        Some([first, WORDS - 1].iter().flat_map(|&at| set(at, &[1, LAST])).collect())
+    }),
+    ("no index at all", &[Rule::Index],
+        |s| (!s.gallery.kept.is_empty()).then(|| vec![(INDEX..WORDS).map(|at| (at, 0)).collect()])),
 ];
 
 fn damages_of(damages: Break, gallery: &Gallery, r: &mut Random) -> Vec<Damage> {
@@ -618,7 +770,21 @@ fn damages_of(damages: Break, gallery: &Gallery, r: &mut Random) -> Vec<Damage> 
     damages(&mut Scene { gallery, n, m, kiosks: gallery.clients.len() as u32, r }).unwrap_or_default()
 }
 
-/// Each damage of these is judged as it says, refused 21 by both ways, and leaves every word.
+fn damaged(words: &[u32], damage: &Damage) -> Vec<u32> {
+    let mut wrong = words.to_vec();
+    damage.iter().for_each(|&(at, word)| wrong[at] = word);
+    wrong
+}
+
+/// The words with the index that their slots ask for.
+fn reindexed(mut words: Vec<u32>) -> Vec<u32> {
+    let index = index_of(&words);
+    words[INDEX..].copy_from_slice(&index);
+    words
+}
+
+/// Each damage of these is judged as it says, refused 21 by both ways, and leaves every word. Where it is not the index that is
+/// damaged, the index is made afresh, so that nothing else is wrong, and tried as it was too.
 fn try_breaks(breaks: &[(&str, &[Rule], Break)], seed: u64) {
     let (mut r, mut tried) = (Random::new(seed), 0);
     let all = galleries(96, 1);
@@ -628,11 +794,13 @@ fn try_breaks(breaks: &[(&str, &[Rule], Break)], seed: u64) {
             let words = words_of(gallery);
             for damage in damages_of(damages, gallery, &mut r) {
                 met += 1;
-                let mut wrong = words.clone();
-                damage.iter().for_each(|&(at, word)| wrong[at] = word);
+                let stale = damaged(&words, &damage);
+                let wrong = if rules.contains(&Rule::Index) { stale.clone() } else { reindexed(stale.clone()) };
                 assert_eq!(broken(&wrong), rules, "{name}: {damage:?} of {:?}", told(&words));
                 let event = any_event(gallery, &mut r);
-                assert_eq!(by_library(&mut wrong, event), Err(21), "{name}: {damage:?} of {:?}", told(&words));
+                for mut wrong in [wrong, stale] {
+                    assert_eq!(by_library(&mut wrong, event), Err(21), "{name}: {damage:?} of {:?}", told(&words));
+                }
             }
         }
         assert!(met >= 5, "{name}: only {met} damages");
@@ -661,20 +829,25 @@ fn messages_broken_by_one_rule() {
     try_breaks(MESSAGE_BREAKS, 5);
 }
 
+#[test]
+fn indexes_that_are_not_the_tables() {
+    try_breaks(INDEX_BREAKS, 10);
+}
+
 /// Each rule is among those above that stand alone, but for the length, which has a test of its own.
 #[test]
 fn every_rule_is_broken_by_itself() {
-    let breaks = [HEAD_BREAKS, KIOSK_BREAKS, KEEPER_BREAKS, MESSAGE_BREAKS].concat();
+    let breaks = [HEAD_BREAKS, KIOSK_BREAKS, KEEPER_BREAKS, MESSAGE_BREAKS, INDEX_BREAKS].concat();
     let alone = breaks.iter().filter_map(|(_, rules, _)| (rules.len() == 1).then(|| rules[0]));
     let alone: BTreeSet<Rule> = alone.chain([Rule::Length]).collect();
-    assert_eq!(alone.len(), Rule::Blank as usize + 1, "{alone:?}");
+    assert_eq!(alone.len(), Rule::Index as usize + 1, "{alone:?}");
 }
 
 #[test]
 fn words_of_another_number() {
     for gallery in galleries(8, 6) {
         let words = words_of(&gallery);
-        for length in [0, 1, 7, WORDS - 7, WORDS - 1, WORDS + 1, WORDS + 46] {
+        for length in [0, 1, 7, INDEX - 7, INDEX, WORDS - 1, WORDS + 1, STATE + WORDS] {
             let mut other = words.clone();
             other.resize(length, 0);
             assert_eq!(broken(&other), [Rule::Length]);
@@ -760,8 +933,7 @@ fn edges_that_break_no_rule() {
         for gallery in &all {
             let words = words_of(gallery);
             for damage in damages_of(damages, gallery, &mut r) {
-                let mut edge = words.clone();
-                damage.iter().for_each(|&(at, word)| edge[at] = word);
+                let edge = reindexed(damaged(&words, &damage));
                 assert_eq!(broken(&edge), [], "{name}: {damage:?} of {:?}", told(&words));
                 let places: Vec<usize> = damage.iter().map(|&(at, _)| at).collect();
                 play(&edge, &places, 12, &mut answers, &mut r);
@@ -782,17 +954,24 @@ fn any_place(words: &[u32], r: &mut Random) -> usize {
     let (n, kiosks, kept) = (words[0].into(), words[3].into(), u64::from(words[4]));
     let within =
         |size: usize, front: u64, r: &mut Random| (if r.below(3) == 0 { r.below(size as u64) } else { r.below(front) }) as usize;
-    match r.below(12) {
+    match r.below(13) {
         0 => r.below(WORDS as u64) as usize,
         1 | 2 => r.below(7) as usize,
         3..=5 => client_at(r.below(kiosks) as usize) + within(CLIENT, 6 + 2 * n, r),
         6 => flags_at(r.below(kiosks) as usize) + r.below(n) as usize,
         7..=9 => server_at(r.below(n) as usize) + within(SERVER, 12, r),
-        _ => slot_at(r.below(kept.max(1)) as usize) + r.below(SLOT as u64) as usize,
+        10 | 11 => slot_at(r.below(kept.max(1)) as usize) + r.below(SLOT as u64) as usize,
+        _ => index_place(kept, r),
     }
 }
 
-/// The same word of another kiosk, keeper or message.
+/// A word of the index that is used with so many messages kept.
+fn index_place(kept: u64, r: &mut Random) -> usize {
+    let [start, message] = [STARTS as u64, kept.max(1)].map(|count| r.below(count) as usize);
+    INDEX + r.one_of(&[start, NUMBERS + message, MARKS + message])
+}
+
+/// The same word of another kiosk, keeper or message, or another of the index.
 fn alike(words: &[u32], at: usize, r: &mut Random) -> usize {
     let (n, kiosks, kept) = (words[0].into(), words[3].into(), u64::from(words[4]));
     if at < client_at(0) {
@@ -801,8 +980,10 @@ fn alike(words: &[u32], at: usize, r: &mut Random) -> usize {
         client_at(r.below(kiosks) as usize) + (at - client_at(0)) % CLIENT
     } else if at < slot_at(0) {
         server_at(r.below(n) as usize) + (at - server_at(0)) % SERVER
-    } else {
+    } else if at < INDEX {
         slot_at(r.below(kept.max(1)) as usize) + (at - slot_at(0)) % SLOT
+    } else {
+        index_place(kept, r)
     }
 }
 
@@ -845,8 +1026,8 @@ fn damage(words: &mut [u32], r: &mut Random) {
     }
 }
 
-/// Of the damaged ones the library refuses 21 exactly those that the model calls broken; the others it goes on with as the
-/// model does.
+/// Of the damaged ones, half of them with the index made afresh, the library refuses 21 exactly those that the model calls
+/// broken; the others it goes on with as the model does.
 #[test]
 fn random_damage() {
     let mut r = Random::new(8);
@@ -856,6 +1037,9 @@ fn random_damage() {
         let sound = &all[r.below(all.len() as u64) as usize];
         let mut words = sound.clone();
         damage(&mut words, &mut r);
+        if r.below(2) == 0 {
+            words = reindexed(words);
+        }
         if words == *sound {
             continue;
         }
@@ -876,6 +1060,6 @@ fn random_damage() {
     }
     println!("{refused} refused, {worked} worked and answered {answers:?}; broken by one rule alone: {alone:?}");
     assert!(refused >= 20_000 && worked >= 20_000, "{refused} refused, {worked} worked");
-    assert!(alone.len() == Rule::Blank as usize && alone.values().all(|&times| times >= 20), "{alone:?}");
+    assert!(alone.len() == Rule::Index as usize && alone.values().all(|&times| times >= 20), "{alone:?}");
     assert!(answers.keys().eq(&EVERY_ANSWER), "{answers:?}");
 }

@@ -5,6 +5,7 @@ use sigma_tests::files::{contents, failures, program, scripts};
 use sigma_tests::library::{script_feed, script_finish, script_new};
 use sigma_tests::random::Random;
 use sigma_tests::script::run;
+use sigma_tests::simulation::{self, slot_at, INDEX, STATE};
 use std::collections::BTreeSet;
 use std::fs::File;
 use std::io::Write;
@@ -13,7 +14,7 @@ use std::process::{Command, Stdio};
 use std::thread;
 use std::time::{Duration, Instant};
 
-const WORDS: usize = 6399;
+const WORDS: usize = STATE + simulation::WORDS;
 const LINE: usize = 52;
 const END: usize = 104;
 const FILLER: u8 = 0x77;
@@ -156,7 +157,8 @@ fn refused_calls_change_nothing() {
     assert_eq!((call(&state, LINE, 2), call(&state, LINE - 1, 2), call(&state, 0, 2)), ([0, 6], [6, 6], [6, 6]));
     assert_eq!((call(&state, END, 2), call(&state, END - 1, 2)), ([0, 0], [0, 6]));
     assert_eq!((call(&state, 200, 1), call(&state, 200, 0)), ([6, 6], [6, 6]));
-    for length in [0, 1, 46, WORDS - 1, WORDS + 1] {
+    // Without the index it is the state of a script from before there was one.
+    for length in [0, 1, STATE, STATE + INDEX, WORDS - 1, WORDS + 1] {
         let mut other = state.clone();
         other.resize(length, 0);
         // 21 stands before 6.
@@ -167,7 +169,8 @@ fn refused_calls_change_nothing() {
 }
 
 /// Word 0 is the stage, 1 to 3 the counts, 4 the line's length, 5 to 45 its bytes. Behind them is the simulation: n, m, f, the
-/// kiosks, the messages kept, the last message's number, the most keepers down; then the kiosks, the keepers, the messages.
+/// kiosks, the messages kept, the last message's number, the most keepers down; then the kiosks, the keepers, the messages and
+/// the index.
 #[test]
 fn broken_states() {
     let state = running();
@@ -176,12 +179,26 @@ fn broken_states() {
     #[rustfmt::skip]
     let broken = [
         (0, 3), (0, u32::MAX), (1, 1_000_001), (1, accepted - 1), (2, answered + 1), (3, 17), (4, 42), (5, 256), (45, 256),
-        (46, 0), (46, 32), (47, 0), (48, 32), (49, 0), (49, 17), (50, 513), (51, 0), (52, 32), (46 + 2769, 0), (WORDS - 1, 1),
+        (46, 0), (46, 32), (47, 0), (48, 32), (49, 0), (49, 17), (50, 513), (51, 0), (52, 32),
+        (STATE + slot_at(0), 0), (STATE + INDEX - 1, 1),
     ];
     for (at, word) in broken {
         let mut wrong = state.clone();
         wrong[at] = word;
         assert_eq!((call(&wrong, 200, 2), call(&wrong, 0, 0)), ([21, 21], [21, 21]), "word {at} is {word}");
+    }
+}
+
+/// Every other word in a running script's index, by both calls.
+#[test]
+fn no_word_of_the_index_can_be_another() {
+    let state = running();
+    for at in STATE + INDEX..WORDS {
+        for word in [state[at].wrapping_add(1), state[at].wrapping_sub(1)] {
+            let mut wrong = state.clone();
+            wrong[at] = word;
+            assert_eq!(call(&wrong, 200, 2), [21, 21], "word {at} is {word}");
+        }
     }
 }
 

@@ -8,7 +8,7 @@ use sigma_tests::library::{script_feed, script_new};
 use sigma_tests::random::Random;
 use sigma_tests::script::{event, first, lines};
 use sigma_tests::setting::Setting;
-use sigma_tests::simulation::{by_call, by_model, new_by_call, words_of, WORDS};
+use sigma_tests::simulation::{by_call, by_model, new_by_call, words_of, INDEX, STATE, WORDS};
 use std::collections::BTreeMap;
 
 const LAST: u32 = u32::MAX;
@@ -19,11 +19,11 @@ fn by_setting(n: u32, m: u32, f: u32, kiosks: u32) -> Result<Gallery, u32> {
 
 /// The simulation that a script's first line begins.
 fn begun(n: u32, m: u32, f: u32, kiosks: u32) -> Vec<u32> {
-    let mut state = vec![0; 46 + WORDS];
+    let mut state = vec![0; STATE + WORDS];
     assert_eq!(script_new(&mut state), 0);
     let line = format!("setting {n} {m} {f} {kiosks}\n");
     assert_eq!(script_feed(&mut state, line.as_bytes(), &mut [0; 52], &mut [0; 2]), 0);
-    state.split_off(46)
+    state.split_off(STATE)
 }
 
 #[test]
@@ -49,7 +49,7 @@ fn settings_out_of_range() {
             assert_eq!(by_setting(n, m, f, kiosks).err(), Some(7), "{n} {m} {f} {kiosks}");
             assert_eq!(new_by_call(n, m, f, kiosks, WORDS), Err(7), "{n} {m} {f} {kiosks}");
         }
-        for room in [0, 1, 7, WORDS - 1, WORDS + 1, WORDS + 46] {
+        for room in [0, 1, 7, INDEX, WORDS - 1, WORDS + 1, STATE + WORDS] {
             assert_eq!(new_by_call(n, m, f, kiosks, room), Err(7), "{room} words");
         }
     }

@@ -1,8 +1,11 @@
 //! The gallery program: whole processes, from file to file. The model's is this program itself, with the argument `model`.
-//! The scripts are `author::long_script`: 31 keepers, threshold 21, 16 kiosks in turn, every event accepted.
+//! The scripts are `author::long_script`: 31 keepers, threshold 21, 16 kiosks in turn, every event accepted; and
+//! `author::restarts_script`, in which keepers go down and up while 400 messages and more are kept.
+//! An earlier gallery program is timed in the same rounds where SIGMA_BEFORE names one; its ratio is the time now over the time
+//! before.
 
 use crate::row;
-use sigma_tests::author::long_script;
+use sigma_tests::author::{long_script, restarts_script, RESTARTS};
 use sigma_tests::files::program;
 use sigma_tests::script;
 use std::fs::{self, File};
@@ -13,16 +16,21 @@ use std::thread;
 use std::time::{Duration, Instant};
 
 const LINES: [usize; 3] = [10_000, 100_000, 1_000_000];
+const RESTARTS_LINES: usize = 100_000;
 const ROUNDS: usize = 15;
 /// The argument that makes this program the model's; the proved one takes none and looks at none.
 const MODEL: &str = "model";
 
-/// A script in a file, its tries in a round, more if it is short, and the best time of each program on it.
+/// What is said of it, a script in a file, its events, its tries in a round, more if it is short, and the best time of each
+/// program on it.
 struct Course {
+    name: String,
     script: PathBuf,
+    events: usize,
     tries: usize,
     ours: Duration,
     theirs: Duration,
+    before: Duration,
 }
 
 /// Whether this process is to play the model's part.
@@ -72,30 +80,46 @@ pub fn run() {
     let model = std::env::current_exe().expect("this program");
     let folder = std::env::temp_dir().join(format!("bench-gallery-{}", std::process::id()));
     fs::create_dir_all(&folder).expect("a folder for the files");
-    let (ours, theirs) = (folder.join("ours"), folder.join("theirs"));
+    let [ours, theirs, old] = ["ours", "theirs", "before"].map(|name| folder.join(name));
+    let before = std::env::var_os("SIGMA_BEFORE").map(PathBuf::from);
 
-    let course = |name: String, script: &[u8]| {
-        let path = folder.join(name);
+    let mut courses = vec![];
+    let mut course = |name: String, events: usize, script: &[u8]| {
+        let path = folder.join(format!("script-{}", courses.len()));
         fs::write(&path, script).expect("a file for the script");
-        Course { script: path, tries: 1 + 2_000_000 / (200_000 + script.len()), ours: Duration::MAX, theirs: Duration::MAX }
+        let tries = 1 + 2_000_000 / (200_000 + script.len());
+        let [ours, theirs, before] = [Duration::MAX; 3];
+        courses.push(Course { name, script: path, events, tries, ours, theirs, before });
     };
-    let mut courses = vec![course("empty".into(), b"")];
-    courses.extend(LINES.map(|lines| course(lines.to_string(), &long_script(lines))));
+    course("an empty script".into(), 0, b"");
+    for lines in LINES {
+        course(format!("gallery program, an event of {lines}"), lines, &long_script(lines));
+    }
+    for setting in RESTARTS {
+        let name = format!("restarts of {} keepers, an event of {RESTARTS_LINES}", setting.n);
+        course(name, RESTARTS_LINES, &restarts_script(setting, RESTARTS_LINES));
+    }
+    let read = |path: &Path| fs::read(path).expect("an output");
     for _ in 0..ROUNDS {
         for c in &mut courses {
             for _ in 0..c.tries {
                 c.ours = c.ours.min(time(&gallery, &c.script, &ours));
                 c.theirs = c.theirs.min(time(&model, &c.script, &theirs));
+                if let Some(before) = &before {
+                    c.before = c.before.min(time(before, &c.script, &old));
+                }
             }
-            assert!(fs::read(&ours).expect("an output") == fs::read(&theirs).expect("an output"), "both print the same");
+            let output = read(&ours);
+            assert!(output == read(&theirs), "both print the same");
+            assert!(before.is_none() || output == read(&old), "the earlier program prints the same");
         }
     }
 
-    let (start, other) = (courses[0].ours, courses[0].theirs);
-    for (c, lines) in courses[1..].iter().zip(LINES) {
-        row(&format!("gallery program, an event of {lines}"), lines, c.ours - start, c.theirs - other);
+    let (start, courses) = courses.split_first().expect("the empty script");
+    for c in courses {
+        row(&c.name, c.events, c.ours - start.ours, c.theirs - start.theirs);
     }
-    let last = &courses[LINES.len()];
+    let last = &courses[LINES.len() - 1];
     let ms = |t: Duration| t.as_secs_f64() * 1e3;
     println!(
         "\ngallery program, {} events with its start: {:.0} ms, the model {:.0} ms",
@@ -103,6 +127,11 @@ pub fn run() {
         ms(last.ours),
         ms(last.theirs)
     );
-    println!("an empty script takes it {:.2} ms; resident at most {} KiB", ms(start), memory(&gallery, &last.script, &ours));
+    println!("an empty script takes it {:.2} ms; resident at most {} KiB", ms(start.ours), memory(&gallery, &last.script, &ours));
+    for c in courses.iter().filter(|_| before.is_some()) {
+        let each = |t: Duration| t.as_nanos() as f64 / c.events as f64;
+        let (old, new) = (each(c.before - start.before), each(c.ours - start.ours));
+        println!("{}, before and after: {old:.1} ns, {new:.1} ns, ratio {:.2}", c.name, new / old);
+    }
     fs::remove_dir_all(&folder).expect("the files go");
 }
