@@ -177,12 +177,12 @@ uint32_t sigma_default_threshold(uint32_t n, uint32_t *words, size_t words_len);
 /* A simulated system: n servers with threshold m, 1 to 16 clients, and at most 512 messages in transit, as words that stay where
  * the host put them. f is kept with them, and no event is held to it. An event is the two words of sigma_run_event. */
 enum {
-    SIGMA_SIMULATION_WORDS = 6353,
+    SIGMA_SIMULATION_WORDS = 7424,
     SIGMA_ANSWER_WORDS = 2
 };
 
 /* A fresh start: all clients living, in the remainder section, all servers up, nothing sent.
- * Refusal: 7 a number out of range, or not 6353 words. */
+ * Refusal: 7 a number out of range, or not 7424 words. */
 uint32_t sigma_simulation_new(uint32_t n, uint32_t m, uint32_t f, uint32_t clients, uint32_t *words, size_t words_len);
 
 /* An event: accepted, the words are the system after it, and the first two words of `answer` are the messages sent and the living
@@ -196,13 +196,13 @@ uint32_t sigma_simulation_event(uint32_t *words, size_t words_len, uint32_t kind
  * `counts` takes the bytes of the input used and the bytes written. All that the calls write, joined, is the script's whole
  * output, however the input is cut and however small the buffers are. */
 enum {
-    SIGMA_SCRIPT_WORDS = 6399,
+    SIGMA_SCRIPT_WORDS = 7470,
     SIGMA_SCRIPT_LINE = 52,
     SIGMA_SCRIPT_END = 104,
     SIGMA_SCRIPT_COUNTS = 2
 };
 
-/* A new script, before its first line. Refusal: 7 not 6399 words. */
+/* A new script, before its first line. Refusal: 7 not 7470 words. */
 uint32_t sigma_script_new(uint32_t *state, size_t state_len);
 
 /* Takes in the input's bytes while there is room for one more line, which has at most 52 bytes: at least one byte, if there is

@@ -62,10 +62,9 @@ pub fn lists(kept: &[Kept]) -> Vec<List> {
     lists
 }
 
-/// At each receiver's place how many messages go to those before it, and behind the last place how many there are.
-pub const STARTS: usize = RECEIVERS + 1;
-/// Where the numbers begin, list by list, and behind them, beside each number, the marks: 1 if the message is taken.
-pub const NUMBERS: usize = STARTS;
+/// At each receiver's place how many messages go to it. Behind these words the numbers begin, list by list, and behind them, beside
+/// each number, the marks: 1 if the message is taken.
+pub const NUMBERS: usize = RECEIVERS;
 pub const MARKS: usize = NUMBERS + GALLERY.places;
 pub const WORDS: usize = MARKS + GALLERY.places;
 
@@ -78,17 +77,19 @@ pub fn words(lists: &[List]) -> Vec<u32> {
             words[MARKS + end] = taken.into();
             end += 1;
         }
-        words[place + 1] = end as u32;
+        words[place] = list.len() as u32;
     }
     words
 }
 
-/// The lists in an index's words. None where the starts descend or pass the end, or a mark is neither 0 nor 1.
+/// The lists in an index's words. None where they pass the end, or a mark is neither 0 nor 1.
 pub fn read(words: &[u32]) -> Option<Vec<List>> {
     let entry = |at: usize| (words[MARKS + at] <= 1).then_some((words[NUMBERS + at], words[MARKS + at] == 1));
-    let list = |place: usize| {
-        let [start, end] = [words[place], words[place + 1]].map(|word| word as usize);
-        (start <= end && end <= GALLERY.places).then_some(start..end)?.map(entry).collect()
+    let mut end = 0;
+    let list = |&count: &u32| {
+        let start = end;
+        end += count as usize;
+        (end <= GALLERY.places).then_some(start..end)?.map(entry).collect()
     };
-    (0..RECEIVERS).map(list).collect()
+    words[..RECEIVERS].iter().map(list).collect()
 }

@@ -4,7 +4,7 @@
 use sigma_tests::author::{any_event, any_setting};
 use sigma_tests::broken::{broken, Rule};
 use sigma_tests::gallery::{Client, Event, Gallery, Kept, Kind, Server, GALLERY, KIOSKS};
-use sigma_tests::index::{self, List, Receiver, MARKS, NUMBERS, RECEIVERS, STARTS};
+use sigma_tests::index::{self, List, Receiver, MARKS, NUMBERS, RECEIVERS};
 use sigma_tests::kiosk::{HOLDING, REMAINDER, TRYING};
 use sigma_tests::model::{KEEPERS, RESPONSE};
 use sigma_tests::random::Random;
@@ -664,11 +664,11 @@ fn beyond(s: &Scene) -> Vec<usize> {
 
 #[rustfmt::skip]
 const INDEX_BREAKS: &[(&str, &[Rule], Break)] = &[
-    ("a start", &[Rule::Index], |s| {
-        let (at, kept) = (s.r.below(STARTS as u64) as usize, s.gallery.kept.len() as u32);
-        let start = index_of(&words_of(s.gallery))[at];
-        let others = [start.wrapping_add(1), start.wrapping_sub(1), kept, kept + 1, 512, 513, LAST];
-        Some(set(INDEX + at, &others.into_iter().filter(|&word| word != start).collect::<Vec<_>>()))
+    ("a count", &[Rule::Index], |s| {
+        let (at, kept) = (s.r.below(RECEIVERS as u64) as usize, s.gallery.kept.len() as u32);
+        let count = index_of(&words_of(s.gallery))[at];
+        let others = [count.wrapping_add(1), count.wrapping_sub(1), kept, kept + 1, 512, 513, LAST];
+        Some(set(INDEX + at, &others.into_iter().filter(|&word| word != count).collect::<Vec<_>>()))
     }),
     ("a taken message listed as waiting", &[Rule::Index], |s| { let at = s.mark(|kept| kept.taken)?; Some(set(at, &[0])) }),
     ("a waiting message listed as taken", &[Rule::Index], |s| { let at = s.mark(|kept| !kept.taken)?; Some(set(at, &[1])) }),
@@ -967,8 +967,8 @@ fn any_place(words: &[u32], r: &mut Random) -> usize {
 
 /// A word of the index that is used with so many messages kept.
 fn index_place(kept: u64, r: &mut Random) -> usize {
-    let [start, message] = [STARTS as u64, kept.max(1)].map(|count| r.below(count) as usize);
-    INDEX + r.one_of(&[start, NUMBERS + message, MARKS + message])
+    let [receiver, message] = [RECEIVERS as u64, kept.max(1)].map(|count| r.below(count) as usize);
+    INDEX + r.one_of(&[receiver, NUMBERS + message, MARKS + message])
 }
 
 /// The same word of another kiosk, keeper or message, or another of the index.

@@ -56,8 +56,8 @@ impl Both {
 
 #[test]
 fn how_many_words() {
-    assert_eq!((RECEIVERS, index::STARTS, index::NUMBERS, index::MARKS, index::WORDS), (47, 48, 48, 560, 1072));
-    assert_eq!((INDEX, WORDS, 4 * WORDS, STATE + WORDS), (6353, 7425, 29_700, 7471));
+    assert_eq!((RECEIVERS, index::NUMBERS, index::MARKS, index::WORDS), (47, 47, 559, 1071));
+    assert_eq!((INDEX, WORDS, 4 * WORDS, STATE + WORDS), (6353, 7424, 29_696, 7470));
 }
 
 #[test]
@@ -110,12 +110,12 @@ fn a_small_run() {
 fn the_words_of_a_small_index() {
     let events = [(Kind::Try, 1), (Kind::Take, 1), (Kind::Take, 2), (Kind::Try, 2), (Kind::Take, 6)];
     let both = Both::after([3, 2, 1, 2], &events);
-    let (starts, rest) = both.words[INDEX..].split_at(48);
+    let (counts, rest) = both.words[INDEX..].split_at(47);
     let (numbers, marks) = rest.split_at(512);
-    assert_eq!(starts[..4], [0, 2, 4, 6]);
-    assert_eq!(starts[4..32], [6; 28]);
-    assert_eq!(starts[32..34], [8, 9]);
-    assert_eq!(starts[34..], [9; 14]);
+    assert_eq!(counts[..3], [2; 3]);
+    assert_eq!(counts[3..31], [0; 28]);
+    assert_eq!(counts[31..33], [2, 1]);
+    assert_eq!(counts[33..], [0; 14]);
     assert_eq!(numbers[..9], [1, 6, 2, 7, 3, 8, 4, 5, 9]);
     assert_eq!(numbers[9..], [0; 503]);
     assert_eq!(marks[..9], [1, 1, 1, 0, 0, 0, 0, 0, 0]);
