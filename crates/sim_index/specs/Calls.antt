@@ -19,6 +19,13 @@ sum (x ∷ l) = x + sum l
 abbrev pub startOf : ℕ → List ℕ → ℕ
 startOf p x = sum (take p x)
 
+-- the list that the words have for the receiver at place p: the numbers, and beside them the marks
+abbrev pub numbersIn : ℕ → List ℕ → List ℕ
+numbersIn p x = take (getD x p 0) (drop (numbersFrom + startOf p x) x)
+
+abbrev pub marksIn : ℕ → List ℕ → List ℕ
+marksIn p x = take (getD x p 0) (drop (marksFrom + startOf p x) x)
+
 -- the place of the first v, counted from 0; where there is none, how many there are
 unfoldable pub firstOf : ℕ → List ℕ → ℕ
 firstOf v [] = 0
@@ -34,7 +41,7 @@ deleted at last x = take at x ++ (take (last - at) (drop (suc at) x) ++ (0 ∷ d
 
 -- the entry with this number among those of the receiver at place p
 unfoldable pub entryOf : ℕ → ℕ → List ℕ → ℕ
-entryOf p number x = startOf p x + firstOf number (take (getD x p 0) (drop (numbersFrom + startOf p x) x))
+entryOf p number x = startOf p x + firstOf number (numbersIn p x)
 
 -- a card joins the entries of an index with len of them: it is the last of its receiver's
 unfoldable pub added : ℕ → Card → List ℕ → List ℕ

@@ -8,3 +8,4 @@ pub mod RestartLaws
 pub mod ReadLaws
 pub mod Determined
 pub mod Kept
+pub mod ListedLaws

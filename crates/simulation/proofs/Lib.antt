@@ -2,3 +2,4 @@ pub mod Replies
 pub mod NewLaws
 pub mod NeverFull
 pub mod Determined
+pub mod Touched
