@@ -24,19 +24,12 @@ use Rattle.sim_indexed.specs.Indexed.{placeOf, cardOf, entriesAt}
 use Rattle.sim_indexed.specs.Calls.{Few}
 use Rattle.sim_indexed.proofs.CardLaws.{Inside, receiver-inside}
 
-less-one : (a b : ℕ) → 1 ≤ a → 1 ≤ b → eqb a b ≡ eqb (a - 1) (b - 1)
-less-one a b p q = go (decided (eqb a b))
+same-test : (a b c d : ℕ) → (a ≡ b → c ≡ d) → (c ≡ d → a ≡ b) → eqb a b ≡ eqb c d
+same-test a b c d f g = go (decided (eqb a b))
   where
-    go : Test (eqb a b) → eqb a b ≡ eqb (a - 1) (b - 1)
-    go (inl e) = e ∙ sym (eq-eqb (a - 1) (b - 1) (omega (arith, eqb-true a b e)))
-    go (inr e) = e ∙ sym (ne-eqb (a - 1) (b - 1) (λ z. eqb-false a b e (omega (arith, z))))
-
-further : (s a b : ℕ) → eqb a b ≡ eqb (s + a) (s + b)
-further s a b = go (decided (eqb a b))
-  where
-    go : Test (eqb a b) → eqb a b ≡ eqb (s + a) (s + b)
-    go (inl e) = e ∙ sym (eq-eqb (s + a) (s + b) (omega (arith, eqb-true a b e)))
-    go (inr e) = e ∙ sym (ne-eqb (s + a) (s + b) (λ z. eqb-false a b e (omega (arith, z))))
+    go : Test (eqb a b) → eqb a b ≡ eqb c d
+    go (inl e) = e ∙ sym (eq-eqb c d (f (eqb-true a b e)))
+    go (inr e) = e ∙ sym (ne-eqb c d (λ z. eqb-false a b e (g z)))
 
 -- a receiver that has a place
 abbrev pub Placed : Receiver → Type 0
@@ -45,9 +38,11 @@ Placed (Server j) = (1 ≤ j .0) × (j .0 ≤ systemServers)
 
 module _ (n clients : ℕ) (F : Few n clients) where
   own-place : (s r : Receiver) → Inside n clients s → Placed r → sameReceiver s r ≡ eqb (placeOf s) (placeOf r)
-  own-place (Server i) (Server j) (some, h) (a, b) = less-one (i .0) (j .0) some a
+  own-place (Server i) (Server j) (some, h) (a, b) =
+      same-test (i .0) (j .0) (i .0 - 1) (j .0 - 1) (λ z. omega (arith, z)) (λ z. omega (arith, some, a, z))
   own-place (Server i) (Client k) (some, h) a = sym (ne-eqb (i .0 - 1) (systemServers + (k .0 - 1)) (λ z. omega (arith, F .few-servers, some, h, z)))
-  own-place (Client i) (Client k) (some, h) a = less-one (i .0) (k .0) some a ∙ further systemServers (i .0 - 1) (k .0 - 1)
+  own-place (Client i) (Client k) (some, h) a =
+      same-test (i .0) (k .0) (systemServers + (i .0 - 1)) (systemServers + (k .0 - 1)) (λ z. omega (arith, z)) (λ z. omega (arith, some, a, z))
   own-place (Client i) (Server j) (some, h) (a, b) = sym (ne-eqb (systemServers + (i .0 - 1)) (j .0 - 1) (λ z. omega (arith, a, b, z)))
 
   pub to-place : (r : Receiver) → Placed r → (m : Message) → Named n clients (fieldsOf m) → isTo r m ≡ eqb (placeOf (receiverOf m)) (placeOf r)
