@@ -1,6 +1,6 @@
 -- The words of an index, and what the calls make of them: a call on the index of some cards leaves the index of the cards with one more,
 -- with one less, or with another mark. How many cards a receiver has, where they begin and what stands there follow from the cards.
-use Prim.Native.Nat.{ℕ, zero, suc, _+_, _-_, _<_, _≤_}
+use Prim.Native.Nat.{ℕ, suc, _+_, _-_, _<_, _≤_}
 use native.Mathlib.Omega.{arith}
 use mathlib.Core.Path.{_≡_, refl, sym, ap, _∙_}
 use mathlib.Core.Bool.{Bool, true, false, not}

@@ -1,34 +1,31 @@
 -- The cards of messages in transit: a slot's words give its message's card, and each receiver that a system's message names has a place.
 use Prim.Native.Nat.{ℕ, zero, suc, _+_, _-_, _*_, _<_, _≤_}
 use native.Mathlib.Omega.{arith}
-use mathlib.Core.Path.{_≡_, refl, sym, ap, _∙_}
-use mathlib.Core.Bool.{true, not}
-use mathlib.Core.List.{List, [], _∷_, _++_, map}
-use lib.Dec.{eqb, ltb}
+use mathlib.Core.Path.{_≡_, refl, sym}
+use mathlib.Core.Bool.{true}
+use mathlib.Core.List.{List, [], _∷_, map}
+use lib.Dec.{eqb}
 use lib.ListN.{getD, take, drop}
-use borrow.Author.Tests.{le-leb, lt-leb, lt-ltb, ne-eqb}
+use borrow.Author.Tests.{le-leb, lt-leb, lt-ltb}
 use Rattle.ids.specs.Choice.{if_then_else_}
 use Rattle.ids.specs.Limits.{maxServers}
-use Rattle.ids.specs.Lists.{every}
 use Rattle.ids.proofs.LimitsLaws.{within-range}
-use Rattle.wire.specs.Format.{known, fieldsOf, messageOf, validFields}
+use Rattle.wire.specs.Format.{known, fieldsOf, messageOf}
 use Rattle.wire.specs.declared.Fields.{Fields}
 use Rattle.wire.specs.declared.Message.{Message}
 use Rattle.wire.specs.declared.Message.the-variants.{Request, Yield, Release, Inquiry, Response, Check}
 use Rattle.wire.proofs.NumbersLaws.{fields-again}
-use Rattle.system.specs.Limits.{systemServers, systemMessages}
+use Rattle.system.specs.Limits.{systemServers}
 use Rattle.system.specs.Transit.{InTransit}
 use Rattle.system.specs.Index.{receiverOf}
 use Rattle.system.specs.declared.Receiver.{Receiver}
 use Rattle.system.specs.declared.Receiver.the-variants.{Client, Server}
 use Rattle.system.proofs.Tokens.{All, empty, more}
 use Rattle.sim_transit.specs.Slots.{slotSize, slotOf, slotAt, slots, validSlot, validSlots}
-use Rattle.sim_transit.specs.Calls.{Sized}
 use Rattle.sim_transit.proofs.SlotLaws.{Seven, seven, slot-fitting, known-kind, row-seven, word-at}
 use Rattle.sim_transit.proofs.ValidLaws.{slot-valid-at}
-use Rattle.sim_transit.proofs.Kept.{Kept, Named, names-named, valid-kept, valid-sized, slot-kept}
+use Rattle.sim_transit.proofs.Kept.{Kept, Named, names-named, valid-kept, valid-sized}
 use Rattle.sim_index.specs.Index.{receivers}
-use Rattle.sim_index.specs.declared.Card.{Card}
 use Rattle.sim_index.proofs.Means.{Placed}
 use Rattle.sim_indexed.specs.Indexed.{placeOf, cardOf}
 use Rattle.sim_indexed.specs.Calls.{Few}

@@ -3,21 +3,20 @@ use Prim.Native.Nat.{ℕ, suc, _+_, _-_, _*_, _<_, _≤_}
 use native.Mathlib.Omega.{arith}
 use mathlib.Core.Path.{_≡_, refl, sym, ap, _∙_}
 use mathlib.Core.List.{List, _∷_, _++_}
-use lib.ListN.{length, getD, set, take, drop, length-append, length-set}
-use borrow.Rule.Slice.PartMut.{putMid}
+use lib.ListN.{length, getD, set, drop}
 use Rattle.system.specs.Limits.{systemMessages}
 use Rattle.system.specs.Transit.{InTransit, replaced, gone, keeping}
-use Rattle.sim_transit.specs.Slots.{transitSize, slotSize, slots, slotAt}
+use Rattle.sim_transit.specs.Slots.{transitSize, slotSize, slots}
 use Rattle.sim_transit.specs.Calls as transit
 use Rattle.sim_transit.proofs.Kept.{valid-sized, slot-kept}
 use Rattle.sim_index.specs.Index.{indexSize, marksFrom}
 use Rattle.sim_index.specs.Calls.{entryOf, withdrawn, Sized}
 use Rattle.sim_index.specs.declared.Card.{Card}
-use Rattle.sim_indexed.specs.Indexed.{indexedSize, table, index, inTransit, slotIn, cardOf, afresh}
+use Rattle.sim_indexed.specs.Indexed.{table, index, inTransit, slotIn, cardOf}
 use Rattle.sim_indexed.specs.Calls.{Few, Valid, Held, Marks, Removes}
 use Rattle.sim_indexed.specs.Inner.{Readable, entryPlace}
 use Rattle.sim_indexed.proofs.CardLaws.{kept-placed}
-use Rattle.sim_indexed.proofs.IndexedLaws.{parts, held-parts, held-few, table-long, index-long, lent-index, lent-long}
+use Rattle.sim_indexed.proofs.IndexedLaws.{parts, held-parts, held-few, table-long, lent-index, lent-long}
 use Rattle.sim_indexed.proofs.IndexedLaws.{lent, backIndex, backTable, same-table, both-back}
 use Rattle.sim_indexed.proofs.IndexedLaws.{index-its, around, replaces, entry-within, entry-found, entry-counted}
 use Rattle.sim_indexed.proofs.IndexedLaws.{remarked-valid, remarked-after, removed-valid, removed-after}

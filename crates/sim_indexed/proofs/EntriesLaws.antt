@@ -1,11 +1,11 @@
 -- One receiver's entries: where they begin and end is told by the counts, and entry k of them, counted from 0, is that of the k-th message at the
 -- receiver's place.
-use Prim.Native.Nat.{ℕ, zero, suc, _+_, _-_, _<_, _≤_}
+use Prim.Native.Nat.{ℕ, zero, suc, _+_, _<_, _≤_}
 use native.Mathlib.Numerals.{add-one}
 use native.Mathlib.Omega.{arith}
-use mathlib.Core.Path.{_≡_, refl, sym, ap, _∙_}
+use mathlib.Core.Path.{_≡_, refl, ap, _∙_}
 use mathlib.Core.Logic.{inl, inr}
-use mathlib.Core.Bool.{Bool, true, false}
+use mathlib.Core.Bool.{true, false}
 use mathlib.Core.List.{List, [], _∷_, _++_, map}
 use lib.Dec.{eqb}
 use lib.ListN.{length, length-map, length-append}
@@ -19,7 +19,6 @@ use Rattle.sim_index.specs.Calls.{startOf}
 use Rattle.sim_index.proofs.Means.{start-is, sorted-few}
 use Rattle.sim_indexed.specs.Indexed.{table, inTransit, cardOf}
 use Rattle.sim_indexed.specs.Calls.{Held}
-use Rattle.sim_indexed.specs.Inner.{entryPlace}
 use Rattle.sim_indexed.proofs.IndexedLaws.{lent, lent-index, lent-long, held-parts, held-few}
 
 -- how many messages are at place p, and how many at the places before it

@@ -3,22 +3,21 @@
 use Prim.Native.Nat.{ℕ, zero, suc, _+_, _-_, _*_, _<_, _≤_}
 use native.Mathlib.Omega.{arith}
 use mathlib.Core.Path.{_≡_, refl, sym, ap, subst, _∙_}
-use mathlib.Core.Bool.{Bool, true, not, _&&_}
+use mathlib.Core.Bool.{true, _&&_}
 use mathlib.Core.List.{List, [], _∷_, _++_, map, map-append, append-nil}
 use lib.Dec.{eqb}
-use lib.ListN.{length, getD, set, take, drop, length-map, length-append, length-drop, take-append-drop}
+use lib.ListN.{length, getD, set, take, drop, length-map, length-append, length-drop}
 use lib.Seq.{take-at, drop-at, take-all, drop-length, length-take-le}
 use borrow.Author.Tests.{eqb-true, eq-eqb, ne-eqb}
 use borrow.Rule.Slice.PartMut.{putMid}
-use Rattle.ids.specs.Lists.{every}
 use Rattle.ids.proofs.Choice.{both}
 use Rattle.system.specs.Limits.{systemMessages}
-use Rattle.system.specs.Transit.{InTransit, replaced, gone, present}
-use Rattle.sim_transit.specs.Slots.{transitSize, slotSize, slots, slotAt, validSlots, ascending}
+use Rattle.system.specs.Transit.{InTransit, replaced, gone}
+use Rattle.sim_transit.specs.Slots.{transitSize, slotSize, slots, validSlots, ascending}
 use Rattle.sim_transit.specs.Calls.{marked, markedAs, removed}
 use Rattle.sim_transit.proofs.Means.{Marks, Removes}
 use Rattle.sim_transit.proofs.NumbersLaws.{rising, ascends-past, replaced-there}
-use Rattle.sim_transit.proofs.ValidLaws.{Known, known, slots-around}
+use Rattle.sim_transit.proofs.ValidLaws.{known, slots-around}
 use Rattle.sim_transit.proofs.ChangeLaws.{marks}
 use Rattle.sim_transit.proofs.RemoveLaws.{removes}
 use Rattle.sim_transit.proofs.Kept.{length-slots, valid-sized}

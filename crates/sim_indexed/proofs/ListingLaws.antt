@@ -6,17 +6,16 @@ use native.Mathlib.Omega.{arith}
 use mathlib.Core.Path.{_≡_, refl, sym, ap, subst, _∙_}
 use mathlib.Core.Bool.{Bool, true, false, not}
 use mathlib.Core.List.{List, [], _∷_, _++_, map, map-append}
-use lib.Dec.{eqb, ltb}
-use lib.ListN.{length, getD, take, drop, replicate, length-map, length-append}
-use lib.Seq.{take-at, take-all}
+use lib.Dec.{ltb}
+use lib.ListN.{length, take, drop, replicate, length-map, length-append}
+use lib.Seq.{take-at}
 use borrow.Author.Tests.{ne-eqb, eq-eqb, not-true, not-false}
-use borrow.Rule.Slice.PartMut.{putMid}
 use Rattle.ids.specs.Lists.{every}
 use Rattle.ids.proofs.ListLaws.{every-parts}
 use Rattle.ids.proofs.Choice.{holds}
 use Rattle.wire.specs.declared.Message.{Message}
 use Rattle.system.specs.Limits.{systemClients, systemServers, systemMessages, lastNumber}
-use Rattle.system.specs.Transit.{InTransit, numbered}
+use Rattle.system.specs.Transit.{numbered}
 use Rattle.sim_transit.specs.Slots.{transitSize, slotSize, slotOf, slotAt, rows, slots, validSlots, names}
 use Rattle.sim_transit.specs.Calls as transit
 use Rattle.sim_transit.proofs.Means as means
@@ -27,7 +26,7 @@ use Rattle.sim_index.specs.Index.{receivers, indexSize, indexWords}
 use Rattle.sim_index.specs.Calls.{same, added, Sized}
 use Rattle.sim_index.specs.declared.Card.{Card}
 use Rattle.sim_index.proofs.Means.{Placed, index-sized, index-none, adds}
-use Rattle.sim_indexed.specs.Indexed.{indexedSize, table, index, inTransit, cardOf, afresh, validIndexed}
+use Rattle.sim_indexed.specs.Indexed.{indexedSize, table, index, cardOf, afresh, validIndexed}
 use Rattle.sim_indexed.specs.Calls.{Few, Valid, Posts, CanPost}
 use Rattle.sim_indexed.specs.Inner.{Readable, withIndex, Listing, Unlisted}
 use Rattle.sim_indexed.proofs.CardLaws.{kept-placed, slots-placed}

@@ -1,20 +1,19 @@
 -- One entry's message made pending. The entry tells the message's number and mark: a pending message stays as it is; a delivered one is found by its
 -- number, and marked anew at its slot and at its entry.
-use Prim.Native.Nat.{ℕ, _+_, _-_, _*_, _<_, _≤_}
+use Prim.Native.Nat.{ℕ, _+_, _<_, _≤_}
 use native.Mathlib.Omega.{arith}
 use mathlib.Core.Path.{_≡_, refl, sym, ap, _∙_}
 use mathlib.Core.Logic.{inl, inr}
 use mathlib.Core.Bool.{Bool, true, false}
 use mathlib.Core.List.{List, [], _∷_, _++_}
 use lib.Dec.{eqb, ltb}
-use lib.ListN.{length, getD, set, take, drop, length-append, length-set}
+use lib.ListN.{length, getD, set, length-append}
 use borrow.Author.Tests.{eq-eqb, ltb-true, ltb-false}
-use borrow.Rule.Slice.PartMut.{putMid}
 use Rattle.ids.specs.Choice.{if_then_else_}
 use Rattle.ids.proofs.Choice.{decided, Test, clash}
 use Rattle.system.specs.Limits.{systemMessages}
 use Rattle.system.specs.Transit.{InTransit, present}
-use Rattle.sim_transit.specs.Slots.{transitSize, slotSize, slots, slotAt}
+use Rattle.sim_transit.specs.Slots.{transitSize, slots, slotAt}
 use Rattle.sim_transit.specs.Calls as transit
 use Rattle.sim_transit.specs.Calls.{Ordered, firstSlot, isNumbered, marked, markedAs}
 use Rattle.sim_transit.proofs.Means.{FindsPresent}

@@ -1,29 +1,21 @@
 -- One receiver's entries read: those past the last of them are none, and the i-th of them, as the words have it, is the i-th that its messages give.
 use Prim.Native.Nat.{ℕ, zero, suc, _+_, _-_, _<_, _≤_}
-use native.Mathlib.Numerals.{add-one}
 use native.Mathlib.Omega.{arith}
 use mathlib.Core.Path.{_≡_, refl, sym, ap, _∙_}
-use mathlib.Core.Logic.{inl, inr}
 use mathlib.Core.Bool.{Bool, true, false}
 use mathlib.Core.List.{List, [], _∷_, _++_, map}
 use lib.Dec.{eqb}
-use lib.ListN.{length, getD, take, drop, length-map, length-append}
+use lib.ListN.{length, getD}
 use borrow.Author.Tests.{eq-eqb}
 use Rattle.ids.specs.Choice.{if_then_else_}
-use Rattle.ids.proofs.Choice.{decided, Test}
 use Rattle.system.specs.Limits.{systemMessages}
 use Rattle.system.specs.Transit.{InTransit}
 use Rattle.system.specs.Index.{Entry, entryOf}
-use Rattle.sim_transit.specs.Slots.{transitSize, slots}
-use Rattle.sim_transit.proofs.Kept.{length-slots}
-use Rattle.sim_index.specs.Index.{receivers, indexSize, indexWords, sorted, ofPlace, numbersFrom, marksFrom}
+use Rattle.sim_index.specs.Index.{receivers, indexSize, ofPlace, numbersFrom, marksFrom}
 use Rattle.sim_index.specs.Calls.{startOf}
-use Rattle.sim_index.specs.declared.Card.{Card}
-use Rattle.sim_index.proofs.Means.{start-is, sorted-few}
-use Rattle.sim_indexed.specs.Indexed.{indexedSize, table, index, inTransit, cardOf, entriesAt, listedAt}
+use Rattle.sim_indexed.specs.Indexed.{inTransit, cardOf, entriesAt, listedAt}
 use Rattle.sim_indexed.specs.Calls.{Held}
 use Rattle.sim_indexed.specs.Inner.{entryPlace}
-use Rattle.sim_indexed.specs.declared.Listed.{Listed}
 use Rattle.sim_indexed.specs.declared.Listed.the-variants.{Nothing, Entry as At}
 use Rattle.sim_indexed.proofs.IndexedLaws.{lent, lent-index, lent-long, held-few, entry-number, entry-mark, entry-within}
 use Rattle.sim_indexed.proofs.EntriesLaws.{many, begins, Found, found, first-is, last-is}

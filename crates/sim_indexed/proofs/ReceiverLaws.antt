@@ -3,24 +3,22 @@ use Prim.Native.Nat.{ℕ, _+_, _-_, _≤_}
 use native.Mathlib.Omega.{arith}
 use mathlib.Core.Path.{_≡_, refl, sym, _∙_}
 use mathlib.Core.Logic.{inl, inr}
-use mathlib.Core.Bool.{Bool, true, false}
-use mathlib.Core.List.{List, [], _∷_}
+use mathlib.Core.Bool.{true, false}
+use mathlib.Core.List.{List, []}
 use lib.Dec.{eqb}
 use borrow.Author.Tests.{eqb-true, eq-eqb, ne-eqb, eqb-false, le-leb}
-use Rattle.ids.specs.Choice.{if_then_else_}
 use Rattle.ids.specs.Limits.{within}
 use Rattle.ids.proofs.Choice.{decided, Test, clash}
 use Rattle.wire.specs.Format.{fieldsOf}
 use Rattle.wire.specs.declared.Message.{Message}
-use Rattle.wire.specs.declared.Message.the-variants.{Request, Yield, Release, Inquiry, Response, Check}
 use Rattle.system.specs.Limits.{systemServers}
 use Rattle.system.specs.Transit.{InTransit}
-use Rattle.system.specs.Index.{receiverOf, sameReceiver, isTo, entryOf, Entry, indexOf}
+use Rattle.system.specs.Index.{receiverOf, sameReceiver, isTo, indexOf}
 use Rattle.system.specs.declared.Receiver.{Receiver}
 use Rattle.system.specs.declared.Receiver.the-variants.{Client, Server}
 use Rattle.system.proofs.Tokens.{All, empty, more}
 use Rattle.sim_transit.proofs.Kept.{Kept, Named, names-named}
-use Rattle.sim_indexed.specs.Indexed.{placeOf, cardOf, entriesAt}
+use Rattle.sim_indexed.specs.Indexed.{placeOf, entriesAt}
 use Rattle.sim_indexed.specs.Calls.{Few}
 use Rattle.sim_indexed.proofs.CardLaws.{Inside, receiver-inside}
 

@@ -1,34 +1,25 @@
 -- A server's restart, entry by entry: after k of its entries the first k messages at its place are pending, and after all of them the messages are
 -- what the system says, for a server's place is no other receiver's.
 use Prim.Native.Nat.{ℕ, zero, suc, _+_, _-_, _<_, _≤_}
-use native.Mathlib.Numerals.{add-one}
 use native.Mathlib.Omega.{arith}
 use mathlib.Core.Path.{_≡_, refl, sym, ap, _∙_}
 use mathlib.Core.Logic.{inl, inr}
 use mathlib.Core.Bool.{Bool, true, false}
 use mathlib.Core.List.{List, [], _∷_, _++_, map}
 use lib.Dec.{eqb}
-use lib.ListN.{length, length-map, length-append}
-use borrow.Author.Tests.{eqb-true, eq-eqb, ne-eqb, eqb-false}
+use lib.ListN.{length, length-append}
+use borrow.Author.Tests.{eq-eqb}
 use Rattle.ids.specs.Choice.{if_then_else_}
 use Rattle.ids.specs.declared.ServerId.{ServerId}
 use Rattle.ids.proofs.Choice.{decided, Test}
-use Rattle.wire.specs.Format.{fieldsOf}
-use Rattle.wire.specs.declared.Message.{Message}
-use Rattle.wire.specs.declared.Message.the-variants.{Request, Yield, Release, Inquiry, Response, Check}
-use Rattle.system.specs.Limits.{systemServers, systemMessages}
 use Rattle.system.specs.Transit.{InTransit, isFor, again}
-use Rattle.system.specs.Index.{receiverOf}
 use Rattle.system.specs.declared.Receiver.the-variants.{Server}
 use Rattle.system.proofs.Tokens.{All, empty, more}
 use Rattle.system.proofs.Touched.{for-server}
-use Rattle.sim_transit.specs.Slots.{slots}
-use Rattle.sim_transit.proofs.Kept.{Kept, Named, names-named, valid-kept, length-slots}
-use Rattle.sim_index.specs.Index.{indexSize, sorted, ofPlace, receivers}
+use Rattle.sim_transit.proofs.Kept.{Kept, names-named, valid-kept}
+use Rattle.sim_index.specs.Index.{sorted, ofPlace, receivers}
 use Rattle.sim_index.specs.Calls.{startOf}
-use Rattle.sim_index.specs.declared.Card.{Card}
-use Rattle.sim_index.proofs.Means.{start-is, sorted-few}
-use Rattle.sim_indexed.specs.Indexed.{indexedSize, table, inTransit, placeOf, cardOf}
+use Rattle.sim_indexed.specs.Indexed.{table, inTransit, cardOf}
 use Rattle.sim_indexed.specs.Calls.{Few, Valid, Held, Place, Restarts}
 use Rattle.sim_indexed.specs.Inner.{EntryAt, Pends, entryPlace}
 use Rattle.sim_indexed.proofs.IndexedLaws.{parts, lent, held-parts}
@@ -103,7 +94,7 @@ sorted-same (suc n) k p l =
 
 -- message k, when those before it are pending; then it is too
 module _ {p k : ℕ} {l : List InTransit} (F : Found p k l) where
-  abbrev pub pending : List InTransit
+  abbrev pending : List InTransit
   pending = upTo (many p (F .before)) p (F .before)
 
   next-split : upTo k p l ≡ pending ++ (F .message ∷ F .behind)
