@@ -5,7 +5,7 @@ use mathlib.Core.Path.{_≡_, refl, sym}
 use mathlib.Core.Bool.{true}
 use mathlib.Core.List.{List, [], _∷_, map}
 use lib.Dec.{eqb}
-use lib.ListN.{getD, take, drop}
+use lib.ListN.{length, getD, take, drop}
 use borrow.Author.Tests.{le-leb, lt-leb, lt-ltb}
 use Rattle.ids.specs.Choice.{if_then_else_}
 use Rattle.ids.specs.Limits.{maxServers}
@@ -15,13 +15,14 @@ use Rattle.wire.specs.declared.Fields.{Fields}
 use Rattle.wire.specs.declared.Message.{Message}
 use Rattle.wire.specs.declared.Message.the-variants.{Request, Yield, Release, Inquiry, Response, Check}
 use Rattle.wire.proofs.NumbersLaws.{fields-again}
-use Rattle.system.specs.Limits.{systemServers}
+use Rattle.system.specs.Limits.{systemServers, systemMessages}
 use Rattle.system.specs.Transit.{InTransit}
 use Rattle.system.specs.Index.{receiverOf}
 use Rattle.system.specs.declared.Receiver.{Receiver}
 use Rattle.system.specs.declared.Receiver.the-variants.{Client, Server}
 use Rattle.system.proofs.Tokens.{All, empty, more}
-use Rattle.sim_transit.specs.Slots.{slotSize, slotOf, slotAt, slots, validSlot, validSlots}
+use Rattle.sim_transit.specs.Slots.{transitSize, slotSize, slotOf, slotAt, slots, validSlot, validSlots}
+use Rattle.sim_transit.specs.Calls.{Sized}
 use Rattle.sim_transit.proofs.SlotLaws.{Seven, seven, slot-fitting, known-kind, row-seven, word-at}
 use Rattle.sim_transit.proofs.ValidLaws.{slot-valid-at}
 use Rattle.sim_transit.proofs.Kept.{Kept, Named, names-named, valid-kept, valid-sized}
@@ -51,7 +52,8 @@ receiver-place (suc (suc (suc zero))) k s t o h = refl
 receiver-place (suc (suc (suc (suc zero)))) k s t o h = refl
 receiver-place (suc (suc (suc (suc (suc zero))))) k s t o h = refl
 receiver-place (suc (suc (suc (suc (suc (suc zero)))))) k s t o h = refl
-receiver-place (suc (suc (suc (suc (suc (suc (suc n))))))) k s t o h = absurd (omega (arith, within-range (suc (suc (suc (suc (suc (suc (suc n))))))) 6 h))
+receiver-place (suc (suc (suc (suc (suc (suc (suc n))))))) k s t o h =
+    absurd (omega (arith, within-range (suc (suc (suc (suc (suc (suc (suc n))))))) 6 h))
 
 -- seven words that are a slot
 module _ (n clients : ℕ) where
@@ -83,8 +85,14 @@ module _ (i : ℕ) (t : List ℕ) (R : Readable i t) where
   abbrev row : List ℕ
   row = take slotSize (drop (slotSize * i) t)
 
+  its-sized : Sized (R .len) t
+  its-sized = valid-sized (R .n) (R .clients) (R .sent) (R .len) t (R .valid)
+
+  pub card-may : Readable i t × (length t ≡ transitSize) × (i < systemMessages)
+  card-may = (R, its-sized .size, omega (arith, its-sized .few, R .used))
+
   its-seven : Seven row
-  its-seven = let S = valid-sized (R .n) (R .clients) (R .sent) (R .len) t (R .valid) in row-seven t i (S .size) (omega (arith, S .few, R .used))
+  its-seven = row-seven t i (its-sized .size) (card-may .2)
 
   its-slot : validSlot (R .n) (R .clients) row ≡ true
   its-slot = slot-valid-at (R .n) (R .clients) (R .sent) (R .len) t (R .valid) i (R .used)

@@ -15,7 +15,7 @@ use Rattle.sim_index.specs.declared.Card.{Card}
 use Rattle.sim_indexed.specs.Indexed.{table, index, inTransit, slotIn, cardOf}
 use Rattle.sim_indexed.specs.Calls.{Few, Valid, Held, Marks, Removes}
 use Rattle.sim_indexed.specs.Inner.{Readable, entryPlace}
-use Rattle.sim_indexed.proofs.CardLaws.{kept-placed}
+use Rattle.sim_indexed.proofs.CardLaws.{card-may, kept-placed}
 use Rattle.sim_indexed.proofs.IndexedLaws.{parts, held-parts, held-few, table-long, lent-index, lent-long}
 use Rattle.sim_indexed.proofs.IndexedLaws.{lent, backIndex, backTable, same-table, both-back}
 use Rattle.sim_indexed.proofs.IndexedLaws.{index-its, around, replaces, entry-within, entry-found, entry-counted}
@@ -36,8 +36,8 @@ module _ (len i : ℕ) (t : List ℕ) (H : Held len t) (used : i < len) where
 
   pub change-card : Readable i (table t) × (length (table t) ≡ transitSize) × (i < systemMessages)
   change-card =
-      (record { n = H .n; clients = H .clients; sent = H .sent; len = len; few = H .few; valid = held-parts H .fit; used = used },
-      table-long t (H .size), omega (arith, held-few H))
+      card-may i (table t)
+      (record { n = H .n; clients = H .clients; sent = H .sent; len = len; few = H .few; valid = held-parts H .fit; used = used })
 
   sized : Sized len (cardOf message .place) (index t)
   sized =

@@ -19,6 +19,7 @@ use Rattle.sim_index.specs.Calls.{startOf}
 use Rattle.sim_index.proofs.Means.{start-is, sorted-few}
 use Rattle.sim_indexed.specs.Indexed.{table, inTransit, cardOf}
 use Rattle.sim_indexed.specs.Calls.{Held}
+use Rattle.sim_indexed.specs.Inner.{entryPlace}
 use Rattle.sim_indexed.proofs.IndexedLaws.{lent, lent-index, lent-long, held-parts, held-few}
 
 -- how many messages are at place p, and how many at the places before it
@@ -70,6 +71,9 @@ found p k (x ∷ l) h = by-test k (decided (eqb (cardOf x .place) p)) (λ m. fou
     by-test k (inr e) go h =
         let F = go k (omega (arith, h, many-other p x l e)) in
         later k k F (many-other p x (F .before) e ∙ F .count)
+
+pub found-place : {p k : ℕ} {l : List InTransit} (F : Found p k l) → begins p l + k ≡ entryPlace (F .before) (F .message) (F .behind)
+found-place F = rw (F .place, ← F .whole) (omega (arith, F .count))
 
 module _ (len : ℕ) (t : List ℕ) (H : Held len t) where
   starts : (p : ℕ) → p ≤ receivers → startOf p (lent t) ≡ begins p (inTransit len t)

@@ -29,7 +29,7 @@ use Rattle.sim_index.proofs.Means.{Placed, index-sized, index-none, adds}
 use Rattle.sim_indexed.specs.Indexed.{indexedSize, table, index, cardOf, afresh, validIndexed}
 use Rattle.sim_indexed.specs.Calls.{Few, Valid, Posts, CanPost}
 use Rattle.sim_indexed.specs.Inner.{Readable, withIndex, Listing, Unlisted}
-use Rattle.sim_indexed.proofs.CardLaws.{kept-placed, slots-placed}
+use Rattle.sim_indexed.proofs.CardLaws.{card-may, kept-placed, slots-placed}
 use Rattle.sim_indexed.proofs.IndexedLaws.{Parts, parts, afresh-long, table-first, index-last, joined-valid, joined-messages}
 use Rattle.sim_indexed.proofs.IndexedLaws.{lent, backIndex, backTable, lent-index, lent-long, index-back, table-long, index-long}
 
@@ -47,9 +47,6 @@ module _ (i : ℕ) (t : List ℕ) (R : Readable i t) where
 
   sized : transit.Sized (R .len) t
   sized = valid-sized (R .n) (R .clients) (R .sent) (R .len) t (R .valid)
-
-  pub card-may : Readable i t × (length t ≡ transitSize) × (i < systemMessages)
-  card-may = (R, sized .size, omega (arith, sized .few, R .used))
 
   counted : length cards ≡ i
   counted = length-map (slots i t) cardOf ∙ length-slots i t
@@ -197,7 +194,7 @@ module _ (len sent : ℕ) (l : List Message) (t : List ℕ) (C : CanPost len sen
       pub posts-both : Posts len sent l t t′
       posts-both =
           let new : (n clients : ℕ) → Valid n clients sent len t → every (names n clients) l ≡ true
-              → validSlots n clients (sent + length l) (len + length l) tb ≡ true =
+          → validSlots n clients (sent + length l) (len + length l) tb ≡ true =
           λ n clients v q. P .valid n clients (parts n clients sent len t v .fit) q in
           rw all-listed (record {
             valid = λ n clients F v q. joined-valid n clients (sent + length l) (len + length l) tb _ (new n clients v q) refl;

@@ -81,13 +81,13 @@ module _ (len at : ℕ) (t : List ℕ) (E : EntryAt len at t) where
   }
 
 -- what is known when slot i is found: it has the entry's number
-pub record Found (len at : ℕ) (t : List ℕ) (i : ℕ) : Type 0 where
+pub record Looked (len at : ℕ) (t : List ℕ) (i : ℕ) : Type 0 where
   pub entry : EntryAt len at t
   pub number : ℕ
   pub read : number ≡ getD (lent t) (numbersFrom + at) 0
   pub slot : i ≡ firstSlot (isNumbered number) (slots len (table t))
 
-module _ {len at : ℕ} {t : List ℕ} {i : ℕ} (S : Found len at t i) where
+module _ {len at : ℕ} {t : List ℕ} {i : ℕ} (S : Looked len at t i) where
   size : length t ≡ indexedSize
   size = its-size len at t (S .entry)
 

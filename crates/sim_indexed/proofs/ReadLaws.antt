@@ -18,7 +18,7 @@ use Rattle.sim_indexed.specs.Calls.{Held}
 use Rattle.sim_indexed.specs.Inner.{entryPlace}
 use Rattle.sim_indexed.specs.declared.Listed.the-variants.{Nothing, Entry as At}
 use Rattle.sim_indexed.proofs.IndexedLaws.{lent, lent-index, lent-long, held-few, entry-number, entry-mark, entry-within}
-use Rattle.sim_indexed.proofs.EntriesLaws.{many, begins, Found, found, first-is, last-is}
+use Rattle.sim_indexed.proofs.EntriesLaws.{many, begins, Found, found, found-place, first-is, last-is}
 
 entries-many : (p : ℕ) (l : List InTransit) → length (entriesAt p l) ≡ many p l
 unfolding entriesAt ofPlace
@@ -46,7 +46,7 @@ listed-behind p (y ∷ a) x b h = go (eqb (cardOf y .place) p) (listed-behind p 
   where
     go : (c : Bool) → listedAt (entriesAt p (a ++ (x ∷ b))) (many p a) ≡ At (record { 0 = x .number }) (x .delivered)
         → listedAt (if c then entryOf y ∷ entriesAt p (a ++ (x ∷ b)) else entriesAt p (a ++ (x ∷ b)))
-          (length (if c then cardOf y ∷ ofPlace p (map cardOf a) else ofPlace p (map cardOf a)))
+        (length (if c then cardOf y ∷ ofPlace p (map cardOf a) else ofPlace p (map cardOf a)))
         ≡ At (record { 0 = x .number }) (x .delivered)
     go true e = e
     go false e = e
@@ -75,7 +75,7 @@ module _ (len p : ℕ) (t : List ℕ) (H : Held len t) (there : p < receivers) w
         its = found p i messages (omega (arith, ends))
 
         place-is : from + i ≡ entryPlace (its .before) (its .message) (its .behind)
-        place-is = rw (its .place, ← its .whole) (omega (arith, first, its .count))
+        place-is = omega (arith, first) ∙ found-place its
 
         pub entry-may : (length (lent t) ≡ indexSize) × (from + i < systemMessages)
         entry-may =

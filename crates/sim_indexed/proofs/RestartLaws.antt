@@ -109,10 +109,11 @@ module _ {p k : ℕ} {l : List InTransit} (F : Found p k l) where
   next-pended =
       let e = upto-past p 1 (F .before) (F .message ∷ F .behind) in
       let z : 1 + many p (F .before) ≡ suc k = omega (arith, F .count) in
-      rw (← F .whole, z) at e ∙ ap (λ (r : List InTransit). pending ++ r) (upto-own p (F .message) (F .behind) 0 (eq-eqb (cardOf (F .message) .place) p (F .place)))
+      let own = upto-own p (F .message) (F .behind) 0 (eq-eqb (cardOf (F .message) .place) p (F .place)) in
+      rw (← F .whole, z) at e ∙ ap (λ (r : List InTransit). pending ++ r) own
 
   next-place : begins p l + k ≡ entryPlace pending (F .message) (F .behind)
-  next-place = 
+  next-place =
       let c = many-same p (many p (F .before)) p (F .before) in
       rw (F .place, ← next-split) (omega (arith, sorted-same p k p l, c, F .count))
 

@@ -38,7 +38,9 @@ add-at c =
     record { fits = omega (arith, m .1) }
 
 returns : tie.Need-returns
-returns c = let b = c .before in none-there _ _ _ (entry b .pre .0) (entry b .pre .1) _ _ (begun b .start .ensures) (b .start2 .ensures) _ (c .if1 .taken)
+returns c =
+    let b = c .before in
+    none-there _ _ _ (entry b .pre .0) (entry b .pre .1) _ _ (begun b .start .ensures) (b .start2 .ensures) _ (c .if1 .taken)
 
 returns-2 : tie.Need-returns-2
 returns-2 c =

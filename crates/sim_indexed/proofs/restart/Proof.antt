@@ -2,7 +2,8 @@
 use Prim.Native.Nat.{_-_}
 use native.Mathlib.Omega.{arith}
 use Rattle.sim_indexed.proofs.EntriesLaws.{first-may, last-may}
-use Rattle.sim_indexed.proofs.RestartLaws.{server-there, Restarting, restarting-none, restarting-entry, restarting-more, restarting-same, restarting-all}
+use Rattle.sim_indexed.proofs.RestartLaws.{server-there}
+use Rattle.sim_indexed.proofs.RestartLaws.{Restarting, restarting-none, restarting-entry, restarting-more, restarting-same, restarting-all}
 use borrow.Author.Needs.{needs}
 use Rattle.sim_indexed.proofs.restart.Statement.{statement}
 use Rattle.sim_indexed.proofs.restart.Tie as tie
