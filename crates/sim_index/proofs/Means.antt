@@ -1,6 +1,6 @@
 -- The words of an index, and what the calls make of them: a call on the index of some cards leaves the index of the cards with one more,
 -- with one less, or with another mark. How many cards a receiver has, where they begin and what stands there follow from the cards.
-use Prim.Native.Nat.{ℕ, zero, suc, _+_, _-_, _<_, _≤_}
+use Prim.Native.Nat.{ℕ, suc, _+_, _-_, _<_, _≤_}
 use native.Mathlib.Omega.{arith}
 use mathlib.Core.Path.{_≡_, refl, sym, ap, _∙_}
 use mathlib.Core.Bool.{Bool, true, false, not}
@@ -205,52 +205,6 @@ adds l c placed h few =
     let one : every fits (c ∷ []) ≡ true = rw (lt-ltb (c .place) receivers h) in
     let long : length (l ++ (c ∷ [])) ≤ systemMessages = omega (arith, length-append l (c ∷ [])) in
     rw (append-nil l) at (joins l c [] (every-append fits l (c ∷ []) placed one) long refl)
-
--- a card of a receiver by its place among them ----------------------------------------------------------------------------------------------
-
--- card k of the receiver at place p, counted from 0, and the cards around it
-pub record Split (p k : ℕ) (l : List Card) : Type 0 where
-  pub before : List Card
-  pub card : Card
-  pub behind : List Card
-  pub whole : l ≡ before ++ (card ∷ behind)
-  pub here : card .place ≡ p
-  pub count : length (ofPlace p before) ≡ k
-
-module _ (p : ℕ) (c : Card) (l : List Card) where
-  -- a card in front is the receiver's, or it is not
-  first-own : eqb (c .place) p ≡ true → length (ofPlace p (c ∷ l)) ≡ suc (length (ofPlace p l))
-  unfolding ofPlace
-  first-own e = rw e
-
-  first-other : eqb (c .place) p ≡ false → length (ofPlace p (c ∷ l)) ≡ length (ofPlace p l)
-  unfolding ofPlace
-  first-other e = rw e
-
-  later : (k m : ℕ) (s : Split p m l) → length (ofPlace p (c ∷ s .before)) ≡ k → Split p k (c ∷ l)
-  later k m s e = record {
-    before = c ∷ s .before;
-    card = s .card;
-    behind = s .behind;
-    whole = ap (λ (r : List Card). c ∷ r) (s .whole);
-    here = s .here;
-    count = e;
-  }
-
-pub splits : (p k : ℕ) (l : List Card) → k < length (ofPlace p l) → Split p k l
-unfolding ofPlace
-splits p k [] h = absurd (omega (arith, h))
-splits p k (c ∷ l) h = by-test k (decided (eqb (c .place) p)) (λ m. splits p m l) h
-  where
-    by-test : (k : ℕ) → Test (eqb (c .place) p) → ((m : ℕ) → m < length (ofPlace p l) → Split p m l)
-        → k < length (ofPlace p (c ∷ l)) → Split p k (c ∷ l)
-    by-test zero (inl e) more h = record { before = []; card = c; behind = l; whole = refl; here = eqb-true (c .place) p e; count = refl }
-    by-test (suc k) (inl e) more h =
-        let s = more k (omega (arith, h, first-own p c l e)) in
-        later p c l (suc k) k s (first-own p c (s .before) e ∙ ap suc (s .count))
-    by-test k (inr e) more h =
-        let s = more k (omega (arith, h, first-other p c l e)) in
-        later p c l k k s (first-other p c (s .before) e ∙ s .count)
 
 -- the test of two indexes ------------------------------------------------------------------------------------------------------------------
 

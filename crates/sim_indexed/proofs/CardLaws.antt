@@ -1,17 +1,16 @@
 -- The cards of messages in transit: a slot's words give its message's card, and each receiver that a system's message names has a place.
 use Prim.Native.Nat.{ℕ, zero, suc, _+_, _-_, _*_, _<_, _≤_}
 use native.Mathlib.Omega.{arith}
-use mathlib.Core.Path.{_≡_, refl, sym, ap, _∙_}
-use mathlib.Core.Bool.{true, not}
-use mathlib.Core.List.{List, [], _∷_, _++_, map}
-use lib.Dec.{eqb, ltb}
-use lib.ListN.{getD, take, drop}
-use borrow.Author.Tests.{le-leb, lt-leb, lt-ltb, ne-eqb}
+use mathlib.Core.Path.{_≡_, refl, sym}
+use mathlib.Core.Bool.{true}
+use mathlib.Core.List.{List, [], _∷_, map}
+use lib.Dec.{eqb}
+use lib.ListN.{length, getD, take, drop}
+use borrow.Author.Tests.{le-leb, lt-leb, lt-ltb}
 use Rattle.ids.specs.Choice.{if_then_else_}
 use Rattle.ids.specs.Limits.{maxServers}
-use Rattle.ids.specs.Lists.{every}
 use Rattle.ids.proofs.LimitsLaws.{within-range}
-use Rattle.wire.specs.Format.{known, fieldsOf, messageOf, validFields}
+use Rattle.wire.specs.Format.{known, fieldsOf, messageOf}
 use Rattle.wire.specs.declared.Fields.{Fields}
 use Rattle.wire.specs.declared.Message.{Message}
 use Rattle.wire.specs.declared.Message.the-variants.{Request, Yield, Release, Inquiry, Response, Check}
@@ -19,14 +18,15 @@ use Rattle.wire.proofs.NumbersLaws.{fields-again}
 use Rattle.system.specs.Limits.{systemServers, systemMessages}
 use Rattle.system.specs.Transit.{InTransit}
 use Rattle.system.specs.Index.{receiverOf}
+use Rattle.system.specs.declared.Receiver.{Receiver}
+use Rattle.system.specs.declared.Receiver.the-variants.{Client, Server}
 use Rattle.system.proofs.Tokens.{All, empty, more}
-use Rattle.sim_transit.specs.Slots.{slotSize, slotOf, slotAt, slots, validSlot, validSlots}
+use Rattle.sim_transit.specs.Slots.{transitSize, slotSize, slotOf, slotAt, slots, validSlot, validSlots}
 use Rattle.sim_transit.specs.Calls.{Sized}
 use Rattle.sim_transit.proofs.SlotLaws.{Seven, seven, slot-fitting, known-kind, row-seven, word-at}
 use Rattle.sim_transit.proofs.ValidLaws.{slot-valid-at}
-use Rattle.sim_transit.proofs.Kept.{Kept, Named, names-named, valid-kept, valid-sized, slot-kept}
+use Rattle.sim_transit.proofs.Kept.{Kept, Named, names-named, valid-kept, valid-sized}
 use Rattle.sim_index.specs.Index.{receivers}
-use Rattle.sim_index.specs.declared.Card.{Card}
 use Rattle.sim_index.proofs.Means.{Placed}
 use Rattle.sim_indexed.specs.Indexed.{placeOf, cardOf}
 use Rattle.sim_indexed.specs.Calls.{Few}
@@ -42,7 +42,8 @@ place-client kind client server h = rw (lt-leb kind 4 h)
 
 -- by its kind a message goes to its server or its client
 receiver-place : (kind client server timestamp owner : ℕ) → known kind ≡ true
-    → placeOf (receiverOf (messageOf (record { kind = kind; client = client; server = server; timestamp = timestamp; owner = owner }))) ≡ placeBy kind client server
+    → placeOf (receiverOf (messageOf (record { kind = kind; client = client; server = server; timestamp = timestamp; owner = owner })))
+    ≡ placeBy kind client server
 unfolding messageOf placeBy
 receiver-place zero k s t o h = absurd (omega (arith, within-range 0 6 h))
 receiver-place (suc zero) k s t o h = refl
@@ -51,7 +52,8 @@ receiver-place (suc (suc (suc zero))) k s t o h = refl
 receiver-place (suc (suc (suc (suc zero)))) k s t o h = refl
 receiver-place (suc (suc (suc (suc (suc zero))))) k s t o h = refl
 receiver-place (suc (suc (suc (suc (suc (suc zero)))))) k s t o h = refl
-receiver-place (suc (suc (suc (suc (suc (suc (suc n))))))) k s t o h = absurd (omega (arith, within-range (suc (suc (suc (suc (suc (suc (suc n))))))) 6 h))
+receiver-place (suc (suc (suc (suc (suc (suc (suc n))))))) k s t o h =
+    absurd (omega (arith, within-range (suc (suc (suc (suc (suc (suc (suc n))))))) 6 h))
 
 -- seven words that are a slot
 module _ (n clients : ℕ) where
@@ -83,14 +85,17 @@ module _ (i : ℕ) (t : List ℕ) (R : Readable i t) where
   abbrev row : List ℕ
   row = take slotSize (drop (slotSize * i) t)
 
+  its-sized : Sized (R .len) t
+  its-sized = valid-sized (R .n) (R .clients) (R .sent) (R .len) t (R .valid)
+
+  pub card-may : Readable i t × (length t ≡ transitSize) × (i < systemMessages)
+  card-may = (R, its-sized .size, omega (arith, its-sized .few, R .used))
+
   its-seven : Seven row
-  its-seven = let S = valid-sized (R .n) (R .clients) (R .sent) (R .len) t (R .valid) in row-seven t i (S .size) (omega (arith, S .few, R .used))
+  its-seven = row-seven t i (its-sized .size) (card-may .2)
 
   its-slot : validSlot (R .n) (R .clients) row ≡ true
   its-slot = slot-valid-at (R .n) (R .clients) (R .sent) (R .len) t (R .valid) i (R .used)
-
-  pub read-sized : Sized (suc i) t
-  read-sized = let S = valid-sized (R .n) (R .clients) (R .sent) (R .len) t (R .valid) in record { size = S .size; few = omega (arith, S .few, R .used) }
 
   pub read-named : (1 ≤ getD t (slotSize * i + 3) 0) × (1 ≤ getD t (slotSize * i + 4) 0)
   read-named = rw (← word-at t i 3 (omega arith), ← word-at t i 4 (omega arith)) (named-words (R .n) (R .clients) its-seven its-slot)
@@ -104,18 +109,28 @@ module _ (i : ℕ) (t : List ℕ) (R : Readable i t) where
       let c′ = rw (w 0 (omega arith), w 1 (omega arith), w 2 (omega arith), w 3 (omega arith), w 4 (omega arith), z) at c in
       rw e (sym c′)
 
--- each receiver has its place
-place-within : (n clients : ℕ) (m : Message) → Few n clients → Named n clients (fieldsOf m) → placeOf (receiverOf m) < receivers
-unfolding fieldsOf
-place-within n clients (Request k j t) F N = omega (arith, F .few-servers, N .some-server, N .server)
-place-within n clients (Yield k j t) F N = omega (arith, F .few-servers, N .some-server, N .server)
-place-within n clients (Release k j t) F N = omega (arith, F .few-servers, N .some-server, N .server)
-place-within n clients (Inquiry k j t) F N = omega (arith, F .few-servers, N .some-server, N .server)
-place-within n clients (Response k j o) F N = omega (arith, F .few-clients, N .some-client, N .client)
-place-within n clients (Check k j t) F N = omega (arith, F .few-clients, N .some-client, N .client)
+-- a receiver that the setting has: each message's is one, and each has its place
+abbrev pub Inside : ℕ → ℕ → Receiver → Type 0
+Inside n clients (Client k) = (1 ≤ k .0) × (k .0 ≤ clients)
+Inside n clients (Server j) = (1 ≤ j .0) × (j .0 ≤ n)
+
+module _ (n clients : ℕ) where
+  pub receiver-inside : (m : Message) → Named n clients (fieldsOf m) → Inside n clients (receiverOf m)
+  unfolding fieldsOf
+  receiver-inside (Request k j t) N = (N .some-server, N .server)
+  receiver-inside (Yield k j t) N = (N .some-server, N .server)
+  receiver-inside (Release k j t) N = (N .some-server, N .server)
+  receiver-inside (Inquiry k j t) N = (N .some-server, N .server)
+  receiver-inside (Response k j o) N = (N .some-client, N .client)
+  receiver-inside (Check k j t) N = (N .some-client, N .client)
+
+  place-within : (r : Receiver) → Few n clients → Inside n clients r → placeOf r < receivers
+  place-within (Client k) F (a, b) = omega (arith, F .few-clients, a, b)
+  place-within (Server j) F (a, b) = omega (arith, F .few-servers, a, b)
 
 pub kept-placed : (n clients sent : ℕ) (x : InTransit) → Few n clients → Kept n clients sent x → cardOf x .place < receivers
-kept-placed n clients sent x F K = place-within n clients (x .message) F (names-named n clients (x .message) (K .named))
+kept-placed n clients sent x F K =
+    place-within n clients (receiverOf (x .message)) F (receiver-inside n clients (x .message) (names-named n clients (x .message) (K .named)))
 
 all-placed : {n clients sent : ℕ} {l : List InTransit} → Few n clients → All (Kept n clients sent) l → Placed (map cardOf l)
 all-placed F empty = refl

@@ -1,33 +1,33 @@
 -- The table and the index side by side. Words are valid if the slots are and the index is theirs; one message changed is one card changed, between
 -- the same neighbours, so that the index made afresh differs in that card alone.
-use Prim.Native.Nat.{ℕ, suc, _+_, _-_, _*_, _<_, _≤_}
+use Prim.Native.Nat.{ℕ, zero, suc, _+_, _-_, _*_, _<_, _≤_}
 use native.Mathlib.Omega.{arith}
 use mathlib.Core.Path.{_≡_, refl, sym, ap, subst, _∙_}
-use mathlib.Core.Bool.{Bool, true, not, _&&_}
+use mathlib.Core.Bool.{true, _&&_}
 use mathlib.Core.List.{List, [], _∷_, _++_, map, map-append, append-nil}
 use lib.Dec.{eqb}
-use lib.ListN.{length, getD, set, take, drop, length-map, length-append, length-drop, take-append-drop}
-use lib.Seq.{take-at, drop-at, take-all, length-take-le}
+use lib.ListN.{length, getD, set, take, drop, length-map, length-append, length-drop}
+use lib.Seq.{take-at, drop-at, take-all, drop-length, length-take-le}
 use borrow.Author.Tests.{eqb-true, eq-eqb, ne-eqb}
 use borrow.Rule.Slice.PartMut.{putMid}
-use Rattle.ids.specs.Lists.{every}
 use Rattle.ids.proofs.Choice.{both}
 use Rattle.system.specs.Limits.{systemMessages}
-use Rattle.system.specs.Transit.{InTransit, replaced, gone, present}
-use Rattle.sim_transit.specs.Slots.{transitSize, slotSize, slots, slotAt, validSlots, ascending}
+use Rattle.system.specs.Transit.{InTransit, replaced, gone}
+use Rattle.sim_transit.specs.Slots.{transitSize, slotSize, slots, validSlots, ascending}
 use Rattle.sim_transit.specs.Calls.{marked, markedAs, removed}
-use Rattle.sim_transit.proofs.Means.{Marks, Removes} 
+use Rattle.sim_transit.proofs.Means.{Marks, Removes}
 use Rattle.sim_transit.proofs.NumbersLaws.{rising, ascends-past, replaced-there}
-use Rattle.sim_transit.proofs.ValidLaws.{Known, known, slots-around}
+use Rattle.sim_transit.proofs.ValidLaws.{known, slots-around}
 use Rattle.sim_transit.proofs.ChangeLaws.{marks}
 use Rattle.sim_transit.proofs.RemoveLaws.{removes}
 use Rattle.sim_transit.proofs.Kept.{length-slots, valid-sized}
-use Rattle.sim_index.specs.Index.{indexSize, indexWords, numbersFrom, marksFrom, sorted, ofPlace}
+use Rattle.sim_index.specs.Index.{receivers, indexSize, indexWords, numbersFrom, marksFrom, sorted, ofPlace}
 use Rattle.sim_index.specs.Calls.{same, entryOf, withdrawn, Sized}
 use Rattle.sim_index.specs.declared.Card.{Card}
-use Rattle.sim_index.proofs.Means.{Placed, Other, length-index, index-sized, position-within, count-some, number-there, mark-there, entry-is, withdraws, marks-again, same-words, same-itself}
+use Rattle.sim_index.proofs.Means.{Placed, Other, length-index, index-sized, same-words, same-itself}
+use Rattle.sim_index.proofs.Means.{position-within, count-some, number-there, mark-there, entry-is, withdraws, marks-again}
 use Rattle.sim_indexed.specs.Indexed.{indexedSize, table, index, inTransit, slotIn, cardOf, afresh, validIndexed}
-use Rattle.sim_indexed.specs.Calls.{Few, Valid}
+use Rattle.sim_indexed.specs.Calls.{Few, Valid, Held}
 use Rattle.sim_indexed.specs.Inner.{entryPlace}
 use Rattle.sim_indexed.proofs.CardLaws.{slots-placed}
 
@@ -77,27 +77,43 @@ module _ (n clients sent len : ℕ) (tb x : List ℕ) (ok : validSlots n clients
   pub joined-messages : inTransit len (tb ++ x) ≡ slots len tb
   joined-messages = ap (slots len) (table-first tb x tb-long)
 
--- the parts lent one after the other, and what is there when both are back
-module _ (t : List ℕ) (size : length t ≡ indexedSize) where
-  pub index-back : (x : List ℕ) → putMid transitSize (indexedSize - transitSize) t x ≡ table t ++ x
-  index-back x =
-      let none : drop indexSize (drop transitSize t) ≡ [] = nothing (drop transitSize t) (omega (arith, length-drop transitSize t)) in
-      ap (λ (l : List ℕ). table t ++ (x ++ l)) none ∙ ap (λ (l : List ℕ). table t ++ l) (append-nil x)
-    where
-      nothing : (l : List ℕ) → length l ≡ indexSize → drop indexSize l ≡ []
-      nothing l e = ap (λ (k : ℕ). drop k l) (sym e) ∙ lib.Seq.drop-length l
+-- the index as it is lent, and the words when another index or another table is back
+abbrev pub lent : List ℕ → List ℕ
+lent t = take (indexedSize - transitSize) (drop transitSize t)
 
+abbrev pub backIndex : List ℕ → List ℕ → List ℕ
+backIndex t x = putMid transitSize (indexedSize - transitSize) t x
+
+abbrev pub backTable : List ℕ → List ℕ → List ℕ
+backTable t tb = putMid 0 (transitSize - 0) t tb
+
+module _ (t : List ℕ) (size : length t ≡ indexedSize) where
   pub table-long : length (table t) ≡ transitSize
   table-long = length-take-le transitSize t (omega arith)
 
   pub index-long : length (index t) ≡ indexSize
   index-long = omega (arith, length-drop transitSize t)
 
-pub table-back : (t tb : List ℕ) → putMid 0 (transitSize - 0) t tb ≡ tb ++ index t
-table-back t tb = refl
+  pub lent-index : lent t ≡ index t
+  lent-index = take-all indexSize (drop transitSize t) (omega (arith, length-drop transitSize t))
 
-pub lent-index : (t : List ℕ) → length t ≡ indexedSize → take (indexedSize - transitSize) (drop transitSize t) ≡ index t
-lent-index t size = take-all indexSize (drop transitSize t) (omega (arith, length-drop transitSize t))
+  pub lent-long : length (lent t) ≡ indexSize
+  lent-long = ap length lent-index ∙ index-long
+
+  module _ (x : List ℕ) where
+    pub index-back : backIndex t x ≡ table t ++ x
+    index-back =
+        let none : drop indexSize (drop transitSize t) ≡ [] = nothing (drop transitSize t) (omega (arith, length-drop transitSize t)) in
+        ap (λ (l : List ℕ). table t ++ (x ++ l)) none ∙ ap (λ (l : List ℕ). table t ++ l) (append-nil x)
+      where
+        nothing : (l : List ℕ) → length l ≡ indexSize → drop indexSize l ≡ []
+        nothing l e = ap (λ (k : ℕ). drop k l) (sym e) ∙ drop-length l
+
+    pub same-table : table (backIndex t x) ≡ table t
+    same-table = ap table index-back ∙ table-first (table t) x table-long
+
+    pub both-back : (tb : List ℕ) → backTable (backIndex t x) tb ≡ tb ++ x
+    both-back tb = ap (λ (l : List ℕ). tb ++ l) (ap index index-back ∙ index-last (table t) x table-long)
 
 -- one message between the others ---------------------------------------------------------------------------------------------
 
@@ -113,22 +129,22 @@ others-before sent last (y ∷ a) x b e =
     rw (ne-eqb (y .number) (x .number) (omega (arith, p))) (others-before sent (y .number) a x b (r .others))
 
 module _ (n clients sent len : ℕ) (t : List ℕ) (F : Few n clients) (ok : Valid n clients sent len t) where
-  abbrev P : Parts n clients sent len t
-  P = parts n clients sent len t ok
+  abbrev its : Parts n clients sent len t
+  its = parts n clients sent len t ok
 
   pub its-few : len ≤ systemMessages
-  its-few = valid-sized n clients sent len (table t) (P .fit) .few
+  its-few = valid-sized n clients sent len (table t) (its .fit) .few
 
   pub its-placed : Placed (map cardOf (slots len (table t)))
-  its-placed = slots-placed n clients sent len (table t) F (P .fit)
+  its-placed = slots-placed n clients sent len (table t) F (its .fit)
 
   its-count : length (map cardOf (slots len (table t))) ≡ len
   its-count = length-map (slots len (table t)) cardOf ∙ length-slots len (table t)
 
-  pub index-its : (p : ℕ) → p < Rattle.sim_index.specs.Index.receivers → Sized len p (index t)
+  pub index-its : (p : ℕ) → p < receivers → Sized len p (index t)
   index-its p h =
       let s = index-sized p (map cardOf (slots len (table t))) h (omega (arith, its-count, its-few)) its-placed in
-      rw (P .listed) (rw its-count at s)
+      rw (its .listed) (rw its-count at s)
 
   -- x is one of them
   module _ (a : List InTransit) (x : InTransit) (b : List InTransit) (whole : slots len (table t) ≡ a ++ (x ∷ b)) where
@@ -151,13 +167,13 @@ module _ (n clients sent len : ℕ) (t : List ℕ) (F : Few n clients) (ok : Val
     few = omega (arith, count, its-few)
 
     words : index t ≡ indexWords (ca ++ (cardOf x ∷ cb))
-    words = P .listed ∙ ap indexWords cards
+    words = its .listed ∙ ap indexWords cards
 
     place-is : entryPlace a x b ≡ length (sorted (cardOf x .place) (ca ++ (cardOf x ∷ cb))) + length (ofPlace (cardOf x .place) ca)
     place-is = ap (λ (l : List Card). length (sorted (cardOf x .place) l) + length (ofPlace (cardOf x .place) ca)) (cards-around a x b)
 
     ordered : ascending 0 sent (a ++ (x ∷ b)) ≡ true
-    ordered = rw whole at (known n clients sent len (table t) (P .fit) .ordered)
+    ordered = rw whole at (known n clients sent len (table t) (its .fit) .ordered)
 
     pub entry-within : entryPlace a x b < len
     entry-within = omega (arith, place-is, position-within ca (cardOf x) cb placed few, count)
@@ -175,47 +191,55 @@ module _ (n clients sent len : ℕ) (t : List ℕ) (F : Few n clients) (ok : Val
     entry-counted = rw words (count-some ca (cardOf x) cb placed few)
 
     -- it is marked anew, at its slot and at its entry
-    module _ (v : ℕ) (bit : v ≤ 1) (i : ℕ) (used : i < len) (here : slotAt (table t) i .number ≡ x .number) where
+    module _ (v : ℕ) (bit : v ≤ 1) (i : ℕ) (used : i < len) (here : slotIn t i .number ≡ x .number) where
       abbrev marked-index : List ℕ
       marked-index = set (index t) (marksFrom + entryPlace a x b) v
 
-      M : Marks i v (table t) (marked i v (table t))
-      M = marks (table t) i v bit (valid-sized n clients sent len (table t) (P .fit) .size) (omega (arith, its-few))
+      abbrev anew : ℕ → InTransit
+      anew v = record { number = x .number; delivered = eqb v 1; message = x .message }
+
+      abbrev card-anew : ℕ → Card
+      card-anew v = record { place = cardOf x .place; number = x .number; mark = v }
+
+      marks-slot : Marks i v (table t) (marked i v (table t))
+      marks-slot = marks (table t) i v bit (valid-sized n clients sent len (table t) (its .fit) .size) (omega (arith, its-few))
 
       messages : slots len (marked i v (table t)) ≡ a ++ (markedAs v x ++ b)
-      messages = M .after n clients sent len (P .fit) used ∙ (rw (here, whole) (replaced-there sent (markedAs v) 0 a x b ordered))
+      messages = marks-slot .after n clients sent len (its .fit) used ∙ (rw (here, whole) (replaced-there sent (markedAs v) 0 a x b ordered))
 
-      bit-mark : cardOf (record { number = x .number; delivered = eqb v 1; message = x .message }) ≡ record { place = cardOf x .place; number = x .number; mark = v }
+      bit-mark : cardOf (anew v) ≡ card-anew v
       bit-mark = go v bit
         where
-          go : (v : ℕ) → v ≤ 1 → cardOf (record { number = x .number; delivered = eqb v 1; message = x .message }) ≡ record { place = cardOf x .place; number = x .number; mark = v }
-          go Prim.Native.Nat.zero h = refl
-          go (suc Prim.Native.Nat.zero) h = refl
+          go : (v : ℕ) → v ≤ 1 → cardOf (anew v) ≡ card-anew v
+          go zero h = refl
+          go (suc zero) h = refl
           go (suc (suc k)) h = absurd (omega arith)
 
       marked-words : marked-index ≡ afresh (slots len (marked i v (table t)))
       marked-words =
-          let y : InTransit = record { number = x .number; delivered = eqb v 1; message = x .message } in
-          let e : map cardOf (slots len (marked i v (table t))) ≡ ca ++ (record { place = cardOf x .place; number = x .number; mark = v } ∷ cb) =
-          ap (map cardOf) messages ∙ (cards-around a y b ∙ ap (λ (c : Card). ca ++ (c ∷ cb)) bit-mark) in
+          let e : map cardOf (slots len (marked i v (table t))) ≡ ca ++ (card-anew v ∷ cb) =
+          ap (map cardOf) messages ∙ (cards-around a (anew v) b ∙ ap (λ (c : Card). ca ++ (c ∷ cb)) bit-mark) in
           rw (words, place-is) (marks-again ca (cardOf x) cb placed few v) ∙ ap indexWords (sym e)
 
+      still-fit : validSlots n clients sent len (marked i v (table t)) ≡ true
+      still-fit = marks-slot .valid n clients sent len (its .fit) used
+
       pub remarked-valid : Valid n clients sent len (marked i v (table t) ++ marked-index)
-      remarked-valid = joined-valid n clients sent len (marked i v (table t)) marked-index (M .valid n clients sent len (P .fit) used) marked-words
+      remarked-valid = joined-valid n clients sent len (marked i v (table t)) marked-index still-fit marked-words
 
       pub remarked-after : inTransit len (marked i v (table t) ++ marked-index) ≡ a ++ (markedAs v x ++ b)
-      remarked-after = joined-messages n clients sent len (marked i v (table t)) marked-index (M .valid n clients sent len (P .fit) used) marked-words ∙ messages
+      remarked-after = joined-messages n clients sent len (marked i v (table t)) marked-index still-fit marked-words ∙ messages
 
     -- it is gone, from its slot and from its entry
-    module _ (i : ℕ) (used : i < len) (here : slotAt (table t) i .number ≡ x .number) where
+    module _ (i : ℕ) (used : i < len) (here : slotIn t i .number ≡ x .number) where
       abbrev less-index : List ℕ
       less-index = withdrawn len (cardOf x .place) (x .number) (index t)
 
-      R : Removes len i (table t) (removed len i (table t))
-      R = removes (table t) len i (valid-sized n clients sent len (table t) (P .fit) .size) its-few used
+      removes-slot : Removes len i (table t) (removed len i (table t))
+      removes-slot = removes (table t) len i (valid-sized n clients sent len (table t) (its .fit) .size) its-few used
 
       left : slots (len - 1) (removed len i (table t)) ≡ a ++ b
-      left = R .after n clients sent (P .fit) ∙ (rw (here, whole) (replaced-there sent gone 0 a x b ordered))
+      left = removes-slot .after n clients sent (its .fit) ∙ (rw (here, whole) (replaced-there sent gone 0 a x b ordered))
 
       less-words : less-index ≡ afresh (slots (len - 1) (removed len i (table t)))
       less-words =
@@ -223,11 +247,14 @@ module _ (n clients sent len : ℕ) (t : List ℕ) (F : Few n clients) (ok : Val
           let w′ : less-index ≡ indexWords (ca ++ cb) = rw words (rw count at w) in
           w′ ∙ ap indexWords (sym (ap (map cardOf) left ∙ map-append cardOf a b))
 
+      less-fit : validSlots n clients sent (len - 1) (removed len i (table t)) ≡ true
+      less-fit = removes-slot .valid n clients sent (its .fit)
+
       pub removed-valid : Valid n clients sent (len - 1) (removed len i (table t) ++ less-index)
-      removed-valid = joined-valid n clients sent (len - 1) (removed len i (table t)) less-index (R .valid n clients sent (P .fit)) less-words
+      removed-valid = joined-valid n clients sent (len - 1) (removed len i (table t)) less-index less-fit less-words
 
       pub removed-after : inTransit (len - 1) (removed len i (table t) ++ less-index) ≡ a ++ b
-      removed-after = joined-messages n clients sent (len - 1) (removed len i (table t)) less-index (R .valid n clients sent (P .fit)) less-words ∙ left
+      removed-after = joined-messages n clients sent (len - 1) (removed len i (table t)) less-index less-fit less-words ∙ left
 
   -- slot i is one of them
   module _ (i : ℕ) (h : i < len) where
@@ -237,10 +264,19 @@ module _ (n clients sent len : ℕ) (t : List ℕ) (F : Few n clients) (ok : Val
     abbrev behind : List InTransit
     behind = slots (len - suc i) (drop (slotSize * suc i) (table t))
 
-    pub around : slots len (table t) ≡ before ++ (slotAt (table t) i ∷ behind)
+    pub around : slots len (table t) ≡ before ++ (slotIn t i ∷ behind)
     around =
         let z : i + suc (len - suc i) ≡ len = omega arith in
-        subst (λ (k : ℕ). slots k (table t) ≡ before ++ (slotAt (table t) i ∷ behind)) z (slots-around i (len - suc i) (table t))
+        subst (λ (k : ℕ). slots k (table t) ≡ before ++ (slotIn t i ∷ behind)) z (slots-around i (len - suc i) (table t))
 
-    pub replaces : (f : InTransit → List InTransit) → replaced (slotAt (table t) i .number) f (slots len (table t)) ≡ before ++ (f (slotAt (table t) i) ++ behind)
-    replaces f = rw around (replaced-there sent f 0 before (slotAt (table t) i) behind (ordered before (slotAt (table t) i) behind around))
+    pub replaces : (f : InTransit → List InTransit) → replaced (slotIn t i .number) f (slots len (table t)) ≡ before ++ (f (slotIn t i) ++ behind)
+    replaces f = rw around (replaced-there sent f 0 before (slotIn t i) behind (ordered before (slotIn t i) behind around))
+
+-- the words that a call may have -----------------------------------------------------------------------------------------------
+
+module _ {len : ℕ} {t : List ℕ} (H : Held len t) where
+  pub held-parts : Parts (H .n) (H .clients) (H .sent) len t
+  held-parts = parts (H .n) (H .clients) (H .sent) len t (H .valid)
+
+  pub held-few : len ≤ systemMessages
+  held-few = its-few (H .n) (H .clients) (H .sent) len t (H .few) (H .valid)

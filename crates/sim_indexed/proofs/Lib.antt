@@ -1,5 +1,6 @@
 pub mod CardLaws
 pub mod IndexedLaws
+pub mod EntriesLaws
 pub mod ListingLaws
 pub mod ChangeLaws
 pub mod PendLaws

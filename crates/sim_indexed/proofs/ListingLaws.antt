@@ -6,17 +6,16 @@ use native.Mathlib.Omega.{arith}
 use mathlib.Core.Path.{_≡_, refl, sym, ap, subst, _∙_}
 use mathlib.Core.Bool.{Bool, true, false, not}
 use mathlib.Core.List.{List, [], _∷_, _++_, map, map-append}
-use lib.Dec.{eqb, ltb}
-use lib.ListN.{length, getD, take, drop, replicate, length-map, length-append}
-use lib.Seq.{take-at, take-all}
+use lib.Dec.{ltb}
+use lib.ListN.{length, take, drop, replicate, length-map, length-append}
+use lib.Seq.{take-at}
 use borrow.Author.Tests.{ne-eqb, eq-eqb, not-true, not-false}
-use borrow.Rule.Slice.PartMut.{putMid}
 use Rattle.ids.specs.Lists.{every}
 use Rattle.ids.proofs.ListLaws.{every-parts}
 use Rattle.ids.proofs.Choice.{holds}
 use Rattle.wire.specs.declared.Message.{Message}
 use Rattle.system.specs.Limits.{systemClients, systemServers, systemMessages, lastNumber}
-use Rattle.system.specs.Transit.{InTransit, numbered}
+use Rattle.system.specs.Transit.{numbered}
 use Rattle.sim_transit.specs.Slots.{transitSize, slotSize, slotOf, slotAt, rows, slots, validSlots, names}
 use Rattle.sim_transit.specs.Calls as transit
 use Rattle.sim_transit.proofs.Means as means
@@ -27,11 +26,12 @@ use Rattle.sim_index.specs.Index.{receivers, indexSize, indexWords}
 use Rattle.sim_index.specs.Calls.{same, added, Sized}
 use Rattle.sim_index.specs.declared.Card.{Card}
 use Rattle.sim_index.proofs.Means.{Placed, index-sized, index-none, adds}
-use Rattle.sim_indexed.specs.Indexed.{indexedSize, table, index, inTransit, cardOf, afresh, validIndexed}
+use Rattle.sim_indexed.specs.Indexed.{indexedSize, table, index, cardOf, afresh, validIndexed}
 use Rattle.sim_indexed.specs.Calls.{Few, Valid, Posts, CanPost}
 use Rattle.sim_indexed.specs.Inner.{Readable, withIndex, Listing, Unlisted}
-use Rattle.sim_indexed.proofs.CardLaws.{kept-placed, slots-placed}
-use Rattle.sim_indexed.proofs.IndexedLaws.{Parts, parts, afresh-long, table-first, index-last, joined-valid, joined-messages, index-back, table-back, table-long, index-long, lent-index}
+use Rattle.sim_indexed.proofs.CardLaws.{card-may, kept-placed, slots-placed}
+use Rattle.sim_indexed.proofs.IndexedLaws.{Parts, parts, afresh-long, table-first, index-last, joined-valid, joined-messages}
+use Rattle.sim_indexed.proofs.IndexedLaws.{lent, backIndex, backTable, lent-index, lent-long, index-back, table-long, index-long}
 
 slots-split : (i k : ℕ) (t : List ℕ) → slots (i + k) t ≡ slots i t ++ slots k (drop (slotSize * i) t)
 unfolding slots
@@ -48,9 +48,6 @@ module _ (i : ℕ) (t : List ℕ) (R : Readable i t) where
   sized : transit.Sized (R .len) t
   sized = valid-sized (R .n) (R .clients) (R .sent) (R .len) t (R .valid)
 
-  pub card-may : Readable i t × (length t ≡ transitSize) × (i < systemMessages)
-  card-may = (R, sized .size, omega (arith, sized .few, R .used))
-
   counted : length cards ≡ i
   counted = length-map (slots i t) cardOf ∙ length-slots i t
 
@@ -64,7 +61,9 @@ module _ (i : ℕ) (t : List ℕ) (R : Readable i t) where
       placed-front cards (map cardOf (slots (R .len - i) (drop (slotSize * i) t))) (rw split at all)
 
   its-place : cardOf (slotAt t i) .place < receivers
-  its-place = kept-placed (R .n) (R .clients) (R .sent) (slotAt t i) (R .few) (slot-kept (R .n) (R .clients) (R .sent) (R .len) t (R .valid) i (R .used))
+  its-place =
+      kept-placed (R .n) (R .clients) (R .sent) (slotAt t i) (R .few)
+      (slot-kept (R .n) (R .clients) (R .sent) (R .len) t (R .valid) i (R .used))
 
   pub add-may : (x : List ℕ) (c : Card) → x ≡ afresh (slots i t) → c ≡ cardOf (slotAt t i) → Sized i (c .place) x × (i < systemMessages)
   add-may x c e f =
@@ -76,7 +75,8 @@ module _ (i : ℕ) (t : List ℕ) (R : Readable i t) where
       let room : length cards < systemMessages = omega (arith, counted, sized .few, R .used) in
       let a = adds cards (cardOf (slotAt t i)) all-placed its-place room in
       let a′ = rw counted at a in
-      let s : map cardOf (slots (suc i) t) ≡ cards ++ (cardOf (slotAt t i) ∷ []) = ap (map cardOf) (slots-next i t) ∙ map-append cardOf (slots i t) (slotAt t i ∷ []) in
+      let s : map cardOf (slots (suc i) t) ≡ cards ++ (cardOf (slotAt t i) ∷ []) =
+      ap (map cardOf) (slots-next i t) ∙ map-append cardOf (slots i t) (slotAt t i ∷ []) in
       rw add-one (g ∙ (rw (e, f) a′ ∙ ap indexWords (sym s)))
 
   pub listed-size : (x y : List ℕ) (c : Card) → x ≡ afresh (slots i t) → c ≡ cardOf (slotAt t i) → y ≡ added i c x → length y ≡ length x
@@ -90,17 +90,17 @@ module _ (i : ℕ) (t : List ℕ) (L : Listing i t) where
   listing-index : index t ≡ afresh (slots i (table t))
   listing-index = ap index (L .listed) ∙ index-last (table t) (afresh (slots i (table t))) (table-long t (L .size))
 
-  pub slot-may : (c : Card) → c ≡ cardOf (slotAt (table t) i) → Sized i (c .place) (take (indexedSize - transitSize) (drop transitSize t)) × (i < systemMessages)
+  pub slot-may : (c : Card) → c ≡ cardOf (slotAt (table t) i) → Sized i (c .place) (lent t) × (i < systemMessages)
   slot-may c f = rw (lent-index t (L .size)) (add-may i (table t) (L .readable) (index t) c listing-index f)
 
-  pub slot-listed : (c : Card) (y : List ℕ) → c ≡ cardOf (slotAt (table t) i) → y ≡ added i c (take (indexedSize - transitSize) (drop transitSize t))
-      → putMid transitSize (indexedSize - transitSize) t y ≡ withIndex (i + 1) t
+  pub slot-listed : (c : Card) (y : List ℕ) → c ≡ cardOf (slotAt (table t) i) → y ≡ added i c (lent t)
+      → backIndex t y ≡ withIndex (i + 1) t
   slot-listed c y f g =
       let g′ = rw (lent-index t (L .size)) at g in
       index-back t (L .size) y ∙ ap (λ (x : List ℕ). table t ++ x) (listed-next i (table t) (L .readable) (index t) y c listing-index f g′)
 
-  pub slot-size : (c : Card) (y : List ℕ) → c ≡ cardOf (slotAt (table t) i) → y ≡ added i c (take (indexedSize - transitSize) (drop transitSize t))
-      → length (putMid transitSize (indexedSize - transitSize) t y) ≡ length t
+  pub slot-size : (c : Card) (y : List ℕ) → c ≡ cardOf (slotAt (table t) i) → y ≡ added i c (lent t)
+      → length (backIndex t y) ≡ length t
   slot-size c y f g =
       let g′ = rw (lent-index t (L .size)) at g in
       let s = listed-size i (table t) (L .readable) (index t) y c listing-index f g′ in
@@ -130,7 +130,8 @@ module _ (from to : ℕ) (o : List ℕ) where
     joining-size : length t ≡ indexedSize
     joining-size =
         let l : length (slots i (table o)) ≤ systemMessages = omega (arith, length-slots i (table o), few, J .within) in
-        ap length (J .so-far) ∙ omega (arith, length-append (table o) (afresh (slots i (table o))), table-long o (J .begun .size), afresh-long (slots i (table o)) l)
+        let n = length-append (table o) (afresh (slots i (table o))) in
+        ap length (J .so-far) ∙ omega (arith, n, table-long o (J .begun .size), afresh-long (slots i (table o)) l)
 
     pub joining-same : length t ≡ length o
     joining-same = joining-size ∙ sym (J .begun .size)
@@ -172,7 +173,7 @@ module _ (len sent : ℕ) (l : List Message) (t : List ℕ) (C : CanPost len sen
         sym (take-at (slots len tb) _ len (length-slots len tb)) ∙
         (ap (take len) e ∙ take-at (slots len (table t)) (numbered sent l) len (length-slots len (table t)))
 
-    pub post-unlisted : Unlisted len (len + length l) (putMid 0 (transitSize - 0) t tb)
+    pub post-unlisted : Unlisted len (len + length l) (backTable t tb)
     post-unlisted =
         let h = table-first tb (index t) tb-long in
         record {
@@ -186,14 +187,15 @@ module _ (len sent : ℕ) (l : List Message) (t : List ℕ) (C : CanPost len sen
           listed = rw (h, first-slots) (ap (λ (x : List ℕ). tb ++ x) (old .listed));
         }
 
-    module _ (t′ : List ℕ) (e : t′ ≡ withIndex (len + length l) (putMid 0 (transitSize - 0) t tb)) where
+    module _ (t′ : List ℕ) (e : t′ ≡ withIndex (len + length l) (backTable t tb)) where
       all-listed : t′ ≡ tb ++ afresh (slots (len + length l) tb)
       all-listed = rw (table-first tb (index t) tb-long) at e
 
       pub posts-both : Posts len sent l t t′
       posts-both =
           let new : (n clients : ℕ) → Valid n clients sent len t → every (names n clients) l ≡ true
-              → validSlots n clients (sent + length l) (len + length l) tb ≡ true = λ n clients v q. P .valid n clients (parts n clients sent len t v .fit) q in
+          → validSlots n clients (sent + length l) (len + length l) tb ≡ true =
+          λ n clients v q. P .valid n clients (parts n clients sent len t v .fit) q in
           rw all-listed (record {
             valid = λ n clients F v q. joined-valid n clients (sent + length l) (len + length l) tb _ (new n clients v q) refl;
             after = λ n clients F v q. joined-messages n clients (sent + length l) (len + length l) tb _ (new n clients v q) refl ∙ P .after;
@@ -234,8 +236,8 @@ module _ (n clients sent len : ℕ) (t : List ℕ) where
         let l = afresh-long (slots (i + 1) t) (omega (arith, length-slots (i + 1) t, few)) in
         record { within = omega arith; few = M .few; valid = M .valid; long = sym (ap length e ∙ l); so-far = e }
 
-    pub making-long : (y : List ℕ) → length y ≡ indexedSize → length (take (indexedSize - transitSize) (drop transitSize y)) ≡ length x
-    making-long y s = ap length (lent-index y s) ∙ (index-long y s ∙ M .long)
+    pub making-long : (y : List ℕ) → length y ≡ indexedSize → length (lent y) ≡ length x
+    making-long y s = lent-long y s ∙ M .long
 
     pub making-all : len ≤ i → x ≡ afresh (slots len t)
     making-all h = let z : i ≡ len = omega (arith, M .within) in rw z at (M .so-far)
@@ -252,6 +254,6 @@ module _ (n clients sent len : ℕ) (t : List ℕ) where
     wrong-slots h = rw (eq-eqb (length t) indexedSize size, ← e, not-true v h)
 
     pub index-decides : not v ≡ false → (made : List ℕ) → made ≡ afresh (slots len (table t)) → (r : Bool)
-        → r ≡ same (take (indexedSize - transitSize) (drop transitSize t)) made → r ≡ validIndexed n clients sent len t
+        → r ≡ same (lent t) made → r ≡ validIndexed n clients sent len t
     unfolding validIndexed
     index-decides h made m r f = rw (eq-eqb (length t) indexedSize size, ← e, not-false v h) (rw (lent-index t size, m) at f)

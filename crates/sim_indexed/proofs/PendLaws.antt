@@ -1,20 +1,19 @@
 -- One entry's message made pending. The entry tells the message's number and mark: a pending message stays as it is; a delivered one is found by its
 -- number, and marked anew at its slot and at its entry.
-use Prim.Native.Nat.{ℕ, _+_, _-_, _*_, _<_, _≤_}
+use Prim.Native.Nat.{ℕ, _+_, _<_, _≤_}
 use native.Mathlib.Omega.{arith}
 use mathlib.Core.Path.{_≡_, refl, sym, ap, _∙_}
 use mathlib.Core.Logic.{inl, inr}
 use mathlib.Core.Bool.{Bool, true, false}
 use mathlib.Core.List.{List, [], _∷_, _++_}
 use lib.Dec.{eqb, ltb}
-use lib.ListN.{length, getD, set, take, drop, length-append, length-set}
+use lib.ListN.{length, getD, set, length-append}
 use borrow.Author.Tests.{eq-eqb, ltb-true, ltb-false}
-use borrow.Rule.Slice.PartMut.{putMid}
 use Rattle.ids.specs.Choice.{if_then_else_}
 use Rattle.ids.proofs.Choice.{decided, Test, clash}
 use Rattle.system.specs.Limits.{systemMessages}
 use Rattle.system.specs.Transit.{InTransit, present}
-use Rattle.sim_transit.specs.Slots.{transitSize, slotSize, slots, slotAt}
+use Rattle.sim_transit.specs.Slots.{transitSize, slots, slotAt}
 use Rattle.sim_transit.specs.Calls as transit
 use Rattle.sim_transit.specs.Calls.{Ordered, firstSlot, isNumbered, marked, markedAs}
 use Rattle.sim_transit.proofs.Means.{FindsPresent}
@@ -24,16 +23,9 @@ use Rattle.sim_index.specs.Index.{indexSize, numbersFrom, marksFrom}
 use Rattle.sim_indexed.specs.Indexed.{indexedSize, table, index, inTransit, markOf}
 use Rattle.sim_indexed.specs.Calls.{Few, Valid}
 use Rattle.sim_indexed.specs.Inner.{EntryAt, Pends, entryPlace}
-use Rattle.sim_indexed.proofs.IndexedLaws.{Parts, parts, table-first, index-last, index-back, lent-index, table-long, index-long}
+use Rattle.sim_indexed.proofs.IndexedLaws.{Parts, parts, lent, backIndex, backTable}
+use Rattle.sim_indexed.proofs.IndexedLaws.{lent-index, lent-long, table-long, index-back, same-table, both-back}
 use Rattle.sim_indexed.proofs.IndexedLaws.{entry-within, entry-number, entry-mark, remarked-valid, remarked-after}
-
--- both parts are back, the index first
-module _ (t : List ℕ) (size : length t ≡ indexedSize) (x : List ℕ) where
-  both-back : (tb : List ℕ) → putMid 0 (transitSize - 0) (putMid transitSize (indexedSize - transitSize) t x) tb ≡ tb ++ x
-  both-back tb = ap (λ (u : List ℕ). tb ++ index u) (index-back t size x) ∙ ap (λ (u : List ℕ). tb ++ u) (index-last (table t) x (table-long t size))
-
-  still-table : table (putMid transitSize (indexedSize - transitSize) t x) ≡ table t
-  still-table = ap table (index-back t size x) ∙ table-first (table t) x (table-long t size)
 
 present-there : (a : List InTransit) (x : InTransit) (b : List InTransit) → present (x .number) (a ++ (x ∷ b)) ≡ true
 present-there [] x b = rw (eq-eqb (x .number) (x .number) refl)
@@ -50,10 +42,6 @@ not-marked x b e = ap (λ (y : InTransit). y ∷ b) (λ i. record { number = x .
     go : (d : Bool) → _≡_ {A = ℕ} (if d then 1 else 0) 0 → d ≡ false
     go true e = absurd (omega (arith, e))
     go false e = refl
-
--- the index as it is lent
-abbrev pub lent : List ℕ → List ℕ
-lent t = take (indexedSize - transitSize) (drop transitSize t)
 
 module _ (len at : ℕ) (t : List ℕ) (E : EntryAt len at t) where
   its-parts : Parts (E .n) (E .clients) (E .sent) len t
@@ -72,15 +60,15 @@ module _ (len at : ℕ) (t : List ℕ) (E : EntryAt len at t) where
   pub table-inside : transitSize ≤ length t
   table-inside = omega (arith, its-size)
 
-  pub still-inside : (y : List ℕ) → transitSize ≤ length (putMid transitSize (indexedSize - transitSize) t y)
+  pub still-inside : (y : List ℕ) → transitSize ≤ length (backIndex t y)
   still-inside y = rw (index-back t its-size y) (omega (arith, length-append (table t) y, table-long t its-size))
 
   pub entry-may : (length (lent t) ≡ indexSize) × (at < systemMessages)
   entry-may =
       let w = entry-within (E .n) (E .clients) (E .sent) len t (E .few) (E .valid) (E .before) (E .message) (E .behind) (E .whole) in
-      (ap length (lent-index t its-size) ∙ index-long t its-size, omega (arith, w, E .here, its-sized .few))
+      (lent-long t its-size, omega (arith, w, E .here, its-sized .few))
 
-  pub find-may : transit.Sized len (take (transitSize - 0) t) × Ordered len (take (transitSize - 0) t)
+  pub find-may : transit.Sized len (table t) × Ordered len (table t)
   find-may = (its-sized, valid-ordered (E .n) (E .clients) (E .sent) len (table t) (its-parts .fit))
 
   -- the message is pending already
@@ -93,13 +81,13 @@ module _ (len at : ℕ) (t : List ℕ) (E : EntryAt len at t) where
   }
 
 -- what is known when slot i is found: it has the entry's number
-pub record Found (len at : ℕ) (t : List ℕ) (i : ℕ) : Type 0 where
+pub record Looked (len at : ℕ) (t : List ℕ) (i : ℕ) : Type 0 where
   pub entry : EntryAt len at t
   pub number : ℕ
   pub read : number ≡ getD (lent t) (numbersFrom + at) 0
-  pub slot : i ≡ firstSlot (isNumbered number) (slots len (take (transitSize - 0) t))
+  pub slot : i ≡ firstSlot (isNumbered number) (slots len (table t))
 
-module _ {len at : ℕ} {t : List ℕ} {i : ℕ} (S : Found len at t i) where
+module _ {len at : ℕ} {t : List ℕ} {i : ℕ} (S : Looked len at t i) where
   size : length t ≡ indexedSize
   size = its-size len at t (S .entry)
 
@@ -135,43 +123,34 @@ module _ {len at : ℕ} {t : List ℕ} {i : ℕ} (S : Found len at t i) where
     it-pends : inTransit len remarked ≡ a ++ (markedAs 0 x ++ b)
     it-pends = rw here (remarked-after n clients sent len t F ok a x b whole 0 (omega arith) i used same-number)
 
+  still-valid : (n clients sent : ℕ) → Few n clients → Valid n clients sent len t → Valid n clients sent len remarked
+  still-valid n clients sent F ok = let E = S .entry in it-valid n clients sent F ok (E .before) (E .message) (E .behind) (E .whole) (E .here)
+
   -- the index marked, as the code has it
   module _ {y : List ℕ} (ey : y ≡ set (lent t) (marksFrom + at) 0) where
     abbrev lent-table : List ℕ
-    lent-table = take (transitSize - 0) (putMid transitSize (indexedSize - transitSize) t y)
+    lent-table = table (backIndex t y)
 
     pub slot-may : (length lent-table ≡ transitSize) × (i < systemMessages)
     slot-may =
         let E = S .entry in
         let h = used (E .n) (E .clients) (E .sent) (E .few) (E .valid) (E .before) (E .message) (E .behind) (E .whole) (E .here) in
-        let l : length lent-table ≡ transitSize = ap length (still-table t size y) ∙ table-long t size in
+        let l : length lent-table ≡ transitSize = ap length (same-table t size y) ∙ table-long t size in
         (l, omega (arith, h, its-sized len at t E .few))
 
     -- and then the table
     module _ {tb : List ℕ} (eb : tb ≡ marked i 0 lent-table) where
       abbrev back : List ℕ
-      back = putMid 0 (transitSize - 0) (putMid transitSize (indexedSize - transitSize) t y) tb
+      back = backTable (backIndex t y) tb
 
       back-is : back ≡ remarked
-      back-is = both-back t size y tb ∙ rw (eb, ey, still-table t size (set (lent t) (marksFrom + at) 0), lent-index t size)
+      back-is = both-back t size y tb ∙ rw (eb, ey, same-table t size (set (lent t) (marksFrom + at) 0), lent-index t size)
 
       pub pends-size : length back ≡ length t
       pends-size =
-          ap length back-is ∙
-          omega (
-            arith,
-            length-append (marked i 0 (table t)) (set (index t) (marksFrom + at) 0),
-            length-set (table t) (slotSize * i + 1) 0,
-            length-set (index t) (marksFrom + at) 0,
-            table-long t size,
-            index-long t size,
-            size,
-          )
+          let E = S .entry in
+          let v = still-valid (E .n) (E .clients) (E .sent) (E .few) (E .valid) in
+          ap length back-is ∙ (parts (E .n) (E .clients) (E .sent) len remarked v .size ∙ sym size)
 
       pub pends : Pends len at t back
-      pends =
-          let E = S .entry in
-          rw back-is (record {
-            valid = λ n clients sent F ok. it-valid n clients sent F ok (E .before) (E .message) (E .behind) (E .whole) (E .here);
-            after = it-pends;
-          })
+      pends = rw back-is (record { valid = still-valid; after = it-pends })

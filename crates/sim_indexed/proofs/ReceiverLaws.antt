@@ -3,39 +3,31 @@ use Prim.Native.Nat.{ℕ, _+_, _-_, _≤_}
 use native.Mathlib.Omega.{arith}
 use mathlib.Core.Path.{_≡_, refl, sym, _∙_}
 use mathlib.Core.Logic.{inl, inr}
-use mathlib.Core.Bool.{Bool, true, false}
-use mathlib.Core.List.{List, [], _∷_}
+use mathlib.Core.Bool.{true, false}
+use mathlib.Core.List.{List, []}
 use lib.Dec.{eqb}
 use borrow.Author.Tests.{eqb-true, eq-eqb, ne-eqb, eqb-false, le-leb}
-use Rattle.ids.specs.Choice.{if_then_else_}
 use Rattle.ids.specs.Limits.{within}
 use Rattle.ids.proofs.Choice.{decided, Test, clash}
 use Rattle.wire.specs.Format.{fieldsOf}
 use Rattle.wire.specs.declared.Message.{Message}
-use Rattle.wire.specs.declared.Message.the-variants.{Request, Yield, Release, Inquiry, Response, Check}
 use Rattle.system.specs.Limits.{systemServers}
 use Rattle.system.specs.Transit.{InTransit}
-use Rattle.system.specs.Index.{receiverOf, isTo, entryOf, Entry, indexOf}
+use Rattle.system.specs.Index.{receiverOf, sameReceiver, isTo, indexOf}
 use Rattle.system.specs.declared.Receiver.{Receiver}
 use Rattle.system.specs.declared.Receiver.the-variants.{Client, Server}
 use Rattle.system.proofs.Tokens.{All, empty, more}
 use Rattle.sim_transit.proofs.Kept.{Kept, Named, names-named}
-use Rattle.sim_indexed.specs.Indexed.{placeOf, cardOf, entriesAt}
+use Rattle.sim_indexed.specs.Indexed.{placeOf, entriesAt}
 use Rattle.sim_indexed.specs.Calls.{Few}
+use Rattle.sim_indexed.proofs.CardLaws.{Inside, receiver-inside}
 
-pub less-one : (a b : ℕ) → 1 ≤ a → 1 ≤ b → eqb a b ≡ eqb (a - 1) (b - 1)
-less-one a b p q = go (decided (eqb a b))
+same-test : (a b c d : ℕ) → (a ≡ b → c ≡ d) → (c ≡ d → a ≡ b) → eqb a b ≡ eqb c d
+same-test a b c d f g = go (decided (eqb a b))
   where
-    go : Test (eqb a b) → eqb a b ≡ eqb (a - 1) (b - 1)
-    go (inl e) = e ∙ sym (eq-eqb (a - 1) (b - 1) (omega (arith, eqb-true a b e)))
-    go (inr e) = e ∙ sym (ne-eqb (a - 1) (b - 1) (λ z. eqb-false a b e (omega (arith, z))))
-
-further : (s a b : ℕ) → eqb a b ≡ eqb (s + a) (s + b)
-further s a b = go (decided (eqb a b))
-  where
-    go : Test (eqb a b) → eqb a b ≡ eqb (s + a) (s + b)
-    go (inl e) = e ∙ sym (eq-eqb (s + a) (s + b) (omega (arith, eqb-true a b e)))
-    go (inr e) = e ∙ sym (ne-eqb (s + a) (s + b) (λ z. eqb-false a b e (omega (arith, z))))
+    go : Test (eqb a b) → eqb a b ≡ eqb c d
+    go (inl e) = e ∙ sym (eq-eqb c d (f (eqb-true a b e)))
+    go (inr e) = e ∙ sym (ne-eqb c d (λ z. eqb-false a b e (g z)))
 
 -- a receiver that has a place
 abbrev pub Placed : Receiver → Type 0
@@ -43,33 +35,16 @@ Placed (Client k) = 1 ≤ k .0
 Placed (Server j) = (1 ≤ j .0) × (j .0 ≤ systemServers)
 
 module _ (n clients : ℕ) (F : Few n clients) where
-  module _ (i j : ℕ) (some : 1 ≤ i) where
-    server-server : 1 ≤ j → eqb i j ≡ eqb (i - 1) (j - 1)
-    server-server h = less-one i j some h
-
-    server-client : i ≤ n → false ≡ eqb (i - 1) (systemServers + (j - 1))
-    server-client h = sym (ne-eqb (i - 1) (systemServers + (j - 1)) (λ z. omega (arith, F .few-servers, z)))
-
-    client-client : 1 ≤ j → eqb i j ≡ eqb (systemServers + (i - 1)) (systemServers + (j - 1))
-    client-client h = less-one i j some h ∙ further systemServers (i - 1) (j - 1)
-
-    client-server : j ≤ systemServers → 1 ≤ j → false ≡ eqb (systemServers + (i - 1)) (j - 1)
-    client-server h g = sym (ne-eqb (systemServers + (i - 1)) (j - 1) (λ z. omega (arith, z)))
+  own-place : (s r : Receiver) → Inside n clients s → Placed r → sameReceiver s r ≡ eqb (placeOf s) (placeOf r)
+  own-place (Server i) (Server j) (some, h) (a, b) =
+      same-test (i .0) (j .0) (i .0 - 1) (j .0 - 1) (λ z. omega (arith, z)) (λ z. omega (arith, some, a, z))
+  own-place (Server i) (Client k) (some, h) a = sym (ne-eqb (i .0 - 1) (systemServers + (k .0 - 1)) (λ z. omega (arith, F .few-servers, some, h, z)))
+  own-place (Client i) (Client k) (some, h) a =
+      same-test (i .0) (k .0) (systemServers + (i .0 - 1)) (systemServers + (k .0 - 1)) (λ z. omega (arith, z)) (λ z. omega (arith, some, a, z))
+  own-place (Client i) (Server j) (some, h) (a, b) = sym (ne-eqb (systemServers + (i .0 - 1)) (j .0 - 1) (λ z. omega (arith, a, b, z)))
 
   pub to-place : (r : Receiver) → Placed r → (m : Message) → Named n clients (fieldsOf m) → isTo r m ≡ eqb (placeOf (receiverOf m)) (placeOf r)
-  unfolding fieldsOf
-  to-place (Server j) (a, b) (Request k i t) N = server-server (i .0) (j .0) (N .some-server) a
-  to-place (Server j) (a, b) (Yield k i t) N = server-server (i .0) (j .0) (N .some-server) a
-  to-place (Server j) (a, b) (Release k i t) N = server-server (i .0) (j .0) (N .some-server) a
-  to-place (Server j) (a, b) (Inquiry k i t) N = server-server (i .0) (j .0) (N .some-server) a
-  to-place (Server j) (a, b) (Response k i o) N = client-server (k .0) (j .0) (N .some-client) b a
-  to-place (Server j) (a, b) (Check k i t) N = client-server (k .0) (j .0) (N .some-client) b a
-  to-place (Client c) a (Request k i t) N = server-client (i .0) (c .0) (N .some-server) (N .server)
-  to-place (Client c) a (Yield k i t) N = server-client (i .0) (c .0) (N .some-server) (N .server)
-  to-place (Client c) a (Release k i t) N = server-client (i .0) (c .0) (N .some-server) (N .server)
-  to-place (Client c) a (Inquiry k i t) N = server-client (i .0) (c .0) (N .some-server) (N .server)
-  to-place (Client c) a (Response k i o) N = client-client (k .0) (c .0) (N .some-client) a
-  to-place (Client c) a (Check k i t) N = client-client (k .0) (c .0) (N .some-client) a
+  to-place r p m N = own-place (receiverOf m) r (receiver-inside n clients m N) p
 
   -- the entries at its place are its own
   pub entries-to : (r : Receiver) → Placed r → {sent : ℕ} {l : List InTransit} → All (Kept n clients sent) l → entriesAt (placeOf r) l ≡ indexOf r l
@@ -95,23 +70,15 @@ module _ (n clients : ℕ) where
           clash (within k limit) y h
       go (inr e) = e
 
-  to-lacking : (r : Receiver) → Lacking n clients r → (m : Message) → Named n clients (fieldsOf m) → isTo r m ≡ false
-  unfolding fieldsOf
-  to-lacking (Server j) h (Request k i t) N = other (i .0) (j .0) n (N .some-server) (N .server) h
-  to-lacking (Server j) h (Yield k i t) N = other (i .0) (j .0) n (N .some-server) (N .server) h
-  to-lacking (Server j) h (Release k i t) N = other (i .0) (j .0) n (N .some-server) (N .server) h
-  to-lacking (Server j) h (Inquiry k i t) N = other (i .0) (j .0) n (N .some-server) (N .server) h
-  to-lacking (Server j) h (Response k i o) N = refl
-  to-lacking (Server j) h (Check k i t) N = refl
-  to-lacking (Client c) h (Request k i t) N = refl
-  to-lacking (Client c) h (Yield k i t) N = refl
-  to-lacking (Client c) h (Release k i t) N = refl
-  to-lacking (Client c) h (Inquiry k i t) N = refl
-  to-lacking (Client c) h (Response k i o) N = other (k .0) (c .0) clients (N .some-client) (N .client) h
-  to-lacking (Client c) h (Check k i t) N = other (k .0) (c .0) clients (N .some-client) (N .client) h
+  to-lacking : (s r : Receiver) → Inside n clients s → Lacking n clients r → sameReceiver s r ≡ false
+  to-lacking (Server i) (Server j) (some, h) l = other (i .0) (j .0) n some h l
+  to-lacking (Server i) (Client k) (some, h) l = refl
+  to-lacking (Client i) (Client k) (some, h) l = other (i .0) (k .0) clients some h l
+  to-lacking (Client i) (Server j) (some, h) l = refl
 
   pub none-to : (r : Receiver) → Lacking n clients r → {sent : ℕ} {l : List InTransit} → All (Kept n clients sent) l → indexOf r l ≡ []
   unfolding indexOf
   none-to r p empty = refl
   none-to r p (more {x = x} {l = l} h g) =
-      rw (to-lacking r p (x .message) (names-named n clients (x .message) (h .named)), none-to r p g)
+      let i = receiver-inside n clients (x .message) (names-named n clients (x .message) (h .named)) in
+      rw (to-lacking (receiverOf (x .message)) r i p, none-to r p g)

@@ -82,7 +82,7 @@ replaced-others {f} a r i (x ∷ l) h =
     here p (inr e) = rw e (sym (index-append r (x ∷ []) l))
 
 -- a server's messages are those to it as a receiver
-for-server : (j : ServerId) (m : Message) → isFor j m ≡ isTo (Server j) m
+pub for-server : (j : ServerId) (m : Message) → isFor j m ≡ isTo (Server j) m
 for-server j (Request k i t) = refl
 for-server j (Yield k i t) = refl
 for-server j (Release k i t) = refl

@@ -1,6 +1,6 @@
 -- `sim_indexed::list_into` meets its contract: the card of slot i joins those before it.
-use Rattle.sim_indexed.proofs.ListingLaws.{card-may, add-may, listed-next, listed-size}
-use borrow.Author.Needs.{needs}
+use Rattle.sim_indexed.proofs.CardLaws.{card-may}
+use Rattle.sim_indexed.proofs.ListingLaws.{add-may, listed-next, listed-size}
 use Rattle.sim_indexed.proofs.list_into.Statement.{statement}
 use Rattle.sim_indexed.proofs.list_into.Tie as tie
 

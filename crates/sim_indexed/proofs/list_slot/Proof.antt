@@ -1,5 +1,4 @@
 -- `sim_indexed::list_slot` meets its contract: the card of slot i joins those before it, behind the table.
-use native.Mathlib.Omega.{arith}
 use Rattle.sim_indexed.proofs.ListingLaws.{slot-card, slot-may, slot-listed, slot-size}
 use borrow.Author.Needs.{needs}
 use Rattle.sim_indexed.proofs.list_slot.Statement.{statement}

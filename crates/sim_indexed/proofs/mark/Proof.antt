@@ -1,6 +1,5 @@
 -- `sim_indexed::mark` meets its contract: the message's entry is found and marked, and then its slot.
-use Rattle.sim_indexed.proofs.ChangeLaws.{change-card, change-sized, mark-entry, mark-size, mark-slot, marks-same, marks-both}
-use native.Mathlib.Omega.{arith}
+use Rattle.sim_indexed.proofs.ChangeLaws.{change-card, change-sized, mark-entry, mark-slot, marks-same, marks-both}
 use borrow.Author.Needs.{needs}
 use Rattle.sim_indexed.proofs.mark.Statement.{statement}
 use Rattle.sim_indexed.proofs.mark.Tie as tie

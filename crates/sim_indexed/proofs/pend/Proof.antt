@@ -1,7 +1,7 @@
 -- `sim_indexed::pend` meets its contract: the entry's mark decides, and a delivered message is marked anew at its entry and at its slot.
 use denote.Ref.{now}
 use Rattle.sim_indexed.proofs.PendLaws.{index-inside, table-inside, still-inside, entry-may, find-may, pends-none}
-use Rattle.sim_indexed.proofs.PendLaws.{Found, slot-may, pends-size, pends}
+use Rattle.sim_indexed.proofs.PendLaws.{Looked, slot-may, pends-size, pends}
 use borrow.Author.Needs.{needs}
 use Rattle.sim_indexed.proofs.pend.Statement.{statement}
 use Rattle.sim_indexed.proofs.pend.Tie as tie
@@ -11,7 +11,7 @@ module _ (c : tie.After-find-present) where
   abbrev entry : tie.Start
   entry = c .before .before .before .before .before .before .before .before .before .before .before
 
-  found : Found (entry .args .len) (entry .args .at) (now (entry .args .t)) (c .find-present .result)
+  found : Looked (entry .args .len) (entry .args .at) (now (entry .args .t)) (c .find-present .result)
   found = record { entry = entry .pre; number = _; read = c .before .before .before .number-at .ensures; slot = c .find-present .ensures }
 
 -- the entry is marked

@@ -1,7 +1,6 @@
 -- `sim_indexed::post` meets its contract: the messages stand in the slots, and then in the index.
 use denote.Ref.{now}
 use native.Mathlib.Omega.{arith}
-use Prim.Native.Nat.{ℕ}
 use mathlib.Core.List.{List}
 use Rattle.wire.specs.declared.Message.{Message}
 use Rattle.sim_transit.specs.Slots.{messagesIn}

@@ -1,6 +1,7 @@
 -- `sim_indexed::read_entry` meets its contract: the receiver's entries begin and end where the counts say.
 use native.Mathlib.Omega.{arith}
-use Rattle.sim_indexed.proofs.ReadLaws.{first-may, last-may, end-after, none-there, entry-may, entry-there}
+use Rattle.sim_indexed.proofs.EntriesLaws.{first-may, last-may}
+use Rattle.sim_indexed.proofs.ReadLaws.{end-after, none-there, entry-may, entry-there}
 use borrow.Author.Needs.{needs}
 use Rattle.sim_indexed.proofs.read_entry.Statement.{statement}
 use Rattle.sim_indexed.proofs.read_entry.Tie as tie
@@ -37,7 +38,9 @@ add-at c =
     record { fits = omega (arith, m .1) }
 
 returns : tie.Need-returns
-returns c = let b = c .before in none-there _ _ _ (entry b .pre .0) (entry b .pre .1) _ _ (begun b .start .ensures) (b .start2 .ensures) _ (c .if1 .taken)
+returns c =
+    let b = c .before in
+    none-there _ _ _ (entry b .pre .0) (entry b .pre .1) _ _ (begun b .start .ensures) (b .start2 .ensures) _ (c .if1 .taken)
 
 returns-2 : tie.Need-returns-2
 returns-2 c =
@@ -54,12 +57,12 @@ read-entry-spec =
     (λ c. search needs)
     (λ c. search needs)
     (λ c. search needs)
-    (λ c κs. let s = c .before .before in first-may _ _ _ (s .pre .0) (s .pre .1))
+    (λ c κs. let s = c .before .before in first-may _ _ (s .pre .0) _ (s .pre .1))
     (λ c. search needs)
     (λ c. search needs)
     (λ c. search needs)
     (λ c. search needs)
-    (λ c κs. let s = c .before .before .before .before in last-may _ _ _ (s .pre .0) (s .pre .1))
+    (λ c κs. let s = c .before .before .before .before in last-may _ _ (s .pre .0) _ (s .pre .1))
     (λ c. end-after _ _ _ (entry c .pre .0) (entry c .pre .1) _ _ (begun c .start .ensures) (c .start2 .ensures))
     returns
     add-at

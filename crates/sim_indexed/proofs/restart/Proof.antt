@@ -1,7 +1,8 @@
 -- `sim_indexed::restart` meets its contract. The invariant: before entry `at` the server's first messages, one for each entry before it, are pending.
 use Prim.Native.Nat.{_-_}
 use native.Mathlib.Omega.{arith}
-use Rattle.sim_indexed.proofs.RestartLaws.{index-inside, first-may, last-may}
+use Rattle.sim_indexed.proofs.EntriesLaws.{first-may, last-may}
+use Rattle.sim_indexed.proofs.RestartLaws.{server-there}
 use Rattle.sim_indexed.proofs.RestartLaws.{Restarting, restarting-none, restarting-entry, restarting-more, restarting-same, restarting-all}
 use borrow.Author.Needs.{needs}
 use Rattle.sim_indexed.proofs.restart.Statement.{statement}
@@ -23,13 +24,13 @@ restart-spec =
     (λ c. search needs)
     (λ c. search needs)
     (λ c. search needs)
-    (λ c. search index-inside)
-    (λ c κs. let d = c .before .before .before .before in first-may _ _ (d .pre .0) (d .args .j) (d .pre .1))
+    (λ c. search needs)
+    (λ c κs. let d = c .before .before .before .before in first-may _ _ (d .pre .0) _ (server-there _ (d .pre .1)))
     (λ c. search needs)
     (λ c. search needs)
-    (λ c. search index-inside)
     (λ c. search needs)
-    (λ c κs. let d = c .before .before .before .before .before .before .before in last-may _ _ (d .pre .0) (d .args .j) (d .pre .1))
+    (λ c. search needs)
+    (λ c κs. let d = c .before .before .before .before .before .before .before in last-may _ _ (d .pre .0) _ (server-there _ (d .pre .1)))
     (λ c. search restarting-none)
     (λ c κs. search restarting-entry)
     (λ c. search needs)

@@ -3,7 +3,8 @@
 use Prim.Native.Nat.{_-_}
 use native.Mathlib.Omega.{arith}
 use Rattle.sim_indexed.specs.Indexed.{table}
-use Rattle.sim_indexed.proofs.ListingLaws.{Making, making-none, making-slot, making-more, making-long, making-all, wrong-size, wrong-slots, index-decides}
+use Rattle.sim_indexed.proofs.ListingLaws.{Making, making-none, making-slot, making-more, making-long, making-all}
+use Rattle.sim_indexed.proofs.ListingLaws.{wrong-size, wrong-slots, index-decides}
 use borrow.Author.Needs.{needs}
 use Rattle.sim_indexed.proofs.valid.Statement.{statement}
 use Rattle.sim_indexed.proofs.valid.Tie as tie
