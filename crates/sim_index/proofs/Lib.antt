@@ -3,4 +3,3 @@ pub mod EntryLaws
 pub mod WordLaws
 pub mod PlaceLaws
 pub mod Means
-pub mod ListLaws

@@ -15,9 +15,9 @@ use Rattle.ids.proofs.Choice.{both, decided, Test, clash}
 use Rattle.ids.proofs.ListLaws.{every-parts, every-append}
 use Rattle.system.specs.Limits.{systemMessages}
 use Rattle.sim_index.specs.declared.Card.{Card}
-use Rattle.sim_index.specs.Index.{receivers, numbersFrom, marksFrom, indexSize, ofPlace, sorted, counts, padded, numbersOf, indexWords}
-use Rattle.sim_index.specs.Calls.{startOf, firstOf, entryOf, added, withdrawn, Sized, same}
-use Rattle.sim_index.proofs.WordLaws.{wordsOf, length-words, words-count, words-set, words-run}
+use Rattle.sim_index.specs.Index.{receivers, numbersFrom, marksFrom, indexSize, ofPlace, sorted, counts, padded, numbersOf, indexWords, marksOf}
+use Rattle.sim_index.specs.Calls.{startOf, firstOf, entryOf, added, withdrawn, Sized, same, numbersIn, marksIn}
+use Rattle.sim_index.proofs.WordLaws.{wordsOf, length-words, words-count, words-set, words-run, words-marks}
 use Rattle.sim_index.proofs.WordLaws.{Cut, card-number, card-mark, card-marked, card-put, card-taken}
 use Rattle.sim_index.proofs.PlaceLaws.{length-more, of-append, of-own, of-longer, of-every, before, behind, beyond}
 use Rattle.sim_index.proofs.PlaceLaws.{sorted-none, sorted-below, sorted-around, sorted-without, sorted-with, sorted-longer}
@@ -80,12 +80,18 @@ pub index-sized : (p : ℕ) (l : List Card) → p < receivers → length l ≤ s
 index-sized p l h few placed =
     record { size = length-index l few; few = few; place = h; within = rw (start-is (suc p) l h) (sorted-few (suc p) l) }
 
--- the numbers of a receiver's cards, where they begin
-run-is : (p : ℕ) (l : List Card) → p < receivers
-    → take (getD (indexWords l) p 0) (drop (numbersFrom + startOf p (indexWords l)) (indexWords l)) ≡ numbersOf (ofPlace p l)
-run-is p l h =
+-- the words have for each receiver the numbers of its cards, and beside them their marks
+pub numbers-listed : (p : ℕ) (l : List Card) → p < receivers → numbersIn p (indexWords l) ≡ numbersOf (ofPlace p l)
+numbers-listed p l h =
     rw (count-is p l h, start-is p l (omega arith), index-is l, sorted-around receivers p l h)
     (words-run (counts receivers l) (length-counts receivers l) (sorted p l) (ofPlace p l) (beyond p (receivers - suc p) l))
+
+pub marks-listed : (p : ℕ) (l : List Card) → p < receivers → length l ≤ systemMessages → marksIn p (indexWords l) ≡ marksOf (ofPlace p l)
+marks-listed p l h few =
+    let all : length (sorted receivers l) ≤ systemMessages = omega (arith, few, sorted-few receivers l) in
+    rw (count-is p l h, start-is p l (omega arith), index-is l, sorted-around receivers p l h)
+    (words-marks (counts receivers l) (length-counts receivers l) (sorted p l) (ofPlace p l) (beyond p (receivers - suc p) l)
+    (rw (sorted-around receivers p l h) at all))
 
 first-past : (c : Card) (l : List Card) (r : List ℕ) → Other c l → firstOf (c .number) (numbersOf l ++ (c .number ∷ r)) ≡ length l
 unfolding firstOf
@@ -183,7 +189,7 @@ module _ (a : List Card) (c : Card) (b : List Card) (placed : Placed (a ++ (c �
       let p : ℕ = c .place in
       let passed = first-past c (ofPlace p a) (numbersOf (ofPlace p b)) (of-every (apart c) p a other) in
       let split = map-append (λ (d : Card). d .number) (ofPlace p a) (c ∷ ofPlace p b) in
-      rw (run-is p (a ++ (c ∷ b)) own, start-is p (a ++ (c ∷ b)) (omega (arith, own)), of-own a c b, split, passed)
+      rw (numbers-listed p (a ++ (c ∷ b)) own, start-is p (a ++ (c ∷ b)) (omega (arith, own)), of-own a c b, split, passed)
 
   pub withdraws : Other c a → withdrawn (length (a ++ (c ∷ b))) (c .place) (c .number) (indexWords (a ++ (c ∷ b))) ≡ indexWords (a ++ b)
   unfolding withdrawn

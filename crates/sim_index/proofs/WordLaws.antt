@@ -96,6 +96,18 @@ length-padded f l h =
 marks-part : (cs ns ms : List ℕ) → cs ++ (padded ns ++ padded ms) ≡ (cs ++ padded ns) ++ (padded ms ++ [])
 marks-part cs ns ms = simp (append-assoc, append-nil)
 
+-- a field of the cards v, where those of the cards u stand before it in a padded part
+run-there : (front rest : List ℕ) (f : Card → ℕ) (u v w : List Card) (from : ℕ) → length front ≡ from
+    → take (length v) (drop (from + length u) (front ++ (padded (map f (u ++ (v ++ w))) ++ rest))) ≡ map f v
+unfolding padded
+run-there front rest f u v w from long =
+    let t : List Card = u ++ (v ++ w) in
+    let more : List ℕ = map f w ++ (replicate (systemMessages - length (map f t)) 0 ++ rest) in
+    let e : front ++ (padded (map f t) ++ rest) ≡ (front ++ map f u) ++ (map f v ++ more) =
+    rw (map-append f u (v ++ w), map-append f v w) (simp append-assoc) in
+    let before : length (front ++ map f u) ≡ from + length u = omega (arith, long, length-append front (map f u), length-map u f) in
+    rw (e, drop-at (front ++ map f u) (map f v ++ more) (from + length u) before) (take-at (map f v) more (length v) (length-map v f))
+
 module _ (cs : List ℕ) (many : length cs ≡ receivers) where
   marks-here : (l : List Card) → length l ≤ systemMessages → length (cs ++ padded (numbersOf l)) ≡ marksFrom
   marks-here l h = omega (arith, many, length-append cs (padded (numbersOf l)), length-padded numberOf l h)
@@ -113,18 +125,16 @@ module _ (cs : List ℕ) (many : length cs ≡ receivers) where
     pub words-set : (p v : ℕ) → p < receivers → set (wordsOf cs l) p v ≡ wordsOf (set cs p v) l
     words-set p v h = set-append-left cs (padded (numbersOf l) ++ padded (marksOf l)) p v (omega (arith, many))
 
-  -- the numbers of the cards v, behind those of the cards u
-  pub words-run : (u v w : List Card) → take (length v) (drop (numbersFrom + length u) (wordsOf cs (u ++ (v ++ w)))) ≡ numbersOf v
-  unfolding padded
-  words-run u v w =
-      let t : List Card = u ++ (v ++ w) in
-      let rest : List ℕ = numbersOf w ++ (replicate (systemMessages - length (numbersOf t)) 0 ++ padded (marksOf t)) in
-      let e : wordsOf cs t ≡ (cs ++ numbersOf u) ++ (numbersOf v ++ rest) =
-      rw (map-append numberOf u (v ++ w), map-append numberOf v w) (simp append-assoc) in
-      let front : length (cs ++ numbersOf u) ≡ numbersFrom + length u =
-      omega (arith, many, length-append cs (numbersOf u), length-map u numberOf) in
-      rw (e, drop-at (cs ++ numbersOf u) (numbersOf v ++ rest) (numbersFrom + length u) front)
-      (take-at (numbersOf v) rest (length v) (length-map v numberOf))
+  -- the numbers of the cards v, behind those of the cards u; and so the marks
+  module _ (u v w : List Card) where
+    pub words-run : take (length v) (drop (numbersFrom + length u) (wordsOf cs (u ++ (v ++ w)))) ≡ numbersOf v
+    words-run = run-there cs (padded (marksOf (u ++ (v ++ w)))) numberOf u v w numbersFrom many
+
+    pub words-marks : length (u ++ (v ++ w)) ≤ systemMessages
+        → take (length v) (drop (marksFrom + length u) (wordsOf cs (u ++ (v ++ w)))) ≡ marksOf v
+    words-marks h =
+        let t : List Card = u ++ (v ++ w) in
+        rw (marks-part cs (numbersOf t) (marksOf t)) (run-there (cs ++ padded (numbersOf t)) [] markOf u v w marksFrom (marks-here t h))
 
 module _ {u v : List Card} {i n : ℕ} (C : Cut u v i n) (cs : List ℕ) (many : length cs ≡ receivers) (c : Card) where
   abbrev l : List Card

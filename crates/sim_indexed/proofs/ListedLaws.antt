@@ -16,7 +16,7 @@ use Rattle.sim_transit.proofs.Kept.{valid-kept, length-slots}
 use Rattle.sim_index.specs.Index.{receivers, ofPlace, numbersOf, marksOf}
 use Rattle.sim_index.specs.Calls.{numbersIn, marksIn}
 use Rattle.sim_index.specs.declared.Card.{Card}
-use Rattle.sim_index.proofs.ListLaws.{numbers-listed, marks-listed}
+use Rattle.sim_index.proofs.Means.{numbers-listed, marks-listed}
 use Rattle.sim_indexed.specs.Indexed.{table, index, inTransit, placeOf, cardOf, entriesAt}
 use Rattle.sim_indexed.specs.Calls.{Few, Valid}
 use Rattle.sim_indexed.proofs.IndexedLaws.{parts, its-few}
@@ -55,7 +55,7 @@ module _ (n clients sent len : ℕ) (t : List ℕ) (F : Few n clients) (ok : Val
   pub its-numbers : numbersIn (placeOf r) (index t) ≡ map numberOf (indexOf r (inTransit len t))
   its-numbers =
       ap (numbersIn (placeOf r)) (parts n clients sent len t ok .listed) ∙
-      (numbers-listed (placeOf r) (map cardOf messages) there few ∙
+      (numbers-listed (placeOf r) (map cardOf messages) there ∙
       (cards-entries (λ (c : Card). c .number) numberOf (λ x. refl) (placeOf r) messages ∙ ap (map numberOf) entries))
 
   pub its-marks : marksIn (placeOf r) (index t) ≡ map markOf (indexOf r (inTransit len t))
