@@ -21,7 +21,7 @@ use Rattle.server_votes.specs.Figure1.{idle}
 use Rattle.system.specs.declared.Event.the-variants.{Fall, Down, Up, Drop}
 use Rattle.system.specs.declared.MessageNumber.{MessageNumber}
 use Rattle.system.specs.Numbered.{clientNo, serverNo}
-use Rattle.system.specs.Transit.{present, replaced, gone, again}
+use Rattle.system.specs.Transit.{replaced, gone, again}
 use Rattle.system.specs.Places.{System, ClientPlace, ServerPlace, clientAt, serverAt, downed}
 use Rattle.system.specs.Events.{fallen, cameUp, dropped, wentDown}
 use Rattle.system.specs.Runs.{after}
@@ -34,8 +34,7 @@ use Rattle.sim_indexed.specs.Indexed.{table, slotIn}
 use Rattle.sim_transit.specs.Calls.{firstSlot, isNumbered}
 use Rattle.sim_transit.proofs.Means.{FindsPresent}
 use Rattle.sim_transit.proofs.FindLaws.{finds-present}
-use Rattle.sim_layout.specs.Layout.{settingOf, lengthOf, sentOf, transitWords, view, valid, clientsFrom, serversFrom}
-use Rattle.sim_layout.proofs.ValidLaws.{facts}
+use Rattle.sim_layout.specs.Layout.{settingOf, lengthOf, transitWords, view, valid, clientsFrom, serversFrom}
 use Rattle.sim_layout.specs.Parts.{clientBlockOf, serverBlockOf, ServerIn}
 use Rattle.sim_layout.proofs.PlaceLaws.{client-place, server-place}
 use Rattle.sim_changes.specs.declared.Moved.the-variants.{Sent, Refused}

@@ -13,7 +13,7 @@ use Rattle.system.specs.Index.{Entry, entryOf, indexOf}
 use Rattle.system.specs.declared.Receiver.{Receiver}
 use Rattle.sim_transit.specs.Slots.{slots}
 use Rattle.sim_transit.proofs.Kept.{valid-kept, length-slots}
-use Rattle.sim_index.specs.Index.{receivers, ofPlace, numbersOf, marksOf}
+use Rattle.sim_index.specs.Index.{receivers, ofPlace}
 use Rattle.sim_index.specs.Calls.{numbersIn, marksIn}
 use Rattle.sim_index.specs.declared.Card.{Card}
 use Rattle.sim_index.proofs.Means.{numbers-listed, marks-listed}

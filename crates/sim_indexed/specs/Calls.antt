@@ -1,5 +1,5 @@
 -- What the calls on messages in transit with their index leave: the messages as the system's definitions say, and the index made afresh of them.
-use Prim.Native.Nat.{ℕ, _+_, _-_, _<_, _≤_}
+use Prim.Native.Nat.{ℕ, _+_, _-_, _≤_}
 use mathlib.Core.Path.{_≡_}
 use mathlib.Core.Bool.{true}
 use mathlib.Core.List.{List, _++_, map}

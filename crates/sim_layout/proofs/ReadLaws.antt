@@ -70,8 +70,10 @@ module _ (w : List ℕ) (ok : valid w ≡ true) where
   slot-lent i h = (lent-sized .size, omega (arith, lent-sized .few))
 
   pub lent-ordered : Sized (lengthOf w) (take transitSize (drop transitFrom w)) × Ordered (lengthOf w) (take transitSize (drop transitFrom w))
-  lent-ordered = (lent-sized,
-      rw (lent-table w) (valid-ordered (settingOf w .n) (settingOf w .clients) (sentOf w) (lengthOf w) (table (transitWords w)) its-slots))
+  lent-ordered = (
+    lent-sized,
+    rw (lent-table w) (valid-ordered (settingOf w .n) (settingOf w .clients) (sentOf w) (lengthOf w) (table (transitWords w)) its-slots),
+  )
 
   pub message-read : (i : ℕ) (m : Message) → i < lengthOf w → m ≡ messageAt (take transitSize (drop transitFrom w)) i → m ≡ slotIn (transitWords w) i .message
   message-read i m h e =

@@ -19,8 +19,7 @@ use Rattle.sim_indexed.specs.Indexed.{table, slotIn}
 use Rattle.sim_transit.specs.Calls.{firstSlot, isPending}
 use Rattle.sim_transit.proofs.Means.{FindsPending}
 use Rattle.sim_transit.proofs.FindLaws.{finds-pending}
-use Rattle.sim_layout.specs.Layout.{settingOf, lengthOf, sentOf, transitWords, view, valid}
-use Rattle.sim_layout.proofs.ValidLaws.{facts}
+use Rattle.sim_layout.specs.Layout.{settingOf, lengthOf, transitWords, view, valid}
 use Rattle.sim_changes.specs.declared.Moved.{Moved}
 use Rattle.sim_changes.specs.declared.Moved.the-variants.{Refused}
 use Rattle.sim_changes.specs.Happens.{happens, Leaves, movedOf}

@@ -1,10 +1,10 @@
 -- What the calls on the messages in transit give and leave: equations, for all words that they accept. That on the words of a system each is one
 -- of the system's definitions is proofs/Means.
-use Prim.Native.Nat.{ℕ, zero, suc, _+_, _-_, _*_, _<_, _≤_}
+use Prim.Native.Nat.{ℕ, suc, _+_, _-_, _*_, _<_, _≤_}
 use mathlib.Core.Path.{_≡_}
 use mathlib.Core.Bool.{Bool, true, not, _&&_}
 use mathlib.Core.List.{List, [], _∷_, _++_}
-use lib.Dec.{eqb, leb}
+use lib.Dec.{eqb}
 use lib.ListN.{length, getD, set, take, drop, replicate}
 use lib.Seq.{sets, paste}
 use Rattle.ids.specs.Choice.{if_then_else_}

@@ -9,7 +9,7 @@ use Rattle.system.specs.Limits.{systemMessages, lastNumber}
 use Rattle.system.specs.declared.Event.{Event}
 use Rattle.system.specs.declared.Receiver.{Receiver}
 use Rattle.system.specs.Places.{System}
-use Rattle.system.specs.Index.{Entry, indexOf, touched}
+use Rattle.system.specs.Index.{indexOf, touched}
 use Rattle.system.proofs.Touched.{untouched-within}
 use Rattle.sim_index.specs.Index.{receivers}
 use Rattle.sim_index.specs.Calls.{numbersIn, marksIn}

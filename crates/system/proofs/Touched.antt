@@ -4,17 +4,14 @@ use mathlib.Core.Path.{_≡_, refl, sym, ap, _∙_}
 use Prim.Native.Nat.{ℕ, suc}
 use mathlib.Core.Bool.{Bool, true, false, not, _&&_, _||_, false≢true}
 use mathlib.Core.Logic.{inl, inr}
-use mathlib.Core.Option.{some}
 use mathlib.Core.List.{List, [], _∷_, _++_, map, append-nil}
 use lib.Dec.{eqb, leb}
 use lib.ListN.{length}
 use borrow.Author.Tests.{eqb-true}
-use Rattle.ids.specs.Choice.{if_then_else_, maybe}
-use Rattle.ids.specs.Requests.{byOwner}
+use Rattle.ids.specs.Choice.{if_then_else_}
 use Rattle.ids.specs.declared.Refusal.{Refusal}
 use Rattle.ids.specs.declared.Refusal.the-variants.{NoSuchParty, PartyDown, NoOwner, OwnerLives, WrongSection, TimestampsSpent, SystemFull}
 use Rattle.ids.specs.declared.ServerId.{ServerId}
-use Rattle.ids.specs.declared.Request.{Request as Pair}
 use Rattle.ids.proofs.Choice.{decided, Test}
 use Rattle.wire.specs.Step.{Step, refused, stepped}
 use Rattle.wire.specs.declared.Message.{Message}
@@ -32,7 +29,7 @@ use Rattle.system.specs.Places.{System, clientAt, serverAt}
 use Rattle.system.specs.Events.{Result, need, tried, exited, fallen, wentDown, cameUp, serverTook, responseTook, checkTook, dropped, suspected, asked, deliver, event, nothing, withPlaces}
 use Rattle.system.specs.Runs.{after}
 use Rattle.system.specs.Index.{receiverOf, sameReceiver, isTo, entryOf, Entry, indexOf, someTo, numberedTo, reaches, touched}
-use Rattle.system.proofs.Branch.{branch, perhaps, owned}
+use Rattle.system.proofs.Branch.{perhaps, owned}
 
 neither : (a b : Bool) → a || b ≡ false → (a ≡ false) × (b ≡ false)
 neither true b h = absurd (false≢true (sym h))

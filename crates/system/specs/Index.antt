@@ -1,7 +1,7 @@
 -- The index of the messages in transit by receiver (document 02, L2), as it is made afresh: for each client and each server the numbers of the
 -- messages to it, in the order in which they are in transit, which is ascending, each pending or delivered. And whose list an event may change.
 use Prim.Native.Nat.{ℕ}
-use mathlib.Core.Bool.{Bool, true, false, _&&_, _||_}
+use mathlib.Core.Bool.{Bool, false, _&&_, _||_}
 use mathlib.Core.List.{List, [], _∷_}
 use lib.Dec.{eqb}
 use Rattle.ids.specs.Choice.{if_then_else_}

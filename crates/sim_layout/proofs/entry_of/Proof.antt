@@ -1,5 +1,4 @@
 -- `sim_layout::entry_of` meets its contract: a receiver of the setting has its place in the index, and another has no entry.
-use native.Mathlib.Omega.{arith}
 use Rattle.sim_layout.proofs.EntryLaws.{client-lacking, client-there, client-entry, server-lacking, server-there, server-entry}
 use borrow.Author.Needs.{needs}
 use Rattle.sim_layout.proofs.entry_of.Statement.{statement}
