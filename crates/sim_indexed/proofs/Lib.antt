@@ -10,3 +10,4 @@ pub mod ReadLaws
 pub mod Determined
 pub mod Kept
 pub mod ListedLaws
+pub mod Samples

@@ -1,3 +1,4 @@
 pub mod Indexed
 pub mod Calls
 pub mod Inner
+pub mod Samples
