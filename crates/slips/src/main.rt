@@ -168,7 +168,7 @@ fn run(w: &mut [u32], part: &mut [u8], out: &mut [u8], wanted: Wanted)
     }
 }
 
-// Whether the only argument is this word, which zeros fill up: no argument has a zero, and one that is longer stands there without its end.
+// Whether the only argument is this word, which zeros fill up. Of a longer argument the first six bytes stand there, none of them zero.
 fn is_given(word: &[u8; 6]) -> bool {
     if os::arg_count() != 2 {
         return false;
