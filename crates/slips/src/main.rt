@@ -1,7 +1,7 @@
 // The slips program: a gallery script on standard input; on standard output what the gallery program prints and, behind the line of each
 // event, a slip for each server and each client (text_knowledge/specs/Knowledge). With the argument `last` the slips stand only behind the
-// last event's line; with `mail` the messages in transit stand behind the slips of each event (text_knowledge/specs/Mail).
-// Where reading or writing fails, standard error says so and the program ends there.
+// last event's line; with `mail` the messages in transit stand behind the slips of each event (text_knowledge/specs/Mail), and with `boxes` these
+// by receiver (text_knowledge/specs/Boxes). Where reading or writing fails, standard error says so and the program ends there.
 ghost use mathlib.Core.Path.{_≡_};
 ghost use mathlib.Core.Bool.{true};
 ghost use Prim.Native.Nat.{_≤_, _<_};
@@ -22,21 +22,24 @@ enum Wanted {
     Each,
     Last,
     Mail,
+    Boxes,
 }
 
-// The slips of a simulation, with its messages in transit or without. They end within the buffer.
-fn put_all(out: &mut [u8], w: &[u32], mail: bool) -> usize
+// The slips of a simulation, and what is wanted behind them. They end within the buffer.
+fn put_all(out: &mut [u8], w: &[u32], wanted: Wanted) -> usize
     requires { ⌜ validSimulation (now w) ≡ true ⌝ }
     ensures { λ r. ⌜ r ≤ length (now (out .exit)) ⌝ }
 {
-    if mail {
-        return text_knowledge::put_slips_mail(out, w);
+    match wanted {
+        Wanted::Each => text_knowledge::put_slips(out, w),
+        Wanted::Last => text_knowledge::put_slips(out, w),
+        Wanted::Mail => text_knowledge::put_slips_mail(out, w),
+        Wanted::Boxes => text_knowledge::put_slips_boxes(out, w),
     }
-    text_knowledge::put_slips(out, w)
 }
 
 // The slips of a script that runs and has had an event. Whether all of them were written.
-fn show(w: &[u32], out: &mut [u8], mail: bool) -> bool
+fn show(w: &[u32], out: &mut [u8], wanted: Wanted) -> bool
     requires { ⌜ valid (now w) ≡ true ⌝ }
 {
     if w[script::STAGE] != script::RUNNING {
@@ -45,7 +48,7 @@ fn show(w: &[u32], out: &mut [u8], mail: bool) -> bool
     if w[script::ANSWERED] == 0 {
         return true;
     }
-    let end = put_all(out, &w[script::STATE_HEAD..script::STATE_WORDS], mail);
+    let end = put_all(out, &w[script::STATE_HEAD..script::STATE_WORDS], wanted);
     console::write_out(STDOUT_FILENO, &out[0..end])
 }
 
@@ -53,22 +56,20 @@ fn show(w: &[u32], out: &mut [u8], mail: bool) -> bool
 fn show_behind(w: &[u32], out: &mut [u8], wanted: Wanted) -> bool
     requires { ⌜ valid (now w) ≡ true ⌝ }
 {
-    match wanted {
-        Wanted::Each => show(w, out, false),
-        Wanted::Last => true,
-        Wanted::Mail => show(w, out, true),
-    }
+    let Wanted::Last = wanted else {
+        return show(w, out, wanted);
+    };
+    true
 }
 
 // Behind the last event's line.
 fn show_last(w: &[u32], out: &mut [u8], wanted: Wanted) -> bool
     requires { ⌜ valid (now w) ≡ true ⌝ }
 {
-    match wanted {
-        Wanted::Each => true,
-        Wanted::Last => show(w, out, false),
-        Wanted::Mail => true,
-    }
+    let Wanted::Last = wanted else {
+        return true;
+    };
+    show(w, out, wanted)
 }
 
 // A line with its newline, or a piece of one, answered; then what is wanted behind an event line if one was answered with it.
@@ -167,18 +168,19 @@ fn run(w: &mut [u32], part: &mut [u8], out: &mut [u8], wanted: Wanted)
     }
 }
 
-// Whether the only argument is this word.
-fn is_given(word: &[u8; 4]) -> bool {
+// Whether the only argument is this word, which zeros fill up. Of a longer argument the first six bytes stand there, none of them zero.
+fn is_given(word: &[u8; 6]) -> bool {
     if os::arg_count() != 2 {
         return false;
     }
-    let mut given = [0u8; 5];
-    let n = os::arg(1, &mut given);
-    n == 4
-        && given[0] == word[0]
+    let mut given = [0u8; 6];
+    os::arg(1, &mut given);
+    given[0] == word[0]
         && given[1] == word[1]
         && given[2] == word[2]
         && given[3] == word[3]
+        && given[4] == word[4]
+        && given[5] == word[5]
 }
 
 fn begin(wanted: Wanted) {
@@ -193,13 +195,17 @@ fn main() {
         begin(Wanted::Each);
         return;
     }
-    if is_given(b"last") {
+    if is_given(b"last\0\0") {
         begin(Wanted::Last);
         return;
     }
-    if is_given(b"mail") {
+    if is_given(b"mail\0\0") {
         begin(Wanted::Mail);
         return;
     }
-    console::write_out(STDERR_FILENO, b"no 16 not last or mail\n");
+    if is_given(b"boxes\0") {
+        begin(Wanted::Boxes);
+        return;
+    }
+    console::write_out(STDERR_FILENO, b"no 16 not last, mail or boxes\n");
 }

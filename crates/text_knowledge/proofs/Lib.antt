@@ -1,2 +1,3 @@
 pub mod KnowledgeLaws
 mod MailLaws
+mod BoxLaws

@@ -1,4 +1,4 @@
--- The mail of the first i slots and the line of slot i are the mail of one slot more.
+-- The mail of the first i slots and the line of slot i are the mail of one slot more; the used slots are the messages in transit.
 use mathlib.Core.Path.{_≡_, refl}
 use Prim.Native.Nat.{ℕ, suc, _+_, _*_}
 use native.Mathlib.Numerals.{add-one}
@@ -7,9 +7,15 @@ use lib.ListN.{take, drop}
 use Rattle.system.specs.Transit.{InTransit}
 use Rattle.sim_transit.specs.Slots.{rows, slots, slotOf, slotAt}
 use Rattle.sim_transit.proofs.RowsLaws.{rows-next}
+use Rattle.sim_indexed.specs.Indexed.{inTransit}
+use Rattle.sim_layout.specs.Layout.{lengthOf, transitWords, view}
 use Rattle.text_sheet.specs.Sheet.{Sheet, puts}
 use Rattle.text_sheet.proofs.SheetLaws.{then as behind}
 use Rattle.text_knowledge.specs.Mail.{inTransitText, mailText}
+
+pub its-transit : (w : List ℕ) → inTransit (lengthOf w) (transitWords w) ≡ view w .transit
+unfolding view
+its-transit w = refl
 
 -- the mail, one message more
 mail-append : (a b : List InTransit) → mailText (a ++ b) ≡ mailText a ++ mailText b

@@ -4,6 +4,7 @@
 --   mail 4 RESPONSE keeper 1 kiosk 2 owner 1,1 waiting    an answer names the owner, a kiosk and its ticket
 --   mail 5 RESPONSE keeper 2 kiosk 2 free waiting         or none
 use Prim.Native.Nat.{ℕ}
+use mathlib.Core.Bool.{Bool}
 use mathlib.Core.List.{List, [], _∷_, _++_}
 use Rattle.ids.specs.Choice.{if_then_else_}
 use Rattle.ids.specs.Requests.{byOwner}
@@ -13,6 +14,7 @@ use Rattle.ids.specs.declared.ServerId.{ServerId}
 use Rattle.ids.specs.declared.Timestamp.{Timestamp}
 use Rattle.script_numbers.specs.Decimals.{decimal}
 use Rattle.script_lines.specs.Words.{text}
+use Rattle.text_sheet.specs.Sheet.{ends}
 use Rattle.system.specs.Places.{System}
 use Rattle.system.specs.Transit.{InTransit}
 use Rattle.wire.specs.declared.Message.{Message}
@@ -41,9 +43,12 @@ messageText (Inquiry k j t) = toServerText (text " INQUIRY") k j ++ timestampTex
 messageText (Response k j o) = toClientText (text " RESPONSE") k j ++ ownerText o
 messageText (Check k j t) = toClientText (text " CHECK") k j ++ timestampText t
 
+-- whether a message was delivered
+abbrev pub standingText : Bool → List ℕ
+standingText delivered = if delivered then text " taken" else text " waiting"
+
 unfoldable pub inTransitText : InTransit → List (List ℕ)
-inTransitText x =
-    text "mail " ∷ decimal (x .number) ∷ (messageText (x .message) ++ ((if x .delivered then text " taken\n" else text " waiting\n") ∷ []))
+inTransitText x = text "mail " ∷ decimal (x .number) ∷ (messageText (x .message) ++ (standingText (x .delivered) ∷ ends))
 
 unfoldable pub mailText : List InTransit → List (List ℕ)
 mailText [] = []

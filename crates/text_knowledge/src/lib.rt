@@ -1,5 +1,6 @@
 // What each server and each client of a simulation knows, and its messages in transit, as text on a sheet: the teacher's slips
-// (specs/Knowledge) and mail (specs/Mail). The public functions are for `slips`, whose script has a valid simulation.
+// (specs/Knowledge), and the mail in the order of its numbers (specs/Mail) or by receiver (specs/Boxes). The public functions are for `slips`,
+// whose script has a valid simulation.
 ghost use mathlib.Core.Path.{_≡_};
 ghost use mathlib.Core.Bool.{true};
 ghost use mathlib.Core.List.{[], _∷_, _++_};
@@ -14,11 +15,13 @@ ghost use Rattle.sim_layout.specs.Layout.{valid, view as systemOf, settingOf, l
 ghost use Rattle.text_sheet.specs.Sheet.{sheet as sheetOf, puts};
 ghost use Rattle.rows.specs.Rows.{queueOf, Padded};
 ghost use Rattle.server_votes.specs.Queues.{view as votesView};
+ghost use Rattle.system.specs.Index.{indexOf};
 ghost use Rattle.system.specs.Places.{clientAt, serverAt};
 ghost use Rattle.sim_indexed.specs.Indexed.{slotIn};
 ghost use Rattle.wire.specs.declared.Message.the-variants.{Response, Check};
 ghost use Rattle.text_knowledge.specs.Knowledge.{requestText, requestsText, queueText, votesText, serverText, supportText, sectionText, supportersText, stateText, clientText, serversText, clientsText, slipsText};
-ghost use Rattle.text_knowledge.specs.Mail.{timestampText, toServerText, toClientText, ownerText, messageText, inTransitText, mailText, slipsMailText};
+ghost use Rattle.text_knowledge.specs.Mail.{timestampText, toServerText, toClientText, ownerText, messageText, standingText, inTransitText, mailText, slipsMailText};
+ghost use Rattle.text_knowledge.specs.Boxes.{entryText, entriesText, receiverText, boxText, serverBoxesText, clientBoxesText, boxesText, slipsBoxesText};
 ghost use Rattle.system.specs.Numbered.{serverNo};
 use client::Head;
 use client_responses::Section;
@@ -28,6 +31,9 @@ use ids::Request;
 use ids::ServerId;
 use ids::Timestamp;
 use server_votes::Votes;
+use sim_indexed::Listed;
+use system::MessageNumber;
+use system::Receiver;
 use wire::Message;
 
 fn put_request(out: &mut [u8], at: usize, r: Request) -> usize
@@ -312,14 +318,14 @@ fn put_message(out: &mut [u8], at: usize, m: Message) -> usize
     }
 }
 
-// Whether a message waits or was taken, which ends its line.
+// Whether a message was taken, or waits.
 fn put_standing(out: &mut [u8], at: usize, delivered: bool) -> usize
-    ensures { λ r. ⌜ sheetOf (now (out .exit)) r ≡ puts ((if delivered then text " taken\n" else text " waiting\n") ∷ []) (sheetOf (now (out .entry)) at) ⌝ }
+    ensures { λ r. ⌜ sheetOf (now (out .exit)) r ≡ puts (standingText delivered ∷ []) (sheetOf (now (out .entry)) at) ⌝ }
 {
     if delivered {
-        return text_sheet::put(out, at, b" taken\n");
+        return text_sheet::put(out, at, b" taken");
     }
-    text_sheet::put(out, at, b" waiting\n")
+    text_sheet::put(out, at, b" waiting")
 }
 
 // The message in slot i, a used one.
@@ -332,7 +338,8 @@ fn put_in_transit(out: &mut [u8], at: usize, w: &[u32], i: usize) -> usize
     let m = sim_layout::message_at(w, i);
     let p = text_sheet::put_with(out, at, b"mail ", number.0);
     let q = put_message(out, p, m);
-    put_standing(out, q, delivered)
+    let e = put_standing(out, q, delivered);
+    text_sheet::put(out, e, b"\n")
 }
 
 fn put_mail(out: &mut [u8], at: usize, w: &[u32]) -> usize
@@ -356,4 +363,97 @@ pub fn put_slips_mail(out: &mut [u8], w: &[u32]) -> usize
 {
     let p = put_slips(out, w);
     put_mail(out, p, w)
+}
+
+// Messages in transit by receiver.
+
+fn put_entry(out: &mut [u8], at: usize, number: MessageNumber, delivered: bool) -> usize
+    ensures { λ r. ⌜ sheetOf (now (out .exit)) r ≡ puts (entryText (record { number = number .0; delivered = delivered })) (sheetOf (now (out .entry)) at) ⌝ }
+{
+    let p = text_sheet::put_with(out, at, b" ", number.0);
+    put_standing(out, p, delivered)
+}
+
+// The entries of a receiver. Only these are looked at.
+fn put_entries(out: &mut [u8], at: usize, w: &[u32], r: Receiver) -> usize
+    requires { ⌜ valid (now w) ≡ true ⌝ }
+    ensures { λ e. ⌜ sheetOf (now (out .exit)) e ≡ puts (entriesText (indexOf r (systemOf (now (w .entry)) .transit))) (sheetOf (now (out .entry)) at) ⌝ }
+{
+    let len = sim_layout::in_transit(w);
+    let mut end = at;
+    let mut i: usize = 0;
+    while i < len {
+        let Listed::Entry(number, delivered) = sim_layout::entry_of(w, r, i) else {
+            return end;
+        };
+        end = put_entry(out, end, number, delivered);
+        i += 1;
+    }
+    end
+}
+
+fn put_receiver(out: &mut [u8], at: usize, r: Receiver) -> usize
+    ensures { λ e. ⌜ sheetOf (now (out .exit)) e ≡ puts (receiverText r) (sheetOf (now (out .entry)) at) ⌝ }
+{
+    match r {
+        Receiver::Client(k) => text_sheet::put_with(out, at, b"kiosk ", k.0 as u32),
+        Receiver::Server(j) => text_sheet::put_with(out, at, b"keeper ", j.0 as u32),
+    }
+}
+
+fn put_box(out: &mut [u8], at: usize, w: &[u32], r: Receiver) -> usize
+    requires { ⌜ valid (now w) ≡ true ⌝ }
+    ensures { λ e. ⌜ sheetOf (now (out .exit)) e ≡ puts (boxText (systemOf (now (w .entry))) r) (sheetOf (now (out .entry)) at) ⌝ }
+{
+    let p = put_receiver(out, at, r);
+    let q = text_sheet::put(out, p, b" mail");
+    let e = put_entries(out, q, w, r);
+    text_sheet::put(out, e, b"\n")
+}
+
+fn put_server_boxes(out: &mut [u8], at: usize, w: &[u32], n: u16) -> usize
+    requires { ⌜ valid (now w) ≡ true ⌝ }
+    ensures { λ r. ⌜ sheetOf (now (out .exit)) r ≡ puts (serverBoxesText (systemOf (now (w .entry))) n) (sheetOf (now (out .entry)) at) ⌝ }
+{
+    let mut end = at;
+    let mut j: u16 = 0;
+    while j < n {
+        j += 1;
+        let server = ServerId(j);
+        end = put_box(out, end, w, Receiver::Server(server));
+    }
+    end
+}
+
+fn put_client_boxes(out: &mut [u8], at: usize, w: &[u32], clients: u16) -> usize
+    requires { ⌜ valid (now w) ≡ true ⌝ }
+    ensures { λ r. ⌜ sheetOf (now (out .exit)) r ≡ puts (clientBoxesText (systemOf (now (w .entry))) clients) (sheetOf (now (out .entry)) at) ⌝ }
+{
+    let mut end = at;
+    let mut k: u16 = 0;
+    while k < clients {
+        k += 1;
+        let client = ClientId(k);
+        end = put_box(out, end, w, Receiver::Client(client));
+    }
+    end
+}
+
+fn put_boxes(out: &mut [u8], at: usize, w: &[u32]) -> usize
+    requires { ⌜ valid (now w) ≡ true ⌝ }
+    ensures { λ r. ⌜ sheetOf (now (out .exit)) r ≡ puts (boxesText (systemOf (now (w .entry))) (settingOf (now (w .entry)) .n) (settingOf (now (w .entry)) .clients)) (sheetOf (now (out .entry)) at) ⌝ }
+{
+    let n = sim_layout::servers(w);
+    let clients = sim_layout::clients(w);
+    let p = put_server_boxes(out, at, w, n);
+    put_client_boxes(out, p, w, clients)
+}
+
+// All slips of a simulation, and behind them its messages in transit by receiver.
+pub fn put_slips_boxes(out: &mut [u8], w: &[u32]) -> usize
+    requires { ⌜ valid (now w) ≡ true ⌝ }
+    ensures { λ r. ⌜ sheetOf (now (out .exit)) r ≡ puts (slipsBoxesText (systemOf (now (w .entry))) (settingOf (now (w .entry)) .n) (settingOf (now (w .entry)) .clients)) (sheetOf (now (out .entry)) 0) ⌝ }
+{
+    let p = put_slips(out, w);
+    put_boxes(out, p, w)
 }

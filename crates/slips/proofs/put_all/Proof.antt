@@ -8,9 +8,19 @@ pub put-all-spec : {M : Type 1} → statement M
 put-all-spec =
     tie.close
     (tie.spec
+    (λ c. search needs)
     (λ c κs. search needs)
+    (λ c. search needs)
+    (λ c κs. search needs)
+    (λ c. search needs)
+    (λ c κs. search needs)
+    (λ c. search needs)
+    (λ c κs. search needs)
+    (λ c. search needs)
+    (λ c. placed _ _ _ _ (c .before .before .put-slips .ensures))
+    (λ c. search needs)
+    (λ c. placed _ _ _ _ (c .before .before .put-slips2 .ensures))
     (λ c. search needs)
     (λ c. placed _ _ _ _ (c .before .before .put-slips-mail .ensures))
-    (λ c κs. search needs)
     (λ c. search needs)
-    (λ c. placed _ _ _ _ (c .before .before .put-slips .ensures)))
+    (λ c. placed _ _ _ _ (c .before .before .put-slips-boxes .ensures)))

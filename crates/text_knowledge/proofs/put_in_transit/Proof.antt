@@ -26,11 +26,12 @@ module _ (c : tie.After-message-at) where
 returns : tie.Need-returns
 unfolding inTransitText
 returns c =
-    let d₃ = c .before .before in
+    let d₄ = c .before .before in
+    let d₃ = d₄ .before .before .before .before .before in
     let d₂ = d₃ .before .before .before .before in
     let d₁ = d₂ .before .before .before .before in
-    rw (its-slot (d₁ .before .before .before))
-    (then _ _ _ (d₁ .put-with .ensures) (then _ _ _ (d₂ .put-message .ensures) (d₃ .put-standing .ensures)))
+    let marked = then _ _ _ (d₃ .put-standing .ensures) (d₄ .put .ensures) in
+    rw (its-slot (d₁ .before .before .before)) (then _ _ _ (d₁ .put-with .ensures) (then _ _ _ (d₂ .put-message .ensures) marked))
 
 pub put-in-transit-spec : {M : Type 1} → statement M
 put-in-transit-spec =
@@ -42,6 +43,8 @@ put-in-transit-spec =
     (λ c. search needs)
     (λ c κs. search needs)
     (λ c κs. search needs)
+    (λ c κs. search needs)
+    (λ c. search needs)
     (λ c κs. search needs)
     (λ c. search needs)
     returns)

@@ -6,12 +6,12 @@ use mathlib.Core.Path.{_≡_, refl}
 use mathlib.Core.List.{List}
 use lib.ListN.{length}
 use Prim.Native.Nat.{ℕ, _-_, _≤_}
-use Rattle.sim_changes.proofs.Messages.{lent-sized, its-transit}
+use Rattle.sim_changes.proofs.Messages.{transit-count}
 use Rattle.sim_layout.specs.Layout.{lengthOf, transitWords}
 use Rattle.text_sheet.specs.Sheet.{sheet, puts}
 use Rattle.sim_indexed.specs.Indexed.{inTransit}
 use Rattle.text_knowledge.specs.Mail.{mailText}
-use Rattle.text_knowledge.proofs.MailLaws.{mail-none, mail-more}
+use Rattle.text_knowledge.proofs.MailLaws.{its-transit, mail-none, mail-more}
 use borrow.Author.Needs.{needs}
 use Rattle.text_knowledge.proofs.put_mail.Statement.{statement}
 use Rattle.text_knowledge.proofs.put_mail.Tie as tie
@@ -30,7 +30,7 @@ module _ (c : tie.Start Inv-loop μ-loop) where
   words = now (c .args .w)
 
   few : lengthOf words ≤ systemMessages
-  few = lent-sized words (c .pre) .few
+  few = transit-count words (c .pre)
 
 -- at the head of the loop
 module _ (c : tie.At-loop Inv-loop μ-loop) where
@@ -53,7 +53,7 @@ returns c =
     let l = c .before .loop in
     let start = entry (c .before) in
     let e : l .i ≡ lengthOf (words start) = omega arith in
-    rw (← its-transit (words start) (start .pre), ← e) (l .inv .0)
+    rw (← its-transit (words start), ← e) (l .inv .0)
 
 pub put-mail-spec : {M : Type 1} → statement M
 put-mail-spec =
