@@ -81,36 +81,38 @@ module _ (len p : ℕ) (x : List ℕ) (S : Sized len p x) where
       omega (arith, g)
 
   -- a number and a mark put in, or taken out
-  module _ (at : ℕ) (y z : List ℕ) where
+  module _ (at : ℕ) (z : List ℕ) where
     pub put-left : (number mark : ℕ) → at ≤ len → len < systemMessages
-        → y ≡ inserted (numbersFrom + at) (numbersFrom + len) number x → z ≡ inserted (marksFrom + at) (marksFrom + len) mark y → Left p x z
-    put-left number mark le few f g =
+        → z ≡ inserted (marksFrom + at) (marksFrom + len) mark (inserted (numbersFrom + at) (numbersFrom + len) number x) → Left p x z
+    put-left number mark le few g =
         let place = S .place in
+        let y : List ℕ = inserted (numbersFrom + at) (numbersFrom + len) number x in
         let fits : numbersFrom + len < length x = omega (arith, S .size) in
-        let a : Left p x y = rw f (inserted-left p (numbersFrom + at) x (omega arith) (numbersFrom + len) number (omega arith) fits) in
+        let a : Left p x y = inserted-left p (numbersFrom + at) x (omega arith) (numbersFrom + len) number (omega arith) fits in
         let room : marksFrom + len < length y = omega (arith, a .size, S .size) in
         let b : Left p y z = rw g (inserted-left p (marksFrom + at) y (omega arith) (marksFrom + len) mark (omega arith) room) in
         left-twice p x y z a b
 
     pub taken-left : at < len
-        → y ≡ deleted (numbersFrom + at) (numbersFrom + (len - 1)) x → z ≡ deleted (marksFrom + at) (marksFrom + (len - 1)) y → Left p x z
-    taken-left lt f g =
+        → z ≡ deleted (marksFrom + at) (marksFrom + (len - 1)) (deleted (numbersFrom + at) (numbersFrom + (len - 1)) x) → Left p x z
+    taken-left lt g =
         let place = S .place in
         let few = S .few in
+        let y : List ℕ = deleted (numbersFrom + at) (numbersFrom + (len - 1)) x in
         let fits : numbersFrom + (len - 1) < length x = omega (arith, S .size) in
-        let a : Left p x y = rw f (deleted-left p (numbersFrom + at) x (omega arith) (numbersFrom + (len - 1)) (omega arith) fits) in
+        let a : Left p x y = deleted-left p (numbersFrom + at) x (omega arith) (numbersFrom + (len - 1)) (omega arith) fits in
         let room : marksFrom + (len - 1) < length y = omega (arith, a .size, S .size) in
         let b : Left p y z = rw g (deleted-left p (marksFrom + at) y (omega arith) (marksFrom + (len - 1)) (omega arith) room) in
         left-twice p x y z a b
 
-pub added-is : (len : ℕ) (c : Card) (at : ℕ) (x y z : List ℕ) → at ≡ startOf (c .place + 1) x
-    → y ≡ inserted (numbersFrom + at) (numbersFrom + len) (c .number) x → z ≡ inserted (marksFrom + at) (marksFrom + len) (c .mark) y
+pub added-is : (len : ℕ) (c : Card) (at : ℕ) (x z : List ℕ) → at ≡ startOf (c .place + 1) x
+    → z ≡ inserted (marksFrom + at) (marksFrom + len) (c .mark) (inserted (numbersFrom + at) (numbersFrom + len) (c .number) x)
     → set z (c .place) (getD z (c .place) 0 + 1) ≡ added len c x
 unfolding added
-added-is len c at x y z e f g = let e′ : at ≡ startOf (suc (c .place)) x = rw add-one at e in rw (g, f, e′, add-one)
+added-is len c at x z e g = let e′ : at ≡ startOf (suc (c .place)) x = rw add-one at e in rw (g, e′, add-one)
 
-pub withdrawn-is : (len p number at : ℕ) (x y z : List ℕ) → at ≡ entryOf p number x
-    → y ≡ deleted (numbersFrom + at) (numbersFrom + (len - 1)) x → z ≡ deleted (marksFrom + at) (marksFrom + (len - 1)) y
+pub withdrawn-is : (len p number at : ℕ) (x z : List ℕ) → at ≡ entryOf p number x
+    → z ≡ deleted (marksFrom + at) (marksFrom + (len - 1)) (deleted (numbersFrom + at) (numbersFrom + (len - 1)) x)
     → set z p (getD z p 0 - 1) ≡ withdrawn len p number x
 unfolding withdrawn
-withdrawn-is len p number at x y z e f g = rw (g, f, e)
+withdrawn-is len p number at x z e g = rw (g, e)

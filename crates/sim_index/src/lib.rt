@@ -54,32 +54,38 @@ fn find(x: &[u32], from: usize, to: usize, v: u32) -> usize
     i
 }
 
-// `v` stands at place `at`: the words from there on to place `end` move back by one.
-fn insert(x: &mut [u32], at: usize, end: usize, v: u32)
-    requires { ⌜ (at ≤ end) × (end < length (now x)) ⌝ }
-    ensures { λ _. ⌜ now (x .exit) ≡ inserted at end v (now (x .entry)) ⌝ }
+// A number and a mark stand at entry `at`: those from there on to entry `end` move back by one.
+fn insert(x: &mut [u32], at: usize, end: usize, number: u32, mark: u32)
+    requires { ⌜ (at ≤ end) × (end < systemMessages) × (length (now x) ≡ indexSize) ⌝ }
+    ensures { λ _. ⌜ now (x .exit) ≡ inserted (marksFrom + at) (marksFrom + end) mark (inserted (numbersFrom + at) (numbersFrom + end) number (now (x .entry))) ⌝ }
 {
     let mut i = end;
     while at < i {
-        let w = x[i - 1];
-        x[i] = w;
+        let n = x[NUMBERS + (i - 1)];
+        x[NUMBERS + i] = n;
+        let m = x[MARKS + (i - 1)];
+        x[MARKS + i] = m;
         i -= 1;
     }
-    x[at] = v;
+    x[NUMBERS + at] = number;
+    x[MARKS + at] = mark;
 }
 
-// The word at place `at` is gone: those behind it to place `last` move up by one.
+// Entry `at` is gone: those behind it to entry `last` move up by one.
 fn delete(x: &mut [u32], at: usize, last: usize)
-    requires { ⌜ (at ≤ last) × (last < length (now x)) ⌝ }
-    ensures { λ _. ⌜ now (x .exit) ≡ deleted at last (now (x .entry)) ⌝ }
+    requires { ⌜ (at ≤ last) × (last < systemMessages) × (length (now x) ≡ indexSize) ⌝ }
+    ensures { λ _. ⌜ now (x .exit) ≡ deleted (marksFrom + at) (marksFrom + last) (deleted (numbersFrom + at) (numbersFrom + last) (now (x .entry))) ⌝ }
 {
     let mut i = at;
     while i < last {
-        let w = x[i + 1];
-        x[i] = w;
+        let n = x[NUMBERS + (i + 1)];
+        x[NUMBERS + i] = n;
+        let m = x[MARKS + (i + 1)];
+        x[MARKS + i] = m;
         i += 1;
     }
-    x[last] = 0;
+    x[NUMBERS + last] = 0;
+    x[MARKS + last] = 0;
 }
 
 // The card joins the `len` entries.
@@ -89,8 +95,7 @@ pub fn add(x: &mut [u32], len: usize, c: Card)
 {
     let p = c.place;
     let at = start(x, p + 1);
-    insert(x, NUMBERS + at, NUMBERS + len, c.number);
-    insert(x, MARKS + at, MARKS + len, c.mark);
+    insert(x, at, len, c.number, c.mark);
     x[p] += 1;
 }
 
@@ -111,8 +116,7 @@ pub fn withdraw(x: &mut [u32], len: usize, p: usize, number: u32)
     ensures { λ _. ⌜ now (x .exit) ≡ withdrawn len p number (now (x .entry)) ⌝ }
 {
     let at = find_entry(x, len, p, number);
-    delete(x, NUMBERS + at, NUMBERS + (len - 1));
-    delete(x, MARKS + at, MARKS + (len - 1));
+    delete(x, at, len - 1);
     x[p] -= 1;
 }
 

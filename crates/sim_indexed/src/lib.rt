@@ -193,5 +193,5 @@ pub fn post_message(t: &mut [u32], len: usize, sent: u32, m: Message)
     ensures { λ _. ⌜ Posts len sent (m ∷ []) (now (t .entry)) (now (t .exit)) ⌝ }
 {
     sim_transit::post_message(&mut t[0..TABLE], len, sent, m);
-    list_slots(t, len, len + 1);
+    list_slot(t, len);
 }

@@ -5,7 +5,7 @@ use mathlib.Core.List.{[], _∷_}
 use Rattle.sim_transit.proofs.Means.{Posts}
 use Rattle.sim_transit.proofs.PostLaws.{posts-one}
 use Rattle.sim_indexed.specs.Indexed.{table}
-use Rattle.sim_indexed.proofs.ListingLaws.{post-may, post-unlisted, posts-both, posts-same}
+use Rattle.sim_indexed.proofs.ListingLaws.{joining-none, joining-slot, post-may, post-unlisted, posts-both, posts-same}
 use borrow.Author.Needs.{needs}
 use Rattle.sim_indexed.proofs.post_message.Statement.{statement}
 use Rattle.sim_indexed.proofs.post_message.Tie as tie
@@ -19,24 +19,23 @@ module _ (c : tie.After-post-message) where
   posted = let p = entry .pre in posts-one _ _ _ _ _ (post-may _ _ _ _ (p .0) .0) (p .1) (c .post-message .ensures)
 
 -- the index has it
-module _ (c : tie.After-list-slots) where
+module _ (c : tie.After-list-slot) where
   abbrev stored : tie.After-post-message
   stored = c .before .before .before .before
 
 post-message-requires : tie.Need-post-message-requires
 post-message-requires c κs = let p = c .before .before .pre in let m = post-may _ _ _ _ (p .0) in (m .0, m .1, p .1)
 
-add-list-slots : tie.Need-add-list-slots
-add-list-slots c = let s = entry (c .before .before .before) in record { fits = omega (arith, s .pre .0 .room) }
-
-list-slots-requires : tie.Need-list-slots-requires
-list-slots-requires c κs = let p = c .before .before .before in post-unlisted _ _ _ _ (entry p .pre .0) _ (posted p)
+list-slot-requires : tie.Need-list-slot-requires
+list-slot-requires c κs =
+    let p = c .before .before .before in
+    joining-slot _ _ _ _ _ (joining-none _ _ _ (post-unlisted _ _ _ _ (entry p .pre .0) _ (posted p))) (omega arith)
 
 same-length : tie.Need-same-length
-same-length c = let q = c .before .before in let p = stored q in posts-same _ _ _ _ (entry p .pre .0) _ (posted p) _ (q .list-slots .ensures)
+same-length c = let q = c .before .before in let p = stored q in posts-same _ _ _ _ (entry p .pre .0) _ (posted p) _ (q .list-slot .ensures)
 
 returns : tie.Need-returns
-returns c = let q = c .before .before in let p = stored q in posts-both _ _ _ _ (entry p .pre .0) _ (posted p) _ (q .list-slots .ensures)
+returns c = let q = c .before .before in let p = stored q in posts-both _ _ _ _ (entry p .pre .0) _ (posted p) _ (q .list-slot .ensures)
 
 pub post-message-spec : {M : Type 1} → statement M
 post-message-spec =
@@ -46,7 +45,6 @@ post-message-spec =
     (λ c. search needs)
     (λ c. search needs)
     post-message-requires
-    add-list-slots
-    list-slots-requires
+    list-slot-requires
     same-length
     returns)
