@@ -1,14 +1,13 @@
 -- The words as three parts, the counts, the numbers and the marks: a word read or stored in one of them, and one put in or taken out, leaves the others.
 -- So the two rows move side by side, each as if it were alone.
 use Prim.Native.Nat.{ℕ, suc, _+_, _-_, _<_, _≤_}
-use native.Mathlib.Numerals.{add-one}
 use native.Mathlib.Omega.{arith}
-use mathlib.Core.Path.{_≡_, refl, sym, ap, _∙_}
+use mathlib.Core.Path.{_≡_, sym, ap, _∙_}
 use mathlib.Core.List.{List, [], _∷_, _++_, append-assoc, append-nil}
 use lib.ListN.{length, getD, set, take, drop, length-set, length-drop, length-append, take-append-drop, List·getD-append}
-use lib.Seq.{take-append-le, drop-append-le, take-append-add, drop-append-add, getD-append-add, set-append-left, length-take-le, drop-drop, take-all}
+use lib.Seq.{take-append-le, drop-append-le, take-append-add, drop-append-add, getD-append-add, set-append-left, length-take-le, drop-drop}
 use Rattle.system.specs.Limits.{systemMessages}
-use Rattle.sim_index.specs.Index.{receivers, numbersFrom, marksFrom, indexSize}
+use Rattle.sim_index.specs.Index.{numbersFrom, marksFrom, indexSize}
 use Rattle.sim_index.specs.Calls.{inserted, deleted}
 use Rattle.sim_index.proofs.LoopLaws.{Opening, opening-none, opening-more, opening-all, Closing, closing-none, closing-more, closing-all}
 

@@ -1,7 +1,5 @@
 -- The index that was worked out by hand is the one that the definitions give, by computation.
-use Prim.Native.Nat.{ℕ}
 use mathlib.Core.Path.{_≡_, refl}
-use mathlib.Core.List.{List}
 use Rattle.system.specs.Index.{indexOf}
 use Rattle.system.proofs.Tokens.{All, empty, more}
 use Rattle.sim_index.specs.Index.{ofPlace, sorted, counts, padded, indexWords}
