@@ -200,14 +200,19 @@ pub fn long_script(lines: usize) -> Vec<u8> {
 /// The settings of the scripts with restarts: many keepers with short lists of messages, and few with long ones.
 pub const RESTARTS: [Setting; 2] = [Setting { n: 31, m: 21, f: 10 }, Setting { n: 3, m: 2, f: 0 }];
 
+/// How many other events stand behind a keeper's going down, and behind its coming up again: of three events one is a restart's,
+/// or two are.
+pub const MIXED: [usize; 2] = [2, 2];
+pub const OFTEN: [usize; 2] = [0, 1];
+
 /// The fewest messages kept once the restarts have begun.
 pub const RESTARTS_KEEP: usize = 400;
 
 /// So many event lines with 16 kiosks, all accepted, in which keepers restart all the time beside a table that is nearly full.
-/// First kiosks have their turns, until about 450 messages are kept, all taken by keepers. Then of each three events one is a
-/// keeper's going down or its coming up again, all keepers in turn, and two are others: mostly takes of the newest message and of
-/// old ones that wait again, but also tries, exits, checks, and drops of the oldest message where the places grow few.
-pub fn restarts_script(setting: Setting, lines: usize) -> Vec<u8> {
+/// First kiosks have their turns, until about 450 messages are kept, all taken by keepers. Then keepers go down and come up again,
+/// all in turn, with so many other events behind each: mostly takes of the newest message and of old ones that wait again, but also
+/// tries, exits, checks, and drops of the oldest message where the places grow few.
+pub fn restarts_script(setting: Setting, others: [usize; 2], lines: usize) -> Vec<u8> {
     let (mut author, mut r) = (Author::new(setting, lines), Random::new(4));
     for kiosk in (1..=16).cycle() {
         if author.left == 0 || author.gallery.kept.len() + 2 * setting.n as usize > 450 {
@@ -219,10 +224,9 @@ pub fn restarts_script(setting: Setting, lines: usize) -> Vec<u8> {
         if author.left == 0 {
             break;
         }
-        for kind in [Kind::Down, Kind::Up] {
+        for (kind, others) in [Kind::Down, Kind::Up].into_iter().zip(others) {
             author.give(kind, keeper);
-            author.work(&mut r);
-            author.work(&mut r);
+            (0..others).for_each(|_| author.work(&mut r));
         }
     }
     author.script

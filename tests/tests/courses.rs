@@ -1,6 +1,6 @@
 //! The scripts of the benchmark, by the model: every event is accepted, and they are what they are said to be.
 
-use sigma_tests::author::{long_script, restarts_script, RESTARTS, RESTARTS_KEEP};
+use sigma_tests::author::{long_script, restarts_script, MIXED, OFTEN, RESTARTS, RESTARTS_KEEP};
 use sigma_tests::gallery::{Event, Gallery, Kind, GALLERY};
 use sigma_tests::index::Receiver;
 use sigma_tests::script::{event, first, lines};
@@ -34,7 +34,7 @@ fn taken(gallery: &Gallery) -> usize {
 fn restarts_beside_a_table_that_is_nearly_full() {
     const LINES: usize = 40_000;
     for setting in RESTARTS {
-        let (mut gallery, events) = read(&restarts_script(setting, LINES));
+        let (mut gallery, events) = read(&restarts_script(setting, MIXED, LINES));
         assert_eq!((events.len(), gallery.setting, gallery.clients.len()), (LINES, setting, 16));
         let begin = events.iter().position(|event| event.kind == Kind::Down).expect("a restart");
         assert!(begin < 1000, "{begin}");
@@ -63,5 +63,28 @@ fn restarts_beside_a_table_that_is_nearly_full() {
             assert!(kinds[&kind] >= least, "{kind:?}: {kinds:?}");
         }
         assert!(by_kiosks >= 2000 && downs >= 2000 && again >= 5000, "{by_kiosks} {downs} {again}");
+    }
+}
+
+/// Down, up and one other event, over and over, beside as full a table.
+#[test]
+fn restarts_that_are_most_events() {
+    const LINES: usize = 40_000;
+    for setting in RESTARTS {
+        let (mut gallery, events) = read(&restarts_script(setting, OFTEN, LINES));
+        let begin = events.iter().position(|event| event.kind == Kind::Down).expect("a restart");
+        let mut again = 0;
+        for (&event, place) in events.iter().zip(0..) {
+            let before = taken(&gallery);
+            assert!(gallery.event(event).is_ok(), "{event:?}");
+            if place >= begin {
+                let third = [Some(Kind::Down), Some(Kind::Up), None][(place - begin) % 3];
+                let restart = [Kind::Down, Kind::Up].contains(&event.kind).then_some(event.kind);
+                assert_eq!(restart, third, "{place}: {event:?}");
+                assert!(gallery.kept.len() >= RESTARTS_KEEP, "{place}: {}", gallery.kept.len());
+                again += if event.kind == Kind::Down { before - taken(&gallery) } else { 0 };
+            }
+        }
+        assert!(begin < 1000 && again >= 5000, "{begin} {again}");
     }
 }

@@ -1,7 +1,7 @@
 //! The index beside the table, document 02, L2. After each event every receiver's list in the library's words is the one that the
 //! model makes afresh, and only those that the event is about have another list than before; and no word of it can be another.
 
-use sigma_tests::author::{any_script, restarts_script, RESTARTS};
+use sigma_tests::author::{any_script, restarts_script, MIXED, RESTARTS};
 use sigma_tests::files::scripts;
 use sigma_tests::gallery::{Event, Gallery, Kind, GALLERY};
 use sigma_tests::index::{self, List, Receiver, RECEIVERS};
@@ -215,7 +215,7 @@ fn random_scripts_list_by_list() {
 fn restarts_list_by_list() {
     for setting in RESTARTS {
         let mut counts = Counts::new();
-        play(&restarts_script(setting, 6000), &mut counts);
+        play(&restarts_script(setting, MIXED, 6000), &mut counts);
         println!("{counts:?}");
         let downs = counts[&Kind::Down];
         assert!(downs.accepted >= 800 && 2 * downs.changing >= downs.accepted, "{downs:?}: half of them change a list");

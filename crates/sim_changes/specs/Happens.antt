@@ -28,7 +28,7 @@ bounded n m u e = withPlaces systemMessages lastNumber (event n (enough m) u e)
 abbrev pub happens : List ℕ → Event → Result
 happens w e = bounded (settingOf w .n) (settingOf w .m) (view w) e
 
--- of a valid simulation w the words w′ are what the event leaves
+-- of a valid simulation w the words w′ are what the event leaves: valid again, and so with the index made afresh from their messages
 pub record Leaves (w : List ℕ) (e : Event) (w′ : List ℕ) : Type 0 where
   pub system : view w′ ≡ after (view w) (happens w e)
   pub setting : settingOf w′ ≡ settingOf w

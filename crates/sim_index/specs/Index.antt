@@ -8,6 +8,8 @@ use Rattle.ids.specs.Choice.{if_then_else_}
 use Rattle.system.specs.Limits.{systemClients, systemServers, systemMessages}
 use Rattle.sim_index.specs.declared.Card.{Card}
 
+-- A card is an entry with its receiver: the receiver's place, the message's number and its mark.
+
 -- the places of receivers: the servers', then the clients'
 abbrev pub receivers : ℕ
 receivers = systemServers + systemClients

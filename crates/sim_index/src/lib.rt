@@ -25,7 +25,7 @@ pub struct Card {
     pub mark: u32,
 }
 
-// How many entries the receivers before place `p` have.
+// How many entries the receivers before place `p` have. It adds in 32 bits, so that the loop becomes vector code.
 pub fn start(x: &[u32], p: usize) -> usize
     requires { ⌜ (length (now x) ≡ indexSize) × (p ≤ receivers) × (startOf p (now x) ≤ systemMessages) ⌝ }
     ensures { λ r. ⌜ r ≡ startOf p (now (x .entry)) ⌝ }

@@ -5,7 +5,7 @@
 //! before.
 
 use crate::row;
-use sigma_tests::author::{long_script, restarts_script, RESTARTS};
+use sigma_tests::author::{long_script, restarts_script, MIXED, OFTEN, RESTARTS};
 use sigma_tests::files::program;
 use sigma_tests::script;
 use std::fs::{self, File};
@@ -95,9 +95,11 @@ pub fn run() {
     for lines in LINES {
         course(format!("gallery program, an event of {lines}"), lines, &long_script(lines));
     }
-    for setting in RESTARTS {
-        let name = format!("restarts of {} keepers, an event of {RESTARTS_LINES}", setting.n);
-        course(name, RESTARTS_LINES, &restarts_script(setting, RESTARTS_LINES));
+    for (share, others) in [("a third", MIXED), ("two thirds", OFTEN)] {
+        for setting in RESTARTS {
+            let name = format!("{share} restarts, {} keepers, an event", setting.n);
+            course(name, RESTARTS_LINES, &restarts_script(setting, others, RESTARTS_LINES));
+        }
     }
     let read = |path: &Path| fs::read(path).expect("an output");
     for _ in 0..ROUNDS {
