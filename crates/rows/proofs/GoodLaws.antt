@@ -3,17 +3,18 @@ use Prim.Native.Nat.{ℕ, zero, suc, _+_, _*_, _-_, _/_, _<_, _≤_}
 use native.Mathlib.Numerals.{add-one}
 use native.Mathlib.Omega.{arith}
 use mathlib.Core.Path.{_≡_, refl, sym, ap, _∙_}
-use mathlib.Core.Bool.{Bool, true, false, _&&_}
+use mathlib.Core.Bool.{Bool, true, false, _&&_, and-false}
+use mathlib.Core.Logic.{⊎-elim}
 use mathlib.Core.List.{List, [], _∷_}
 use lib.Dec.{eqb, leb}
-use lib.ListN.{length, getD, drop, replicate, length-drop, drop-of-length-le}
-use lib.Seq.{drop-cons}
+use lib.ListN.{length, getD, take, drop, replicate, length-drop, drop-of-length-le}
+use lib.Seq.{drop-cons, length-take-le}
 use borrow.Author.Tests.{eq-eqb, ne-eqb, le-leb, lt-leb, eqb-true, leb-true}
 use Rattle.ids.specs.Lists.{every}
 use Rattle.ids.specs.Limits.{maxClient}
 use Rattle.ids.specs.Requests.{same, noRequest}
 use Rattle.ids.specs.declared.Request.{Request}
-use Rattle.ids.proofs.Choice.{both}
+use Rattle.ids.proofs.Choice.{both, decided}
 use Rattle.ids.proofs.ListLaws.{every-same}
 use Rattle.ids.proofs.RequestLaws.{same-true, same-refl}
 use Rattle.rows.specs.Rows.{requestsIn, fitsPlace, Padded}
@@ -99,6 +100,44 @@ module _ (f : Request → Bool) (ws : List ℕ) (from n : ℕ) where
       unfolding same
       empty-at e = rw (requests-at ws i inside) (rw add-one at e)
 
+-- the places of a row's front
+requests-front : (ws : List ℕ) (k : ℕ) → requestsIn (take (2 * k) ws) ≡ take k (requestsIn ws)
+unfolding requestsIn
+requests-front ws zero = refl
+requests-front [] (suc k) = let z : 2 * suc k ≡ suc (suc (2 * k)) = omega arith in rw z
+requests-front (x ∷ []) (suc k) = let z : 2 * suc k ≡ suc (suc (2 * k)) = omega arith in rw z
+requests-front (x ∷ (t ∷ ws)) (suc k) =
+    let z : 2 * suc k ≡ suc (suc (2 * k)) = omega arith in
+    rw z (ap (λ (l : List Request). record { client = record { 0 = x }; timestamp = record { 0 = t } } ∷ l) (requests-front ws k))
+
+-- an empty place fits, so that only those in front need the test
+all-empty : (l : List Request) → every empty l ≡ true → l ≡ replicate (length l) noRequest
+all-empty [] e = refl
+all-empty (x ∷ l) e =
+    let (a, b) = both (empty x) (every empty l) e in
+    let p = same-true x noRequest a in
+    let q = all-empty l b in
+    λ i. p i ∷ q i
+
+empty-fits : (l : List Request) → every empty l ≡ true → every fitsPlace l ≡ true
+empty-fits l e = rw (all-empty l e) (every-same fitsPlace (length l) noRequest refl)
+
+fits-all : (l : List Request) → every empty l ≡ every fitsPlace l && every empty l
+fits-all l =
+    ⊎-elim
+    (λ (e : every empty l ≡ true). rw (e, empty-fits l e))
+    (λ (e : every empty l ≡ false). rw (e, and-false (every fitsPlace l)))
+    (decided (every empty l))
+
+fits-front : (l : List Request) (k : ℕ) → every fitsPlace (take k l) && every empty (drop k l) ≡ every fitsPlace l && every empty (drop k l)
+fits-front l zero = fits-all l
+fits-front [] (suc k) = refl
+fits-front (x ∷ l) (suc k) = under (fitsPlace x) (every fitsPlace (take k l)) (every fitsPlace l) (every empty (drop k l)) (fits-front l k)
+  where
+    under : (a b b′ c : Bool) → b && c ≡ b′ && c → (a && b) && c ≡ (a && b′) && c
+    under true b b′ c e = e
+    under false b b′ c e = refl
+
 -- the tests one after another
 module _ (row : List ℕ) (len : ℕ) where
   pub good-odd : (2 * (length row / 2) ≡ length row → ⊥) → false ≡ goodRow row len
@@ -113,32 +152,34 @@ module _ (row : List ℕ) (len : ℕ) where
     unfolding goodRow
     good-short h = let n : length (requestsIn row) < len = omega (arith, even-requests row e) in rw (eq-eqb _ _ evenly, lt-leb _ _ n)
 
-    module _ (h : len ≤ length row / 2) (x : ℕ) (a : x ≡ misses fitsPlace (requestsIn row)) where
+    module _ (h : len ≤ length row / 2) where
       within : len ≤ length (requestsIn row)
       within = omega (arith, even-requests row e)
 
-      all-fit : eqb x 0 ≡ every fitsPlace (requestsIn row)
-      all-fit = rw a (none-missed fitsPlace (requestsIn row))
+      -- its front is lent: as many places as are in use
+      pub front-there : 2 * len ≤ length row
+      front-there = omega (arith, h, e)
 
-      pub good-wide : (x ≡ 0 → ⊥) → false ≡ goodRow row len
-      unfolding goodRow
-      good-wide n = rw (eq-eqb _ _ evenly, le-leb _ _ within, ← all-fit, ne-eqb _ _ n)
+      pub front-long : length (take (2 * len - 0) row) ≡ 2 * len
+      front-long = let z : 2 * len - 0 ≡ 2 * len = omega arith in rw z (length-take-le (2 * len) row front-there)
 
-      pub good-tested : (y : ℕ) → x ≡ 0 → y ≡ misses empty (drop len (requestsIn row)) → eqb y 0 ≡ goodRow row len
-      unfolding goodRow
-      good-tested y z b =
-          let t : every fitsPlace (requestsIn row) ≡ true = sym all-fit ∙ eq-eqb _ _ z in
-          rw (eq-eqb _ _ evenly, le-leb _ _ within, t, b) (none-missed empty (drop len (requestsIn row)))
+      module _ (x : ℕ) (a : x ≡ misses fitsPlace (requestsIn (take (2 * len - 0) row))) where
+        front-fits : eqb x 0 ≡ every fitsPlace (take len (requestsIn row))
+        front-fits =
+            let z : 2 * len - 0 ≡ 2 * len = omega arith in
+            rw (a, z, requests-front row len) (none-missed fitsPlace (take len (requestsIn row)))
+
+        pub good-wide : (x ≡ 0 → ⊥) → false ≡ goodRow row len
+        unfolding goodRow
+        good-wide n = rw (eq-eqb _ _ evenly, le-leb _ _ within, ← fits-front (requestsIn row) len, ← front-fits, ne-eqb _ _ n)
+
+        pub good-tested : (y : ℕ) → x ≡ 0 → y ≡ misses empty (drop len (requestsIn row)) → eqb y 0 ≡ goodRow row len
+        unfolding goodRow
+        good-tested y z b =
+            let t : every fitsPlace (take len (requestsIn row)) ≡ true = sym front-fits ∙ eq-eqb _ _ z in
+            rw (eq-eqb _ _ evenly, le-leb _ _ within, ← fits-front (requestsIn row) len, t, b) (none-missed empty (drop len (requestsIn row)))
 
 -- a row that passes is in good order, and one in good order passes
-all-empty : (l : List Request) → every empty l ≡ true → l ≡ replicate (length l) noRequest
-all-empty [] e = refl
-all-empty (x ∷ l) e =
-    let (a, b) = both (empty x) (every empty l) e in
-    let p = same-true x noRequest a in
-    let q = all-empty l b in
-    λ i. p i ∷ q i
-
 module _ (row : List ℕ) (len : ℕ) where
   pub good-padded : goodRow row len ≡ true → Padded row len
   unfolding goodRow

@@ -4,8 +4,8 @@ use native.Mathlib.Omega.{arith}
 use mathlib.Core.Path.{_≡_, refl, sym, ap, _∙_}
 use mathlib.Core.Bool.{true}
 use mathlib.Core.List.{List, [], _∷_, _++_}
-use lib.ListN.{length, replicate, length-append, length-replicate, replicate-append-replicate}
-use lib.Seq.{take-at}
+use lib.ListN.{length, drop, replicate, length-append, length-replicate, replicate-append-replicate}
+use lib.Seq.{take-at, drop-at}
 use Rattle.ids.specs.Lists.{every}
 use Rattle.ids.specs.Requests.{noRequest}
 use Rattle.ids.specs.declared.Request.{Request}
@@ -13,7 +13,7 @@ use Rattle.ids.proofs.ListLaws.{every-append, every-same}
 use Rattle.rows.specs.Rows.{requestWords, requestsIn, rowOf, queueOf, fitsPlace, Padded}
 use Rattle.rows.specs.Queues.{Holds}
 use Rattle.rows.proofs.WordLaws.{words-empty}
-use Rattle.rows.proofs.QueueLaws.{holding, holds-row, holds-still}
+use Rattle.rows.proofs.QueueLaws.{holding, length-queue, holds-row, holds-still}
 
 pub row-kept : (row : List ℕ) (len : ℕ) → Padded row len → rowOf (length row) (queueOf row len) ≡ row
 row-kept row len good = sym (holds-row row row len (queueOf row len) (holds-still row len good))
@@ -26,6 +26,16 @@ length-words (q ∷ l) = let e = length-words l in omega arith
 pub length-row-of : (size : ℕ) (l : List Request) → 2 * length l ≤ size → length (rowOf size l) ≡ size
 unfolding rowOf
 length-row-of size l h = rw (length-append, length-words, length-replicate) (omega arith)
+
+-- behind a queue all words are 0
+pub row-behind : (row : List ℕ) (len : ℕ) → Padded row len → drop (2 * len) row ≡ replicate (length row - 2 * len) 0
+unfolding rowOf
+row-behind row len good =
+    let q : List Request = queueOf row len in
+    let l : length q ≡ len = length-queue row len good in
+    let n : length (requestWords q) ≡ 2 * len = length-words q ∙ rw l in
+    let e = ap (drop (2 * len)) (sym (row-kept row len good)) ∙ drop-at (requestWords q) (replicate (length row - 2 * length q) 0) (2 * len) n in
+    rw l at e
 
 next-place : (n : ℕ) → 2 * suc n ≡ suc (suc (2 * n))
 next-place n = omega arith

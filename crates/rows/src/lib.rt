@@ -162,16 +162,25 @@ pub fn copy(from: &[u32], to: &mut [u32])
     }
 }
 
-// Every place empty.
-pub fn clear(row: &mut [u32])
-    ensures { λ _. ⌜ now (row .exit) ≡ replicate (length (now (row .entry))) 0 ⌝ }
+// Every word 0.
+pub fn zero(words: &mut [u32])
+    ensures { λ _. ⌜ now (words .exit) ≡ replicate (length (now (words .entry))) 0 ⌝ }
 {
-    let n = row.len();
+    let n = words.len();
     let mut i: usize = 0;
     while i < n {
-        row[i] = 0;
+        words[i] = 0;
         i += 1;
     }
+}
+
+// Every place empty, where only the first `len` are in use: those behind them are not touched.
+pub fn clear(row: &mut [u32], len: usize)
+    requires { ⌜ Padded (now row) len ⌝ }
+    ensures { λ _. ⌜ now (row .exit) ≡ replicate (length (now (row .entry))) 0 ⌝ }
+{
+    let end = 2 * len;
+    zero(&mut row[0..end]);
 }
 
 // The test of a row. Its loops count and never leave early, so that they become vector code.
@@ -235,7 +244,9 @@ pub fn good_row(row: &[u32], len: usize) -> bool
     if n < len {
         return false;
     }
-    if wide_places(row, n) != 0 {
+    // Only the places in use are tested for their width: those behind them must be empty, which is tested below.
+    let end = 2 * len;
+    if wide_places(&row[0..end], len) != 0 {
         return false;
     }
     used_places(row, len, n) == 0

@@ -1,5 +1,5 @@
 -- `rows::good_row` meets its contract: the tests one after another.
-use Rattle.rows.proofs.GoodLaws.{good-odd, good-short, good-wide, good-tested}
+use Rattle.rows.proofs.GoodLaws.{good-odd, good-short, front-there, front-long, good-wide, good-tested}
 use borrow.Author.Needs.{needs}
 use Rattle.rows.proofs.good_row.Statement.{statement}
 use Rattle.rows.proofs.good_row.Tie as tie
@@ -11,7 +11,11 @@ good-row-spec =
     (λ c. search needs)
     (λ c. search good-odd)
     (λ c. search good-short)
-    (λ c κs. search needs)
+    (λ c. search (needs, front-there))
+    (λ c. search needs)
+    (λ c. search needs)
+    (λ c. search (needs, front-there))
+    (λ c κs. search front-long)
     (λ c. search good-wide)
     (λ c κs. search needs)
     (λ c. search good-tested))
