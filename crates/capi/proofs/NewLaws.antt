@@ -113,7 +113,7 @@ module _ (n m k : ℕ) (ws : List ℕ) where
 
 -- and so a new client's
 pub client-new-whole : (n m : ℕ) (k : ClientId) (x : ClientStepped) → x ≡ client-calls.newResult n m k → length (x .client .row) ≡ client.rowWords
-unfolding client-calls.newResult client.store
+unfolding client-calls.newResult client.storeIn
 client-new-whole n m k x e =
     ⊎-elim
     (λ (v : client.validSizes n m && validClient k ≡ true).

@@ -190,7 +190,7 @@ module _ (ws : List ℕ) (b : Bool) (e : b ≡ holdsServer ws) where
 
   module _ (n : not b ≡ false) where
     pub server-long : length ws ≡ serverSize
-    server-long = server-held ws (is-server n) .size
+    server-long = server-held server.rowWords ws (is-server n) .size
 
     module _ (h : ServerHead) (row : List ℕ) (eh : h ≡ serverHeadFrom ws) (er : row ≡ take server.rowWords (drop recordHead ws)) where
       pub row-long : length row ≡ server.rowWords
@@ -281,7 +281,7 @@ module _ (ws : List ℕ) (b : Bool) (e : b ≡ holdsClient ws) where
 
   module _ (n : not b ≡ false) where
     pub client-long : length ws ≡ clientSize
-    client-long = client-held ws (is-client n) .size
+    client-long = client-held client.rowWords ws (is-client n) .size
 
     pub client-row-long : length (take client.rowWords (drop recordHead ws)) ≡ client.rowWords
     client-row-long = rw (whole-row ws client.rowWords client-long) (rest-long ws client.rowWords client-long)

@@ -9,6 +9,7 @@ use mir.Syntax.{w32}
 use mir.Val.{toZ, ofZ}
 use lib.ListN.{length, set}
 use borrow.Author.Tests.{lt-ltb, le-ltb}
+use Rattle.ids.specs.Limits.{maxServers}
 use Rattle.ids.specs.Refusals.{code}
 use Rattle.ids.specs.declared.Refusal.{Refusal}
 use Rattle.ids.specs.declared.Refusal.the-variants.{RoomShort, ParameterOutOfRange, Unsafe as NotSafe, Stalls as Stalling}
@@ -45,7 +46,7 @@ unfolding verdict judged
 carried n m f = go (decided (inRange n m f)) (decided (isUnsafe n m f)) (decided (isStalling n m f))
   where
     kept : inRange n m f ≡ true → toZ w32 (ofZ w32 (margin n m f)) ≡ margin n m f
-    kept i = let r = range n m f i in margin-kept n m f (margin n m f) (r .servers, r .threshold, r .faults) refl
+    kept i = let r = range maxServers n m f i in margin-kept n m f (margin n m f) (r .servers, r .threshold, r .faults) refl
 
     go : Test (inRange n m f) → Test (isUnsafe n m f) → Test (isStalling n m f) → toZ w32 (ofZ w32 (marginIn (verdict n m f))) ≡ marginIn (verdict n m f)
     go (inr i) u s = rw i refl

@@ -37,7 +37,7 @@ use Rattle.client_responses.specs.Row.{shown, place, responsesIn, ownIsCurrent}
 use Rattle.client_responses.proofs.CountLaws.{length-responses}
 use Rattle.client_responses.proofs.HearLaws.{shown-place, place-fits}
 use Rattle.client.specs.declared.Client.{Client}
-use Rattle.client.specs.Record.{maxPlaces, rowWords, clientOf, headIn, view, store, validSizes, fitsSection, noMore, fitsTimestamp, validUpTo, valid}
+use Rattle.client.specs.Record.{maxPlaces, clientOf, headIn, view, storeIn, store, validSizes, fitsSection, noMore, fitsTimestamp, validUpTo, valid}
 use Rattle.client.specs.Calls.{beginOutcome, exitOutcome, messageOutcomeUpTo, received, forClient, clientAfter}
 use Rattle.client.specs.Inner.{without}
 use Rattle.client.proofs.ValidLaws.{KnownUpTo, known-up-to, valid-up-to, known-padded, known-words, valid-known, valid-padded, sizes-range}
@@ -122,15 +122,15 @@ module _ (limit n m : ℕ) (k : ClientId) (s : State) (F : FitsUpTo limit n m k 
         more = rw v (F .more);
       })
 
--- by value
-module _ (n m : ℕ) (k : ClientId) (s : State) (F : Fits n m k s) where
-  pub view-store : view (store n m k s) ≡ s
-  unfolding store
-  view-store = kept-view maxServers n m k s F maxPlaces (F .ranges .few)
+-- the record that it is stored as, with places enough
+module _ (places n m : ℕ) (k : ClientId) (s : State) (F : Fits n m k s) (room : n ≤ places) where
+  pub view-store : view (storeIn places n m k s) ≡ s
+  unfolding storeIn
+  view-store = kept-view maxServers n m k s F places room
 
-  pub store-valid : valid (store n m k s) ≡ true
-  unfolding store
-  store-valid = kept-valid maxServers n m k s F maxPlaces (F .ranges .few)
+  pub store-valid : valid (storeIn places n m k s) ≡ true
+  unfolding storeIn
+  store-valid = kept-valid maxServers n m k s F places room
 
 pub known-ranges : {limit : ℕ} (c : Client) → KnownUpTo limit c → InRangeUpTo limit (c .head .n) (c .head .m) (c .head .id)
 known-ranges c K =
@@ -342,14 +342,14 @@ taken true n h = (refl, h)
 taken false n h = absurd (n h)
 
 -- the theorems: a valid record is what its state is stored as
-pub stored-again : (c : Client) → valid c ≡ true → length (c .row) ≡ rowWords → store (c .head .n) (c .head .m) (c .head .id) (view c) ≡ c
-stored-again c v long = store-view c long (valid-padded c v)
+pub stored-again : (places : ℕ) (c : Client) → valid c ≡ true → length (c .row) ≡ 2 * places → storeIn places (c .head .n) (c .head .m) (c .head .id) (view c) ≡ c
+stored-again places c v long = store-view places c long (valid-padded c v)
 
--- by value a step's record is the one that its state is stored as
-pub after-stored : (c : Client) (s : Step State) → length (c .row) ≡ rowWords
-    → clientAfter c (stepped s) ≡ store (c .head .n) (c .head .m) (c .head .id) (s .state)
-unfolding store
-after-stored c s long = ap (λ (k : ℕ). clientOf (headIn (c .head .n) (c .head .m) (c .head .id) (s .state)) (rowOf k (map place (s .state .responses)))) long
+-- a step's record is the one that its state is stored as
+pub after-stored : (places : ℕ) (c : Client) (s : Step State) → length (c .row) ≡ 2 * places
+    → clientAfter c (stepped s) ≡ storeIn places (c .head .n) (c .head .m) (c .head .id) (s .state)
+unfolding storeIn
+after-stored places c s long = ap (λ (k : ℕ). clientOf (headIn (c .head .n) (c .head .m) (c .head .id) (s .state)) (rowOf k (map place (s .state .responses)))) long
 
 -- and every accepted step of one gives one
 module _ (limit : ℕ) (c : Client) (s : Step State) (v : validUpTo limit c ≡ true) where
@@ -409,4 +409,4 @@ module _ (c : Client) (s : Step State) (v : valid c ≡ true) where
 pub new-valid : (n m : ℕ) (k : ClientId) → validSizes n m ≡ true → validClient k ≡ true → valid (store n m k (fresh n)) ≡ true
 new-valid n m k z h =
     let (a, b, d, e) = sizes-range n m z in
-    store-valid n m k (fresh n) (remainder-fits n m k (record { some = a; few = b; threshold = d; reached = e; client = h }) (record { 0 = 0 }))
+    store-valid maxPlaces n m k (fresh n) (remainder-fits n m k (record { some = a; few = b; threshold = d; reached = e; client = h }) (record { 0 = 0 })) b

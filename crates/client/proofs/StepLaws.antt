@@ -22,7 +22,7 @@ use Rattle.ids.proofs.LimitsLaws.{within-range, parties-range}
 use Rattle.wire.specs.Format as format
 use Rattle.wire.specs.Format.{sizeOf, bytesOf, bytesOfAll, sizeOfAll, fieldsOf, validNamed, validResponseUpTo, messageBytes}
 use Rattle.wire.proofs.NumbersLaws.{valid-head}
-use Rattle.wire.specs.Step.{Step, Outcome, refused, stepped, stay, tell, withRoom, sentInto}
+use Rattle.wire.specs.Step.{Step, Outcome, refused, stepped, stay, tell, withRoom}
 use Rattle.wire.specs.Says.{answerSays, outcomeSays, newSays}
 use Rattle.wire.proofs.SaysLaws.{answer-said}
 use Rattle.wire.specs.declared.Answer.the-variants.{Sent}
@@ -42,12 +42,12 @@ use Rattle.client.specs.declared.Client.{Client}
 use Rattle.client.specs.declared.Head.{Head}
 use Rattle.client.specs.declared.Stepped.{Stepped}
 use Rattle.client.specs.declared.Turned.{Turned}
-use Rattle.client.specs.Record.{rowWords, clientOf, headIn, validSizes, valid, view, store}
-use Rattle.client.specs.Calls.{newResult, NewGives, beginOutcome, exitOutcome, messageOutcome, messageOutcomeUpTo, forClient, received, rowAfter, turned, result, Gives}
+use Rattle.client.specs.Record.{maxPlaces, rowWords, clientOf, headIn, validSizes, valid, view, store}
+use Rattle.client.specs.Calls.{newResult, NewGives, beginOutcome, exitOutcome, messageOutcome, messageOutcomeUpTo, forClient, received, rowAfter, turned, Gives}
 use Rattle.client.specs.Steps.{Answers}
 use Rattle.client.specs.Inner.{request, headWith, without, requests, releases, refusedNew, yields, isRefused}
 use Rattle.client.proofs.ValidLaws.{valid-known, valid-padded, padded-words, critical-below, sizes-range}
-use Rattle.client.proofs.RecordLaws.{row-without, row-again}
+use Rattle.client.proofs.RecordLaws.{row-without, row-again, fresh-stored}
 
 -- what the answer says
 said : (h : Head) (r : Turned) (x : Outcome State) → r ≡ turned h x → answerSays (r .answer) ≡ outcomeSays x
@@ -88,12 +88,12 @@ module _ (h : Head) (row : List ℕ) (f : ServerId → Message) (plain : (j : Se
     all-short : length o < messageBytes * h .n → r ≡ turned h (refused RoomShort) → Answers h row x o r row o
     all-short g p = answers-short h row x o r _ q (omega (arith, size-toAll f plain (h .n))) p
 
-    all-done : (after l : List ℕ) → 2 * h .n ≤ length row → messageBytes * h .n ≤ length o
+    all-done : (after l : List ℕ) → Padded row (h .n) → messageBytes * h .n ≤ length o
         → r ≡ record { head = headWith h a t; answer = Sent (h .n) (messageBytes * h .n) } → after ≡ replicate (length row) 0
         → l ≡ sets o 0 (bytesOfAll (toAll f (h .n))) → Answers h row x o r after l
     all-done after l k g p z e =
         answers-done h row x o r _ q after l (omega (arith, size-toAll f plain (h .n))) (rw (length-toAll f (h .n), size-toAll f plain (h .n)) p) (z ∙
-        sym (row-without (length row) (h .n) k)) e
+        sym (row-without (length row) (h .n) (padded-words row (h .n) k))) e
 
 -- `attempt` and `leave`
 module _ (h : Head) (row : List ℕ) (o : List ℕ) (r : Turned) where
@@ -121,7 +121,7 @@ module _ (h : Head) (row : List ℕ) (o : List ℕ) (r : Turned) where
     pub exits-short : Answers h row exited o r row o
     exits-short = all-short h row (releases (h .id) (h .timestamp)) (release-plain (h .id) (h .timestamp)) _ _ _ o r its-exit g p
 
-  module _ (after l : List ℕ) (k : 2 * h .n ≤ length row) (g : messageBytes * h .n ≤ length o) (z : after ≡ replicate (length row) 0) where
+  module _ (after l : List ℕ) (k : Padded row (h .n)) (g : messageBytes * h .n ≤ length o) (z : after ≡ replicate (length row) 0) where
     pub tries-done : r ≡ record { head = headWith h Trying taken; answer = Sent (h .n) (messageBytes * h .n) }
         → l ≡ sets o 0 (bytesOfAll (toAll (requests (h .id) taken) (h .n))) → Answers h row tried o r after l
     tries-done p e = all-done h row (requests (h .id) taken) (request-plain (h .id) taken) _ _ _ o r its-try after l k g p z e
@@ -168,8 +168,8 @@ module _ (h : Head) (row : List ℕ) (x : Bool) (p : x ≡ valid (clientOf h row
           (valid-known (clientOf h row) (holds x (valid (clientOf h row)) p t) .timestamp)
 
   -- what the inner steps ask
-  pub tested-words : not x ≡ false → 2 * h .n ≤ length row
-  tested-words t = padded-words row (h .n) (valid-padded (clientOf h row) (holds x (valid (clientOf h row)) p t))
+  pub tested-padded : not x ≡ false → Padded row (h .n)
+  tested-padded t = valid-padded (clientOf h row) (holds x (valid (clientOf h row)) p t)
 
   module _ (m : Message) where
     pub message-invalid : not x ≡ true → messageOutcome (clientOf h row) m ≡ refused InvalidRecord
@@ -388,9 +388,7 @@ module _ (n m : ℕ) (k : ClientId) (x : Bool) (p : x ≡ validSizes n m) where
     new-id r u e = said-new r (rw (holds x (validSizes n m) p t, fails y (validClient k) q u) e)
 
     stored-fresh : store n m k (fresh n) ≡ clientOf (headIn n m k (fresh n)) (replicate rowWords 0)
-    unfolding store
-    stored-fresh = let s = sizes-range n m (holds x (validSizes n m) p t) in ap (clientOf (headIn n m k (fresh n)))
-        (row-without rowWords n (omega (arith, s .1)))
+    stored-fresh = sym (fresh-stored maxPlaces n m k (sizes-range n m (holds x (validSizes n m) p t) .1))
 
     pub new-done : (c : Client) → not y ≡ false → c ≡ clientOf (headIn n m k (fresh n)) (replicate rowWords 0)
         → NewGives n m k (record { client = c; answer = Sent 0 0 })

@@ -81,38 +81,38 @@ valid-split limit c =
     (fitsSection (enough (c .head .m)) (c .head .section) (request (c .head)) (responsesIn (c .row) (c .head .n)))
     (noMore (c .head .section) (c .head .m) (responsesIn (c .row) (c .head .n)))
 
-module _ (h : Head) (row : List ℕ) (x : Bool) (p : x ≡ validSizes (h .n) (h .m)) where
-  pub sizes-fail : not x ≡ true → false ≡ valid (clientOf h row)
-  sizes-fail t = rw (valid-split, fails x (validSizes (h .n) (h .m)) p t)
+module _ (limit : ℕ) (h : Head) (row : List ℕ) (x : Bool) (p : x ≡ validSizesUpTo limit (h .n) (h .m)) where
+  pub sizes-fail : not x ≡ true → false ≡ validUpTo limit (clientOf h row)
+  sizes-fail t = rw (valid-split, fails x (validSizesUpTo limit (h .n) (h .m)) p t)
 
   module _ (y : Bool) (t : not x ≡ false) (q : y ≡ validClient (h .id)) where
-    pub id-fails : not y ≡ true → false ≡ valid (clientOf h row)
-    id-fails u = rw (valid-split, holds x (validSizes (h .n) (h .m)) p t, fails y (validClient (h .id)) q u)
+    pub id-fails : not y ≡ true → false ≡ validUpTo limit (clientOf h row)
+    id-fails u = rw (valid-split, holds x (validSizesUpTo limit (h .n) (h .m)) p t, fails y (validClient (h .id)) q u)
 
     module _ (z : Bool) (u : not y ≡ false) (w : z ≡ fitsTimestamp (h .section) (h .timestamp)) where
-      pub timestamp-fails : not z ≡ true → false ≡ valid (clientOf h row)
+      pub timestamp-fails : not z ≡ true → false ≡ validUpTo limit (clientOf h row)
       timestamp-fails v = rw (
         valid-split,
-        holds x (validSizes (h .n) (h .m)) p t,
+        holds x (validSizesUpTo limit (h .n) (h .m)) p t,
         holds y (validClient (h .id)) q u,
         fails z (fitsTimestamp (h .section) (h .timestamp)) w v,
       )
 
       module _ (g : Bool) (v : not z ≡ false) (d : g ≡ goodRow row (h .n)) where
-        pub row-fails : not g ≡ true → false ≡ valid (clientOf h row)
+        pub row-fails : not g ≡ true → false ≡ validUpTo limit (clientOf h row)
         row-fails s = rw (
           valid-split,
-          holds x (validSizes (h .n) (h .m)) p t,
+          holds x (validSizesUpTo limit (h .n) (h .m)) p t,
           holds y (validClient (h .id)) q u,
           holds z (fitsTimestamp (h .section) (h .timestamp)) w v,
           fails g (goodRow row (h .n)) d s,
         )
 
-        pub places-decide : (b : Bool) → not g ≡ false → b ≡ validPlaces h row → b ≡ valid (clientOf h row)
+        pub places-decide : (b : Bool) → not g ≡ false → b ≡ validPlaces h row → b ≡ validUpTo limit (clientOf h row)
         places-decide b s f =
             rw (
               valid-split,
-              holds x (validSizes (h .n) (h .m)) p t,
+              holds x (validSizesUpTo limit (h .n) (h .m)) p t,
               holds y (validClient (h .id)) q u,
               holds z (fitsTimestamp (h .section) (h .timestamp)) w v,
               holds g (goodRow row (h .n)) d s,

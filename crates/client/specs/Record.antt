@@ -33,12 +33,16 @@ unfoldable pub view : Client → State
 view c =
     record { section = c .head .section; timestamp = c .head .timestamp; responses = responsesIn (c .row) (c .head .n) }
 
--- the head and the record by value that hold a state: the places past its responses are empty
+-- the head that holds a state, and the record with so many places: those past its responses are empty
 abbrev pub headIn : ℕ → ℕ → ClientId → State → Head
 headIn n m k s = record { n = n; m = m; id = k; section = s .section; timestamp = s .timestamp }
 
-unfoldable pub store : ℕ → ℕ → ClientId → State → Client
-store n m k s = clientOf (headIn n m k s) (rowOf rowWords (map place (s .responses)))
+unfoldable pub storeIn : ℕ → ℕ → ℕ → ClientId → State → Client
+storeIn places n m k s = clientOf (headIn n m k s) (rowOf (2 * places) (map place (s .responses)))
+
+-- by value
+abbrev pub store : ℕ → ℕ → ClientId → State → Client
+store = storeIn maxPlaces
 
 -- n servers, as many as the limit at most, and a threshold m of them
 abbrev pub validSizesUpTo : ℕ → ℕ → ℕ → Bool

@@ -11,7 +11,7 @@ ghost use Rattle.wire.specs.Step.{refused, stepped, withRoom, sentInto};
 ghost use Rattle.rows.specs.Rows.{Padded};
 ghost use Rattle.client_responses.specs.Figure1.{isRemainder, isTrying, isCritical, fresh as freshOf, enough, lastTry, toAll, tries, exits, decide as decideOf, judge as judgeOf, responds, checked};
 ghost use Rattle.client_responses.specs.Row.{responsesIn};
-ghost use Rattle.client.specs.Record.{rowWords, clientOf, headIn, validSizes, fitsSection, noMore, fitsTimestamp, valid, view};
+ghost use Rattle.client.specs.Record.{rowWords, clientOf, headIn, validSizesUpTo, fitsSection, noMore, fitsTimestamp, validUpTo, valid, view};
 ghost use Rattle.client.specs.Calls.{forClient, received, NewGives, beginOutcome, exitOutcome, messageOutcome, Gives, turned};
 ghost use Rattle.client.specs.Steps.{Answers};
 ghost use Rattle.client.specs.Inner.{request, headWith, validPlaces, isRefused, refusedNew, requests, releases, yields};
@@ -30,7 +30,7 @@ use wire::Message;
 pub const LAST_TRY: u32 = 4_294_967_293;
 
 // The places of a record by value, one for each server that it can have, and the words of its row, two a place.
-pub const MAX_PLACES: usize = 31;
+pub const MAX_PLACES: usize = ids::MAX_SERVERS as usize;
 
 pub const ROW_WORDS: usize = 2 * MAX_PLACES;
 
@@ -61,10 +61,10 @@ pub struct Stepped {
     pub answer: Answer,
 }
 
-fn valid_sizes(n: u16, m: u16) -> bool
-    ensures { λ r. ⌜ r ≡ validSizes n m ⌝ }
+fn valid_sizes(limit: u32, n: u16, m: u16) -> bool
+    ensures { λ r. ⌜ r ≡ validSizesUpTo limit n m ⌝ }
 {
-    ids::within_limit(n as u32, ids::MAX_SERVERS) && ids::within_limit(m as u32, n as u32)
+    ids::within_limit(n as u32, limit) && ids::within_limit(m as u32, n as u32)
 }
 
 fn taken_timestamp(t: Timestamp) -> bool
@@ -126,11 +126,11 @@ fn valid_places(h: Head, row: &[u32]) -> bool
     fits_section(section, r, row, n, h.m as usize)
 }
 
-// Whether head and row are a valid record: document 01's paragraph on broken records, turned round.
-pub fn valid_row(h: Head, row: &[u32]) -> bool
-    ensures { λ r. ⌜ r ≡ valid (clientOf h (now (row .entry))) ⌝ }
+// Whether head and row are a valid record where there are at most so many servers: document 01's paragraph on broken records, turned round.
+pub fn valid_row_up_to(limit: u32, h: Head, row: &[u32]) -> bool
+    ensures { λ r. ⌜ r ≡ validUpTo limit (clientOf h (now (row .entry))) ⌝ }
 {
-    if !valid_sizes(h.n, h.m) {
+    if !valid_sizes(limit, h.n, h.m) {
         return false;
     }
     if !ids::valid_client(h.id) {
@@ -144,6 +144,13 @@ pub fn valid_row(h: Head, row: &[u32]) -> bool
         return false;
     }
     valid_places(h, row)
+}
+
+// The same up to today's limit.
+pub fn valid_row(h: Head, row: &[u32]) -> bool
+    ensures { λ r. ⌜ r ≡ valid (clientOf h (now (row .entry))) ⌝ }
+{
+    valid_row_up_to(ids::MAX_SERVERS, h, row)
 }
 
 // The answer of a refused call: the head as it was.
@@ -230,7 +237,7 @@ fn release_all(k: ClientId, t: Timestamp, n: u16, out: &mut [u8])
 
 // Lines 1 to 5 of a valid record in the remainder section with two timestamps left: for `begin_row`.
 fn attempt(h: Head, row: &mut [u32], out: &mut [u8]) -> Turned
-    requires { ⌜ (2 * h .n ≤ length (now row)) × (h .timestamp .0 ≤ lastTry) ⌝ }
+    requires { ⌜ Padded (now row) (h .n) × (h .timestamp .0 ≤ lastTry) ⌝ }
     ensures { λ r. ⌜ Answers h (now (row .entry)) (stepped (tries (h .n) (h .id) (view (clientOf h (now (row .entry)))))) (now (out .entry)) r (now (row .exit)) (now (out .exit)) ⌝ }
 {
     let n = h.n as usize;
@@ -239,13 +246,13 @@ fn attempt(h: Head, row: &mut [u32], out: &mut [u8]) -> Turned
     }
     let t = Timestamp(h.timestamp.0 + 1);
     request_all(h.id, t, h.n, out);
-    rows::clear(row);
+    rows::clear(row, n);
     moved(h, Section::Trying, t, n, MESSAGE_BYTES * n)
 }
 
 // Lines 19 to 23 of a valid record in the critical section: for `exit_row`.
 fn leave(h: Head, row: &mut [u32], out: &mut [u8]) -> Turned
-    requires { ⌜ (2 * h .n ≤ length (now row)) × (h .timestamp .0 < maxTimestamp) ⌝ }
+    requires { ⌜ Padded (now row) (h .n) × (h .timestamp .0 < maxTimestamp) ⌝ }
     ensures { λ r. ⌜ Answers h (now (row .entry)) (stepped (exits (h .n) (h .id) (view (clientOf h (now (row .entry)))))) (now (out .entry)) r (now (row .exit)) (now (out .exit)) ⌝ }
 {
     let n = h.n as usize;
@@ -254,7 +261,7 @@ fn leave(h: Head, row: &mut [u32], out: &mut [u8]) -> Turned
     }
     let t = Timestamp(h.timestamp.0 + 1);
     release_all(h.id, h.timestamp, h.n, out);
-    rows::clear(row);
+    rows::clear(row, n);
     moved(h, Section::Remainder, t, n, MESSAGE_BYTES * n)
 }
 
@@ -294,13 +301,14 @@ fn yield_round(h: Head, row: &mut [u32], out: &mut [u8]) -> Turned
     requires { ⌜ Padded (now row) (h .n) ⌝ }
     ensures { λ r. ⌜ Answers h (now (row .entry)) (stepped (yields (h .n) (request h) (responsesIn (now (row .entry)) (h .n)))) (now (out .entry)) r (now (row .exit)) (now (out .exit)) ⌝ }
 {
-    let found = client_responses::filled_count(row, h.n as usize);
+    let n = h.n as usize;
+    let found = client_responses::filled_count(row, n);
     let size = MESSAGE_BYTES * found;
     if out.len() < size {
         return refuse(h, Refusal::RoomShort);
     }
     client_responses::send_round(request_of(h), row, h.n, out);
-    rows::clear(row);
+    rows::clear(row, n);
     moved(h, Section::Trying, h.timestamp, found, size)
 }
 
@@ -446,6 +454,19 @@ pub fn message_row(h: Head, row: &mut [u32], m: Message, out: &mut [u8]) -> Turn
     receive(h, row, m, out)
 }
 
+// The head of client `id` in the remainder section, with no timestamp taken, whether or not these numbers are in range.
+pub fn fresh_head(n: u16, m: u16, id: ClientId) -> Head
+    ensures { λ h. ⌜ h ≡ headIn n m id (freshOf n) ⌝ }
+{
+    Head {
+        n,
+        m,
+        id,
+        section: Section::Remainder,
+        timestamp: Timestamp(0),
+    }
+}
+
 // The calls by value: the record's row is lent.
 pub fn valid_client(c: Client) -> bool
     ensures { λ r. ⌜ r ≡ valid c ⌝ }
@@ -454,17 +475,11 @@ pub fn valid_client(c: Client) -> bool
     valid_row(c.head, &row)
 }
 
-// Client `id` in the remainder section, without a response and with no timestamp taken.
+// A new client's record: its head, and every place empty.
 fn fresh(n: u16, m: u16, id: ClientId) -> Client
     ensures { λ c. ⌜ c ≡ clientOf (headIn n m id (freshOf n)) (replicate rowWords 0) ⌝ }
 {
-    let head = Head {
-        n,
-        m,
-        id,
-        section: Section::Remainder,
-        timestamp: Timestamp(0),
-    };
+    let head = fresh_head(n, m, id);
     let row = [0; ROW_WORDS];
     Client { head, row }
 }
@@ -482,7 +497,7 @@ fn no_client() -> Stepped
 pub fn new(n: u16, m: u16, id: ClientId) -> Stepped
     ensures { λ r. ⌜ NewGives n m id r ⌝ }
 {
-    if !valid_sizes(n, m) {
+    if !valid_sizes(ids::MAX_SERVERS, n, m) {
         return no_client();
     }
     if !ids::valid_client(id) {

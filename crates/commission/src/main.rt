@@ -1,5 +1,5 @@
 // The commissioning screen: `commission n m f`. What is said of the setting goes to standard error; the run that shows an unsafe one
-// goes to standard output as a gallery script, so that `bin/commission 3 2 1 | bin/gallery` plays it. Arguments that are not three
+// goes to standard output as a gallery script, so that `bin/commission 3 2 1 | bin/gallery` plays it; one of more than 31 servers can only be read. Arguments that are not three
 // numbers are refused 16, as a script's first line is.
 use ids::Refusal;
 use libc::STDERR_FILENO;

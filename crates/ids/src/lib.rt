@@ -7,7 +7,10 @@ ghost use Rattle.ids.specs.Requests.{same};
 
 pub const MAX_CLIENT: u32 = 65_535;
 
-pub const MAX_SERVERS: u32 = 31;
+pub const MAX_SERVERS: u32 = 255;
+
+// The limit before document 02, L3, by which records from that time are judged.
+pub const EARLIER_SERVERS: u32 = 31;
 
 pub const MAX_TIMESTAMP: u32 = 4_294_967_295;
 

@@ -13,26 +13,26 @@ use mir.Facts.{toZ-ofZ}
 use borrow.Author.Tests.{lt-ltb, le-ltb, le-leb, lt-leb, leb-true, leb-false, ltb-true, ltb-false}
 use Rattle.ids.specs.Limits.{within, maxServers}
 use Rattle.ids.proofs.Choice.{decided, both, Test}
-use Rattle.quorum.specs.Check.{inRangeUpTo, inRange, margin, isUnsafe}
+use Rattle.quorum.specs.Check.{inRangeUpTo, margin, isUnsafe}
 
--- a setting in range
-pub record Range (n m f : ℕ) : Type 0 where
+-- a setting in range, up to a limit of servers
+pub record Range (limit n m f : ℕ) : Type 0 where
   pub some : 0 < n
-  pub servers : n ≤ maxServers
+  pub servers : n ≤ limit
   pub positive : 0 < m
   pub threshold : m ≤ n
   pub faults : f ≤ n
 
-pub range : (n m f : ℕ) → inRange n m f ≡ true → Range n m f
+pub range : (limit n m f : ℕ) → inRangeUpTo limit n m f ≡ true → Range limit n m f
 unfolding inRangeUpTo
-range n m f e =
-    let a = both (within n maxServers) (within m n && leb f n) e in
+range limit n m f e =
+    let a = both (within n limit) (within m n && leb f n) e in
     let b = both (within m n) (leb f n) (a .1) in
-    let c = both (leb 1 n) (leb n maxServers) (a .0) in
+    let c = both (leb 1 n) (leb n limit) (a .0) in
     let d = both (leb 1 m) (leb m n) (b .0) in
     record {
       some = leb-true 1 n (c .0);
-      servers = leb-true n maxServers (c .1);
+      servers = leb-true n limit (c .1);
       positive = leb-true 1 m (d .0);
       threshold = leb-true m n (d .1);
       faults = leb-true f n (b .1);
@@ -52,10 +52,10 @@ mag-sub (pos a) (suc c) = mag-sub-pos a (suc c)
 mag-sub (negsuc a) zero = rw (lt-ltb 0 (suc a) (omega arith)) (omega arith)
 mag-sub (negsuc a) (suc c) = omega arith
 
-bound : {z : ℤ} → mag z ≤ 1000 → SFits w32 z
+bound : {z : ℤ} → mag z ≤ 4 * maxServers → SFits w32 z
 bound h = record { sfits = omega (arith, h) }
 
-bits : (a : ℕ) → a ≤ 1000 → toZ w32 a ≡ pos a
+bits : (a : ℕ) → a ≤ 4 * maxServers → toZ w32 a ≡ pos a
 bits a h = toZ-ofZ (bound h)
 
 -- the two differences as the machine makes them

@@ -97,7 +97,7 @@ module _ (n m f : ℕ) where
   margin-high : isUnsafe n m f ≡ false → n + f < 2 * m
   margin-high t = leb-false (2 * m) (n + f) (sym (unsafe-test n m f) ∙ t)
 
-  judged-demand : Range n m f → Demand3 n m f (judged n m f)
+  judged-demand : Range maxServers n m f → Demand3 n m f (judged n m f)
   judged-demand r =
       record {
         unsafe = λ _ clients two _. let u = unsafe-iff n m f clients (r .positive) (r .threshold) two in
@@ -131,10 +131,10 @@ module _ (n m f : ℕ) (x : Bool) (p : x ≡ inRange n m f) where
   pub check-judges : (v : Verdict) → not x ≡ false → v ≡ judged n m f → (v ≡ verdict n m f) × Demand3 n m f v
   unfolding verdict
   check-judges v t e = let i = holds x (inRange n m f) p t in
-      (rw i e, rw e (judged-demand n m f (range n m f i)))
+      (rw i e, rw e (judged-demand n m f (range maxServers n m f i)))
 
   pub in-bounds : not x ≡ false → (n ≤ maxServers) × (m ≤ n) × (f ≤ n)
-  in-bounds t = let r = range n m f (holds x (inRange n m f) p t) in (r .servers, r .threshold, r .faults)
+  in-bounds t = let r = range maxServers n m f (holds x (inRange n m f) p t) in (r .servers, r .threshold, r .faults)
 
   -- run_event
   pub event-refuses : (i : ℕ) → not x ≡ true → Refused ParameterOutOfRange ≡ runEvent n m f i

@@ -323,7 +323,7 @@ not-new w ne = (rw (ne-eqb (length w) stateSize ne), rw (ne-eqb (length w) state
 in-range-small : (s : Setting) → inRange s ≡ true → Small s
 in-range-small s e =
     let (q, k) = both (inRangeUpTo systemServers (s .n) (s .m) (s .f)) (within (s .clients) systemClients) e in
-    let R = range (s .n) (s .m) (s .f) q in
+    let R = range systemServers (s .n) (s .m) (s .f) q in
     record {
       n = omega (arith, R .servers);
       m = omega (arith, R .servers, R .threshold);
@@ -449,7 +449,7 @@ module _ (s : List ℕ) (v : layout.valid s ≡ true) where
   beyond k c e h = rw (le-leb 1 k (omega (arith, leb-false k maxShort e)), lt-leb k c (omega (arith, leb-false k maxShort e)))
 
   few-servers : layout.settingOf s .n ≤ systemServers
-  few-servers = range _ _ _ (layout-laws.facts s v .range) .servers
+  few-servers = range systemServers _ _ _ (layout-laws.facts s v .range) .servers
 
   no-client : (k : ℕ) → leb k maxShort ≡ false → has (layout.view s .clients) k ≡ false
   no-client k e =

@@ -7,7 +7,7 @@ use mathlib.Core.List.{List, [], _∷_}
 use mathlib.Core.Option.{Option, none, some}
 use mathlib.Core.Logic.{⊎-elim}
 use lib.Dec.{eqb, leb, ltb}
-use lib.ListN.{length, replicate}
+use lib.ListN.{length, replicate, length-replicate}
 use borrow.Author.Tests.{ltb-false, eqb-true, eqb-false, eq-eqb, ne-eqb}
 use Rattle.ids.specs.Choice.{if_then_else_, maybe}
 use Rattle.ids.specs.Order.{before}
@@ -43,7 +43,7 @@ use Rattle.server_votes.proofs.RoomLaws.{informed-state, length-deleted}
 use Rattle.ids.specs.Lists.{every}
 use Rattle.server.specs.declared.Head.{Head}
 use Rattle.server.specs.declared.Server.{Server}
-use Rattle.server.specs.Record.{queuePlaces, rowWords, ordered, once, behindOwner, validState, validSizesUpTo, validSizes, validUpTo, valid, view, store}
+use Rattle.server.specs.Record.{ordered, once, behindOwner, validState, validSizesUpTo, validSizes, validUpTo, valid, view, storeIn, queuePlaces}
 use Rattle.server.specs.Calls.{emptyServer, held, taken, received, messageOutcomeUpTo, messageOutcome, suspectOutcome, checkOutcome, headAfter, rowAfter, serverAfter}
 use Rattle.server.proofs.RecordLaws.{valid-sized, valid-padded, valid-state}
 
@@ -369,8 +369,11 @@ stored-valid limit h row n p z e f g =
     rw (z, padded-good (rowOf (length row) (q .queue)) (length (q .queue)) (H .good), H .list) (good-valid q g)
 
 -- so the record that a good state is stored as is valid
-pub store-valid : (n : ℕ) (j : ServerId) (q : State) → validSizes n j ≡ true → length (q .queue) ≤ queuePlaces → Good q → valid (store n j q) ≡ true
-store-valid n j q z short g = stored-valid maxServers (store n j q .head) (replicate rowWords 0) queuePlaces (stay q) z refl short g
+pub store-valid : (places n : ℕ) (j : ServerId) (q : State) → validSizes n j ≡ true → length (q .queue) ≤ places → Good q → valid (storeIn places n j q) ≡ true
+store-valid places n j q z short g =
+    let row : List ℕ = replicate (2 * places) 0 in
+    let long : length row ≡ 2 * places = length-replicate {A = ℕ} (2 * places) 0 in
+    rw long at (stored-valid maxServers (storeIn places n j q .head) row places (stay q) z long short g)
 
 -- a valid record's state is good
 pub view-good : (limit : ℕ) (s : Server) → validUpTo limit s ≡ true → (validSizesUpTo limit (s .head .n) (s .head .id) ≡ true) × Good (view s)
@@ -470,4 +473,4 @@ module _ (s : Server) (v : valid s ≡ true) where
 -- a new server's record is valid
 pub new-valid : (n : ℕ) (j : ServerId) → validSizes n j ≡ true → valid (emptyServer n j) ≡ true
 unfolding validOwner rowOf requestWords
-new-valid n j z = store-valid n j idle z zero-le (record { owner = refl; all = refl; behind = refl; sorted = tt; single = tt })
+new-valid n j z = store-valid queuePlaces n j idle z zero-le (record { owner = refl; all = refl; behind = refl; sorted = tt; single = tt })

@@ -1,5 +1,5 @@
 -- A valid record from its tests, and what a valid record is good for; a record and the state it holds are one another.
-use Prim.Native.Nat.{ℕ, _<_, _≤_}
+use Prim.Native.Nat.{ℕ, _*_, _<_, _≤_}
 use native.Mathlib.Omega.{arith}
 use mathlib.Core.Path.{_≡_, refl, sym, ap, _∙_}
 use mathlib.Core.Bool.{Bool, true, false, not, _&&_}
@@ -29,7 +29,7 @@ use Rattle.server_votes.specs.Queues.{view}
 use Rattle.server_votes.proofs.ListLaws.{timestamp-first, timestamp-none}
 use Rattle.server.specs.declared.Head.{Head}
 use Rattle.server.specs.declared.Server.{Server}
-use Rattle.server.specs.Record.{queuePlaces, rowWords, ordered, once, validState, validSizesUpTo, serverOf, store, validUpTo, valid}
+use Rattle.server.specs.Record.{ordered, once, validState, validSizesUpTo, serverOf, storeIn, validUpTo, valid}
 use Rattle.server.specs.Record.{view as record-view}
 use Rattle.server.specs.Inner.{repeats, fitsOwner}
 use Rattle.server.proofs.ValidLaws.{once-cons}
@@ -114,22 +114,22 @@ module _ (v : Votes) (row : List ℕ) (a : Bool) (p : a ≡ validOwner (v .owner
         pub votes-5 : (e : Bool) → not d ≡ false → e ≡ once (queueOf row (v .len)) → e ≡ validState (view v row)
         votes-5 e n t = t ∙ rw tests (passes-4 _ _ _ _ _ (sym p ∙ not-false a na) (sym q ∙ not-false b nb) (sym r ∙ not-false c nc) (sym s ∙ not-false d n))
 
-module _ (h : Head) (row : List ℕ) (a : Bool) (p : a ≡ within (h .n) maxServers) where
-  pub server-1 : not a ≡ true → false ≡ valid (serverOf h row)
+module _ (limit : ℕ) (h : Head) (row : List ℕ) (a : Bool) (p : a ≡ within (h .n) limit) where
+  pub server-1 : not a ≡ true → false ≡ validUpTo limit (serverOf h row)
   unfolding validUpTo
   server-1 n = rw (sym p ∙ not-true a n)
 
   module _ (na : not a ≡ false) (b : Bool) (q : b ≡ within (h .id .0) (h .n)) where
-    pub server-2 : not b ≡ true → false ≡ valid (serverOf h row)
+    pub server-2 : not b ≡ true → false ≡ validUpTo limit (serverOf h row)
     unfolding validUpTo
     server-2 n = rw (sym p ∙ not-false a na, sym q ∙ not-true b n)
 
     module _ (nb : not b ≡ false) (c : Bool) (r : c ≡ goodRow row (h .votes .len)) where
-      pub server-3 : not c ≡ true → false ≡ valid (serverOf h row)
+      pub server-3 : not c ≡ true → false ≡ validUpTo limit (serverOf h row)
       unfolding validUpTo
       server-3 n = rw (sym p ∙ not-false a na, sym q ∙ not-false b nb, sym r ∙ not-true c n)
 
-      pub server-4 : (d : Bool) → not c ≡ false → d ≡ validState (view (h .votes) row) → d ≡ valid (serverOf h row)
+      pub server-4 : (d : Bool) → not c ≡ false → d ≡ validState (view (h .votes) row) → d ≡ validUpTo limit (serverOf h row)
       unfolding validUpTo
       server-4 d n t = rw (sym p ∙ not-false a na, sym q ∙ not-false b nb, sym r ∙ not-false c n) t
 
@@ -159,12 +159,17 @@ module _ (limit : ℕ) (x : Server) (v : validUpTo limit x ≡ true) where
 pub server-padded : (x : Server) (b : Bool) → b ≡ valid x → not b ≡ false → Padded (x .row) (x .head .votes .len)
 server-padded x b e n = valid-padded maxServers x (sym e ∙ not-false b n)
 
--- a stored state is seen again, and storing what a record shows gives the record again
-pub view-store : (n : ℕ) (j : ServerId) (q : State) → length (q .queue) ≤ queuePlaces → record-view (store n j q) ≡ q
-view-store n j q h = let e = row-of-queue queuePlaces (q .queue) h in λ i. record { owner = q .owner; queue = e i }
+-- a record, by its head
+pub with-head : (row : List ℕ) (h d : Head) → h ≡ d → serverOf h row ≡ serverOf d row
+with-head row h d e = rw e
 
-pub store-view : (s : Server) → length (s .row) ≡ rowWords → Padded (s .row) (s .head .votes .len) → store (s .head .n) (s .head .id) (record-view s) ≡ s
-store-view s long good =
+-- a stored state is seen again, and storing what a record shows gives the record again
+pub view-store : (places n : ℕ) (j : ServerId) (q : State) → length (q .queue) ≤ places → record-view (storeIn places n j q) ≡ q
+view-store places n j q h = let e = row-of-queue places (q .queue) h in λ i. record { owner = q .owner; queue = e i }
+
+pub store-view : (places : ℕ) (s : Server) → length (s .row) ≡ 2 * places → Padded (s .row) (s .head .votes .len)
+    → storeIn places (s .head .n) (s .head .id) (record-view s) ≡ s
+store-view places s long good =
     let l = length-queue (s .row) (s .head .votes .len) good in
     let r = ap (λ (size : ℕ). rowOf size (queueOf (s .row) (s .head .votes .len))) (sym long) ∙ row-kept (s .row) (s .head .votes .len) good in
     λ i. serverOf (record { n = s .head .n; id = s .head .id; votes = record { owner = s .head .votes .owner; len = l i } }) (r i)

@@ -28,9 +28,15 @@ use Rattle.server_votes.specs.declared.Tag.the-variants.{Request as REQUEST, Yi
 use Rattle.server_votes.specs.Figure1.{State, receive, suspect, check}
 use Rattle.server.specs.Record.{rowWords, validUpTo, valid, validSizes, view}
 
--- server j of n with no owner and nobody waiting
+-- server j of n with no owner and nobody waiting: its head, its record with a row of so many words, and that by value
+abbrev pub emptyHead : ℕ → ServerId → Head
+emptyHead n j = record { n = n; id = j; votes = record { owner = Nobody; len = 0 } }
+
+abbrev pub emptyServerIn : ℕ → ℕ → ServerId → Server
+emptyServerIn words n j = record { head = emptyHead n j; row = replicate words 0 }
+
 abbrev pub emptyServer : ℕ → ServerId → Server
-emptyServer n j = record { head = record { n = n; id = j; votes = record { owner = Nobody; len = 0 } }; row = replicate rowWords 0 }
+emptyServer = emptyServerIn rowWords
 
 -- what a refused `new` hands back: a record that no call accepts
 abbrev pub blank : Server

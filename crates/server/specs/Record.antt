@@ -19,9 +19,9 @@ use Rattle.server_votes.specs.Figure1.{State, candidates}
 use Rattle.server.specs.declared.Head.{Head}
 use Rattle.server.specs.declared.Server.{Server}
 
--- document 01's places of a waiting line, and the words of a record's row
+-- the places of a waiting line, 32 by document 02, L3, and the words of a record's row
 abbrev pub queuePlaces : ℕ
-queuePlaces = 16
+queuePlaces = 32
 
 abbrev pub rowWords : ℕ
 rowWords = 2 * queuePlaces
@@ -34,9 +34,13 @@ serverOf h row = record { head = h; row = row }
 abbrev pub view : Server → State
 view s = votes.view (s .head .votes) (s .row)
 
--- the record by value of server j of n that holds a state: the places behind its queue are empty
+-- the record of server j of n that holds a state, with so many places: those behind its queue are empty
+abbrev pub storeIn : ℕ → ℕ → ServerId → State → Server
+storeIn places n j q = serverOf (record { n = n; id = j; votes = record { owner = q .owner; len = length (q .queue) } }) (rowOf (2 * places) (q .queue))
+
+-- by value
 abbrev pub store : ℕ → ServerId → State → Server
-store n j q = serverOf (record { n = n; id = j; votes = record { owner = q .owner; len = length (q .queue) } }) (rowOf rowWords (q .queue))
+store = storeIn queuePlaces
 
 -- server id of n, where so many servers are the most
 abbrev pub validSizesUpTo : ℕ → ℕ → ServerId → Bool

@@ -11,10 +11,10 @@ ghost use Rattle.wire.specs.Format.{bytesOfAll, sizeOfAll};
 ghost use Rattle.wire.specs.Step.{withRoom};
 ghost use Rattle.server_votes.specs.Queues.{view as votesView};
 ghost use Rattle.server_votes.specs.Places.{mails};
-ghost use Rattle.server.specs.Record.{ordered, once, validState, serverOf, valid};
+ghost use Rattle.server.specs.Record.{ordered, once, validState, serverOf, validUpTo, valid};
 ghost use Rattle.server.specs.Parts.{threeMails, sentAnswer, sentBuffer};
 ghost use Rattle.server.specs.Inner.{refusing, doing, answering, buffering, keeping, repeats, fitsOwner, askedBy};
-ghost use Rattle.server.specs.Calls.{Gives, NewGives, taken, emptyServer, blank, messageOutcome, suspectOutcome, checkOutcome};
+ghost use Rattle.server.specs.Calls.{Gives, NewGives, taken, emptyHead, emptyServer, blank, messageOutcome, suspectOutcome, checkOutcome};
 ghost use Rattle.server.specs.Rows.{Turns};
 use ids::ClientId;
 use ids::Owner;
@@ -30,8 +30,8 @@ use server_votes::Votes;
 use wire::Answer;
 use wire::Message;
 
-// Document 01's places of a waiting line, in a record by value.
-pub const QUEUE_PLACES: usize = 16;
+// The places of a waiting line, in a record by value.
+pub const QUEUE_PLACES: usize = 32;
 
 pub const ROW_WORDS: usize = 2 * QUEUE_PLACES;
 
@@ -278,13 +278,14 @@ fn valid_votes(v: Votes, row: &[u32]) -> bool
     no_client_twice(row, len)
 }
 
-// Whether head and row are a record that a server can have: document 01's 'A record is broken if ..', turned round.
-pub fn valid_row(h: Head, row: &[u32]) -> bool
-    ensures { λ b. ⌜ b ≡ valid (serverOf h (now (row .entry))) ⌝ }
+// Whether head and row are a record that a server can have where there are at most so many: document 01's 'A record is broken if ..', turned
+// round.
+pub fn valid_row_up_to(limit: u32, h: Head, row: &[u32]) -> bool
+    ensures { λ b. ⌜ b ≡ validUpTo limit (serverOf h (now (row .entry))) ⌝ }
 {
     let id = h.id;
     let v = h.votes;
-    if !ids::within_limit(h.n as u32, ids::MAX_SERVERS) {
+    if !ids::within_limit(h.n as u32, limit) {
         return false;
     }
     if !ids::within_limit(id.0 as u32, h.n as u32) {
@@ -294,6 +295,13 @@ pub fn valid_row(h: Head, row: &[u32]) -> bool
         return false;
     }
     valid_votes(v, row)
+}
+
+// The same up to today's limit.
+pub fn valid_row(h: Head, row: &[u32]) -> bool
+    ensures { λ b. ⌜ b ≡ valid (serverOf h (now (row .entry))) ⌝ }
+{
+    valid_row_up_to(ids::MAX_SERVERS, h, row)
 }
 
 // What the message asks of a server.
@@ -404,13 +412,19 @@ pub fn valid_server(s: Server) -> bool
     valid_row(s.head, &row)
 }
 
-// Server `id` of `n` with no owner and nobody waiting.
-fn empty_server(n: u16, id: ServerId) -> Server
-    ensures { λ s. ⌜ s ≡ emptyServer n id ⌝ }
+// The head of server `id` of `n` with no owner and nobody waiting, whether or not these numbers are in range.
+pub fn empty_head(n: u16, id: ServerId) -> Head
+    ensures { λ h. ⌜ h ≡ emptyHead n id ⌝ }
 {
     let owner = Owner::Nobody;
     let votes = Votes { owner, len: 0 };
-    let head = Head { n, id, votes };
+    Head { n, id, votes }
+}
+
+fn empty_server(n: u16, id: ServerId) -> Server
+    ensures { λ s. ⌜ s ≡ emptyServer n id ⌝ }
+{
+    let head = empty_head(n, id);
     let row = [0u32; ROW_WORDS];
     Server { head, row }
 }

@@ -14,7 +14,7 @@ use Rattle.ids.proofs.Choice.{decided}
 use Rattle.ids.specs.declared.Refusal.the-variants.{NoSuchParty}
 use Rattle.ids.specs.declared.ClientId.{ClientId}
 use Rattle.ids.specs.declared.ServerId.{ServerId}
-use Rattle.words.specs.Records.{serverFrom, serverWords, holdsServer}
+use Rattle.words.specs.Records.{serverFrom, serverWords}
 use Rattle.wire.specs.Step.{stepped}
 use Rattle.client_responses.specs.Figure1.{enough}
 use Rattle.server_votes.specs.Figure1.{idle}
@@ -25,7 +25,7 @@ use Rattle.system.specs.Transit.{replaced, gone, again}
 use Rattle.system.specs.Places.{System, ClientPlace, ServerPlace, clientAt, serverAt, downed}
 use Rattle.system.specs.Events.{fallen, cameUp, dropped, wentDown}
 use Rattle.system.specs.Runs.{after}
-use Rattle.sim_blocks.specs.Blocks.{clientPlace, serverPlace, cleared, serverRecord, emptied, validServerBlock, clientBlock, serverBlock}
+use Rattle.sim_blocks.specs.Blocks.{clientPlace, serverPlace, cleared, serverRecord, emptied, validServerBlock, clientBlock, serverBlock, holdsServerRecord}
 use Rattle.sim_blocks.proofs.Facts.{server-facts}
 use Rattle.sim_blocks.proofs.ClientLaws.{ClientIs}
 use Rattle.sim_blocks.proofs.ServerLaws.{ServerIs, rise-block, sink-block}
@@ -104,7 +104,7 @@ module _ (w : List ℕ) (j : ServerId) (H : HasServer w j) where
         (rising w (j .0) H))
 
   -- down, store by store
-  pub sinkable : ServerIn w j × (holdsServer (serverRecord (serverBlockOf w j)) ≡ true)
+  pub sinkable : ServerIn w j × (holdsServerRecord (serverRecord (serverBlockOf w j)) ≡ true)
   sinkable =
       (server-in w (j .0) H, server-facts (settingOf w .n) (settingOf w .clients) (j .0) (serverBlockOf w j) (ok-block w (j .0) H) .held)
 

@@ -12,16 +12,16 @@ use borrow.Author.Tests.{le-leb, lt-leb}
 use Rattle.ids.specs.Requests.{noRequest}
 use Rattle.ids.specs.Choice.{if_then_else_}
 use Rattle.ids.specs.declared.Request.{Request}
-use Rattle.ids.specs.declared.Owner.the-variants.{Nobody}
 use Rattle.server.specs.Record as server
 use Rattle.server.specs.declared.Server.{Server}
 use Rattle.client.specs.Record as client
 use Rattle.client.specs.declared.Client.{Client}
 use Rattle.system.specs.Places.{inEpoch}
-use Rattle.words.specs.Records.{clientWords, serverWords, serverFrom, clientSize, serverSize, recordHead, clientHeadWords, serverHeadWords, serverHeadFrom, maxWord}
-use Rattle.sim_blocks.specs.Blocks.{namedPair, cleared, serverRecord, clientPlace, emptied, flagsFrom, clientBlock, serverBlock}
+use Rattle.words.specs.Records.{clientWords, serverWords, serverFrom, recordHead, clientHeadWords, serverHeadWords, serverHeadFrom, maxWord}
+use Rattle.sim_blocks.specs.Blocks.{namedPair, cleared, serverRecord, clientPlace, emptied, flagsFrom, clientBlock, serverBlock, clientRecordSize, serverRecordSize, responseWords, queueWords}
 use Rattle.ids.specs.Lists.{every}
 use Rattle.sim_blocks.proofs.Fronts.{Passing, passing-none, passing-more, passing-failed, passing-all, Clearing, clearing-all}
+use Rattle.server.specs.Calls.{emptyHead}
 use Rattle.system.specs.Limits.{systemServers}
 use Rattle.rows.specs.Rows.{requestsIn}
 use Rattle.rows.proofs.WordLaws.{requests-at}
@@ -182,11 +182,11 @@ pub rest-of : (l : List ℕ) (n : ℕ) (y : Bool) → length l ≡ systemServers
     → y ≡ every (λ x. leb x 0) (drop n l)
 rest-of l n y e q = q ∙ ap (every (λ (x : ℕ). leb x 0)) (take-all (systemServers - n) (drop n l) (omega (arith, length-drop n l)))
 
-pub client-long : (c : Client) → length (c .row) ≡ client.rowWords → length (clientWords c) ≡ clientSize
+pub client-long : (c : Client) → length (c .row) ≡ responseWords → length (clientWords c) ≡ clientRecordSize
 unfolding clientWords clientHeadWords
 client-long c e = omega (arith, e)
 
-pub server-long : (s : Server) → length (s .row) ≡ server.rowWords → length (serverWords s) ≡ serverSize
+pub server-long : (s : Server) → length (s .row) ≡ queueWords → length (serverWords s) ≡ serverRecordSize
 unfolding serverWords serverHeadWords
 server-long s e = omega (arith, e)
 
@@ -200,29 +200,29 @@ module _ (b : List ℕ) (at : ℕ) (x : Bool) (e : x ≡ inEpoch (clientPlace b)
 
 -- a server that forgets
 pub sunk : (b l : List ℕ) (h e : ServerHead) → h ≡ serverHeadFrom (serverRecord b)
-    → e ≡ record { n = h .n; id = h .id; votes = record { owner = Nobody; len = 0 } }
-    → l ≡ sets b 1 (serverWords (server.serverOf e (replicate server.rowWords 0)))
+    → e ≡ emptyHead (h .n) (h .id)
+    → l ≡ sets b 1 (serverWords (server.serverOf e (replicate queueWords 0)))
     → set l 0 0 ≡ set (sets b 1 (serverWords (emptied (serverFrom (serverRecord b))))) 0 0
 sunk b l h e p q r = rw (r, q, p)
 
-pub forgotten-short : (h e : ServerHead) → e ≡ record { n = h .n; id = h .id; votes = record { owner = Nobody; len = 0 } } → e .votes .len ≤ maxWord
+pub forgotten-short : (h e : ServerHead) → e ≡ emptyHead (h .n) (h .id) → e .votes .len ≤ maxWord
 forgotten-short h e p = rw p (omega arith)
 
 -- what the two stores of `put_client` leave, and those of `put_server`
-pub client-put-back : (b x : List ℕ) (h : ClientHead) (row ys : List ℕ) → length b ≡ clientBlock → length row ≡ client.rowWords
-    → x ≡ sets (take clientSize (drop 1 b)) 0 (clientHeadWords h) → ys ≡ row
-    → back (1 + recordHead) client.rowWords (back 1 clientSize b x) ys ≡ sets b 1 (clientWords (client.clientOf h row))
+pub client-put-back : (b x : List ℕ) (h : ClientHead) (row ys : List ℕ) → length b ≡ clientBlock → length row ≡ responseWords
+    → x ≡ sets (take clientRecordSize (drop 1 b)) 0 (clientHeadWords h) → ys ≡ row
+    → back (1 + recordHead) responseWords (back 1 clientRecordSize b x) ys ≡ sets b 1 (clientWords (client.clientOf h row))
 client-put-back b x h row ys l m p q =
-    let e : back 1 clientSize b x ≡ sets b 1 (clientHeadWords h) = part-front b x (clientHeadWords h) 1 clientSize (omega arith)
+    let e : back 1 clientRecordSize b x ≡ sets b 1 (clientHeadWords h) = part-front b x (clientHeadWords h) 1 clientRecordSize (omega arith)
     (omega (arith, client-head-long h)) p in
-    let n : length (back 1 clientSize b x) ≡ clientBlock = ap length e ∙ (length-sets b 1 (clientHeadWords h) ∙ l) in
-    client-put b _ _ h row e (part-whole (back 1 clientSize b x) ys row (1 + recordHead) client.rowWords (omega arith) m q)
+    let n : length (back 1 clientRecordSize b x) ≡ clientBlock = ap length e ∙ (length-sets b 1 (clientHeadWords h) ∙ l) in
+    client-put b _ _ h row e (part-whole (back 1 clientRecordSize b x) ys row (1 + recordHead) responseWords (omega arith) m q)
 
-pub server-put-back : (b x : List ℕ) (h : ServerHead) (row ys : List ℕ) → length b ≡ serverBlock → length row ≡ server.rowWords
-    → x ≡ sets (take serverSize (drop 1 b)) 0 (serverHeadWords h) → ys ≡ row
-    → back (1 + recordHead) server.rowWords (back 1 serverSize b x) ys ≡ sets b 1 (serverWords (server.serverOf h row))
+pub server-put-back : (b x : List ℕ) (h : ServerHead) (row ys : List ℕ) → length b ≡ serverBlock → length row ≡ queueWords
+    → x ≡ sets (take serverRecordSize (drop 1 b)) 0 (serverHeadWords h) → ys ≡ row
+    → back (1 + recordHead) queueWords (back 1 serverRecordSize b x) ys ≡ sets b 1 (serverWords (server.serverOf h row))
 server-put-back b x h row ys l m p q =
-    let e : back 1 serverSize b x ≡ sets b 1 (serverHeadWords h) = part-front b x (serverHeadWords h) 1 serverSize (omega arith)
+    let e : back 1 serverRecordSize b x ≡ sets b 1 (serverHeadWords h) = part-front b x (serverHeadWords h) 1 serverRecordSize (omega arith)
     (omega (arith, server-head-long h)) p in
-    let n : length (back 1 serverSize b x) ≡ serverBlock = ap length e ∙ (length-sets b 1 (serverHeadWords h) ∙ l) in
-    server-put b _ _ h row e (part-whole (back 1 serverSize b x) ys row (1 + recordHead) server.rowWords (omega arith) m q)
+    let n : length (back 1 serverRecordSize b x) ≡ serverBlock = ap length e ∙ (length-sets b 1 (serverHeadWords h) ∙ l) in
+    server-put b _ _ h row e (part-whole (back 1 serverRecordSize b x) ys row (1 + recordHead) queueWords (omega arith) m q)

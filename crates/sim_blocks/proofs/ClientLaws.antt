@@ -14,13 +14,13 @@ use Rattle.client.specs.declared.Client.{Client}
 use Rattle.client_responses.specs.Figure1.{State, isRemainder}
 use Rattle.client.specs.Record as client
 use Rattle.client.proofs.KeepsValid.{Fits, view-store, store-valid}
-use Rattle.words.specs.Records.{holdsClient, clientFrom, clientWords, clientSize}
+use Rattle.words.specs.Records.{clientFrom, clientWords}
 use Rattle.words.proofs.RoundTrip.{client-read-back}
 use Rattle.sim_blocks.proofs.RegionLaws.{region-inside, region-before}
 use Rattle.system.specs.Places.{ClientPlace, inEpoch}
-use Rattle.sim_blocks.specs.Blocks.{clientRecord, flags, flagged, clientPlace, bitWord, zeroWord, named, validClientBlock, clientBlock, flagsFrom}
+use Rattle.sim_blocks.specs.Blocks.{clientRecord, flags, flagged, clientPlace, bitWord, zeroWord, named, validClientBlock, clientBlock, flagsFrom, holdsClientRecord, clientRecordSize, responseWords}
 use Rattle.sim_blocks.proofs.BlockParts.{read-in, covered, client-long, first-kept}
-use Rattle.sim_blocks.proofs.Facts.{ClientBlock, client-facts, client-block, outside-clear}
+use Rattle.sim_blocks.proofs.Facts.{ClientBlock, client-facts, client-block, client-few, outside-clear}
 use Rattle.system.specs.Limits.{systemServers}
 use Rattle.system.specs.Numbered.{clientNo}
 use Rattle.rows.proofs.RowLaws.{length-row-of}
@@ -32,10 +32,10 @@ pub record ClientIs (n m clients k : ℕ) (b : List ℕ) (p : ClientPlace) : Typ
   pub valid : validClientBlock n m clients (clientNo k) b ≡ true
 
 -- a store of a record, seen through the parts
-module _ (b ws : List ℕ) (l : length b ≡ clientBlock) (w : length ws ≡ clientSize) where
+module _ (b ws : List ℕ) (l : length b ≡ clientBlock) (w : length ws ≡ clientRecordSize) where
   pub record-stored : clientRecord (sets b 1 ws) ≡ ws
   record-stored =
-      region-inside 1 clientSize b 0 ws (omega arith) ∙ covered (clientRecord b) ws (simp (length-take, length-drop) (omega arith))
+      region-inside 1 clientRecordSize b 0 ws (omega arith) ∙ covered (clientRecord b) ws (simp (length-take, length-drop) (omega arith))
 
   pub flags-kept : flags (sets b 1 ws) ≡ flags b
   flags-kept = region-before flagsFrom systemServers b 1 ws (omega arith)
@@ -48,28 +48,28 @@ pub record Frame (n : ℕ) (b : List ℕ) : Type 0 where
   pub behind : every zeroWord (drop n (flags b)) ≡ true
   pub fallen : clientPlace b .living ≡ false → every zeroWord (flags b) ≡ true
 
-module _ (n m clients k : ℕ) (b : List ℕ) (B : Frame n b) where
+module _ (n m clients k : ℕ) (b : List ℕ) (B : Frame n b) (few : n ≤ systemServers) where
   abbrev me : ClientId
   me = record { 0 = k }
 
   -- the block with the record of state s
   abbrev with : State → List ℕ
-  with s = sets b 1 (clientWords (client.store n m (record { 0 = k }) s))
+  with s = sets b 1 (clientWords (client.storeIn systemServers n m (record { 0 = k }) s))
 
   module _ (s : State) (F : Fits n m (record { 0 = k }) s) (names : every (named clients) (s .responses) ≡ true) (clear : isRemainder (s .section) ≡ true
       → every zeroWord (flags b) ≡ true) where
     abbrev kept : Client
-    kept = client.store n m (record { 0 = k }) s
+    kept = client.storeIn systemServers n m (record { 0 = k }) s
 
-    kept-row : length (kept .row) ≡ client.rowWords
-    unfolding client.store
-    kept-row = length-row-of client.rowWords (map place (s .responses)) (simp length-map (omega (arith, F .long, F .ranges .few)))
+    kept-row : length (kept .row) ≡ responseWords
+    unfolding client.storeIn
+    kept-row = length-row-of responseWords (map place (s .responses)) (simp length-map (omega (arith, F .long, few)))
 
     kept-valid : client.valid kept ≡ true
-    kept-valid = store-valid n m me s F
+    kept-valid = store-valid systemServers n m me s F few
 
-    words-held : (holdsClient (clientWords kept) ≡ true) × (clientFrom (clientWords kept) ≡ kept)
-    words-held = read-in (holdsClient (clientWords kept)) (clientFrom (clientWords kept)) kept (client-read-back kept kept-valid kept-row)
+    words-held : (holdsClientRecord (clientWords kept) ≡ true) × (clientFrom (clientWords kept) ≡ kept)
+    words-held = read-in (holdsClientRecord (clientWords kept)) (clientFrom (clientWords kept)) kept (client-read-back kept kept-valid responseWords kept-row)
 
     its-record : clientRecord (with s) ≡ clientWords kept
     its-record = record-stored b (clientWords kept) (B .size) (client-long kept kept-row)
@@ -84,7 +84,7 @@ module _ (n m clients k : ℕ) (b : List ℕ) (B : Frame n b) where
     unfolding clientPlace
     stored-place =
         let a : getD (with s) 0 0 ≡ getD b 0 0 = first-kept b 0 (clientWords kept) in
-        let v : client.view (clientFrom (clientRecord (with s))) ≡ s = ap client.view its-client ∙ view-store n m me s F in
+        let v : client.view (clientFrom (clientRecord (with s))) ≡ s = ap client.view its-client ∙ view-store systemServers n m me s F few in
         let f : flagged 1 (flags (with s)) ≡ flagged 1 (flags b) = ap (flagged 1) its-flags in
         λ i. record { living = eqb (a i) 1; state = v i; downs = f i }
 
@@ -99,7 +99,7 @@ module _ (n m clients k : ℕ) (b : List ℕ) (B : Frame n b) where
         by-tests false y z h g = g refl
 
     stored-facts : ClientBlock n m clients k (with s)
-    unfolding client.store
+    unfolding client.storeIn
     stored-facts =
         record {
           size = length-sets b 1 (clientWords kept) ∙ B .size;
@@ -143,6 +143,6 @@ module _ (n m clients k : ℕ) (b : List ℕ) (ok : validClientBlock n m clients
 
   pub stored-client : (s : State) → Fits n m (record { 0 = k }) s → every (named clients) (s .responses) ≡ true
       → (isRemainder (s .section) ≡ true → every zeroWord (flags b) ≡ true)
-      → ClientIs n m clients k (sets b 1 (clientWords (client.store n m (record { 0 = k }) s)))
+      → ClientIs n m clients k (sets b 1 (clientWords (client.storeIn systemServers n m (record { 0 = k }) s)))
       (record { living = clientPlace b .living; state = s; downs = clientPlace b .downs })
-  stored-client s F names clear = stored-frame n m clients k b frame s F names clear
+  stored-client s F names clear = stored-frame n m clients k b frame (client-few n m clients k b facts) s F names clear

@@ -1,10 +1,9 @@
 -- The four steps of a client, on a valid block: what its call does, and what the block is with the step's record.
 use Prim.Native.Nat.{ℕ, zero, suc, _≤_}
-use native.Mathlib.Omega.{arith}
 use mathlib.Core.Path.{_≡_, refl, sym, _∙_}
 use mathlib.Core.Bool.{Bool, true, false}
 use mathlib.Core.List.{List, map}
-use lib.ListN.{replicate, length, length-drop}
+use lib.ListN.{replicate, length}
 use lib.Seq.{sets}
 use borrow.Author.Tests.{leb-true, le-leb, eq-eqb}
 use Rattle.ids.specs.Choice.{if_then_else_}
@@ -28,9 +27,10 @@ use Rattle.client.specs.Record as client
 use Rattle.client.specs.Calls.{clientAfter, beginOutcome, exitOutcome, messageOutcome, forClient, messageOutcomeUpTo}
 use Rattle.client.proofs.KeepsValid.{InRange, remainder-fits, Fits, tries-fits, exits-fits, responds-fits, checked-state, heard-every, after-stored}
 use Rattle.words.specs.Records.{clientFrom, clientWords}
-use Rattle.words.proofs.RecordsLaws.{client-held}
+use Rattle.words.proofs.RecordsLaws.{client-row}
 use Rattle.system.specs.Places.{ClientPlace}
-use Rattle.sim_blocks.specs.Blocks.{clientRecord, flags, clientPlace, zeroWord, named, validClientBlock}
+use Rattle.system.specs.Limits.{systemServers}
+use Rattle.sim_blocks.specs.Blocks.{clientRecord, flags, clientPlace, zeroWord, named, validClientBlock, responseWords}
 use Rattle.sim_blocks.proofs.Facts.{ClientBlock, client-facts, client-fits}
 use Rattle.sim_blocks.proofs.ClientLaws.{Frame, stored-frame, ClientIs, remainder-clear, stored-client}
 use Rattle.system.specs.Numbered.{clientNo}
@@ -87,7 +87,7 @@ module _ (wins : Quorum) (n clients : ℕ) (k : ClientId) (j : ServerId) (o : Ow
 
 -- block b with the record of state s, and the place that it is
 abbrev pub written : ℕ → ℕ → ℕ → List ℕ → State → List ℕ
-written n m k b s = sets b 1 (clientWords (client.store n m (record { 0 = k }) s))
+written n m k b s = sets b 1 (clientWords (client.storeIn systemServers n m (record { 0 = k }) s))
 
 abbrev pub placed : List ℕ → State → ClientPlace
 placed b s = record { living = clientPlace b .living; state = s; downs = clientPlace b .downs }
@@ -112,8 +112,8 @@ module _ (n m clients k : ℕ) (b : List ℕ) (ok : validClientBlock n m clients
   unfolding clientPlace
   shows = refl
 
-  row-long : length (its .row) ≡ client.rowWords
-  row-long = simp length-drop (omega (arith, client-held (clientRecord b) (B .held) .size))
+  row-long : length (its .row) ≡ responseWords
+  row-long = client-row responseWords (clientRecord b) (B .held)
 
   sections : its .head .section ≡ at .state .section
   unfolding clientPlace client.view
@@ -150,8 +150,8 @@ module _ (n m clients k : ℕ) (b : List ℕ) (ok : validClientBlock n m clients
   check-outcome j t w h = rw (B .valid, w, for-me j h, shows)
 
   -- the record that an accepted call gives back
-  pub client-after : (p : Step State) → clientAfter (clientFrom (clientRecord b)) (stepped p) ≡ client.store n m (record { 0 = k }) (p .state)
-  client-after p = rw (← B .servers, ← B .threshold, ← B .number) (after-stored its p row-long)
+  pub client-after : (p : Step State) → clientAfter (clientFrom (clientRecord b)) (stepped p) ≡ client.storeIn systemServers n m (record { 0 = k }) (p .state)
+  client-after p = rw (← B .servers, ← B .threshold, ← B .number) (after-stored systemServers its p row-long)
 
   -- what they leave
   pub tries-block : isRemainder (clientPlace b .state .section) ≡ true → mayTry (clientPlace b .state) ≡ true
@@ -186,7 +186,7 @@ module _ (n m clients k : ℕ) (b : List ℕ) (ok : validClientBlock n m clients
       rw (checked-state me j t (at .state)) (stored-client n m clients k b ok (at .state) fits (B .names) (λ e. remainder-clear n m clients k b ok e))
 
 -- a new client's record, in a block without flags
-pub fresh-block : (n m clients k : ℕ) (b : List ℕ) → Frame n b → every zeroWord (flags b) ≡ true → InRange n m (record { 0 = k })
+pub fresh-block : (n m clients k : ℕ) (b : List ℕ) → Frame n b → n ≤ systemServers → every zeroWord (flags b) ≡ true → InRange n m (record { 0 = k })
     → ClientIs n m clients k (written n m k b (fresh n)) (placed b (fresh n))
-fresh-block n m clients k b B z R =
-    stored-frame n m clients k b B (fresh n) (remainder-fits n m (record { 0 = k }) R (record { 0 = 0 })) (named-none clients n) (λ e. z)
+fresh-block n m clients k b B few z R =
+    stored-frame n m clients k b B few (fresh n) (remainder-fits n m (record { 0 = k }) R (record { 0 = 0 })) (named-none clients n) (λ e. z)

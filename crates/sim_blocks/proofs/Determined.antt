@@ -18,13 +18,13 @@ use Rattle.client.proofs.KeepsValid.{stored-again}
 use Rattle.server.specs.Record as server
 use Rattle.server.specs.declared.Server.{Server}
 use Rattle.server.proofs.RecordLaws as server-laws
-use Rattle.words.specs.Records.{clientWords, serverWords, clientFrom, serverFrom, clientSize, serverSize, recordHead}
-use Rattle.words.proofs.RecordsLaws.{client-held, server-held}
+use Rattle.words.specs.Records.{clientWords, serverWords, clientFrom, serverFrom}
+use Rattle.words.proofs.RecordsLaws.{client-row, server-row}
 use Rattle.words.proofs.RoundTrip.{client-words-again, server-words-again}
-use Rattle.system.specs.Limits.{systemServers}
+use Rattle.system.specs.Limits.{systemServers, systemClients}
 use Rattle.system.specs.Numbered.{clientNo, serverNo}
 use Rattle.system.specs.Places.{ClientPlace, ServerPlace}
-use Rattle.sim_blocks.specs.Blocks.{clientRecord, serverRecord, flags, flagged, clientPlace, serverPlace, bitWord, validClientBlock, validServerBlock, clientBlock, serverBlock, flagsFrom}
+use Rattle.sim_blocks.specs.Blocks.{clientRecord, serverRecord, flags, flagged, clientPlace, serverPlace, bitWord, validClientBlock, validServerBlock, clientBlock, serverBlock, flagsFrom, clientRecordSize, serverRecordSize, responseWords, queueWords}
 use Rattle.sim_blocks.proofs.Facts.{client-facts, server-facts}
 
 -- bits, one and many
@@ -67,36 +67,36 @@ same-flags j (suc x ∷ l) (suc y ∷ l′) s p q e =
 -- the parts of a block are all of it
 client-parts : (b : List ℕ) → length b ≡ clientBlock → getD b 0 0 ∷ (clientRecord b ++ flags b) ≡ b
 client-parts b l =
-    rw (take-all systemServers (drop flagsFrom b) (omega (arith, length-drop flagsFrom b)), ← drop-drop clientSize 1 b, take-append-drop clientSize (drop 1 b))
+    rw (take-all systemServers (drop flagsFrom b) (omega (arith, length-drop flagsFrom b)), ← drop-drop clientRecordSize 1 b, take-append-drop clientRecordSize (drop 1 b))
     (sym (drop-cons b 0 0 (omega arith)))
 
 server-parts : (b : List ℕ) → length b ≡ serverBlock → getD b 0 0 ∷ serverRecord b ≡ b
 server-parts b l =
-    rw (take-all serverSize (drop 1 b) (omega (arith, length-drop 1 b)))
+    rw (take-all serverRecordSize (drop 1 b) (omega (arith, length-drop 1 b)))
     (sym (drop-cons b 0 0 (omega arith)))
 
 -- a block's record is the one that its place's state is stored as
 module _ (n m clients k : ℕ) (b : List ℕ) (ok : validClientBlock n m clients (clientNo k) b ≡ true) where
-  client-record : clientRecord b ≡ clientWords (client.store n m (clientNo k) (clientPlace b .state))
+  client-record : clientRecord b ≡ clientWords (client.storeIn systemServers n m (clientNo k) (clientPlace b .state))
   unfolding clientPlace
   client-record =
       let B = client-facts n m clients k b ok in
       let c : Client = clientFrom (clientRecord b) in
-      let long : length (c .row) ≡ client.rowWords = omega (arith, length-drop recordHead (clientRecord b), client-held (clientRecord b) (B .held) .size) in
-      let again = stored-again c (B .valid) long in
-      sym (client-words-again (clientRecord b) (B .held)) ∙ ap clientWords
-      (sym again ∙ (λ i. client.store (B .servers i) (B .threshold i) (B .number i) (client.view c)))
+      let long : length (c .row) ≡ responseWords = client-row responseWords (clientRecord b) (B .held) in
+      let again = stored-again systemServers c (B .valid) long in
+      sym (client-words-again responseWords (clientRecord b) (B .held)) ∙ ap clientWords
+      (sym again ∙ (λ i. client.storeIn systemServers (B .servers i) (B .threshold i) (B .number i) (client.view c)))
 
 module _ (n clients j : ℕ) (b : List ℕ) (ok : validServerBlock n clients (serverNo j) b ≡ true) where
-  server-record : serverRecord b ≡ serverWords (server.store n (serverNo j) (serverPlace b .state))
+  server-record : serverRecord b ≡ serverWords (server.storeIn systemClients n (serverNo j) (serverPlace b .state))
   unfolding serverPlace
   server-record =
       let B = server-facts n clients j b ok in
       let s : Server = serverFrom (serverRecord b) in
-      let long : length (s .row) ≡ server.rowWords = omega (arith, length-drop recordHead (serverRecord b), server-held (serverRecord b) (B .held) .size) in
-      let again = server-laws.store-view s long (server-laws.valid-padded maxServers s (B .valid)) in
-      sym (server-words-again (serverRecord b) (B .held)) ∙ ap serverWords
-      (sym again ∙ (λ i. server.store (B .servers i) (B .number i) (server.view s)))
+      let long : length (s .row) ≡ queueWords = server-row queueWords (serverRecord b) (B .held) in
+      let again = server-laws.store-view systemClients s long (server-laws.valid-padded maxServers s (B .valid)) in
+      sym (server-words-again queueWords (serverRecord b) (B .held)) ∙ ap serverWords
+      (sym again ∙ (λ i. server.storeIn systemClients (B .servers i) (B .number i) (server.view s)))
 
 -- two valid blocks that are the same place are the same words
 pub same-client : (n m clients k : ℕ) (b b′ : List ℕ) → validClientBlock n m clients (clientNo k) b ≡ true → validClientBlock n m clients (clientNo k) b′ ≡ true
@@ -107,7 +107,7 @@ same-client n m clients k b b′ ok ok′ e =
     let B′ = client-facts n m clients k b′ ok′ in
     let first : getD b 0 0 ≡ getD b′ 0 0 = same-bit (getD b 0 0) (getD b′ 0 0) (B .bit) (B′ .bit) (ap (λ (p : ClientPlace). p .living) e) in
     let body : clientRecord b ≡ clientRecord b′ = client-record n m clients k b ok ∙
-    (ap (λ (p : ClientPlace). clientWords (client.store n m (clientNo k) (p .state))) e ∙ sym (client-record n m clients k b′ ok′)) in
+    (ap (λ (p : ClientPlace). clientWords (client.storeIn systemServers n m (clientNo k) (p .state))) e ∙ sym (client-record n m clients k b′ ok′)) in
     let size : length (flags b) ≡ length (flags b′) = simp (length-take, length-drop) (rw (B .size, B′ .size)) in
     let last : flags b ≡ flags b′ = same-flags 1 (flags b) (flags b′) size (B .bits) (B′ .bits) (ap (λ (p : ClientPlace). p .downs) e) in
     sym (client-parts b (B .size)) ∙ ((λ i. first i ∷ (body i ++ last i)) ∙ client-parts b′ (B′ .size))
@@ -120,5 +120,5 @@ same-server n clients j b b′ ok ok′ e =
     let B′ = server-facts n clients j b′ ok′ in
     let first : getD b 0 0 ≡ getD b′ 0 0 = same-bit (getD b 0 0) (getD b′ 0 0) (B .bit) (B′ .bit) (ap (λ (p : ServerPlace). p .up) e) in
     let body : serverRecord b ≡ serverRecord b′ = server-record n clients j b ok ∙
-    (ap (λ (p : ServerPlace). serverWords (server.store n (serverNo j) (p .state))) e ∙ sym (server-record n clients j b′ ok′)) in
+    (ap (λ (p : ServerPlace). serverWords (server.storeIn systemClients n (serverNo j) (p .state))) e ∙ sym (server-record n clients j b′ ok′)) in
     sym (server-parts b (B .size)) ∙ ((λ i. first i ∷ body i) ∙ server-parts b′ (B′ .size))

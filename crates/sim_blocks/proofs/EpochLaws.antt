@@ -17,11 +17,11 @@ use Rattle.ids.proofs.Choice.{both, decided}
 use Rattle.wire.proofs.BytesLaws.{stored-on}
 use Rattle.client_responses.specs.Figure1.{tries, exits, isRemainder, mayTry}
 use Rattle.client.specs.Record as client
-use Rattle.words.specs.Records.{clientFrom, clientSize}
+use Rattle.words.specs.Records.{clientFrom}
 use Rattle.sim_blocks.proofs.RegionLaws.{region-inside, region-behind}
 use Rattle.system.specs.Numbered.{added, clientNo}
 use Rattle.system.specs.Places.{ServerPlace, inEpoch, downed, downFrom}
-use Rattle.sim_blocks.specs.Blocks.{clientRecord, flags, flagged, cleared, clientPlace, bitWord, zeroWord, validClientBlock, clientBlock, flagsFrom}
+use Rattle.sim_blocks.specs.Blocks.{clientRecord, flags, flagged, cleared, clientPlace, bitWord, zeroWord, validClientBlock, clientBlock, flagsFrom, clientRecordSize}
 use Rattle.ids.proofs.ListLaws.{every-append, every-drop, every-set}
 use Rattle.sim_blocks.proofs.BlockParts.{covered, first-kept, length-cleared}
 use Rattle.sim_blocks.proofs.Facts.{ClientBlock, client-facts, client-block, client-few}
@@ -77,11 +77,11 @@ module _ (b : List ℕ) (l : length b ≡ clientBlock) where
 
   cleared-record : clientRecord (cleared b) ≡ clientRecord b
   unfolding cleared
-  cleared-record = region-behind 1 clientSize b 0 (replicate systemServers 0)
+  cleared-record = region-behind 1 clientRecordSize b 0 (replicate systemServers 0)
 
   cleared-first : getD (cleared b) 0 0 ≡ getD b 0 0
   unfolding cleared
-  cleared-first = first-kept b clientSize (replicate systemServers 0)
+  cleared-first = first-kept b clientRecordSize (replicate systemServers 0)
 
 zero-bits : (l : List ℕ) → every zeroWord l ≡ true → every bitWord l ≡ true
 zero-bits [] h = refl
@@ -126,7 +126,7 @@ module _ (n m clients k : ℕ) (b : List ℕ) (ok : validClientBlock n m clients
   pub fall-block : ClientIs n m clients k (cleared (set b 0 0)) (record { living = false; state = clientPlace b .state; downs = [] })
   fall-block =
       let l : length (set b 0 0) ≡ clientBlock = length-set b 0 0 ∙ C .size in
-      let r : clientRecord (set b 0 0) ≡ clientRecord b = ap (take clientSize) (drop-set-lt 1 b 0 0 (omega arith)) in
+      let r : clientRecord (set b 0 0) ≡ clientRecord b = ap (take clientRecordSize) (drop-set-lt 1 b 0 0 (omega arith)) in
       let f : getD (cleared (set b 0 0)) 0 0 ≡ 0 = cleared-first (set b 0 0) l ∙ getD-set-same b 0 0 0 (omega (arith, C .size)) in
       let M = no-flags n m clients k b (cleared (set b 0 0)) ok (cleared-record (set b 0 0) l ∙
       r) (cleared-zero (set b 0 0) l) (length-cleared (set b 0 0) ∙ l) (rw f (omega arith)) in
@@ -140,29 +140,31 @@ module _ (n m clients k : ℕ) (b : List ℕ) (ok : validClientBlock n m clients
     long : length (flags b) ≡ systemServers
     long = simp (length-take, length-drop) (omega (arith, C .size))
 
-    set-flags : flags (set b (clientSize + j) 1) ≡ set (flags b) (j - 1) 1
+    set-flags : flags (set b (clientRecordSize + j) 1) ≡ set (flags b) (j - 1) 1
     set-flags =
-        let z : clientSize + j ≡ flagsFrom + (j - 1) = omega arith in
+        let z : clientRecordSize + j ≡ flagsFrom + (j - 1) = omega arith in
         rw z (region-inside flagsFrom systemServers b (j - 1) (1 ∷ []) (omega (arith, few)))
 
-    set-record : clientRecord (set b (clientSize + j) 1) ≡ clientRecord b
+    set-record : clientRecord (set b (clientRecordSize + j) 1) ≡ clientRecord b
     set-record =
-        let z : clientSize + j ≡ 1 + clientSize + (j - 1) = omega arith in
-        rw z (region-behind 1 clientSize b (j - 1) (1 ∷ []))
+        let z : clientRecordSize + j ≡ 1 + clientRecordSize + (j - 1) = omega arith in
+        rw z (region-behind 1 clientRecordSize b (j - 1) (1 ∷ []))
 
-    set-first : getD (set b (clientSize + j) 1) 0 0 ≡ getD b 0 0
-    set-first = let z : clientSize + j ≡ suc (66 + j) = omega arith in rw z (first-kept b (66 + j) (1 ∷ []))
+    set-first : getD (set b (clientRecordSize + j) 1) 0 0 ≡ getD b 0 0
+    set-first =
+        let z : clientRecordSize + j ≡ suc (clientRecordSize - 1 + j) = omega arith in
+        rw z (first-kept b (clientRecordSize - 1 + j) (1 ∷ []))
 
-    flag-downs : flagged 1 (flags (set b (clientSize + j) 1)) ≡ added j (flagged 1 (flags b))
+    flag-downs : flagged 1 (flags (set b (clientRecordSize + j) 1)) ≡ added j (flagged 1 (flags b))
     flag-downs =
         let z : 1 + (j - 1) ≡ j = omega arith in
         ap (flagged 1) set-flags ∙ flag-adds 1 (j - 1) (flags b) (omega (arith, long, few)) ∙ ap (λ (x : ℕ). added x (flagged 1 (flags b))) z
 
-    pub flag-block : ClientIs n m clients k (set b (clientSize + j) 1)
+    pub flag-block : ClientIs n m clients k (set b (clientRecordSize + j) 1)
         (record { living = clientPlace b .living; state = clientPlace b .state; downs = added j (clientPlace b .downs) })
     flag-block =
         let M =
-        moved n m clients k b (set b (clientSize + j) 1) ok set-record (length-set b (clientSize + j) 1 ∙
+        moved n m clients k b (set b (clientRecordSize + j) 1) ok set-record (length-set b (clientRecordSize + j) 1 ∙
         C .size) (rw set-first (C .bit)) (rw set-flags (every-set bitWord (flags b) (j - 1) 1 (C .bits) refl))
         (rw (set-flags, drop-set-lt n (flags b) (j - 1) 1 (omega arith)) (C .behind))
         (rw (set-first, living-is, epoch)) in
@@ -170,7 +172,7 @@ module _ (n m clients k : ℕ) (b : List ℕ) (ok : validClientBlock n m clients
 
   -- what `mark_down` leaves
   pub mark-block : (j : ServerId) → 1 ≤ j .0 → j .0 ≤ n
-      → ClientIs n m clients k (if inEpoch (clientPlace b) then set b (clientSize + j .0) 1 else b) (downed j (clientPlace b))
+      → ClientIs n m clients k (if inEpoch (clientPlace b) then set b (clientRecordSize + j .0) 1 else b) (downed j (clientPlace b))
   mark-block j h g =
       ⊎-elim
       (λ (t : inEpoch (clientPlace b) ≡ true). rw t (flag-block (j .0) h g t))
@@ -187,9 +189,9 @@ module _ (n m clients k : ℕ) (b : List ℕ) (ok : validClientBlock n m clients
 
 -- an epoch begins: the flags of the servers, put one after another
 pub flag-next : (b vs : List ℕ) (i : ℕ) → i < length vs
-    → set (sets b flagsFrom (take i vs)) (clientSize + (i + 1)) (getD vs i 0) ≡ sets b flagsFrom (take (i + 1) vs)
+    → set (sets b flagsFrom (take i vs)) (clientRecordSize + (i + 1)) (getD vs i 0) ≡ sets b flagsFrom (take (i + 1) vs)
 flag-next b vs i h =
-    let z : clientSize + (i + 1) ≡ flagsFrom + i = omega arith in
+    let z : clientRecordSize + (i + 1) ≡ flagsFrom + i = omega arith in
     let t : take (i + 1) vs ≡ take i vs ++ (getD vs i 0 ∷ []) = rw add-one (take-suc vs i 0 h) in
     rw (z, t) (stored-on b (sets b flagsFrom (take i vs)) (set (sets b flagsFrom (take i vs)) (flagsFrom + i) (getD vs i 0)) (take i vs)
     (getD vs i 0 ∷ []) flagsFrom (flagsFrom + i) refl refl (omega (arith, length-take-le i vs (omega arith))))
@@ -220,10 +222,10 @@ module _ (n m clients k : ℕ) (b : List ℕ) (ok : validClientBlock n m clients
       sets-eq bits (flags b) 0 (omega (arith, count, few-servers)) ∙ ap (λ (x : ℕ). bits ++ drop x (flags b)) z
 
   put-record : clientRecord (sets b flagsFrom bits) ≡ clientRecord b
-  put-record = region-behind 1 clientSize b 0 bits
+  put-record = region-behind 1 clientRecordSize b 0 bits
 
   put-first : getD (sets b flagsFrom bits) 0 0 ≡ getD b 0 0
-  put-first = first-kept b clientSize bits
+  put-first = first-kept b clientRecordSize bits
 
   pub put-block : inEpoch (clientPlace b) ≡ true → ClientIs n m clients k (sets b flagsFrom (map downBit qs))
       (record { living = clientPlace b .living; state = clientPlace b .state; downs = downFrom 1 qs })

@@ -4,6 +4,7 @@ use mathlib.Core.Path.{_≡_, ap, subst}
 use mathlib.Core.Bool.{true, false, _||_}
 use mathlib.Core.List.{List}
 use lib.Dec.{eqb}
+use native.Mathlib.Omega.{arith}
 use lib.ListN.{length, getD, drop}
 use borrow.Author.Tests.{eqb-true, eq-eqb, leb-true, le-leb}
 use Rattle.ids.specs.Lists.{every}
@@ -19,10 +20,11 @@ use Rattle.client.specs.Record as client
 use Rattle.client_responses.specs.Figure1.{State}
 use Rattle.client.specs.declared.Client.{Client}
 use Rattle.client.proofs.KeepsValid.{Fits, view-fits}
-use Rattle.client.proofs.ValidLaws.{valid-known}
-use Rattle.words.specs.Records.{holdsServer, serverFrom, holdsClient, clientFrom}
+use Rattle.client.proofs.ValidLaws.{valid-known, valid-padded}
+use Rattle.words.specs.Records.{serverFrom, clientFrom}
+use Rattle.words.proofs.RecordsLaws.{client-row}
 use Rattle.system.specs.Places.{inEpoch}
-use Rattle.sim_blocks.specs.Blocks.{clientRecord, flags, serverRecord, clientPlace, serverPlace, bitWord, zeroWord, named, namedPair, fitsClient, fitsFlags, validClientBlock, fitsServer, validServerBlock, clientBlock, serverBlock}
+use Rattle.sim_blocks.specs.Blocks.{responseWords, clientRecord, flags, serverRecord, clientPlace, serverPlace, bitWord, zeroWord, named, namedPair, fitsClient, fitsFlags, validClientBlock, fitsServer, validServerBlock, clientBlock, serverBlock, holdsServerRecord, holdsClientRecord}
 use Rattle.system.specs.Limits.{systemServers}
 use Rattle.system.specs.Numbered.{clientNo, serverNo}
 use Rattle.ids.specs.Limits.{maxServers}
@@ -31,7 +33,7 @@ use Rattle.ids.specs.Limits.{maxServers}
 pub record ClientBlock (n m clients k : ℕ) (b : List ℕ) : Type 0 where
   pub size : length b ≡ clientBlock
   pub bit : getD b 0 0 ≤ 1
-  pub held : holdsClient (clientRecord b) ≡ true
+  pub held : holdsClientRecord (clientRecord b) ≡ true
   pub valid : client.valid (clientFrom (clientRecord b)) ≡ true
   pub servers : clientFrom (clientRecord b) .head .n ≡ n
   pub threshold : clientFrom (clientRecord b) .head .m ≡ m
@@ -50,6 +52,10 @@ server-is k i h = let e : k .0 ≡ i = eqb-true (k .0) i h in λ j. record { 0 =
 fits-as : {n n′ m m′ : ℕ} {k k′ : ClientId} {s : State} → n ≡ n′ → m ≡ m′ → k ≡ k′ → Fits n m k s → Fits n′ m′ k′ s
 fits-as {n} {n′} {m} {m′} {k} {k′} {s} p q r F =
     subst (λ (x : ClientId). Fits n′ m′ x s) r (subst (λ (x : ℕ). Fits n′ x k s) q (subst (λ (x : ℕ). Fits x m k s) p F))
+
+-- a valid record has a place for each of its servers
+pub few-by-row : (c : Client) → client.valid c ≡ true → length (c .row) ≡ responseWords → c .head .n ≤ systemServers
+few-by-row c v long = let P = valid-padded c v in omega (arith, long, P .within, P .places .even)
 
 module _ (n m clients k : ℕ) (b : List ℕ) where
   abbrev its : Client
@@ -106,7 +112,7 @@ module _ (n m clients k : ℕ) (b : List ℕ) where
     client-fits = fits-as (B .servers) (B .threshold) (B .number) (view-fits its (valid-known its (B .valid)))
 
     pub client-few : n ≤ systemServers
-    client-few = client-fits .ranges .few
+    client-few = omega (arith, few-by-row its (B .valid) (client-row responseWords (clientRecord b) (B .held)), B .servers)
 
     pub outside-clear : inEpoch (clientPlace b) ≡ false → every zeroWord (flags b) ≡ true
     outside-clear h = rw h at (B .outside)
@@ -115,7 +121,7 @@ module _ (n m clients k : ℕ) (b : List ℕ) where
 pub record ServerBlock (n clients j : ℕ) (b : List ℕ) : Type 0 where
   pub size : length b ≡ serverBlock
   pub bit : getD b 0 0 ≤ 1
-  pub held : holdsServer (serverRecord b) ≡ true
+  pub held : holdsServerRecord (serverRecord b) ≡ true
   pub valid : server.valid (serverFrom (serverRecord b)) ≡ true
   pub servers : serverFrom (serverRecord b) .head .n ≡ n
   pub number : serverFrom (serverRecord b) .head .id ≡ record { 0 = j }

@@ -15,15 +15,16 @@ use Rattle.server.specs.Record as server
 use Rattle.server.specs.declared.Server.{Server}
 use Rattle.server.proofs.KeepsValid.{Good, store-valid}
 use Rattle.server.proofs.RecordLaws.{view-store}
-use Rattle.words.specs.Records.{holdsServer, serverFrom, serverWords, serverSize}
+use Rattle.words.specs.Records.{serverFrom, serverWords}
 use Rattle.words.proofs.RoundTrip.{server-read-back}
+use Rattle.system.specs.Limits.{systemClients}
 use Rattle.sim_blocks.proofs.RegionLaws.{region-inside}
 use Rattle.system.specs.Places.{ServerPlace}
-use Rattle.sim_blocks.specs.Blocks.{serverRecord, serverPlace, namedPair, validServerBlock, emptied, serverBlock}
+use Rattle.sim_blocks.specs.Blocks.{serverRecord, serverPlace, namedPair, validServerBlock, emptied, serverBlock, holdsServerRecord, serverRecordSize, queueWords}
 use Rattle.sim_blocks.proofs.BlockParts.{read-in, covered, server-long, first-kept}
 use Rattle.sim_blocks.proofs.Facts.{ServerBlock, server-facts, server-block, server-sizes}
 use Rattle.system.specs.Numbered.{serverNo}
-use Rattle.server.specs.Calls.{emptyServer}
+use Rattle.server.specs.Calls.{emptyServerIn}
 use Rattle.ids.specs.declared.Owner.the-variants.{Nobody}
 
 -- these words are a valid block, which is place p
@@ -33,34 +34,34 @@ pub record ServerIs (n clients j : ℕ) (b : List ℕ) (p : ServerPlace) : Type 
 
 -- the record of server j of n in state q, and the block with it
 abbrev pub server-of : ℕ → ℕ → State → Server
-server-of n j q = server.store n (serverNo j) q
+server-of n j q = server.storeIn systemClients n (serverNo j) q
 
 abbrev pub server-written : ℕ → ℕ → List ℕ → State → List ℕ
 server-written n j b q = sets b 1 (serverWords (server-of n j q))
 
 -- the record of a new server, and of one that forgot
-pub empty-row : (n j : ℕ) → emptyServer n (serverNo j) ≡ server-of n j idle
-empty-row n j = let e = row-of-none server.rowWords 0 (omega arith) in λ i. server.serverOf
+pub empty-row : (n j : ℕ) → emptyServerIn queueWords n (serverNo j) ≡ server-of n j idle
+empty-row n j = let e = row-of-none queueWords 0 (omega arith) in λ i. server.serverOf
     (record { n = n; id = serverNo j; votes = record { owner = Nobody; len = 0 } }) (sym e i)
 
 module _ (n clients j : ℕ) (b : List ℕ) (size : length b ≡ serverBlock) (bit : getD b 0 0 ≤ 1) (sizes : server.validSizes n (record { 0 = j }) ≡ true) where
-  module _ (q : State) (g : Good q) (names : every (namedPair clients) (candidates q) ≡ true) (short : length (q .queue) ≤ server.queuePlaces) where
+  module _ (q : State) (g : Good q) (names : every (namedPair clients) (candidates q) ≡ true) (short : length (q .queue) ≤ systemClients) where
     abbrev kept : Server
     kept = server-of n j q
 
-    kept-row : length (kept .row) ≡ server.rowWords
-    kept-row = length-row-of server.rowWords (q .queue) (omega arith)
+    kept-row : length (kept .row) ≡ queueWords
+    kept-row = length-row-of queueWords (q .queue) (omega arith)
 
     kept-valid : server.valid kept ≡ true
-    kept-valid = store-valid n (serverNo j) q sizes short g
+    kept-valid = store-valid systemClients n (serverNo j) q sizes short g
 
-    words-held : (holdsServer (serverWords kept) ≡ true) × (serverFrom (serverWords kept) ≡ kept)
-    words-held = read-in (holdsServer (serverWords kept)) (serverFrom (serverWords kept)) kept (server-read-back kept kept-valid kept-row)
+    words-held : (holdsServerRecord (serverWords kept) ≡ true) × (serverFrom (serverWords kept) ≡ kept)
+    words-held = read-in (holdsServerRecord (serverWords kept)) (serverFrom (serverWords kept)) kept (server-read-back kept kept-valid queueWords kept-row)
 
     its-record : serverRecord (server-written n j b q) ≡ serverWords kept
     its-record =
         let w = server-long kept kept-row in
-        region-inside 1 serverSize b 0 (serverWords kept) (omega arith) ∙
+        region-inside 1 serverRecordSize b 0 (serverWords kept) (omega arith) ∙
         covered (serverRecord b) (serverWords kept) (simp (length-take, length-drop) (omega arith))
 
     its-server : serverFrom (serverRecord (server-written n j b q)) ≡ kept
@@ -70,7 +71,7 @@ module _ (n clients j : ℕ) (b : List ℕ) (size : length b ≡ serverBlock) (b
     unfolding serverPlace
     stored-place =
         let a : getD (server-written n j b q) 0 0 ≡ getD b 0 0 = first-kept b 0 (serverWords kept) in
-        let v : server.view (serverFrom (serverRecord (server-written n j b q))) ≡ q = ap (λ (s : Server). server.view s) its-server ∙ view-store n (serverNo j) q short in
+        let v : server.view (serverFrom (serverRecord (server-written n j b q))) ≡ q = ap (λ (s : Server). server.view s) its-server ∙ view-store systemClients n (serverNo j) q short in
         λ i. record { up = eqb (a i) 1; state = v i }
 
     pub stored-record : ServerIs n clients j (server-written n j b q) (record { up = serverPlace b .up; state = q })
@@ -89,7 +90,7 @@ module _ (n clients j : ℕ) (b : List ℕ) (size : length b ≡ serverBlock) (b
         }
 
 pub stored-server : (n clients j : ℕ) (b : List ℕ) → validServerBlock n clients (serverNo j) b ≡ true → (q : State) → Good q
-    → every (namedPair clients) (candidates q) ≡ true → length (q .queue) ≤ server.queuePlaces
+    → every (namedPair clients) (candidates q) ≡ true → length (q .queue) ≤ systemClients
     → ServerIs n clients j (server-written n j b q) (record { up = serverPlace b .up; state = q })
 stored-server n clients j b ok q g names short =
     let B = server-facts n clients j b ok in
@@ -101,7 +102,7 @@ module _ (n clients j : ℕ) (b : List ℕ) (ok : validServerBlock n clients (se
   facts = server-facts n clients j b ok
 
   same-record : serverRecord (set b 0 x) ≡ serverRecord b
-  same-record = ap (take serverSize) (drop-set-lt 1 b 0 x (omega arith))
+  same-record = ap (take serverRecordSize) (drop-set-lt 1 b 0 x (omega arith))
 
   first-set : getD (set b 0 x) 0 0 ≡ x
   first-set = getD-set-same b 0 x 0 (omega (arith, facts .size))

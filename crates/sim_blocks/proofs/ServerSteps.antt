@@ -5,7 +5,7 @@ use mathlib.Core.Path.{_≡_, refl, ap, _∙_}
 use mathlib.Core.Bool.{true, false}
 use mathlib.Core.List.{List}
 use lib.Dec.{leb, ltb}
-use lib.ListN.{length, length-drop}
+use lib.ListN.{length}
 use borrow.Author.Tests.{eq-eqb, le-ltb}
 use Rattle.ids.specs.Lists.{every}
 use Rattle.ids.specs.Limits.{validRequest}
@@ -25,11 +25,11 @@ use Rattle.server.proofs.CallLaws.{received-as}
 use Rattle.server.proofs.Pigeonhole.{queue-fits}
 use Rattle.server.proofs.KeepsValid.{Good, receive-good, suspect-good, check-good}
 use Rattle.words.specs.Records.{serverFrom}
-use Rattle.words.proofs.RecordsLaws.{server-held}
+use Rattle.words.proofs.RecordsLaws.{server-row}
 use Rattle.server_votes.proofs.Tagged.{message, message-request}
 use Rattle.system.proofs.Tokens.{worth}
 use Rattle.system.proofs.ServerSteps.{Holds, every-holds, holds-every, Fair, none-gained, fair-receive, fair-suspect, fair-check}
-use Rattle.sim_blocks.specs.Blocks.{serverRecord, serverPlace, namedPair, validServerBlock}
+use Rattle.sim_blocks.specs.Blocks.{serverRecord, serverPlace, namedPair, validServerBlock, queueWords}
 use Rattle.sim_blocks.proofs.Facts.{ServerBlock, server-facts, server-good}
 use Rattle.sim_blocks.proofs.ServerLaws.{ServerIs, server-of, server-written, stored-server}
 use Rattle.system.specs.Limits.{systemClients}
@@ -66,8 +66,8 @@ module _ (n clients j : ℕ) (b : List ℕ) (ok : validServerBlock n clients (se
   unfolding serverPlace
   shows = refl
 
-  row-long : length (its .row) ≡ server.rowWords
-  row-long = simp length-drop (omega (arith, server-held (serverRecord b) (B .held) .size))
+  row-long : length (its .row) ≡ queueWords
+  row-long = server-row queueWords (serverRecord b) (B .held)
 
   -- what a step sends names only the clients
   module _ (tag : Tag) (r : Request) (c : leb (r .client .0) clients ≡ true) where

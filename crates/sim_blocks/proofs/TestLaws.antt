@@ -26,11 +26,11 @@ use Rattle.client_responses.specs.Row.{shown}
 use Rattle.client.specs.declared.Client.{Client}
 use Rattle.client.specs.declared.Head.{Head as ClientHead}
 use Rattle.server.specs.declared.Head.{Head as ServerHead}
-use Rattle.client.proofs.ValidLaws.{valid-known}
-use Rattle.words.specs.Records.{holdsServer, serverFrom, holdsClient, clientFrom, sectionOf, clientSize, serverSize, recordHead, clientHeadFrom, serverHeadFrom}
-use Rattle.words.proofs.RecordsLaws.{server-held, client-held}
+use Rattle.words.specs.Records.{serverFrom, clientFrom, sectionOf, recordHead, clientHeadFrom, serverHeadFrom}
+use Rattle.words.proofs.RecordsLaws.{server-held, client-held, client-row}
 use Rattle.system.specs.Places.{inEpoch, isInside}
-use Rattle.sim_blocks.specs.Blocks.{clientRecord, flags, serverRecord, clientPlace, serverPlace, bitWord, zeroWord, named, namedPair, fitsClient, fitsFlags, validClientBlock, fitsServer, validServerBlock, clientBlock, serverBlock}
+use Rattle.sim_blocks.proofs.Facts.{few-by-row}
+use Rattle.sim_blocks.specs.Blocks.{clientRecord, flags, serverRecord, clientPlace, serverPlace, bitWord, zeroWord, named, namedPair, fitsClient, fitsFlags, validClientBlock, fitsServer, validServerBlock, clientBlock, serverBlock, holdsServerRecord, holdsClientRecord, clientRecordSize, serverRecordSize, responseWords, queueWords}
 use Rattle.system.specs.Limits.{systemServers}
 use Rattle.rows.specs.Rows.{requestsIn}
 use Rattle.server.proofs.RecordLaws.{valid-padded}
@@ -49,7 +49,7 @@ remainder-word (suc (suc w)) = rw (ne-eqb (suc (suc w)) 0 (λ h. omega arith), n
 
 module _ (b : List ℕ) where
   section-word : getD (clientRecord b) 3 0 ≡ getD b 4 0
-  section-word = getD-take clientSize (drop 1 b) 3 0 (omega arith) ∙ getD-drop 1 b 3 0
+  section-word = getD-take clientRecordSize (drop 1 b) 3 0 (omega arith) ∙ getD-drop 1 b 3 0
 
   pub living-word : eqb (getD b 0 0) 1 ≡ clientPlace b .living
   unfolding clientPlace
@@ -130,9 +130,9 @@ module _ (n m clients : ℕ) (k : ClientId) (ws : List ℕ) (c : Client) (e : c 
     servers-differ h = rw (good, ne-eqb (getD ws 0 0) n h)
 
     module _ (f : getD ws 0 0 ≡ n) where
-      pub servers-few : n ≤ systemServers
+      pub servers-few : length (drop recordHead ws) ≡ responseWords → n ≤ systemServers
       unfolding clientHeadFrom
-      servers-few = let K = valid-known (clientFrom ws) good in omega (arith, K .few)
+      servers-few long = omega (arith, few-by-row (clientFrom ws) good long, f)
 
       pub threshold-differs : (getD ws 1 0 ≡ m → ⊥) → false ≡ fitsClient n m clients k (clientFrom ws)
       unfolding fitsClient clientHeadFrom
@@ -177,14 +177,14 @@ module _ (n clients : ℕ) (j : ServerId) (ws : List ℕ) (s : Server) (e : s �
     sound : server.valid (serverFrom ws) ≡ true
     sound = holds x (server.valid (serverFrom ws)) (p ∙ ap server.valid e) t
 
-    pub length-fits : holdsServer ws ≡ true → recordHead + 2 * getD ws 4 0 ≤ length ws
+    pub length-fits : holdsServerRecord ws ≡ true → recordHead + 2 * getD ws 4 0 ≤ length ws
     unfolding serverHeadFrom
     length-fits h = let P = valid-padded maxServers (serverFrom ws) sound in omega (
       arith,
       P .within,
       P .places .even,
       length-drop recordHead ws,
-      server-held ws h .size,
+      server-held queueWords ws h .size,
     )
 
     pub server-count-differs : (getD ws 0 0 ≡ n → ⊥) → false ≡ fitsServer n clients j (serverFrom ws)
@@ -225,16 +225,15 @@ module _ (n clients : ℕ) (j : ServerId) (ws : List ℕ) (s : Server) (e : s �
             ) q
 
 -- a whole block
-pub few-servers : (n m clients : ℕ) (k : ClientId) (c : Client) → fitsClient n m clients k c ≡ true → n ≤ systemServers
+pub few-servers : (n m clients : ℕ) (k : ClientId) (c : Client) → length (c .row) ≡ responseWords → fitsClient n m clients k c ≡ true → n ≤ systemServers
 unfolding fitsClient
-few-servers n m clients k c h =
+few-servers n m clients k c long h =
     let (v, r) = both (client.valid c)
     (eqb (c .head .n) n && (eqb (c .head .m) m && (eqb (c .head .id .0) (k .0) && every (named clients) (client.view c .responses))))
     h in
     let e : c .head .n ≡ n = eqb-true (c .head .n) n
     (both (eqb (c .head .n) n) (eqb (c .head .m) m && (eqb (c .head .id .0) (k .0) && every (named clients) (client.view c .responses))) r .0) in
-    let K = valid-known c v in
-    omega (arith, K .few)
+    omega (arith, few-by-row c v long)
 
 module _ (n m clients : ℕ) (k : ClientId) (b : List ℕ) where
   module _ (x : Bool) (p : x ≡ fitsClient n m clients k (clientFrom (clientRecord b))) where
@@ -244,8 +243,10 @@ module _ (n m clients : ℕ) (k : ClientId) (b : List ℕ) where
     pub record-unfit : not x ≡ true → false ≡ fits
     record-unfit t = rw (fails x (fitsClient n m clients k (clientFrom (clientRecord b))) p t)
 
-    pub record-few : not x ≡ false → n ≤ systemServers
-    record-few t = few-servers n m clients k (clientFrom (clientRecord b)) (holds x (fitsClient n m clients k (clientFrom (clientRecord b))) p t)
+    pub record-few : holdsClientRecord (clientRecord b) ≡ true → not x ≡ false → n ≤ systemServers
+    record-few h t =
+        few-servers n m clients k (clientFrom (clientRecord b)) (client-row responseWords (clientRecord b) h)
+        (holds x (fitsClient n m clients k (clientFrom (clientRecord b))) p t)
 
     pub flags-decide : not x ≡ false → (r : Bool) → r ≡ inEpoch (clientPlace b) → (y : Bool) → y ≡ fitsFlags n r (flags b) → y ≡ fits
     flags-decide t r e y q = rw (holds x (fitsClient n m clients k (clientFrom (clientRecord b))) p t) (q ∙ ap (λ (z : Bool). fitsFlags n z (flags b)) e)
@@ -259,16 +260,16 @@ module _ (n m clients : ℕ) (k : ClientId) (b : List ℕ) where
     unfolding validClientBlock
     client-bit h = rw (l, lt-leb (getD b 0 0) 1 h)
 
-    module _ (h : getD b 0 0 ≤ 1) (x : Bool) (p : x ≡ holdsClient (clientRecord b)) where
+    module _ (h : getD b 0 0 ≤ 1) (x : Bool) (p : x ≡ holdsClientRecord (clientRecord b)) where
       pub client-wide : not x ≡ true → false ≡ validClientBlock n m clients k b
       unfolding validClientBlock
-      client-wide t = rw (l, le-leb (getD b 0 0) 1 h, fails x (holdsClient (clientRecord b)) p t)
+      client-wide t = rw (l, le-leb (getD b 0 0) 1 h, fails x (holdsClientRecord (clientRecord b)) p t)
 
       pub client-decided : not x ≡ false → (y : Bool)
           → y ≡ fitsClient n m clients k (clientFrom (clientRecord b)) && fitsFlags n (inEpoch (clientPlace b)) (flags b)
           → y ≡ validClientBlock n m clients k b
       unfolding validClientBlock
-      client-decided t y q = rw (l, le-leb (getD b 0 0) 1 h, holds x (holdsClient (clientRecord b)) p t) q
+      client-decided t y q = rw (l, le-leb (getD b 0 0) 1 h, holds x (holdsClientRecord (clientRecord b)) p t) q
 
 module _ (n clients : ℕ) (j : ServerId) (b : List ℕ) where
   pub server-size : (length b ≡ serverBlock → ⊥) → false ≡ validServerBlock n clients j b
@@ -280,20 +281,20 @@ module _ (n clients : ℕ) (j : ServerId) (b : List ℕ) where
     unfolding validServerBlock
     server-bit h = rw (l, lt-leb (getD b 0 0) 1 h)
 
-    module _ (h : getD b 0 0 ≤ 1) (x : Bool) (p : x ≡ holdsServer (serverRecord b)) where
+    module _ (h : getD b 0 0 ≤ 1) (x : Bool) (p : x ≡ holdsServerRecord (serverRecord b)) where
       pub server-wide : not x ≡ true → false ≡ validServerBlock n clients j b
       unfolding validServerBlock
-      server-wide t = rw (l, le-leb (getD b 0 0) 1 h, fails x (holdsServer (serverRecord b)) p t)
+      server-wide t = rw (l, le-leb (getD b 0 0) 1 h, fails x (holdsServerRecord (serverRecord b)) p t)
 
       pub server-decided : not x ≡ false → (y : Bool) → y ≡ fitsServer n clients j (serverFrom (serverRecord b)) → y ≡ validServerBlock n clients j b
       unfolding validServerBlock
-      server-decided t y q = rw (l, le-leb (getD b 0 0) 1 h, holds x (holdsServer (serverRecord b)) p t) q
+      server-decided t y q = rw (l, le-leb (getD b 0 0) 1 h, holds x (holdsServerRecord (serverRecord b)) p t) q
 
 -- the record that was read and lent is the record in the words
-pub client-lent : (ws : List ℕ) (h : ClientHead) → holdsClient ws ≡ true → h ≡ clientHeadFrom ws
-    → client.clientOf h (take (clientSize - recordHead) (drop recordHead ws)) ≡ clientFrom ws
-client-lent ws h held e = rw (e, take-all (clientSize - recordHead) (drop recordHead ws) (omega (arith, length-drop recordHead ws, client-held ws held .size)))
+pub client-lent : (ws : List ℕ) (h : ClientHead) → holdsClientRecord ws ≡ true → h ≡ clientHeadFrom ws
+    → client.clientOf h (take (clientRecordSize - recordHead) (drop recordHead ws)) ≡ clientFrom ws
+client-lent ws h held e = rw (e, take-all (clientRecordSize - recordHead) (drop recordHead ws) (omega (arith, length-drop recordHead ws, client-held responseWords ws held .size)))
 
-pub server-lent : (ws : List ℕ) (h : ServerHead) → holdsServer ws ≡ true → h ≡ serverHeadFrom ws
-    → server.serverOf h (take (serverSize - recordHead) (drop recordHead ws)) ≡ serverFrom ws
-server-lent ws h held e = rw (e, take-all (serverSize - recordHead) (drop recordHead ws) (omega (arith, length-drop recordHead ws, server-held ws held .size)))
+pub server-lent : (ws : List ℕ) (h : ServerHead) → holdsServerRecord ws ≡ true → h ≡ serverHeadFrom ws
+    → server.serverOf h (take (serverRecordSize - recordHead) (drop recordHead ws)) ≡ serverFrom ws
+server-lent ws h held e = rw (e, take-all (serverRecordSize - recordHead) (drop recordHead ws) (omega (arith, length-drop recordHead ws, server-held queueWords ws held .size)))

@@ -1,7 +1,7 @@
 -- A client and a server of a simulation as words: a block each. 0 is none.
 -- Client: living (1) or fallen (0), its record, and a flag for each server that a simulation can have, 1 if it was down in the epoch.
 -- Server: up (1) or down (0), and its record.
-use Prim.Native.Nat.{ℕ, suc, _+_}
+use Prim.Native.Nat.{ℕ, suc, _+_, _*_}
 use mathlib.Core.Bool.{Bool, true, _&&_, _||_}
 use mathlib.Core.List.{List, [], _∷_}
 use lib.Dec.{eqb, leb}
@@ -16,32 +16,53 @@ use Rattle.ids.specs.declared.Owner.{Owner}
 use Rattle.ids.specs.declared.Request.{Request}
 use Rattle.server_votes.specs.Figure1.{candidates}
 use Rattle.server.specs.Record as server
-use Rattle.server.specs.Calls.{emptyServer}
+use Rattle.server.specs.Calls.{emptyServerIn}
 use Rattle.server.specs.declared.Server.{Server}
 use Rattle.client.specs.Record as client
 use Rattle.client.specs.declared.Client.{Client}
-use Rattle.words.specs.Records.{clientSize, serverSize, holdsServer, serverFrom, holdsClient, clientFrom}
-use Rattle.system.specs.Limits.{systemServers}
+use Rattle.words.specs.Records.{recordSize, holdsServerOf, serverFrom, holdsClientOf, clientFrom}
+use Rattle.system.specs.Limits.{systemClients, systemServers}
 use Rattle.system.specs.Places.{ClientPlace, ServerPlace, inEpoch}
 
+-- The rows of a simulation's records: a client has a place for each server, a server's queue one for each client, so that it is never full. A record
+-- that a C host keeps has more places of either.
+abbrev pub responseWords : ℕ
+responseWords = 2 * systemServers
+
+abbrev pub queueWords : ℕ
+queueWords = 2 * systemClients
+
+-- the words of these records, and words that hold one
+abbrev pub clientRecordSize : ℕ
+clientRecordSize = recordSize responseWords
+
+abbrev pub serverRecordSize : ℕ
+serverRecordSize = recordSize queueWords
+
+abbrev pub holdsClientRecord : List ℕ → Bool
+holdsClientRecord = holdsClientOf responseWords
+
+abbrev pub holdsServerRecord : List ℕ → Bool
+holdsServerRecord = holdsServerOf queueWords
+
 abbrev pub flagsFrom : ℕ
-flagsFrom = 1 + clientSize
+flagsFrom = 1 + clientRecordSize
 
 abbrev pub clientBlock : ℕ
 clientBlock = flagsFrom + systemServers
 
 abbrev pub serverBlock : ℕ
-serverBlock = 1 + serverSize
+serverBlock = 1 + serverRecordSize
 
 -- the parts of a block
 abbrev pub clientRecord : List ℕ → List ℕ
-clientRecord b = take clientSize (drop 1 b)
+clientRecord b = take clientRecordSize (drop 1 b)
 
 abbrev pub flags : List ℕ → List ℕ
 flags b = take systemServers (drop flagsFrom b)
 
 abbrev pub serverRecord : List ℕ → List ℕ
-serverRecord b = take serverSize (drop 1 b)
+serverRecord b = take serverRecordSize (drop 1 b)
 
 -- the block with no flag set
 unfoldable pub cleared : List ℕ → List ℕ
@@ -88,7 +109,7 @@ unfoldable pub validClientBlock : ℕ → ℕ → ℕ → ClientId → List ℕ 
 validClientBlock n m clients k b =
     eqb (length b) clientBlock
     && (bitWord (getD b 0 0)
-    && (holdsClient (clientRecord b)
+    && (holdsClientRecord (clientRecord b)
     && (fitsClient n m clients k (clientFrom (clientRecord b)) && fitsFlags n (inEpoch (clientPlace b)) (flags b))))
 
 -- the record of server j
@@ -100,8 +121,8 @@ fitsServer n clients j s =
 unfoldable pub validServerBlock : ℕ → ℕ → ServerId → List ℕ → Bool
 validServerBlock n clients j b =
     eqb (length b) serverBlock
-    && (bitWord (getD b 0 0) && (holdsServer (serverRecord b) && fitsServer n clients j (serverFrom (serverRecord b))))
+    && (bitWord (getD b 0 0) && (holdsServerRecord (serverRecord b) && fitsServer n clients j (serverFrom (serverRecord b))))
 
 -- the record of a server that forgot everything
 abbrev pub emptied : Server → Server
-emptied s = emptyServer (s .head .n) (s .head .id)
+emptied s = emptyServerIn queueWords (s .head .n) (s .head .id)

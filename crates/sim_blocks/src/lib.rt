@@ -8,31 +8,36 @@ ghost use lib.Seq.{sets};
 ghost use lib.Dec.{eqb, leb};
 ghost use Rattle.ids.specs.Choice.{if_then_else_};
 ghost use Rattle.ids.specs.Lists.{every};
-ghost use Rattle.words.specs.Records.{recordHead, maxWord, clientHeadFrom, serverHeadFrom, holdsServer, serverFrom, serverWords, holdsClient, clientFrom, clientWords, clientSize};
+ghost use Rattle.words.specs.Records.{recordHead, maxWord, clientHeadFrom, serverHeadFrom, serverFrom, serverWords, clientFrom, clientWords};
 ghost use Rattle.client.specs.Record as client;
 ghost use Rattle.server.specs.Record as server;
 ghost use Rattle.system.specs.Places.{inEpoch, isInside};
-ghost use Rattle.sim_blocks.specs.Blocks.{clientRecord, flags, flagged, cleared, serverRecord, clientPlace, serverPlace, namedPair, fitsClient, fitsFlags, validClientBlock, fitsServer, validServerBlock, emptied, clientBlock, serverBlock};
+ghost use Rattle.sim_blocks.specs.Blocks.{responseWords, queueWords, clientRecordSize, holdsClientRecord, holdsServerRecord, clientRecord, flags, flagged, cleared, serverRecord, clientPlace, serverPlace, namedPair, fitsClient, fitsFlags, validClientBlock, fitsServer, validServerBlock, emptied, clientBlock, serverBlock};
 ghost use Rattle.system.specs.Limits.{systemServers};
 ghost use Rattle.rows.specs.Rows.{requestsIn};
 use ids::ClientId;
-use ids::Owner;
 use ids::ServerId;
-use server_votes::Votes;
-use words::CLIENT_WORDS;
 use words::HEAD_WORDS;
-use words::SERVER_WORDS;
+
+// The rows of a simulation's records: a place for each server, and one for each client.
+pub const RESPONSE_WORDS: usize = 2 * system::MAX_SERVERS as usize;
+
+pub const QUEUE_WORDS: usize = 2 * system::MAX_CLIENTS as usize;
+
+const CLIENT_RECORD: usize = HEAD_WORDS + RESPONSE_WORDS;
+
+const SERVER_RECORD: usize = HEAD_WORDS + QUEUE_WORDS;
 
 // A flag for each server; where a record's row and the flags begin; the words of a client's block and of a server's.
 const FLAGS: usize = system::MAX_SERVERS as usize;
 
 const ROW_FROM: usize = 1 + HEAD_WORDS;
 
-const FLAGS_FROM: usize = 1 + CLIENT_WORDS;
+const FLAGS_FROM: usize = 1 + CLIENT_RECORD;
 
 pub const CLIENT_BLOCK: usize = FLAGS_FROM + FLAGS;
 
-pub const SERVER_BLOCK: usize = 1 + SERVER_WORDS;
+pub const SERVER_BLOCK: usize = 1 + SERVER_RECORD;
 
 // Whether no word is above `most`.
 fn at_most(words: &[u32], most: u32) -> bool
@@ -64,11 +69,11 @@ fn requests_named(words: &[u32], count: usize, clients: u32) -> bool
 }
 
 fn fits_client(words: &[u32], n: u32, m: u32, clients: u32, k: ClientId) -> bool
-    requires { ⌜ holdsClient (now words) ≡ true ⌝ }
+    requires { ⌜ holdsClientRecord (now words) ≡ true ⌝ }
     ensures { λ r. ⌜ r ≡ fitsClient n m clients k (clientFrom (now (words .entry))) ⌝ }
 {
     let h = words::client_head(words);
-    if !client::valid_row(h, &words[HEAD_WORDS..CLIENT_WORDS]) {
+    if !client::valid_row(h, &words[HEAD_WORDS..CLIENT_RECORD]) {
         return false;
     }
     if words[0] != n {
@@ -132,7 +137,7 @@ fn in_epoch(b: &[u32]) -> bool
 
 // What is asked of the record and of the flags.
 fn fits_client_block(b: &[u32], n: u32, m: u32, clients: u32, k: ClientId) -> bool
-    requires { ⌜ (length (now b) ≡ clientBlock) × (holdsClient (clientRecord (now b)) ≡ true) ⌝ }
+    requires { ⌜ (length (now b) ≡ clientBlock) × (holdsClientRecord (clientRecord (now b)) ≡ true) ⌝ }
     ensures { λ r. ⌜ r ≡ (fitsClient n m clients k (clientFrom (clientRecord (now (b .entry)))) && fitsFlags n (inEpoch (clientPlace (now (b .entry)))) (flags (now (b .entry)))) ⌝ }
 {
     if !fits_client(&b[1..FLAGS_FROM], n, m, clients, k) {
@@ -152,7 +157,7 @@ pub fn valid_client_block(b: &[u32], n: u32, m: u32, clients: u32, k: ClientId) 
     if 1 < b[0] {
         return false;
     }
-    if !words::holds_client(&b[1..FLAGS_FROM]) {
+    if !words::holds_client_of(&b[1..FLAGS_FROM], RESPONSE_WORDS) {
         return false;
     }
     fits_client_block(b, n, m, clients, k)
@@ -160,7 +165,7 @@ pub fn valid_client_block(b: &[u32], n: u32, m: u32, clients: u32, k: ClientId) 
 
 // The head of the client's record.
 pub fn client_head(b: &[u32]) -> client::Head
-    requires { ⌜ (length (now b) ≡ clientBlock) × (holdsClient (clientRecord (now b)) ≡ true) ⌝ }
+    requires { ⌜ (length (now b) ≡ clientBlock) × (holdsClientRecord (clientRecord (now b)) ≡ true) ⌝ }
     ensures { λ h. ⌜ h ≡ clientHeadFrom (clientRecord (now (b .entry))) ⌝ }
 {
     words::client_head(&b[1..FLAGS_FROM])
@@ -168,7 +173,7 @@ pub fn client_head(b: &[u32]) -> client::Head
 
 // The row of the client's responses, copied.
 pub fn client_row(b: &[u32], row: &mut [u32])
-    requires { ⌜ (length (now b) ≡ clientBlock) × (length (now row) ≡ client.rowWords) ⌝ }
+    requires { ⌜ (length (now b) ≡ clientBlock) × (length (now row) ≡ responseWords) ⌝ }
     ensures { λ _. ⌜ now (row .exit) ≡ drop recordHead (clientRecord (now (b .entry))) ⌝ }
 {
     rows::copy(&b[ROW_FROM..FLAGS_FROM], row);
@@ -176,7 +181,7 @@ pub fn client_row(b: &[u32], row: &mut [u32])
 
 // Writes the client's record.
 pub fn put_client(b: &mut [u32], h: client::Head, row: &[u32])
-    requires { ⌜ (length (now b) ≡ clientBlock) × (length (now row) ≡ client.rowWords) ⌝ }
+    requires { ⌜ (length (now b) ≡ clientBlock) × (length (now row) ≡ responseWords) ⌝ }
     ensures { λ _. ⌜ now (b .exit) ≡ sets (now (b .entry)) 1 (clientWords (client.clientOf h (now (row .entry)))) ⌝ }
 {
     words::put_client_head(&mut b[1..FLAGS_FROM], h);
@@ -207,16 +212,16 @@ pub fn fall(b: &mut [u32])
 // Writes the flag of server `j`.
 pub fn put_flag(b: &mut [u32], j: ServerId, x: u32)
     requires { ⌜ (length (now b) ≡ clientBlock) × (1 ≤ j .0) × (j .0 ≤ systemServers) ⌝ }
-    ensures { λ _. ⌜ now (b .exit) ≡ set (now (b .entry)) (clientSize + j .0) x ⌝ }
+    ensures { λ _. ⌜ now (b .exit) ≡ set (now (b .entry)) (clientRecordSize + j .0) x ⌝ }
 {
-    let at = CLIENT_WORDS + j.0 as usize;
+    let at = CLIENT_RECORD + j.0 as usize;
     b[at] = x;
 }
 
 // Server `j` went down: it counts if the client is in an epoch.
 pub fn mark_down(b: &mut [u32], j: ServerId)
     requires { ⌜ (length (now b) ≡ clientBlock) × (1 ≤ j .0) × (j .0 ≤ systemServers) ⌝ }
-    ensures { λ _. ⌜ now (b .exit) ≡ if inEpoch (clientPlace (now (b .entry))) then set (now (b .entry)) (clientSize + j .0) 1 else now (b .entry) ⌝ }
+    ensures { λ _. ⌜ now (b .exit) ≡ if inEpoch (clientPlace (now (b .entry))) then set (now (b .entry)) (clientRecordSize + j .0) 1 else now (b .entry) ⌝ }
 {
     if in_epoch(b) {
         put_flag(b, j, 1);
@@ -256,11 +261,11 @@ pub fn count_flags(b: &[u32]) -> u32
 }
 
 fn fits_server(words: &[u32], n: u32, clients: u32, j: ServerId) -> bool
-    requires { ⌜ holdsServer (now words) ≡ true ⌝ }
+    requires { ⌜ holdsServerRecord (now words) ≡ true ⌝ }
     ensures { λ r. ⌜ r ≡ fitsServer n clients j (serverFrom (now (words .entry))) ⌝ }
 {
     let h = words::server_head(words);
-    if !server::valid_row(h, &words[HEAD_WORDS..SERVER_WORDS]) {
+    if !server::valid_row(h, &words[HEAD_WORDS..SERVER_RECORD]) {
         return false;
     }
     if words[0] != n {
@@ -286,7 +291,7 @@ pub fn valid_server_block(b: &[u32], n: u32, clients: u32, j: ServerId) -> bool
         return false;
     }
     let words = &b[1..SERVER_BLOCK];
-    if !words::holds_server(words) {
+    if !words::holds_server_of(words, QUEUE_WORDS) {
         return false;
     }
     fits_server(words, n, clients, j)
@@ -302,7 +307,7 @@ pub fn is_up(b: &[u32]) -> bool
 
 // The head of the server's record.
 pub fn server_head(b: &[u32]) -> server::Head
-    requires { ⌜ (length (now b) ≡ serverBlock) × (holdsServer (serverRecord (now b)) ≡ true) ⌝ }
+    requires { ⌜ (length (now b) ≡ serverBlock) × (holdsServerRecord (serverRecord (now b)) ≡ true) ⌝ }
     ensures { λ h. ⌜ h ≡ serverHeadFrom (serverRecord (now (b .entry))) ⌝ }
 {
     words::server_head(&b[1..SERVER_BLOCK])
@@ -310,7 +315,7 @@ pub fn server_head(b: &[u32]) -> server::Head
 
 // The row of the server's queue, copied.
 pub fn server_row(b: &[u32], row: &mut [u32])
-    requires { ⌜ (length (now b) ≡ serverBlock) × (length (now row) ≡ server.rowWords) ⌝ }
+    requires { ⌜ (length (now b) ≡ serverBlock) × (length (now row) ≡ queueWords) ⌝ }
     ensures { λ _. ⌜ now (row .exit) ≡ drop recordHead (serverRecord (now (b .entry))) ⌝ }
 {
     rows::copy(&b[ROW_FROM..SERVER_BLOCK], row);
@@ -318,7 +323,7 @@ pub fn server_row(b: &[u32], row: &mut [u32])
 
 // Writes the server's record.
 pub fn put_server(b: &mut [u32], h: server::Head, row: &[u32])
-    requires { ⌜ (length (now b) ≡ serverBlock) × (length (now row) ≡ server.rowWords) × (h .votes .len ≤ maxWord) ⌝ }
+    requires { ⌜ (length (now b) ≡ serverBlock) × (length (now row) ≡ queueWords) × (h .votes .len ≤ maxWord) ⌝ }
     ensures { λ _. ⌜ now (b .exit) ≡ sets (now (b .entry)) 1 (serverWords (server.serverOf h (now (row .entry)))) ⌝ }
 {
     words::put_server_head(&mut b[1..SERVER_BLOCK], h);
@@ -327,23 +332,13 @@ pub fn put_server(b: &mut [u32], h: server::Head, row: &[u32])
 
 // The server goes down, and forgets everything.
 pub fn sink(b: &mut [u32])
-    requires { ⌜ (length (now b) ≡ serverBlock) × (holdsServer (serverRecord (now b)) ≡ true) ⌝ }
+    requires { ⌜ (length (now b) ≡ serverBlock) × (holdsServerRecord (serverRecord (now b)) ≡ true) ⌝ }
     ensures { λ _. ⌜ now (b .exit) ≡ set (sets (now (b .entry)) 1 (serverWords (emptied (serverFrom (serverRecord (now (b .entry))))))) 0 0 ⌝ }
 {
     let h = server_head(b);
-    let row = [0u32; server::ROW_WORDS];
-    put_server(b, forgetful(h), &row);
+    let row = [0u32; QUEUE_WORDS];
+    put_server(b, server::empty_head(h.n, h.id), &row);
     b[0] = 0;
-}
-
-fn forgetful(h: server::Head) -> server::Head
-    ensures { λ r. ⌜ r ≡ record { n = h .n; id = h .id; votes = record { owner = Owner.Nobody; len = 0 } } ⌝ }
-{
-    let n = h.n;
-    let id = h.id;
-    let owner = Owner::Nobody;
-    let votes = Votes { owner, len: 0 };
-    server::Head { n, id, votes }
 }
 
 // The server comes up, as it went down.

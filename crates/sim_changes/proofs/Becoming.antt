@@ -94,7 +94,7 @@ pub record Near (w w′ : List ℕ) (u : System) : Type 0 where
 -- what a sound simulation says of its parts
 module _ (w : List ℕ) (F : Sound w) where
   pub few-servers : settingOf w .n ≤ systemServers
-  few-servers = range (settingOf w .n) (settingOf w .m) (settingOf w .f) (F .range) .servers
+  few-servers = range systemServers (settingOf w .n) (settingOf w .m) (settingOf w .f) (F .range) .servers
 
   pub few-clients : settingOf w .clients ≤ systemClients
   few-clients = within-range (settingOf w .clients) systemClients (F .some) .1

@@ -24,7 +24,7 @@ use Rattle.wire.specs.declared.Answer.the-variants as answer
 use Rattle.wire.specs.declared.Message.the-variants.{Response, Check}
 use Rattle.client_responses.specs.Figure1 as client
 use Rattle.client_responses.specs.Figure1.{enough, isRemainder, isCritical, mayTry}
-use Rattle.client.specs.Record.{store, view as shown, clientOf}
+use Rattle.client.specs.Record.{storeIn, view as shown, clientOf}
 use Rattle.client.specs.Calls.{clientAfter, result, beginOutcome, exitOutcome}
 use Rattle.client.specs.Steps.{Answers}
 use Rattle.client.specs.declared.Client.{Client}
@@ -32,7 +32,7 @@ use Rattle.client.specs.declared.Head.{Head}
 use Rattle.client.specs.declared.Stepped.{Stepped}
 use Rattle.client.specs.declared.Turned.{Turned}
 use Rattle.client.proofs.StepLaws.{response-range}
-use Rattle.words.specs.Records.{holdsClient, clientFrom, clientWords, clientHeadFrom, recordHead}
+use Rattle.words.specs.Records.{clientFrom, clientWords, clientHeadFrom, recordHead}
 use Rattle.system.specs.Numbered.{has, put, clientNo}
 use Rattle.system.specs.Places.{System, ClientPlace, noClient, clientAt, inEpoch, downFrom, worst}
 use Rattle.system.specs.Events.{event, clientMoves, responseTook, checkTook}
@@ -42,7 +42,7 @@ use Rattle.system.specs.Transit.{replaced, gone}
 use Rattle.system.specs.Limits.{systemServers}
 use Rattle.sim_transit.specs.Slots.{messagesIn}
 use Rattle.sim_indexed.specs.Indexed.{slotIn}
-use Rattle.sim_blocks.specs.Blocks.{clientRecord, clientPlace, clientBlock, named}
+use Rattle.sim_blocks.specs.Blocks.{clientRecord, clientPlace, clientBlock, named, holdsClientRecord}
 use Rattle.sim_blocks.proofs.Facts.{ClientBlock, client-facts}
 use Rattle.sim_blocks.proofs.ClientSteps.{begin-outcome, exit-outcome, client-after}
 use Rattle.sim_layout.specs.Layout.{settingOf, lengthOf, transitWords, view, clientsFrom}
@@ -89,7 +89,7 @@ module _ (w : List ℕ) (k : ClientId) (H : HasClient w k) where
   its-facts : ClientBlock (settingOf w .n) (settingOf w .m) (settingOf w .clients) (k .0) (clientBlockOf w k)
   its-facts = client-facts (settingOf w .n) (settingOf w .m) (settingOf w .clients) (k .0) (clientBlockOf w k) (client-block w (k .0) H)
 
-  pub client-held : holdsClient (clientRecord (clientBlockOf w k)) ≡ true
+  pub client-held : holdsClientRecord (clientRecord (clientBlockOf w k)) ≡ true
   client-held = its-facts .held
 
   its-state : shown (clientFrom (clientRecord (clientBlockOf w k))) ≡ clientAt (view w) k .state
@@ -99,7 +99,7 @@ module _ (w : List ℕ) (k : ClientId) (H : HasClient w k) where
   place-state : clientPlace (clientBlockOf w k) .state ≡ clientAt (view w) k .state
   place-state = ap (λ (c : ClientPlace). c .state) (sym (client-is w (k .0) H))
 
-  pub its-after : (p : Step client.State) → clientAfter its (stepped p) ≡ store (settingOf w .n) (settingOf w .m) k (p .state)
+  pub its-after : (p : Step client.State) → clientAfter its (stepped p) ≡ storeIn systemServers (settingOf w .n) (settingOf w .m) k (p .state)
   its-after p = client-after (settingOf w .n) (settingOf w .m) (settingOf w .clients) (k .0) (clientBlockOf w k) (client-block w (k .0) H) p
 
   -- after a store of client k's place
@@ -399,7 +399,7 @@ module _ (w : List ℕ) (k : ClientId) (c : Client) where
   abbrev puts : List ℕ → List ℕ → Type 0
   puts w₁ w₂ = w₂ ≡ sets w₁ (clientsFrom + clientBlock * (k .0 - 1)) (sets (clientBlockOf w₁ k) 1 (clientWords c))
 
-  stored-as : (a : ClientAct) (S : ClientStores w k a c) → c ≡ store (settingOf w .n) (settingOf w .m) k (clientStep w k a .state)
+  stored-as : (a : ClientAct) (S : ClientStores w k a c) → c ≡ storeIn systemServers (settingOf w .n) (settingOf w .m) k (clientStep w k a .state)
   stored-as a S = S .left ∙ its-after w k (act-client w k a (S .may)) (clientStep w k a)
 
   -- a try: its epoch begins once the record is stored, in w₁

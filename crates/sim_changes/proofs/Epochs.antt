@@ -14,7 +14,7 @@ use Rattle.sim_blocks.proofs.RegionBlocks.{length-blocks}
 use Rattle.sim_blocks.specs.Regions.{blocks}
 use Rattle.system.specs.Numbered.{put, at, clientNo, serverNo}
 use Rattle.system.specs.Places.{System, ClientPlace, ServerPlace, noClient, noServer, clientAt, serverAt, inEpoch, downed, downFrom, worst}
-use Rattle.sim_blocks.specs.Blocks.{clientPlace, serverPlace, cleared, clientBlock, serverBlock, flagsFrom}
+use Rattle.sim_blocks.specs.Blocks.{clientPlace, serverPlace, cleared, clientBlock, serverBlock, flagsFrom, clientRecordSize}
 use Rattle.sim_blocks.proofs.FlagLaws.{downBit}
 use Rattle.sim_blocks.proofs.ClientLaws.{ClientIs}
 use Rattle.sim_blocks.proofs.EpochLaws.{mark-block, flag-next, put-block, cleared-block}
@@ -28,7 +28,6 @@ use Rattle.sim_changes.specs.Inner.{withClient}
 use Rattle.sim_changes.proofs.Stores.{sets-over, client-block-stored}
 use Rattle.sim_changes.proofs.Becoming.{sound, Near, few-clients, few-servers, client-valid, client-near, most-becomes, client-becomes}
 use Rattle.system.specs.Limits.{systemClients, systemServers}
-use Rattle.words.specs.Records.{clientSize}
 
 near-trans : {w w′ w″ : List ℕ} {u v : System} → Near w w′ u → Near w′ w″ v → Near w w″ v
 near-trans a b = record { system = b .system; setting = b .setting ∙ a .setting; again = b .again }
@@ -104,7 +103,7 @@ module _ (w : List ℕ) (j : ServerId) where
 
       abbrev stored : List ℕ
       stored = if inEpoch (clientPlace (clientBlockOf w′ (clientNo (suc i)))) then set (clientBlockOf w′ (clientNo (suc i)))
-          (clientSize + j .0) 1 else clientBlockOf w′ (clientNo (suc i))
+          (clientRecordSize + j .0) 1 else clientBlockOf w′ (clientNo (suc i))
 
       inside : suc i ≤ settingOf w′ .clients
       inside = rw (M .near .setting) (omega (arith, M .count, lt))
@@ -128,7 +127,7 @@ module _ (w : List ℕ) (j : ServerId) where
     pub marking-more : i < clients → (w″ : List ℕ)
         → w″ ≡ sets w′ (clientsFrom + clientBlock * (i + 1 - 1))
         (if inEpoch (clientPlace (clientBlockOf w′ (clientNo (i + 1)))) then set (clientBlockOf w′ (clientNo (i + 1)))
-        (clientSize + j .0) 1 else clientBlockOf w′ (clientNo (i + 1)))
+        (clientRecordSize + j .0) 1 else clientBlockOf w′ (clientNo (i + 1)))
         → Marking w j clients w″ (i + 1)
     marking-more lt w″ e =
         let z : i + 1 ≡ suc i = omega arith in
@@ -211,13 +210,13 @@ module _ (w : List ℕ) (k : ℕ) (H : HasClient w (clientNo k)) where
       e ∙ (ap (λ (b : List ℕ). downBit (serverPlace b)) a ∙ (ap downBit (sym p) ∙ sym (bit-at (view w .servers) i (omega (arith, servers-long w, h)))))
 
   flag-stored : (i x : ℕ) → i < settingOf w .n → x ≡ getD (bitsOf w) i 0
-      → sets (flagged-words i) (clientsFrom + clientBlock * (k - 1)) (set (clientBlockOf (flagged-words i) (clientNo k)) (clientSize + (i + 1)) x)
+      → sets (flagged-words i) (clientsFrom + clientBlock * (k - 1)) (set (clientBlockOf (flagged-words i) (clientNo k)) (clientRecordSize + (i + 1)) x)
       ≡ flagged-words (i + 1)
   flag-stored i x h e =
       let l : i < length (bitsOf w) = omega (arith, length-map (view w .servers) downBit, servers-long w, h) in
-      let b : set (clientBlockOf (flagged-words i) (clientNo k)) (clientSize + (i + 1)) x ≡ flaggedTo w k (i + 1) =
-      ap (λ (b : List ℕ). set b (clientSize + (i + 1)) x) (flagged-block i)
-      ∙ (ap (λ (y : ℕ). set (flaggedTo w k i) (clientSize + (i + 1)) y) e ∙ flag-next (clientBlockOf w (clientNo k)) (bitsOf w) i l) in
+      let b : set (clientBlockOf (flagged-words i) (clientNo k)) (clientRecordSize + (i + 1)) x ≡ flaggedTo w k (i + 1) =
+      ap (λ (b : List ℕ). set b (clientRecordSize + (i + 1)) x) (flagged-block i)
+      ∙ (ap (λ (y : ℕ). set (flaggedTo w k i) (clientRecordSize + (i + 1)) y) e ∙ flag-next (clientBlockOf w (clientNo k)) (bitsOf w) i l) in
       ap (λ (b : List ℕ). sets (flagged-words i) (clientsFrom + clientBlock * (k - 1)) b) b ∙
       sets-over w (clientsFrom + clientBlock * (k - 1)) (flaggedTo w k i) (flaggedTo w k (i + 1)) (omega (arith, flagged-long i, flagged-long (i + 1)))
 
@@ -259,13 +258,13 @@ module _ (w : List ℕ) (k n : ℕ) (w′ : List ℕ) (i : ℕ) (P : Flagging w 
       omega arith in (record { long = flagging-sized .0; first = P .has .first; last = last-client w k (P .has) }, g, h)
 
   pub flagging-more : i < n → (x : ℕ) → x ≡ (if serverPlace (serverBlockOf w′ (serverNo (i + 1))) .up then 0 else 1) → (w″ : List ℕ)
-      → w″ ≡ sets w′ (clientsFrom + clientBlock * (k - 1)) (set (clientBlockOf w′ (clientNo k)) (clientSize + (i + 1)) x) → Flagging w k n w″ (i + 1)
+      → w″ ≡ sets w′ (clientsFrom + clientBlock * (k - 1)) (set (clientBlockOf w′ (clientNo k)) (clientRecordSize + (i + 1)) x) → Flagging w k n w″ (i + 1)
   flagging-more lt x e w″ g =
       let z : i + 1 ≡ suc i = omega arith in
       let s : i < settingOf w .n = omega (arith, P .count, lt) in
       let e′ : x ≡ (if serverPlace (serverBlockOf (flagged-words w k (P .has) i) (serverNo (suc i))) .up then 0 else 1) = rw (P .words, z) at e in
       let g′ : w″ ≡ sets (flagged-words w k (P .has) i) (clientsFrom + clientBlock * (k - 1))
-      (set (clientBlockOf (flagged-words w k (P .has) i) (clientNo k)) (clientSize + (i + 1)) x) = rw (P .words) at g in
+      (set (clientBlockOf (flagged-words w k (P .has) i) (clientNo k)) (clientRecordSize + (i + 1)) x) = rw (P .words) at g in
       record { has = P .has; count = P .count; within = omega (arith, lt); words = g′ ∙ flag-stored w k (P .has) i x s (flag-is w k (P .has) i x s e′) }
 
   pub flagging-all : n ≤ i → inEpoch (clientAt (view w) (clientNo k)) ≡ true → (w″ : List ℕ) → w″ ≡ set w′ 6 (max (mostOf w′) (worst (view w′ .clients)))

@@ -1,28 +1,30 @@
 -- A new simulation: all words are cleared, the setting is written, and block by block the parties are put. What is put behind the
 -- first i blocks is still 0.
-use mathlib.Core.Path.{_≡_, refl, sym, ap, _∙_}
+use mathlib.Core.Path.{_≡_, refl, sym, ap, subst, _∙_}
 use mathlib.Core.Logic.{⊎-elim}
 use Prim.Native.Nat.{ℕ, zero, suc, _+_, _*_, _-_, _≤_, _<_}
 use native.Mathlib.Omega.{arith}
-use mathlib.Core.Bool.{Bool, true, false}
+use mathlib.Core.Bool.{true, false}
 use mathlib.Core.List.{List, [], _∷_}
 use lib.Dec.{eqb, ltb}
 use lib.ListN.{length, getD, set, take, drop, replicate, length-set, length-drop}
 use lib.Seq.{sets, length-sets, drop-drop, getD-set-same, getD-set-other, length-take-le}
 use borrow.Author.Tests.{eq-eqb, eqb-true, ltb-true, ltb-false, le-leb}
-use Rattle.ids.specs.Choice.{if_then_else_}
-use Rattle.ids.specs.Limits.{within, validClient, maxClient}
+use Rattle.ids.specs.Limits.{within, validClient, maxClient, maxServers}
 use Rattle.ids.specs.Lists.{every}
+use Rattle.ids.specs.declared.ServerId.{ServerId}
 use Rattle.ids.proofs.Choice.{both, decided}
 use Rattle.ids.proofs.LimitsLaws.{within-range}
 use Rattle.server_votes.specs.Queues as votes
 use Rattle.server_votes.specs.Figure1.{idle}
-use Rattle.client.specs.Calls as client
-use Rattle.client.specs.declared.Stepped.{Stepped as ClientStepped}
+use Rattle.client.specs.Record.{clientOf, headIn}
+use Rattle.client.proofs.RecordLaws.{fresh-stored}
+use Rattle.client.specs.declared.Client.{Client}
+use Rattle.client.specs.declared.Head.{Head as ClientHead}
 use Rattle.client_responses.specs.Figure1.{fresh, enough}
-use Rattle.server.specs.Calls as server
-use Rattle.server.specs.Record.{validSizes as server-sizes}
-use Rattle.server.specs.declared.Stepped.{Stepped as ServerStepped}
+use Rattle.server.specs.Calls.{emptyHead, emptyServerIn}
+use Rattle.server.specs.Record.{serverOf, validSizes as server-sizes}
+use Rattle.server.specs.declared.Head.{Head as ServerHead}
 use Rattle.words.specs.Records as records
 use Rattle.quorum.specs.Check.{inRangeUpTo}
 use Rattle.quorum.proofs.CheckLaws.{range}
@@ -30,7 +32,7 @@ use Rattle.sim_blocks.specs.Regions.{blocks}
 use Rattle.sim_blocks.proofs.RegionLaws.{drop-sets-before}
 use Rattle.system.specs.Places.{ClientPlace, worst}
 use Rattle.system.specs.Runs.{start}
-use Rattle.sim_blocks.specs.Blocks.{clientPlace, serverPlace, validClientBlock, validServerBlock, flagged, zeroWord, clientBlock, serverBlock}
+use Rattle.sim_blocks.specs.Blocks.{responseWords, queueWords, clientPlace, serverPlace, validClientBlock, validServerBlock, flagged, zeroWord, clientBlock, serverBlock}
 use Rattle.sim_blocks.proofs.BlockParts.{covered}
 use Rattle.sim_blocks.proofs.ClientLaws.{ClientIs, Frame}
 use Rattle.sim_blocks.proofs.ClientSteps.{fresh-block}
@@ -44,7 +46,7 @@ use Rattle.sim_layout.proofs.PartLaws.{Is, itself-is, is-client-store, is-serve
 use Rattle.sim_layout.proofs.LendLaws.{client-block-long, server-block-long}
 use Rattle.system.specs.declared.Setting.{Setting}
 use Rattle.sim_changes.specs.Opening.{Starts}
-use Rattle.sim_changes.specs.Inner.{Cleared, newClient, newServer, inTurn}
+use Rattle.sim_changes.specs.Inner.{Cleared, freshRecord, newClient, newServer, inTurn}
 use Rattle.sim_changes.proofs.Stores.{sets-over, client-block-from, server-block-stored}
 use Rattle.system.specs.Limits.{systemClients, systemServers}
 use Rattle.sim_indexed.specs.Indexed.{indexedSize}
@@ -96,29 +98,29 @@ module _ (w₀ w : List ℕ) (i : ℕ) (C : Clearing w₀ w i) where
 
 -- one party's block
 module _ (n m k : ℕ) (w : List ℕ) (h : ClientIn w (clientNo k)) where
-  pub client-opened : (s : ClientStepped) → s ≡ client.newResult n m (record { 0 = k }) → (w′ : List ℕ)
+  pub client-opened : (d : ClientHead) → d ≡ headIn n m (clientNo k) (fresh n) → (w′ : List ℕ)
       → w′ ≡ sets (set w (clientsFrom + clientBlock * (k - 1)) 1) (clientsFrom + clientBlock * (k - 1))
-      (sets (clientBlockOf (set w (clientsFrom + clientBlock * (k - 1)) 1) (clientNo k)) 1 (records.clientWords (s .client)))
+      (sets (clientBlockOf (set w (clientsFrom + clientBlock * (k - 1)) 1) (clientNo k)) 1 (records.clientWords (clientOf d (replicate responseWords 0))))
       → w′ ≡ newClient n m (clientNo k) w
   unfolding newClient
-  client-opened s e w′ g =
+  client-opened d e w′ g =
       let b : clientBlockOf (set w (clientsFrom + clientBlock * (k - 1)) 1) (clientNo k) ≡ set (clientBlockOf w (clientNo k)) 0 1 =
       client-block-from w k h (1 ∷ []) (omega arith) in
-      let l : 1 ≤ length (sets (set (clientBlockOf w (clientNo k)) 0 1) 1 (records.clientWords (client.newResult n m (record { 0 = k }) .client))) =
+      let l : 1 ≤ length (sets (set (clientBlockOf w (clientNo k)) 0 1) 1 (records.clientWords (freshRecord n m (clientNo k)))) =
       omega (
         arith,
-        length-sets (set (clientBlockOf w (clientNo k)) 0 1) 1 (records.clientWords (client.newResult n m (record { 0 = k }) .client)),
+        length-sets (set (clientBlockOf w (clientNo k)) 0 1) 1 (records.clientWords (freshRecord n m (clientNo k))),
         length-set
             (clientBlockOf w (clientNo k)) 0 1,
         client-block-long w k (h .long) (h .first) (h .last),
       ) in
       g ∙
       (ap (λ (x : List ℕ). sets (set w (clientsFrom + clientBlock * (k - 1)) 1) (clientsFrom + clientBlock * (k - 1))
-      (sets x 1 (records.clientWords (s .client)))) b ∙
-      (ap (λ (x : ClientStepped). sets (set w (clientsFrom + clientBlock * (k - 1)) 1) (clientsFrom + clientBlock * (k - 1))
-      (sets (set (clientBlockOf w (clientNo k)) 0 1) 1 (records.clientWords (x .client)))) e ∙
+      (sets x 1 (records.clientWords (clientOf d (replicate responseWords 0))))) b ∙
+      (ap (λ (x : ClientHead). sets (set w (clientsFrom + clientBlock * (k - 1)) 1) (clientsFrom + clientBlock * (k - 1))
+      (sets (set (clientBlockOf w (clientNo k)) 0 1) 1 (records.clientWords (clientOf x (replicate responseWords 0))))) e ∙
       sets-over w (clientsFrom + clientBlock * (k - 1)) (1 ∷ [])
-      (sets (set (clientBlockOf w (clientNo k)) 0 1) 1 (records.clientWords (client.newResult n m (record { 0 = k }) .client))) l))
+      (sets (set (clientBlockOf w (clientNo k)) 0 1) 1 (records.clientWords (freshRecord n m (clientNo k)))) l))
 
 module _ (n j : ℕ) (w : List ℕ) (h : ServerIn w (serverNo j)) where
   abbrev up : List ℕ
@@ -127,21 +129,22 @@ module _ (n j : ℕ) (w : List ℕ) (h : ServerIn w (serverNo j)) where
   up-long : length (set (serverBlockOf w (serverNo j)) 0 1) ≡ serverBlock
   up-long = length-set (serverBlockOf w (serverNo j)) 0 1 ∙ server-block-long w j (h .long) (h .first) (h .last)
 
-  pub server-opened : (w₁ : List ℕ) → w₁ ≡ sets w (serversFrom + serverBlock * (j - 1)) (set (serverBlockOf w (serverNo j)) 0 1) → (s : ServerStepped)
-      → s ≡ server.newResult n (record { 0 = j }) → (w′ : List ℕ)
-      → w′ ≡ sets w₁ (serversFrom + serverBlock * (j - 1)) (sets (serverBlockOf w₁ (serverNo j)) 1 (records.serverWords (s .server)))
+  pub server-opened : (w₁ : List ℕ) → w₁ ≡ sets w (serversFrom + serverBlock * (j - 1)) (set (serverBlockOf w (serverNo j)) 0 1) → (d : ServerHead)
+      → d ≡ emptyHead n (serverNo j) → (w′ : List ℕ)
+      → w′ ≡ sets w₁ (serversFrom + serverBlock * (j - 1))
+      (sets (serverBlockOf w₁ (serverNo j)) 1 (records.serverWords (serverOf d (replicate queueWords 0))))
       → w′ ≡ newServer n (serverNo j) w
   unfolding newServer
-  server-opened w₁ f s e w′ g =
+  server-opened w₁ f d e w′ g =
       let b : serverBlockOf w₁ (serverNo j) ≡ up = ap (λ (x : List ℕ). serverBlockOf x (serverNo j)) f
       ∙ server-block-stored w j h up (omega (arith, up-long)) up-long in
-      let l : length up ≤ length (sets up 1 (records.serverWords (server.newResult n (record { 0 = j }) .server))) =
-      omega (arith, length-sets up 1 (records.serverWords (server.newResult n (record { 0 = j }) .server))) in
+      let l : length up ≤ length (sets up 1 (records.serverWords (emptyServerIn queueWords n (serverNo j)))) =
+      omega (arith, length-sets up 1 (records.serverWords (emptyServerIn queueWords n (serverNo j)))) in
       g ∙
-      (ap (λ (x : List ℕ). sets w₁ (serversFrom + serverBlock * (j - 1)) (sets x 1 (records.serverWords (s .server)))) b ∙
-      (ap (λ (x : ServerStepped). sets w₁ (serversFrom + serverBlock * (j - 1)) (sets up 1 (records.serverWords (x .server)))) e ∙
-      (ap (λ (x : List ℕ). sets x (serversFrom + serverBlock * (j - 1)) (sets up 1 (records.serverWords (server.newResult n (record { 0 = j }) .server)))) f ∙
-      sets-over w (serversFrom + serverBlock * (j - 1)) up (sets up 1 (records.serverWords (server.newResult n (record { 0 = j }) .server))) l)))
+      (ap (λ (x : List ℕ). sets w₁ (serversFrom + serverBlock * (j - 1)) (sets x 1 (records.serverWords (serverOf d (replicate queueWords 0))))) b ∙
+      (ap (λ (x : ServerHead). sets w₁ (serversFrom + serverBlock * (j - 1)) (sets up 1 (records.serverWords (serverOf x (replicate queueWords 0))))) e ∙
+      (ap (λ (x : List ℕ). sets x (serversFrom + serverBlock * (j - 1)) (sets up 1 (records.serverWords (emptyServerIn queueWords n (serverNo j))))) f ∙
+      sets-over w (serversFrom + serverBlock * (j - 1)) up (sets up 1 (records.serverWords (emptyServerIn queueWords n (serverNo j)))) l)))
 
   pub risen-in : (w₁ : List ℕ) → w₁ ≡ sets w (serversFrom + serverBlock * (j - 1)) (set (serverBlockOf w (serverNo j)) 0 1) → ServerIn w₁ (serverNo j)
   risen-in w₁ f = record {
@@ -151,14 +154,8 @@ module _ (n j : ℕ) (w : List ℕ) (h : ServerIn w (serverNo j)) where
   }
 
 -- what `put_server` asks
-pub new-short : (n : ℕ) (j : ℕ) (s : ServerStepped) → s ≡ server.newResult n (record { 0 = j }) → s .server .head .votes .len ≤ maxWord
-unfolding server.newResult
-new-short n j s e = rw e (by-test (server-sizes n (record { 0 = j })) _ _ (omega arith) (omega arith))
-  where
-    by-test : (b : Bool) (x y : ServerStepped) → x .server .head .votes .len ≤ maxWord → y .server .head .votes .len ≤ maxWord
-        → (if b then x else y) .server .head .votes .len ≤ maxWord
-    by-test true x y p q = p
-    by-test false x y p q = q
+pub new-short : (n : ℕ) (j : ServerId) (d : ServerHead) → d ≡ emptyHead n j → d .votes .len ≤ maxWord
+new-short n j d e = rw e (omega arith)
 
 pub length-client : (n m k : ℕ) (w : List ℕ) → length (newClient n m (clientNo k) w) ≡ length w
 unfolding newClient
@@ -247,10 +244,10 @@ abbrev serverBase : List ℕ
 serverBase = set (replicate serverBlock 0) 0 1
 
 abbrev freshClient : ℕ → ℕ → ℕ → List ℕ
-freshClient n m i = sets (set (replicate clientBlock 0) 0 1) 1 (records.clientWords (client.newResult n m (record { 0 = suc i }) .client))
+freshClient n m i = sets (set (replicate clientBlock 0) 0 1) 1 (records.clientWords (freshRecord n m (clientNo (suc i))))
 
 abbrev freshServer : ℕ → ℕ → List ℕ
-freshServer n i = sets (set (replicate serverBlock 0) 0 1) 1 (records.serverWords (server.newResult n (record { 0 = suc i }) .server))
+freshServer n i = sets (set (replicate serverBlock 0) 0 1) 1 (records.serverWords (emptyServerIn queueWords n (serverNo (suc i))))
 
 -- the first i clients are put
 record Clients (n m : ℕ) (w₀ w : List ℕ) (i : ℕ) : Type 0 where
@@ -284,7 +281,7 @@ clients-next n m w₀ w i lt C =
     ap (λ (x : ℕ). take clientBlock (drop (x * clientBlock) (clientWords w))) y
     ∙ next-zero clientBlock (freshClient n m) (clientWords w) i (C .filled) room in
     let at : clientsFrom + clientBlock * (suc i - 1) ≡ clientsFrom + (i * clientBlock + 0) = omega arith in
-    let l : length (freshClient n m i) ≡ clientBlock = length-sets clientBase 1 (records.clientWords (client.newResult n m (record { 0 = suc i }) .client)) in
+    let l : length (freshClient n m i) ≡ clientBlock = length-sets clientBase 1 (records.clientWords (freshRecord n m (clientNo (suc i)))) in
     let S = is-client-store (itself-is w (C .long)) (i * clientBlock + 0) (freshClient n m i) (omega (arith, l)) in
     rw (zero-block, at) (record {
       long = S .long;
@@ -311,7 +308,7 @@ servers-next n w₀ w i lt C =
     ap (λ (x : ℕ). take serverBlock (drop (x * serverBlock) (serverWords w))) y
     ∙ next-zero serverBlock (freshServer n) (serverWords w) i (C .filled) room in
     let at : serversFrom + serverBlock * (suc i - 1) ≡ serversFrom + (i * serverBlock + 0) = omega arith in
-    let l : length (freshServer n i) ≡ serverBlock = length-sets serverBase 1 (records.serverWords (server.newResult n (record { 0 = suc i }) .server)) in
+    let l : length (freshServer n i) ≡ serverBlock = length-sets serverBase 1 (records.serverWords (emptyServerIn queueWords n (serverNo (suc i)))) in
     let S = is-server-store (itself-is w (C .long)) (i * serverBlock + 0) (freshServer n i) (omega (arith, l)) in
     rw (zero-block, at) (record {
       long = S .long;
@@ -341,21 +338,28 @@ module _ (n m f clients : ℕ) (ok : inRangeUpTo systemServers n m f ≡ true) w
       zeros-drop (suc n) (suc k) = zeros-drop n k
 
   fresh-client : (i : ℕ) → i < systemClients → ClientIs n m clients (suc i) (freshClient n m i) (record { living = true; state = fresh n; downs = [] })
-  unfolding client.newResult clientPlace flagged
+  unfolding clientPlace flagged
   fresh-client i h =
-      let r = range n m f ok in
+      let r = range systemServers n m f ok in
       let v : validClient (record { 0 = suc i }) ≡ true = rw (le-leb 1 (suc i) (omega arith), le-leb (suc i) maxClient (omega arith)) in
-      rw (le-leb 1 n (omega (arith, r .some)), le-leb n systemServers (r .servers), le-leb 1 m (omega (arith, r .positive)), le-leb m n (r .threshold), v)
-      (fresh-block n m clients (suc i) clientBase client-frame refl
-      (record { some = omega (arith, r .some); few = r .servers; threshold = omega (arith, r .positive); reached = r .threshold; client = v }))
+      subst (λ (c : Client). ClientIs n m clients (suc i) (sets clientBase 1 (records.clientWords c)) (record { living = true; state = fresh n; downs = [] }))
+      (sym (fresh-stored systemServers n m (clientNo (suc i)) (r .servers)))
+      (fresh-block n m clients (suc i) clientBase client-frame (r .servers) refl
+      (record {
+        some = omega (arith, r .some);
+        few = omega (arith, r .servers);
+        threshold = omega (arith, r .positive);
+        reached = r .threshold;
+        client = v;
+      }))
 
   fresh-server : (i : ℕ) → i < n → ServerIs n clients (suc i) (freshServer n i) (record { up = true; state = idle })
-  unfolding server.newResult serverPlace
+  unfolding serverPlace
   fresh-server i h =
-      let r = range n m f ok in
+      let r = range systemServers n m f ok in
       let v : server-sizes n (record { 0 = suc i }) ≡ true =
-      rw (le-leb 1 n (omega (arith, r .some)), le-leb n systemServers (r .servers), le-leb 1 (suc i) (omega arith), le-leb (suc i) n h) in
-      rw (v, empty-row n (suc i)) (idle-block n clients (suc i) serverBase refl (omega arith) v)
+      rw (le-leb 1 n (omega (arith, r .some)), le-leb n maxServers (omega (arith, r .servers)), le-leb 1 (suc i) (omega arith), le-leb (suc i) n h) in
+      rw (empty-row n (suc i)) (idle-block n clients (suc i) serverBase refl (omega arith) v)
 
 worst-none : (c : ℕ) (p : ClientPlace) → p .downs ≡ [] → worst (replicate c p) ≡ 0
 unfolding worst
@@ -389,7 +393,7 @@ module _ (n m f clients : ℕ) (z : List ℕ) (long : length z ≡ simulationSiz
   few-clients = within-range clients systemClients some .1
 
   few-servers : n ≤ systemServers
-  few-servers = range n m f ok .servers
+  few-servers = range systemServers n m f ok .servers
 
   no-clients : blank (clientWords headed) ≡ true
   unfolding clientWords
@@ -511,7 +515,7 @@ module _ (s : Setting) (w z : List ℕ)
   written = set (set (set (set z 0 n) 1 m) 2 f) 3 clients
 
   pub start-fits : (n ≤ systemServers) × (m ≤ systemServers) × (clients ≤ systemClients)
-  start-fits = let r = range n m f (pre .1) in (r .servers, omega (arith, r .servers, r .threshold), within-range clients systemClients (pre .2) .1)
+  start-fits = let r = range systemServers n m f (pre .1) in (r .servers, omega (arith, r .servers, r .threshold), within-range clients systemClients (pre .2) .1)
 
   pub start-two : 2 < length (set (set z 0 n) 1 m)
   start-two = omega (arith, length-set (set z 0 n) 1 m, length-set z 0 n, E .same, pre .0)

@@ -8,7 +8,7 @@ use lib.Dec.{leb}
 use lib.ListN.{length}
 use borrow.Author.Tests.{le-leb, leb-true}
 use Rattle.ids.specs.Lists.{every}
-use Rattle.ids.specs.Limits.{within, validServer, validRequest}
+use Rattle.ids.specs.Limits.{within, maxServers, validServer, validRequest}
 use Rattle.ids.specs.Requests.{byOwner}
 use Rattle.ids.specs.declared.ClientId.{ClientId}
 use Rattle.ids.specs.declared.ServerId.{ServerId}
@@ -30,7 +30,7 @@ use Rattle.client_responses.specs.Figure1 as client
 use Rattle.client_responses.specs.Figure1.{isCritical, lastTry, mayTry}
 use Rattle.client.proofs.KeepsValid.{Fits}
 use Rattle.sim_blocks.specs.Blocks.{clientPlace, serverPlace, namedPair, validClientBlock, validServerBlock}
-use Rattle.sim_blocks.proofs.Facts.{client-facts, client-fits, ServerBlock, server-facts, server-sizes, server-good}
+use Rattle.sim_blocks.proofs.Facts.{client-facts, client-fits, client-few, ServerBlock, server-facts, server-sizes, server-good}
 use Rattle.sim_transit.specs.Slots.{names}
 use Rattle.sends.proofs.ClientSends as of-client
 use Rattle.sends.proofs.ServerSends as of-server
@@ -66,7 +66,7 @@ module _ (n m clients k : ℕ) (b : List ℕ) (ok : validClientBlock n m clients
   fits = client-fits n m clients k b (client-facts n m clients k b ok)
 
   few : n ≤ systemServers
-  few = fits .ranges .few
+  few = client-few n m clients k b (client-facts n m clients k b ok)
 
   pub tries-sends : mayTry (clientPlace b .state) ≡ true → Sends n clients (client.tries n (record { 0 = k }) (clientPlace b .state) .sent)
   unfolding names fieldsOf
@@ -144,13 +144,13 @@ module _ (n clients j : ℕ) (b : List ℕ) (ok : validServerBlock n clients (se
   abbrev B : ServerBlock n clients j b
   B = server-facts n clients j b ok
 
-  sizes : (1 ≤ j) × (j ≤ n) × (n ≤ systemServers)
+  sizes : (1 ≤ j) × (j ≤ n) × (n ≤ maxServers)
   sizes =
-      let (p, q) = both (within n systemServers) (within j n) (server-sizes n clients j b B) in
-      (within-range j n q .0, within-range j n q .1, within-range n systemServers p .1)
+      let (p, q) = both (within n maxServers) (within j n) (server-sizes n clients j b B) in
+      (within-range j n q .0, within-range j n q .1, within-range n maxServers p .1)
 
   number : validServer its ≡ true
-  number = rw (le-leb 1 j (sizes .0), le-leb j systemServers (omega (arith, sizes .1, sizes .2)))
+  number = rw (le-leb 1 j (sizes .0), le-leb j maxServers (omega (arith, sizes .1, sizes .2)))
 
   knows : Knows (known-request clients) held
   knows = state-known clients (held .owner) (held .queue) (good-knows held (server-good n clients j b B)) (B .names)

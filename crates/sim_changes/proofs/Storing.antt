@@ -20,13 +20,13 @@ use Rattle.server_votes.specs.declared.Tag.{Tag}
 use Rattle.server_votes.specs.Figure1 as votes
 use Rattle.server.specs.declared.Server.{Server}
 use Rattle.client_responses.specs.Figure1 as client
-use Rattle.client.specs.Record.{store}
+use Rattle.client.specs.Record.{storeIn}
 use Rattle.client_responses.specs.Figure1.{isRemainder, mayTry}
 use Rattle.client.specs.declared.Client.{Client}
-use Rattle.words.specs.Records.{serverWords, clientWords, holdsServer, serverHeadFrom}
+use Rattle.words.specs.Records.{serverWords, clientWords, serverHeadFrom}
 use Rattle.system.specs.Places.{clientAt, serverAt, worst}
 use Rattle.system.proofs.PlaceLaws.{worst-at}
-use Rattle.sim_blocks.specs.Blocks.{clientPlace, serverPlace, flags, flagged, zeroWord, named, validClientBlock, validServerBlock, serverRecord, serverBlock}
+use Rattle.sim_blocks.specs.Blocks.{clientPlace, serverPlace, flags, flagged, zeroWord, named, validClientBlock, validServerBlock, serverRecord, serverBlock, holdsServerRecord}
 use Rattle.sim_blocks.specs.Blocks.{clientBlock}
 use Rattle.sim_blocks.proofs.ClientLaws.{ClientIs}
 use Rattle.sim_blocks.proofs.ServerLaws.{ServerIs, server-of, server-written}
@@ -40,7 +40,7 @@ use Rattle.sim_layout.proofs.ValidLaws.{facts}
 use Rattle.sim_changes.specs.Changes.{Becomes, HasClient, HasServer}
 use Rattle.sim_changes.specs.Inner.{withClient, withServer}
 use Rattle.sim_changes.proofs.Becoming.{sound, few-clients, client-valid, server-valid, client-becomes, server-becomes}
-use Rattle.system.specs.Limits.{systemClients}
+use Rattle.system.specs.Limits.{systemClients, systemServers}
 use Rattle.system.specs.Numbered.{clientNo, serverNo}
 use Rattle.server.specs.declared.Head.{Head}
 
@@ -93,7 +93,7 @@ module _ (w : List ℕ) (j : ℕ) (H : HasServer w (serverNo j)) where
 
 -- what stands in it
 module _ (w : List ℕ) (j : ServerId) (H : HasServer w j) where
-  pub record-held : holdsServer (serverRecord (serverBlockOf w j)) ≡ true
+  pub record-held : holdsServerRecord (serverRecord (serverBlockOf w j)) ≡ true
   record-held = server-facts (settingOf w .n) (settingOf w .clients) (j .0) (serverBlockOf w j) (server-block w (j .0) H) .held
 
   pub owner-is : (h : Head) → h ≡ serverHeadFrom (serverRecord (serverBlockOf w j)) → h .votes .owner ≡ serverAt (view w) j .state .owner
@@ -136,7 +136,7 @@ module _ (w : List ℕ) (k : ℕ) (H : HasClient w (clientNo k)) where
   module _ (c : Client) (w′ : List ℕ) (f : w′ ≡ sets w (clientsFrom + clientBlock * (k - 1)) (sets (clientBlockOf w (clientNo k)) 1 (clientWords c))) where
     client-stores : (s : client.State)
         → ClientIs (settingOf w .n) (settingOf w .m) (settingOf w .clients) k (written (settingOf w .n) (settingOf w .m) k part s) (placed part s)
-        → c ≡ store (settingOf w .n) (settingOf w .m) (record { 0 = k }) s
+        → c ≡ storeIn systemServers (settingOf w .n) (settingOf w .m) (record { 0 = k }) s
         → Becomes w w′ (withClient (view w) (clientNo k)
         (record { living = clientAt (view w) (clientNo k) .living; state = s; downs = clientAt (view w) (clientNo k) .downs }))
     client-stores s B e =
@@ -144,7 +144,7 @@ module _ (w : List ℕ) (k : ℕ) (H : HasClient w (clientNo k)) where
         (H .last) B downs-noted)
 
     pub tries-stored : isRemainder (clientAt (view w) (clientNo k) .state .section) ≡ true → mayTry (clientAt (view w) (clientNo k) .state) ≡ true
-        → c ≡ store (settingOf w .n) (settingOf w .m) (record { 0 = k })
+        → c ≡ storeIn systemServers (settingOf w .n) (settingOf w .m) (record { 0 = k })
         (client.tries (settingOf w .n) (record { 0 = k }) (clientAt (view w) (clientNo k) .state) .state)
         → Becomes w w′ (withClient (view w) (clientNo k)
         (record {
@@ -158,7 +158,7 @@ module _ (w : List ℕ) (k : ℕ) (H : HasClient w (clientNo k)) where
         (rw client-is (tries-block (settingOf w .n) (settingOf w .m) (settingOf w .clients) k part client-block (rw client-is at h) (rw client-is at g))) e
 
     pub exits-stored : clientAt (view w) (clientNo k) .downs ≡ []
-        → c ≡ store (settingOf w .n) (settingOf w .m) (record { 0 = k })
+        → c ≡ storeIn systemServers (settingOf w .n) (settingOf w .m) (record { 0 = k })
         (client.exits (settingOf w .n) (record { 0 = k }) (clientAt (view w) (clientNo k) .state) .state)
         → Becomes w w′ (withClient (view w) (clientNo k)
         (record {
@@ -172,7 +172,7 @@ module _ (w : List ℕ) (k : ℕ) (H : HasClient w (clientNo k)) where
         (rw client-is (exits-block (settingOf w .n) (settingOf w .m) (settingOf w .clients) k part client-block (place-clear part (rw client-is at h)))) e
 
     pub responds-stored : (j : ServerId) (o : Owner) → validOwner o ≡ true → named (settingOf w .clients) o ≡ true
-        → c ≡ store (settingOf w .n) (settingOf w .m) (record { 0 = k })
+        → c ≡ storeIn systemServers (settingOf w .n) (settingOf w .m) (record { 0 = k })
         (client.responds (client.enough (settingOf w .m)) (settingOf w .n) (record { 0 = k }) j o (clientAt (view w) (clientNo k) .state) .state)
         → Becomes w w′ (withClient (view w) (clientNo k)
         (record {
@@ -185,7 +185,7 @@ module _ (w : List ℕ) (k : ℕ) (H : HasClient w (clientNo k)) where
         (rw client-is (responds-block (settingOf w .n) (settingOf w .m) (settingOf w .clients) k part client-block j o v d)) e
 
     pub checked-stored : (j : ServerId) (t : Timestamp)
-        → c ≡ store (settingOf w .n) (settingOf w .m) (record { 0 = k }) (client.checked (record { 0 = k }) j t (clientAt (view w) (clientNo k) .state) .state)
+        → c ≡ storeIn systemServers (settingOf w .n) (settingOf w .m) (record { 0 = k }) (client.checked (record { 0 = k }) j t (clientAt (view w) (clientNo k) .state) .state)
         → Becomes w w′ (withClient (view w) (clientNo k)
         (record {
           living = clientAt (view w) (clientNo k) .living;

@@ -10,7 +10,7 @@ use Rattle.ids.specs.declared.ServerId.{ServerId}
 use Rattle.wire.specs.Step.{Step, Outcome, stepped}
 use Rattle.server_votes.specs.Figure1 as votes
 use Rattle.server.specs.Record as server
-use Rattle.server.specs.Calls.{checkOutcome, suspectOutcome, taken, serverAfter}
+use Rattle.server.specs.Calls.{emptyServerIn, checkOutcome, suspectOutcome, taken, serverAfter}
 use Rattle.server.specs.declared.Server.{Server}
 use Rattle.server.specs.declared.Head as server-head
 use Rattle.client_responses.specs.Figure1 as client
@@ -24,7 +24,7 @@ use Rattle.system.specs.Transit.{InTransit, replaced, gone, keeping, numbered}
 use Rattle.system.specs.Places.{System, clientAt, serverAt, downFrom, ClientPlace, ServerPlace}
 use Rattle.sim_transit.specs.Slots.{names, messagesIn}
 use Rattle.sim_indexed.specs.Indexed.{slotIn}
-use Rattle.sim_blocks.specs.Blocks.{clientRecord, serverRecord}
+use Rattle.sim_blocks.specs.Blocks.{responseWords, queueWords, clientRecord, serverRecord}
 use Rattle.sim_layout.specs.Layout.{settingOf, transitWords, view, lengthOf, sentOf, valid, blank}
 use Rattle.sim_layout.specs.Parts.{clientBlockOf, serverBlockOf, withClientBlock, withServerBlock}
 use Rattle.sim_changes.specs.Changes.{withClients, withTransit}
@@ -34,14 +34,12 @@ use Rattle.sim_changes.specs.declared.ClientAct.the-variants as client-a
 use Rattle.sim_changes.specs.declared.ServerAct.{ServerAct}
 use Rattle.sim_changes.specs.declared.ServerAct.the-variants as server-act
 use lib.Dec.{eqb, leb}
-use lib.ListN.{length, set}
+use lib.ListN.{length, set, replicate}
 use Rattle.ids.specs.Lists.{every}
 use Rattle.wire.specs.Format as format
 use Rattle.wire.specs.declared.Message.{Message}
 use Rattle.system.specs.Limits.{systemMessages, lastNumber}
 use lib.Seq.{sets}
-use Rattle.client.specs.Calls as client-calls
-use Rattle.server.specs.Calls as server-calls
 
 -- one part changed, and messages sent ---------------------------------------------------------------------------------------
 
@@ -84,11 +82,15 @@ pub record Cleared (w w′ : List ℕ) : Type 0 where
   pub same : length w′ ≡ length w
   pub zeros : blank w′ ≡ true
 
+-- the record of a new client, and its block written; the same of a new server
+abbrev pub freshRecord : ℕ → ℕ → ClientId → Client
+freshRecord n m k = client-record.clientOf (client-record.headIn n m k (client.fresh n)) (replicate responseWords 0)
+
 unfoldable pub newClient : ℕ → ℕ → ClientId → List ℕ → List ℕ
-newClient n m k w = withClientBlock w k (sets (set (clientBlockOf w k) 0 1) 1 (clientWords (client-calls.newResult n m k .client)))
+newClient n m k w = withClientBlock w k (sets (set (clientBlockOf w k) 0 1) 1 (clientWords (freshRecord n m k)))
 
 unfoldable pub newServer : ℕ → ServerId → List ℕ → List ℕ
-newServer n j w = withServerBlock w j (sets (set (serverBlockOf w j) 0 1) 1 (serverWords (server-calls.newResult n j .server)))
+newServer n j w = withServerBlock w j (sets (set (serverBlockOf w j) 0 1) 1 (serverWords (emptyServerIn queueWords n j)))
 
 -- each of the first so many parties put, one after another
 unfoldable pub inTurn : (ℕ → List ℕ → List ℕ) → ℕ → List ℕ → List ℕ

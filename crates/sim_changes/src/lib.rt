@@ -15,7 +15,7 @@ ghost use Rattle.server_votes.specs.Places.{mails};
 ghost use Rattle.server.specs.Parts.{threeMails};
 ghost use Rattle.sim_transit.specs.Slots.{messagesIn};
 ghost use Rattle.sim_indexed.specs.Indexed.{slotIn};
-ghost use Rattle.sim_blocks.specs.Blocks.{serverPlace};
+ghost use Rattle.sim_blocks.specs.Blocks.{serverPlace, responseWords, queueWords};
 ghost use Rattle.sim_layout.specs.Layout.{settingOf, lengthOf, mostOf, transitWords, view, valid, simulationSize};
 ghost use Rattle.sim_layout.specs.Parts.{serverBlockOf, ClientIn, ServerIn};
 ghost use Rattle.rows.specs.Rows.{Padded};
@@ -274,7 +274,7 @@ fn messages_gone(act: ClientAct) -> u32
 // The client's record after its step is stored, with what the act changes beside it. Its epoch runs only outside the remainder section: it begins
 // after the record of the try is stored, and ends before that of the exit is.
 fn store_client(w: &mut [u32], k: ClientId, act: ClientAct, h: client::Head, row: &[u32])
-    requires { ⌜ ClientStores (now w) k act (client.clientOf h (now row)) × (length (now row) ≡ client.rowWords) ⌝ }
+    requires { ⌜ ClientStores (now w) k act (client.clientOf h (now row)) × (length (now row) ≡ responseWords) ⌝ }
     ensures { λ _. ⌜ Becomes (now (w .entry)) (now (w .exit)) (clientStored (now (w .entry)) k act) ⌝ }
 {
     match act {
@@ -306,7 +306,7 @@ pub fn client_acts(w: &mut [u32], k: ClientId, act: ClientAct) -> Moved
         return Moved::Refused(Refusal::PartyDown);
     }
     let mut bytes = [0u8; OUT_BYTES];
-    let mut row = [0u32; client::ROW_WORDS];
+    let mut row = [0u32; sim_blocks::RESPONSE_WORDS];
     sim_layout::client_row(w, k, &mut row);
     let s = call_client(sim_layout::client_head(w, k), &mut row, act, &mut bytes);
     let answer = s.answer;
@@ -337,7 +337,7 @@ fn call_server(h: server::Head, row: &mut [u32], j: ServerId, act: ServerAct) ->
 
 // The server's record after its step is stored; the message that it took is delivered, and stays.
 fn store_server(w: &mut [u32], j: ServerId, act: ServerAct, h: server::Head, row: &[u32])
-    requires { ⌜ ServerStores (now w) j act h (now row) × (length (now row) ≡ server.rowWords) ⌝ }
+    requires { ⌜ ServerStores (now w) j act h (now row) × (length (now row) ≡ queueWords) ⌝ }
     ensures { λ _. ⌜ Becomes (now (w .entry)) (now (w .exit)) (serverStored (now (w .entry)) j act) ⌝ }
 {
     match act {
@@ -355,7 +355,7 @@ pub fn server_steps(w: &mut [u32], j: ServerId, act: ServerAct) -> Moved
     requires { ⌜ ServerMay (now w) j act × (serverAt (view (now w)) j .up ≡ true) ⌝ }
     ensures { λ r. ⌜ Leaves (now (w .entry)) (serverEvent (now (w .entry)) j act) (now (w .exit)) × (r ≡ movedOf (happens (now (w .entry)) (serverEvent (now (w .entry)) j act))) ⌝ }
 {
-    let mut row = [0u32; server::ROW_WORDS];
+    let mut row = [0u32; sim_blocks::QUEUE_WORDS];
     sim_layout::server_row(w, j, &mut row);
     let t = call_server(sim_layout::server_head(w, j), &mut row, j, act);
     let ruling = t.ruling;
@@ -404,10 +404,9 @@ fn new_client(w: &mut [u32], n: u16, m: u16, k: ClientId)
     ensures { λ _. ⌜ now (w .exit) ≡ newClient n m k (now (w .entry)) ⌝ }
 {
     w[CLIENTS_FROM + CLIENT_BLOCK * (k.0 as usize - 1)] = 1;
-    let s = client::new(n, m, k);
-    let c = s.client;
-    let row = c.row;
-    sim_layout::put_client(w, k, c.head, &row);
+    let head = client::fresh_head(n, m, k);
+    let row = [0u32; sim_blocks::RESPONSE_WORDS];
+    sim_layout::put_client(w, k, head, &row);
 }
 
 fn new_clients(w: &mut [u32], n: u16, m: u16, clients: u16)
@@ -426,10 +425,9 @@ fn new_server(w: &mut [u32], n: u16, j: ServerId)
     ensures { λ _. ⌜ now (w .exit) ≡ newServer n j (now (w .entry)) ⌝ }
 {
     sim_layout::rise_server(w, j);
-    let s = server::new(n, j);
-    let v = s.server;
-    let row = v.row;
-    sim_layout::put_server(w, j, v.head, &row);
+    let head = server::empty_head(n, j);
+    let row = [0u32; sim_blocks::QUEUE_WORDS];
+    sim_layout::put_server(w, j, head, &row);
 }
 
 fn new_servers(w: &mut [u32], n: u16)

@@ -54,7 +54,7 @@ module _ (w : List ℕ) (ok : valid w ≡ true) where
   words-long = facts w ok .long
 
   pub few-servers : settingOf w .n ≤ systemServers
-  few-servers = range (settingOf w .n) (settingOf w .m) (settingOf w .f) (facts w ok .range) .servers
+  few-servers = range systemServers (settingOf w .n) (settingOf w .m) (settingOf w .f) (facts w ok .range) .servers
 
   pub few-clients : settingOf w .clients ≤ systemClients
   few-clients = within-range (settingOf w .clients) systemClients (facts w ok .some) .1

@@ -188,7 +188,7 @@ module _ (w : List ℕ) where
 
       pub bounds : not b ≡ false → (length w ≡ simulationSize) × (getD w 0 0 ≤ systemServers) × (getD w 3 0 ≤ systemClients)
       bounds u =
-          let r = range (getD w 0 0) (getD w 1 0) (getD w 2 0) (holds a (inRangeUpTo systemServers (getD w 0 0) (getD w 1 0) (getD w 2 0)) p t) in
+          let r = range systemServers (getD w 0 0) (getD w 1 0) (getD w 2 0) (holds a (inRangeUpTo systemServers (getD w 0 0) (getD w 1 0) (getD w 2 0)) p t) in
           let k = both (leb 1 (getD w 3 0)) (leb (getD w 3 0) systemClients) (holds b (within (getD w 3 0) systemClients) q u) in
           (l, r .servers, leb-true (getD w 3 0) systemClients (k .1))
 

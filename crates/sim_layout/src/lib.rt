@@ -12,8 +12,8 @@ ghost use Rattle.client_responses.specs.Figure1.{count};
 ghost use Rattle.client.specs.Record as client;
 ghost use Rattle.server.specs.Record as server;
 ghost use Rattle.system.specs.Places.{isInside, holders as holdersOf, inEpoch, worst};
-ghost use Rattle.words.specs.Records.{recordHead, maxWord, clientHeadFrom, serverHeadFrom, holdsClient, clientFrom, clientWords, holdsServer, serverFrom, serverWords, clientSize};
-ghost use Rattle.sim_blocks.specs.Blocks.{clientPlace, serverPlace, clientRecord, serverRecord, cleared, emptied, validClientBlock, validServerBlock, clientBlock, serverBlock};
+ghost use Rattle.words.specs.Records.{recordHead, maxWord, clientHeadFrom, serverHeadFrom, clientFrom, clientWords, serverFrom, serverWords};
+ghost use Rattle.sim_blocks.specs.Blocks.{clientPlace, serverPlace, clientRecord, serverRecord, cleared, emptied, validClientBlock, validServerBlock, clientBlock, serverBlock, holdsClientRecord, holdsServerRecord, clientRecordSize, responseWords, queueWords};
 ghost use Rattle.sim_blocks.specs.Regions.{blocks};
 ghost use Rattle.sim_layout.specs.Layout.{clientWords as clientsPart, serverWords as serversPart, transitWords, settingOf, lengthOf, sentOf, view, validFrom, itself, blank, valid as isValid, serversFrom, simulationSize};
 ghost use Rattle.sim_transit.specs.Calls.{firstSlot, isPending, isNumbered};
@@ -79,7 +79,7 @@ fn is_inside(w: &[u32], k: ClientId) -> bool
 
 // The head of the client's record, and the row of its responses, copied.
 pub fn client_head(w: &[u32], k: ClientId) -> client::Head
-    requires { ⌜ ClientIn (now w) k × (holdsClient (clientRecord (clientBlockOf (now w) k)) ≡ true) ⌝ }
+    requires { ⌜ ClientIn (now w) k × (holdsClientRecord (clientRecord (clientBlockOf (now w) k)) ≡ true) ⌝ }
     ensures { λ h. ⌜ h ≡ clientHeadFrom (clientRecord (clientBlockOf (now (w .entry)) k)) ⌝ }
 {
     let a = CLIENTS_FROM + CLIENT_BLOCK * (k.0 as usize - 1);
@@ -88,7 +88,7 @@ pub fn client_head(w: &[u32], k: ClientId) -> client::Head
 }
 
 pub fn client_row(w: &[u32], k: ClientId, row: &mut [u32])
-    requires { ⌜ ClientIn (now w) k × (length (now row) ≡ client.rowWords) ⌝ }
+    requires { ⌜ ClientIn (now w) k × (length (now row) ≡ responseWords) ⌝ }
     ensures { λ _. ⌜ now (row .exit) ≡ drop recordHead (clientRecord (clientBlockOf (now (w .entry)) k)) ⌝ }
 {
     let a = CLIENTS_FROM + CLIENT_BLOCK * (k.0 as usize - 1);
@@ -97,7 +97,7 @@ pub fn client_row(w: &[u32], k: ClientId, row: &mut [u32])
 }
 
 pub fn put_client(w: &mut [u32], k: ClientId, h: client::Head, row: &[u32])
-    requires { ⌜ ClientIn (now w) k × (length (now row) ≡ client.rowWords) ⌝ }
+    requires { ⌜ ClientIn (now w) k × (length (now row) ≡ responseWords) ⌝ }
     ensures { λ _. ⌜ now (w .exit) ≡ withClientBlock (now (w .entry)) k (sets (clientBlockOf (now (w .entry)) k) 1 (clientWords (client.clientOf h (now (row .entry))))) ⌝ }
 {
     let a = CLIENTS_FROM + CLIENT_BLOCK * (k.0 as usize - 1);
@@ -127,7 +127,7 @@ pub fn clear_client(w: &mut [u32], k: ClientId)
 // Whether server j counts in the client's epoch.
 pub fn put_flag(w: &mut [u32], k: ClientId, j: ServerId, x: u32)
     requires { ⌜ ClientIn (now w) k × (1 ≤ j .0) × (j .0 ≤ systemServers) ⌝ }
-    ensures { λ _. ⌜ now (w .exit) ≡ withClientBlock (now (w .entry)) k (set (clientBlockOf (now (w .entry)) k) (clientSize + j .0) x) ⌝ }
+    ensures { λ _. ⌜ now (w .exit) ≡ withClientBlock (now (w .entry)) k (set (clientBlockOf (now (w .entry)) k) (clientRecordSize + j .0) x) ⌝ }
 {
     let a = CLIENTS_FROM + CLIENT_BLOCK * (k.0 as usize - 1);
     let e = a + CLIENT_BLOCK;
@@ -137,7 +137,7 @@ pub fn put_flag(w: &mut [u32], k: ClientId, j: ServerId, x: u32)
 // Server j goes down: noted if the client's epoch runs.
 pub fn mark_client(w: &mut [u32], k: ClientId, j: ServerId)
     requires { ⌜ ClientIn (now w) k × (1 ≤ j .0) × (j .0 ≤ systemServers) ⌝ }
-    ensures { λ _. ⌜ now (w .exit) ≡ withClientBlock (now (w .entry)) k (if inEpoch (clientPlace (clientBlockOf (now (w .entry)) k)) then set (clientBlockOf (now (w .entry)) k) (clientSize + j .0) 1 else clientBlockOf (now (w .entry)) k) ⌝ }
+    ensures { λ _. ⌜ now (w .exit) ≡ withClientBlock (now (w .entry)) k (if inEpoch (clientPlace (clientBlockOf (now (w .entry)) k)) then set (clientBlockOf (now (w .entry)) k) (clientRecordSize + j .0) 1 else clientBlockOf (now (w .entry)) k) ⌝ }
 {
     let a = CLIENTS_FROM + CLIENT_BLOCK * (k.0 as usize - 1);
     let e = a + CLIENT_BLOCK;
@@ -155,7 +155,7 @@ pub fn is_up(w: &[u32], j: ServerId) -> bool
 
 // The head of the server's record, and the row of its queue, copied.
 pub fn server_head(w: &[u32], j: ServerId) -> server::Head
-    requires { ⌜ ServerIn (now w) j × (holdsServer (serverRecord (serverBlockOf (now w) j)) ≡ true) ⌝ }
+    requires { ⌜ ServerIn (now w) j × (holdsServerRecord (serverRecord (serverBlockOf (now w) j)) ≡ true) ⌝ }
     ensures { λ h. ⌜ h ≡ serverHeadFrom (serverRecord (serverBlockOf (now (w .entry)) j)) ⌝ }
 {
     let a = SERVERS_FROM + SERVER_BLOCK * (j.0 as usize - 1);
@@ -164,7 +164,7 @@ pub fn server_head(w: &[u32], j: ServerId) -> server::Head
 }
 
 pub fn server_row(w: &[u32], j: ServerId, row: &mut [u32])
-    requires { ⌜ ServerIn (now w) j × (length (now row) ≡ server.rowWords) ⌝ }
+    requires { ⌜ ServerIn (now w) j × (length (now row) ≡ queueWords) ⌝ }
     ensures { λ _. ⌜ now (row .exit) ≡ drop recordHead (serverRecord (serverBlockOf (now (w .entry)) j)) ⌝ }
 {
     let a = SERVERS_FROM + SERVER_BLOCK * (j.0 as usize - 1);
@@ -173,7 +173,7 @@ pub fn server_row(w: &[u32], j: ServerId, row: &mut [u32])
 }
 
 pub fn put_server(w: &mut [u32], j: ServerId, h: server::Head, row: &[u32])
-    requires { ⌜ ServerIn (now w) j × (length (now row) ≡ server.rowWords) × (h .votes .len ≤ maxWord) ⌝ }
+    requires { ⌜ ServerIn (now w) j × (length (now row) ≡ queueWords) × (h .votes .len ≤ maxWord) ⌝ }
     ensures { λ _. ⌜ now (w .exit) ≡ withServerBlock (now (w .entry)) j (sets (serverBlockOf (now (w .entry)) j) 1 (serverWords (server.serverOf h (now (row .entry))))) ⌝ }
 {
     let a = SERVERS_FROM + SERVER_BLOCK * (j.0 as usize - 1);
@@ -182,7 +182,7 @@ pub fn put_server(w: &mut [u32], j: ServerId, h: server::Head, row: &[u32])
 }
 
 pub fn sink_server(w: &mut [u32], j: ServerId)
-    requires { ⌜ ServerIn (now w) j × (holdsServer (serverRecord (serverBlockOf (now w) j)) ≡ true) ⌝ }
+    requires { ⌜ ServerIn (now w) j × (holdsServerRecord (serverRecord (serverBlockOf (now w) j)) ≡ true) ⌝ }
     ensures { λ _. ⌜ now (w .exit) ≡ withServerBlock (now (w .entry)) j (set (sets (serverBlockOf (now (w .entry)) j) 1 (serverWords (emptied (serverFrom (serverRecord (serverBlockOf (now (w .entry)) j)))))) 0 0) ⌝ }
 {
     let a = SERVERS_FROM + SERVER_BLOCK * (j.0 as usize - 1);

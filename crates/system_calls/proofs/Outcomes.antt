@@ -49,24 +49,24 @@ with-room room o s e h = rw (e, le-ltb room (sizeOfAll (s .sent)) h)
 -- client k's calls
 module _ (n m : ℕ) (k : ClientId) (s : State) (F : Fits n m k s) where
   its-head : client.store n m k s .head ≡ client.headIn n m k s
-  unfolding client.store
+  unfolding client.storeIn
   its-head = refl
 
   row-long : length (client.store n m k s .row) ≡ client.rowWords
-  unfolding client.store
+  unfolding client.storeIn
   row-long = length-row-of client.rowWords (map place (s .responses)) (simp length-map (omega (arith, F .long, F .ranges .few)))
 
   pub client-after : (p : Step State) → client-calls.clientAfter (client.store n m k s) (stepped p) ≡ client.store n m k (p .state)
-  unfolding client.store
-  client-after p = after-stored (client.store n m k s) p row-long
+  unfolding client.storeIn
+  client-after p = after-stored client.maxPlaces (client.store n m k s) p row-long
 
   pub begin-outcome : isRemainder (s .section) ≡ true → mayTry s ≡ true → client-calls.beginOutcome (client.store n m k s) ≡ stepped (tries n k s)
   unfolding client-calls.beginOutcome
-  begin-outcome h g = rw (store-valid n m k s F, view-store n m k s F, its-head, h, g)
+  begin-outcome h g = rw (store-valid client.maxPlaces n m k s F (F .ranges .few), view-store client.maxPlaces n m k s F (F .ranges .few), its-head, h, g)
 
   pub exit-outcome : isCritical (s .section) ≡ true → client-calls.exitOutcome (client.store n m k s) ≡ stepped (exits n k s)
   unfolding client-calls.exitOutcome
-  exit-outcome h = rw (store-valid n m k s F, view-store n m k s F, its-head, h)
+  exit-outcome h = rw (store-valid client.maxPlaces n m k s F (F .ranges .few), view-store client.maxPlaces n m k s F (F .ranges .few), its-head, h)
 
   for-me : (j : ServerId) → leb (j .0) n ≡ true → forClient (client.headIn n m k s) k j ≡ true
   for-me j h = rw (eq-eqb (k .0) (k .0) refl, h)
@@ -76,14 +76,14 @@ module _ (n m : ℕ) (k : ClientId) (s : State) (F : Fits n m k s) where
   unfolding client-calls.messageOutcomeUpTo fieldsOf
   response-outcome clients j o a =
       let (v, c, h) = there-parts n clients (Response k j o) a in
-      rw (store-valid n m k s F, v, view-store n m k s F, its-head, for-me j h)
+      rw (store-valid client.maxPlaces n m k s F (F .ranges .few), v, view-store client.maxPlaces n m k s F (F .ranges .few), its-head, for-me j h)
 
   pub check-outcome : (clients : ℕ) (j : ServerId) (t : Timestamp) → There n clients (Check k j t)
       → client-calls.messageOutcome (client.store n m k s) (Check k j t) ≡ stepped (checked k j t s)
   unfolding client-calls.messageOutcomeUpTo fieldsOf
   check-outcome clients j t a =
       let (v, c, h) = there-parts n clients (Check k j t) a in
-      rw (store-valid n m k s F, v, view-store n m k s F, its-head, for-me j h)
+      rw (store-valid client.maxPlaces n m k s F (F .ranges .few), v, view-store client.maxPlaces n m k s F (F .ranges .few), its-head, for-me j h)
 
 -- so many clients, each once, fit a queue
 module _ (clients : ℕ) where
@@ -102,10 +102,10 @@ module _ (n clients : ℕ) (few : clients ≤ systemClients) (j : ServerId) (siz
   short = short-queue clients few q S
 
   pub stored-server : server.valid (server.store n j q) ≡ true
-  stored-server = server-laws.store-valid n j q sizes short (S .good)
+  stored-server = server-laws.store-valid server.queuePlaces n j q sizes short (S .good)
 
   pub shown-server : server.view (server.store n j q) ≡ q
-  shown-server = server-records.view-store n j q short
+  shown-server = server-records.view-store server.queuePlaces n j q short
 
   words-long : length (server.store n j q .row) ≡ server.rowWords
   words-long = length-row-of server.rowWords (q .queue) (omega (arith, short))

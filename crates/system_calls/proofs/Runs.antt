@@ -68,8 +68,8 @@ module _ (n m clients : ℕ) (z : client.validSizes n m ≡ true) (few : clients
   stored : Stored n m w
   stored =
       record {
-        client-valid = λ k h. store-valid n m k (clientAt w k .state) (client-fit k h);
-        client-read = λ k h. view-store n m k (clientAt w k .state) (client-fit k h);
+        client-valid = λ k h. store-valid client.maxPlaces n m k (clientAt w k .state) (client-fit k h) (client-fit k h .ranges .few);
+        client-read = λ k h. view-store client.maxPlaces n m k (clientAt w k .state) (client-fit k h) (client-fit k h .ranges .few);
         server-valid = λ j h. stored-server n clients few j (server-size j h) (serverAt w j .state) (K .server-fits (j .0));
         server-read = λ j h. shown-server n clients few j (server-size j h) (serverAt w j .state) (K .server-fits (j .0));
       }

@@ -27,8 +27,8 @@ use Rattle.server.specs.Record as server
 use Rattle.server.specs.Record.{serverOf}
 use Rattle.server.specs.declared.Head as server-head
 use Rattle.server.proofs.RecordLaws.{server-padded}
-use Rattle.words.specs.Records.{serverFrom, clientFrom, holdsServer, holdsClient}
-use Rattle.sim_blocks.specs.Blocks.{clientRecord, serverRecord, clientPlace, serverPlace}
+use Rattle.words.specs.Records.{serverFrom, clientFrom}
+use Rattle.sim_blocks.specs.Blocks.{clientRecord, serverRecord, clientPlace, serverPlace, holdsServerRecord, holdsClientRecord}
 use Rattle.sim_blocks.proofs.Facts.{ClientBlock, client-facts, ServerBlock, server-facts}
 use Rattle.sim_layout.specs.Layout.{settingOf, view, valid}
 use Rattle.sim_layout.specs.Parts.{clientBlockOf, serverBlockOf}
@@ -138,7 +138,7 @@ module _ (w : List ℕ) (j : ServerId) (H : HasServer w j) where
   its-facts : ServerBlock (settingOf w .n) (settingOf w .clients) (j .0) (serverBlockOf w j)
   its-facts = server-facts (settingOf w .n) (settingOf w .clients) (j .0) (serverBlockOf w j) (server-block w (j .0) H)
 
-  pub server-held : holdsServer (serverRecord (serverBlockOf w j)) ≡ true
+  pub server-held : holdsServerRecord (serverRecord (serverBlockOf w j)) ≡ true
   server-held = its-facts .held
 
   module _ (h : server-head.Head) (row : List ℕ) (e : serverOf h row ≡ serverFrom (serverRecord (serverBlockOf w j))) where
@@ -157,7 +157,7 @@ module _ (w : List ℕ) (k : ClientId) (H : HasClient w k) where
   facts : ClientBlock (settingOf w .n) (settingOf w .m) (settingOf w .clients) (k .0) (clientBlockOf w k)
   facts = client-facts (settingOf w .n) (settingOf w .m) (settingOf w .clients) (k .0) (clientBlockOf w k) (client-block w (k .0) H)
 
-  pub client-held : holdsClient (clientRecord (clientBlockOf w k)) ≡ true
+  pub client-held : holdsClientRecord (clientRecord (clientBlockOf w k)) ≡ true
   client-held = facts .held
 
   module _ (h : client-head.Head) (row : List ℕ) (e : clientOf h row ≡ clientFrom (clientRecord (clientBlockOf w k))) where

@@ -108,7 +108,7 @@ fn put_server(out: &mut [u8], at: usize, w: &[u32], j: ServerId) -> usize
     ensures { λ r. ⌜ sheetOf (now (out .exit)) r ≡ puts (serverText j (serverAt (systemOf (now (w .entry))) j)) (sheetOf (now (out .entry)) at) ⌝ }
 {
     let up = sim_layout::is_up(w, j);
-    let mut row = [0u32; server::ROW_WORDS];
+    let mut row = [0u32; sim_blocks::QUEUE_WORDS];
     sim_layout::server_row(w, j, &mut row);
     let h = sim_layout::server_head(w, j);
     let p = text_sheet::put_with(out, at, b"keeper ", j.0 as u32);
@@ -219,7 +219,7 @@ fn put_client(out: &mut [u8], at: usize, w: &[u32], k: ClientId) -> usize
     ensures { λ r. ⌜ sheetOf (now (out .exit)) r ≡ puts (clientText k (clientAt (systemOf (now (w .entry))) k)) (sheetOf (now (out .entry)) at) ⌝ }
 {
     let living = sim_layout::is_living(w, k);
-    let mut row = [0u32; client::ROW_WORDS];
+    let mut row = [0u32; sim_blocks::RESPONSE_WORDS];
     sim_layout::client_row(w, k, &mut row);
     let h = sim_layout::client_head(w, k);
     let p = text_sheet::put_with(out, at, b"kiosk ", k.0 as u32);

@@ -1,16 +1,17 @@
 -- The tests of a record's words, one after another; what a passed test tells of them; and a head read from five words and written in them.
-use Prim.Native.Nat.{ℕ, _≤_, _<_}
+use Prim.Native.Nat.{ℕ, _≤_, _<_, _-_}
 use native.Mathlib.Omega.{arith}
 use mathlib.Core.Path.{_≡_, refl, sym, _∙_}
-use mathlib.Core.Bool.{Bool, true, false, _&&_}
+use mathlib.Core.Bool.{Bool, true, false, not, _&&_}
+use mathlib.Core.Logic.{⊎-elim}
 use mathlib.Core.List.{List, [], _∷_}
 use lib.Dec.{leb, eqb}
-use lib.ListN.{length, getD}
+use lib.ListN.{length, getD, drop, length-drop}
 use lib.Seq.{sets}
-use borrow.Author.Tests.{le-leb, lt-leb, leb-true, eqb-true, ne-eqb}
+use borrow.Author.Tests.{le-leb, lt-leb, leb-true, eqb-true, eqb-false, eq-eqb, ne-eqb, not-true, not-false}
 use Rattle.ids.specs.Limits.{maxShort}
 use Rattle.ids.specs.declared.Owner.{Owner}
-use Rattle.ids.proofs.Choice.{both}
+use Rattle.ids.proofs.Choice.{both, decided}
 use Rattle.wire.specs.Format.{ownerOf, ownerClient, ownerTimestamp}
 use Rattle.wire.proofs.BytesLaws.{stored-on}
 use Rattle.server.specs.declared.Head.{Head as ServerHead}
@@ -18,7 +19,7 @@ use Rattle.server.specs.declared.Server.{Server}
 use Rattle.client.specs.declared.Head.{Head as ClientHead}
 use Rattle.client.specs.declared.Client.{Client}
 use Rattle.client_responses.specs.declared.Section.{Section}
-use Rattle.words.specs.Records.{recordHead, serverSize, clientSize, fitsHead, headFits, holdsServer, holdsClient, Headed, serverHeadFrom, serverHeadWords, serverWords, clientHeadFrom, clientHeadWords, clientWords, sectionOf, sectionWord}
+use Rattle.words.specs.Records.{recordHead, recordSize, fitsHead, headFits, holdsServerOf, holdsClientOf, Headed, serverHeadFrom, serverHeadWords, serverWords, clientHeadFrom, clientHeadWords, clientWords, sectionOf, sectionWord}
 
 module _ (a b c : ℕ) where
   pub head-1 : maxShort < a → false ≡ fitsHead a b c
@@ -43,54 +44,82 @@ module _ (a b c : ℕ) where
       let (q, s) = both (leb b maxShort) (leb c maxShort) r in
       (leb-true _ _ p, leb-true _ _ q, leb-true _ _ s)
 
-module _ (ws : List ℕ) where
-  pub server-length : (length ws ≡ serverSize → ⊥) → false ≡ holdsServer ws
-  unfolding holdsServer
-  server-length n = rw (ne-eqb (length ws) serverSize n)
+-- a head and a row: so many words
+module _ (row : ℕ) (ws : List ℕ) where
+  pub no-head : length ws < recordHead → false ≡ eqb (length ws) (recordSize row)
+  no-head h = let n : length ws ≡ recordSize row → ⊥ = omega (arith, h) in sym (ne-eqb (length ws) (recordSize row) n)
 
-  pub server-fits : (y : Bool) → length ws ≡ serverSize → y ≡ headFits ws → y ≡ holdsServer ws
-  unfolding holdsServer
-  server-fits y l h = rw l h
+  pub row-behind : recordHead ≤ length ws → eqb (length ws - recordHead) row ≡ eqb (length ws) (recordSize row)
+  row-behind h =
+      ⊎-elim
+      (λ (e : eqb (length ws - recordHead) row ≡ true).
+      let f : length ws ≡ recordSize row = omega (arith, h, eqb-true (length ws - recordHead) row e) in
+      e ∙ sym (eq-eqb (length ws) (recordSize row) f))
+      (λ (e : eqb (length ws - recordHead) row ≡ false).
+      let f : length ws ≡ recordSize row → ⊥ = λ (q : length ws ≡ recordSize row). eqb-false (length ws - recordHead) row e (omega (arith, q)) in
+      e ∙ sym (ne-eqb (length ws) (recordSize row) f))
+      (decided (eqb (length ws - recordHead) row))
 
-  pub client-length : (length ws ≡ clientSize → ⊥) → false ≡ holdsClient ws
-  unfolding holdsClient
-  client-length n = rw (ne-eqb (length ws) clientSize n)
+module _ (row : ℕ) (ws : List ℕ) (x : Bool) (is : x ≡ eqb (length ws) (recordSize row)) where
+  pub server-length : not x ≡ true → false ≡ holdsServerOf row ws
+  unfolding holdsServerOf
+  server-length n = rw (sym is ∙ not-true x n)
 
-  pub client-section : length ws ≡ clientSize → 2 < getD ws 3 0 → false ≡ holdsClient ws
-  unfolding holdsClient
-  client-section l h = rw (l, lt-leb _ _ h)
+  pub server-fits : (y : Bool) → not x ≡ false → y ≡ headFits ws → y ≡ holdsServerOf row ws
+  unfolding holdsServerOf
+  server-fits y n h = rw (sym is ∙ not-false x n) h
 
-  pub client-fits : (y : Bool) → length ws ≡ clientSize → getD ws 3 0 ≤ 2 → y ≡ headFits ws → y ≡ holdsClient ws
-  unfolding holdsClient
-  client-fits y l g h = rw (l, le-leb _ _ g) h
+  pub client-length : not x ≡ true → false ≡ holdsClientOf row ws
+  unfolding holdsClientOf
+  client-length n = rw (sym is ∙ not-true x n)
+
+  pub client-section : not x ≡ false → 2 < getD ws 3 0 → false ≡ holdsClientOf row ws
+  unfolding holdsClientOf
+  client-section n h = rw (sym is ∙ not-false x n, lt-leb _ _ h)
+
+  pub client-fits : (y : Bool) → not x ≡ false → getD ws 3 0 ≤ 2 → y ≡ headFits ws → y ≡ holdsClientOf row ws
+  unfolding holdsClientOf
+  client-fits y n g h = rw (sym is ∙ not-false x n, le-leb _ _ g) h
+
+  -- so a word of the head can be read
+  pub word-there : (i : ℕ) → i < recordHead → not x ≡ false → i < length ws
+  word-there i h n = omega (arith, h, eqb-true (length ws) (recordSize row) (sym is ∙ not-false x n))
 
 -- what a passed test tells: so many words, and a head can be read from them
 pub record Held (ws : List ℕ) (n : ℕ) : Type 0 where
   pub size : length ws ≡ n
   pub head : Headed ws
 
-module _ (ws : List ℕ) where
-  pub server-held : holdsServer ws ≡ true → Held ws serverSize
-  unfolding holdsServer
+module _ (row : ℕ) (ws : List ℕ) where
+  pub server-held : holdsServerOf row ws ≡ true → Held ws (recordSize row)
+  unfolding holdsServerOf
   server-held e =
-      let (l, f) = both (eqb (length ws) serverSize) (headFits ws) e in
+      let (l, f) = both (eqb (length ws) (recordSize row)) (headFits ws) e in
       let z = eqb-true _ _ l in
       record { size = z; head = record { long = omega (arith, z); small = f } }
 
-  pub client-held : holdsClient ws ≡ true → Held ws clientSize
-  unfolding holdsClient
+  pub client-held : holdsClientOf row ws ≡ true → Held ws (recordSize row)
+  unfolding holdsClientOf
   client-held e =
-      let (l, r) = both (eqb (length ws) clientSize) (leb (getD ws 3 0) 2 && headFits ws) e in
+      let (l, r) = both (eqb (length ws) (recordSize row)) (leb (getD ws 3 0) 2 && headFits ws) e in
       let (s, f) = both (leb (getD ws 3 0) 2) (headFits ws) r in
       let z = eqb-true _ _ l in
       record { size = z; head = record { long = omega (arith, z); small = f } }
 
-  pub client-section-small : holdsClient ws ≡ true → getD ws 3 0 ≤ 2
-  unfolding holdsClient
+  -- the row behind the head
+  pub server-row : holdsServerOf row ws ≡ true → length (drop recordHead ws) ≡ row
+  server-row e = omega (arith, length-drop recordHead ws, server-held e .size)
+
+  pub client-row : holdsClientOf row ws ≡ true → length (drop recordHead ws) ≡ row
+  client-row e = omega (arith, length-drop recordHead ws, client-held e .size)
+
+  pub client-section-small : holdsClientOf row ws ≡ true → getD ws 3 0 ≤ 2
+  unfolding holdsClientOf
   client-section-small e =
-      let (l, r) = both (eqb (length ws) clientSize) (leb (getD ws 3 0) 2 && headFits ws) e in
+      let (l, r) = both (eqb (length ws) (recordSize row)) (leb (getD ws 3 0) 2 && headFits ws) e in
       leb-true _ _ (both (leb (getD ws 3 0) 2) (headFits ws) r .0)
 
+module _ (ws : List ℕ) where
   -- each of the first three numbers fits its field
   pub headed-small : Headed ws → (getD ws 0 0 ≤ maxShort) × (getD ws 1 0 ≤ maxShort) × (getD ws 2 0 ≤ maxShort)
   headed-small H = head-small (getD ws 0 0) (getD ws 1 0) (getD ws 2 0) (H .small)

@@ -8,6 +8,7 @@ use mathlib.Core.List.{List, [], _∷_}
 use mathlib.Core.Option.{some}
 use lib.Dec.{leb}
 use lib.ListN.{length, getD, drop}
+use borrow.Author.Tests.{eq-eqb}
 use Rattle.ids.specs.Limits.{within, maxServers, validOwner, maxShort}
 use Rattle.ids.specs.declared.Owner.{Owner}
 use Rattle.ids.specs.declared.Owner.the-variants.{Nobody, Of}
@@ -23,7 +24,7 @@ use Rattle.client.specs.declared.Client.{Client}
 use Rattle.client.proofs.ValidLaws.{valid-known}
 use Rattle.client_responses.specs.declared.Section.{Section}
 use Rattle.client_responses.specs.declared.Section.the-variants.{Remainder, Trying, Critical}
-use Rattle.words.specs.Records.{recordHead, fitsHead, holdsServer, holdsClient, serverHeadWords, serverWords, serverHeadFrom, serverFrom, serverIn, clientHeadWords, clientWords, clientHeadFrom, clientFrom, clientIn, sectionOf, sectionWord}
+use Rattle.words.specs.Records.{recordHead, recordSize, fitsHead, holdsServerOf, holdsClientOf, serverHeadWords, serverWords, serverHeadFrom, serverFrom, serverInOf, clientHeadWords, clientWords, clientHeadFrom, clientFrom, clientInOf, sectionOf, sectionWord}
 use Rattle.words.proofs.RecordsLaws.{head-fits, server-held, client-held, client-section-small}
 
 owner-small : (o : Owner) → validOwner o ≡ true → ownerClient o ≤ maxShort
@@ -41,10 +42,11 @@ module _ (s : Server) (v : server.valid s ≡ true) where
       head-fits (s .head .n) (s .head .id .0) (ownerClient (s .head .votes .owner)) (omega arith) (omega arith)
       (owner-small (s .head .votes .owner) (view-good maxServers s v .1 .owner))
 
-  pub server-read-back : length (s .row) ≡ server.rowWords → serverIn (serverWords s) ≡ some s
-  unfolding holdsServer serverHeadFrom serverHeadWords serverWords
-  server-read-back long =
-      rw (long, server-head-fits, owner-again (s .head .votes .owner) (view-good maxServers s v .1 .owner))
+  pub server-read-back : (row : ℕ) → length (s .row) ≡ row → serverInOf row (serverWords s) ≡ some s
+  unfolding holdsServerOf serverHeadFrom serverHeadWords serverWords
+  server-read-back row long =
+      let size : length (serverWords s) ≡ recordSize row = omega (arith, long) in
+      rw (eq-eqb (length (serverWords s)) (recordSize row) size, server-head-fits, owner-again (s .head .votes .owner) (view-good maxServers s v .1 .owner))
 
 -- a client's record
 sections : (s : Section) → sectionOf (sectionWord s) ≡ s
@@ -64,10 +66,11 @@ module _ (c : Client) (v : client.valid c ≡ true) where
       let r = client-range (c .head .id) (K .client) in
       head-fits (c .head .n) (c .head .m) (c .head .id .0) (omega (arith, K .few)) (omega (arith, K .few, K .reached)) (r .1)
 
-  pub client-read-back : length (c .row) ≡ client.rowWords → clientIn (clientWords c) ≡ some c
-  unfolding holdsClient clientHeadFrom clientHeadWords clientWords
-  client-read-back long =
-      rw (long, section-small (c .head .section), client-head-fits, sections (c .head .section))
+  pub client-read-back : (row : ℕ) → length (c .row) ≡ row → clientInOf row (clientWords c) ≡ some c
+  unfolding holdsClientOf clientHeadFrom clientHeadWords clientWords
+  client-read-back row long =
+      let size : length (clientWords c) ≡ recordSize row = omega (arith, long) in
+      rw (eq-eqb (length (clientWords c)) (recordSize row) size, section-small (c .head .section), client-head-fits, sections (c .head .section))
 
 -- words that begin with a head are its five words and the rest
 first-five : (ws : List ℕ) → recordHead ≤ length ws
@@ -79,11 +82,11 @@ first-five (a ∷ (b ∷ [])) h = absurd (omega arith)
 first-five (a ∷ []) h = absurd (omega arith)
 first-five [] h = absurd (omega arith)
 
-pub server-words-again : (ws : List ℕ) → holdsServer ws ≡ true → serverWords (serverFrom ws) ≡ ws
+pub server-words-again : (row : ℕ) (ws : List ℕ) → holdsServerOf row ws ≡ true → serverWords (serverFrom ws) ≡ ws
 unfolding serverHeadFrom serverHeadWords serverWords
-server-words-again ws e =
+server-words-again row ws e =
     let (c, t) = owner-numbers (getD ws 2 0) (getD ws 3 0) _ refl in
-    rw (c, t) (first-five ws (server-held ws e .head .long))
+    rw (c, t) (first-five ws (server-held row ws e .head .long))
 
 section-again : (x : ℕ) → x ≤ 2 → sectionWord (sectionOf x) ≡ x
 section-again zero h = refl
@@ -91,7 +94,7 @@ section-again (suc zero) h = refl
 section-again (suc (suc zero)) h = refl
 section-again (suc (suc (suc x))) h = absurd (omega arith)
 
-pub client-words-again : (ws : List ℕ) → holdsClient ws ≡ true → clientWords (clientFrom ws) ≡ ws
+pub client-words-again : (row : ℕ) (ws : List ℕ) → holdsClientOf row ws ≡ true → clientWords (clientFrom ws) ≡ ws
 unfolding clientHeadFrom clientHeadWords clientWords
-client-words-again ws e =
-    rw (section-again (getD ws 3 0) (client-section-small ws e)) (first-five ws (client-held ws e .head .long))
+client-words-again row ws e =
+    rw (section-again (getD ws 3 0) (client-section-small row ws e)) (first-five ws (client-held row ws e .head .long))

@@ -22,15 +22,19 @@ use Rattle.client_responses.specs.declared.Section.the-variants.{Remainder, Try
 abbrev pub maxWord : ℕ
 maxWord = 4294967295
 
--- the numbers before the places of either record, and the words of a record
+-- the numbers before the places of either record, and the words of a record with a row of so many words
 abbrev pub recordHead : ℕ
 recordHead = 5
 
+abbrev pub recordSize : ℕ → ℕ
+recordSize row = recordHead + row
+
+-- the words of the records that a C host keeps, which have the rows of those by value
 abbrev pub serverSize : ℕ
-serverSize = recordHead + server.rowWords
+serverSize = recordSize server.rowWords
 
 abbrev pub clientSize : ℕ
-clientSize = recordHead + client.rowWords
+clientSize = recordSize client.rowWords
 
 -- a server: n, its number, the owner's client and timestamp, the queue's length, its places
 unfoldable pub serverHeadWords : ServerHead → List ℕ
@@ -63,11 +67,18 @@ fitsHead a b c = leb a maxShort && (leb b maxShort && leb c maxShort)
 abbrev pub headFits : List ℕ → Bool
 headFits ws = fitsHead (getD ws 0 0) (getD ws 1 0) (getD ws 2 0)
 
-unfoldable pub holdsServer : List ℕ → Bool
-holdsServer ws = eqb (length ws) serverSize && headFits ws
+-- words that hold a record with a row of so many words
+unfoldable pub holdsServerOf : ℕ → List ℕ → Bool
+holdsServerOf row ws = eqb (length ws) (recordSize row) && headFits ws
 
-unfoldable pub holdsClient : List ℕ → Bool
-holdsClient ws = eqb (length ws) clientSize && (leb (getD ws 3 0) 2 && headFits ws)
+unfoldable pub holdsClientOf : ℕ → List ℕ → Bool
+holdsClientOf row ws = eqb (length ws) (recordSize row) && (leb (getD ws 3 0) 2 && headFits ws)
+
+abbrev pub holdsServer : List ℕ → Bool
+holdsServer = holdsServerOf server.rowWords
+
+abbrev pub holdsClient : List ℕ → Bool
+holdsClient = holdsClientOf client.rowWords
 
 -- words from which a head can be read
 pub record Headed (ws : List ℕ) : Type 0 where
@@ -99,9 +110,15 @@ clientHeadFrom ws =
 abbrev pub clientFrom : List ℕ → Client
 clientFrom ws = client.clientOf (clientHeadFrom ws) (drop recordHead ws)
 
--- the record that these words are, if they are one
+-- the record with a row of so many words that these words are, if they are one
+abbrev pub serverInOf : ℕ → List ℕ → Option Server
+serverInOf row ws = if holdsServerOf row ws then some (serverFrom ws) else none
+
+abbrev pub clientInOf : ℕ → List ℕ → Option Client
+clientInOf row ws = if holdsClientOf row ws then some (clientFrom ws) else none
+
 abbrev pub serverIn : List ℕ → Option Server
-serverIn ws = if holdsServer ws then some (serverFrom ws) else none
+serverIn = serverInOf server.rowWords
 
 abbrev pub clientIn : List ℕ → Option Client
-clientIn ws = if holdsClient ws then some (clientFrom ws) else none
+clientIn = clientInOf client.rowWords

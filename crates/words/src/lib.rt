@@ -1,13 +1,14 @@
-// How messages and records cross to C: as 32-bit words. For the C interface and the simulation, which test lengths and room first.
+// How messages and records cross to C: as 32-bit words. For the C interface, saved records and the simulation, which test lengths and room first.
 ghost use mathlib.Core.Path.{_≡_};
 ghost use mathlib.Core.List.{[], _∷_};
 ghost use Prim.Native.Nat.{_≤_};
+ghost use lib.Dec.{eqb};
 ghost use lib.ListN.{length};
 ghost use lib.Seq.{sets};
 ghost use Rattle.ids.specs.Limits.{maxShort};
 ghost use Rattle.wire.specs.Format.{ownerClient, ownerTimestamp};
 ghost use Rattle.words.specs.Messages.{fits, crossing, crossedSays, fiveSays, messageIn, messageOr, noMessage};
-ghost use Rattle.words.specs.Records.{recordHead, maxWord, fitsHead, Headed, sectionOf, sectionWord, holdsServer, serverHeadFrom, serverHeadWords, holdsClient, clientHeadFrom, clientHeadWords};
+ghost use Rattle.words.specs.Records.{recordHead, maxWord, recordSize, fitsHead, Headed, sectionOf, sectionWord, holdsServerOf, holdsServer, serverHeadFrom, serverHeadWords, holdsClientOf, holdsClient, clientHeadFrom, clientHeadWords};
 use client_responses::Section;
 use ids::ClientId;
 use ids::MAX_SHORT;
@@ -116,27 +117,50 @@ pub fn fits_head(a: u32, b: u32, c: u32) -> bool
     c <= MAX_SHORT
 }
 
-// Whether the words are a server's record: so many, no number before the places too large for its field.
-pub fn holds_server(words: &[u32]) -> bool
-    ensures { λ r. ⌜ r ≡ holdsServer (now (words .entry)) ⌝ }
+// Whether the words are a head and a row of so many words.
+fn has_row(words: &[u32], row: usize) -> bool
+    ensures { λ r. ⌜ r ≡ eqb (length (now (words .entry))) (recordSize row) ⌝ }
 {
-    if words.len() != SERVER_WORDS {
+    if words.len() < HEAD_WORDS {
+        return false;
+    }
+    words.len() - HEAD_WORDS == row
+}
+
+// Whether the words are a server's record with a row of so many words, no number before the places too large for its field.
+pub fn holds_server_of(words: &[u32], row: usize) -> bool
+    ensures { λ r. ⌜ r ≡ holdsServerOf row (now (words .entry)) ⌝ }
+{
+    if !has_row(words, row) {
         return false;
     }
     fits_head(words[0], words[1], words[2])
 }
 
-// Whether the words are a client's record: so many, no number before the places too large for its field.
-pub fn holds_client(words: &[u32]) -> bool
-    ensures { λ r. ⌜ r ≡ holdsClient (now (words .entry)) ⌝ }
+// Whether the words are a client's record with a row of so many words, no number before the places too large for its field.
+pub fn holds_client_of(words: &[u32], row: usize) -> bool
+    ensures { λ r. ⌜ r ≡ holdsClientOf row (now (words .entry)) ⌝ }
 {
-    if words.len() != CLIENT_WORDS {
+    if !has_row(words, row) {
         return false;
     }
     if 2 < words[3] {
         return false;
     }
     fits_head(words[0], words[1], words[2])
+}
+
+// The same with the row of a record by value, as a C host keeps it.
+pub fn holds_server(words: &[u32]) -> bool
+    ensures { λ r. ⌜ r ≡ holdsServer (now (words .entry)) ⌝ }
+{
+    holds_server_of(words, server::ROW_WORDS)
+}
+
+pub fn holds_client(words: &[u32]) -> bool
+    ensures { λ r. ⌜ r ≡ holdsClient (now (words .entry)) ⌝ }
+{
+    holds_client_of(words, client::ROW_WORDS)
 }
 
 // The head of the server's record whose first five words these are.

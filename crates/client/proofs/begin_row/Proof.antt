@@ -1,5 +1,5 @@
 -- `client::begin_row` meets its contract: each return is one case of the outcome, by the tests in their order.
-use Rattle.client.proofs.StepLaws.{answers-refused, begin-invalid, begin-elsewhere, begin-spent, begin-tries, tested-words}
+use Rattle.client.proofs.StepLaws.{answers-refused, begin-invalid, begin-elsewhere, begin-spent, begin-tries, tested-padded}
 use borrow.Author.Needs.{needs}
 use Rattle.client.proofs.begin_row.Statement.{statement}
 use Rattle.client.proofs.begin_row.Tie as tie
@@ -33,7 +33,7 @@ begin-row-spec =
     (λ c κs. search needs)
     (λ c. search needs)
     (λ c. search (answers-refused, begin-spent))
-    (λ c κs. search tested-words)
+    (λ c κs. search tested-padded)
     (λ c. search needs)
     (λ c. search needs)
     returns-4)

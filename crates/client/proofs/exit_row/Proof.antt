@@ -1,5 +1,5 @@
 -- `client::exit_row` meets its contract: each return is one case of the outcome, by the tests in their order.
-use Rattle.client.proofs.StepLaws.{answers-refused, exit-invalid, exit-elsewhere, exit-leaves, tested-words, critical-timestamp}
+use Rattle.client.proofs.StepLaws.{answers-refused, exit-invalid, exit-elsewhere, exit-leaves, tested-padded, critical-timestamp}
 use borrow.Author.Needs.{needs}
 use Rattle.client.proofs.exit_row.Statement.{statement}
 use Rattle.client.proofs.exit_row.Tie as tie
@@ -28,7 +28,7 @@ exit-row-spec =
     (λ c κs. search needs)
     (λ c. search needs)
     (λ c. search (answers-refused, exit-elsewhere))
-    (λ c κs. (search tested-words, search critical-timestamp))
+    (λ c κs. (search tested-padded, search critical-timestamp))
     (λ c. search needs)
     (λ c. search needs)
     returns-3)

@@ -6,8 +6,9 @@ use mathlib.Core.List.{List}
 use Prim.Native.Nat.{ℕ, _-_}
 use lib.ListN.{length, take, drop}
 use Rattle.client.specs.Record.{clientOf}
-use Rattle.words.specs.Records.{recordHead, clientSize, clientFrom}
-use Rattle.words.proofs.RecordsLaws.{client-held}
+use Rattle.words.specs.Records.{recordHead, clientFrom}
+use Rattle.sim_blocks.specs.Blocks.{clientRecordSize, responseWords}
+use Rattle.words.proofs.RecordsLaws.{client-held, client-row}
 use Rattle.sim_blocks.proofs.TestLaws.{client-lent, client-broken, servers-differ, servers-few, threshold-differs, number-differs, named-decides}
 use borrow.Author.Needs.{needs}
 use Rattle.sim_blocks.proofs.fits_client.Statement.{statement}
@@ -18,8 +19,8 @@ module _ (c : tie.Start) where
   abbrev words : List ℕ
   words = now (c .args .words)
 
-  long : length words ≡ clientSize
-  long = client-held words (c .pre) .size
+  long : length words ≡ clientRecordSize
+  long = client-held responseWords words (c .pre) .size
 
 -- the record is tested
 module _ (c : tie.After-valid-row) where
@@ -29,7 +30,7 @@ module _ (c : tie.After-valid-row) where
   abbrev entry : tie.Start
   entry = head .before .before
 
-  its : clientOf (head .client-head .result) (take (clientSize - recordHead) (drop recordHead (words entry))) ≡ clientFrom (words entry)
+  its : clientOf (head .client-head .result) (take (clientRecordSize - recordHead) (drop recordHead (words entry))) ≡ clientFrom (words entry)
   its = client-lent (words entry) _ (entry .pre) (head .client-head .ensures)
 
 returns : tie.Need-returns
@@ -71,7 +72,7 @@ requests-named-requires c κs =
       arith,
       long (entry v),
       servers-few (a .n) (a .m) (a .clients) (a .k) _ _ (its v) _ (v .valid-row .ensures)
-          (t .before .before .before .before .if1 .left) (t .before .before .if2 .left),
+          (t .before .before .before .before .if1 .left) (t .before .before .if2 .left) (client-row responseWords (words (entry v)) (entry v .pre)),
     )
 
 returns-5 : tie.Need-returns-5
@@ -86,7 +87,7 @@ pub fits-client-spec : {M : Type 1} → statement M
 fits-client-spec =
     tie.close
     (tie.spec
-    (λ c κs. client-held _ (c .before .pre) .head)
+    (λ c κs. client-held _ _ (c .before .pre) .head)
     (λ c. search needs)
     (λ c. search needs)
     (λ c. omega (arith, long (c .before .before)))

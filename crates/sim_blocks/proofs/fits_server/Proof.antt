@@ -6,7 +6,8 @@ use mathlib.Core.List.{List}
 use Prim.Native.Nat.{ℕ, _+_, _-_, _*_, _≤_}
 use lib.ListN.{length, getD, take, drop}
 use Rattle.server.specs.Record.{serverOf}
-use Rattle.words.specs.Records.{recordHead, serverSize, serverFrom}
+use Rattle.words.specs.Records.{recordHead, serverFrom}
+use Rattle.sim_blocks.specs.Blocks.{serverRecordSize, queueWords}
 use Rattle.words.proofs.RecordsLaws.{server-held}
 use Rattle.sim_blocks.proofs.TestLaws.{server-lent, server-broken, server-count-differs, server-number-differs, owner-unknown, queue-decides, length-fits}
 use borrow.Author.Needs.{needs}
@@ -18,8 +19,8 @@ module _ (c : tie.Start) where
   abbrev words : List ℕ
   words = now (c .args .words)
 
-  long : length words ≡ serverSize
-  long = server-held words (c .pre) .size
+  long : length words ≡ serverRecordSize
+  long = server-held queueWords words (c .pre) .size
 
 -- the record is tested
 module _ (c : tie.After-valid-row) where
@@ -29,7 +30,7 @@ module _ (c : tie.After-valid-row) where
   abbrev entry : tie.Start
   entry = head .before .before
 
-  its : serverOf (head .server-head .result) (take (serverSize - recordHead) (drop recordHead (words entry))) ≡ serverFrom (words entry)
+  its : serverOf (head .server-head .result) (take (serverRecordSize - recordHead) (drop recordHead (words entry))) ≡ serverFrom (words entry)
   its = server-lent (words entry) _ (entry .pre) (head .server-head .ensures)
 
 -- it is valid
@@ -91,7 +92,7 @@ pub fits-server-spec : {M : Type 1} → statement M
 fits-server-spec =
     tie.close
     (tie.spec
-    (λ c κs. server-held _ (c .before .pre) .head)
+    (λ c κs. server-held _ _ (c .before .pre) .head)
     (λ c. search needs)
     (λ c. search needs)
     (λ c. omega (arith, long (c .before .before)))

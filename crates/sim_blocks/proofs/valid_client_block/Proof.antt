@@ -8,7 +8,7 @@ use Rattle.sim_blocks.proofs.valid_client_block.Statement.{statement}
 use Rattle.sim_blocks.proofs.valid_client_block.Tie as tie
 
 fits-client-block-requires : tie.Need-fits-client-block-requires
-fits-client-block-requires c κs = (c .before .before .before .before .before .if1 .left, sym (c .before .holds-client .ensures) ∙ not-false _ (c .if3 .left))
+fits-client-block-requires c κs = (c .before .before .before .before .before .if1 .left, sym (c .before .holds-client-of .ensures) ∙ not-false _ (c .if3 .left))
 
 pub valid-client-block-spec : {M : Type 1} → statement M
 valid-client-block-spec =

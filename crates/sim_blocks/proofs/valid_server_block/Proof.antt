@@ -19,5 +19,5 @@ valid-server-block-spec =
     (λ c. search needs)
     (λ c κs. tt)
     (λ c. search server-wide)
-    (λ c κs. sym (c .before .holds-server .ensures) ∙ not-false _ (c .if3 .left))
+    (λ c κs. sym (c .before .holds-server-of .ensures) ∙ not-false _ (c .if3 .left))
     (λ c. search server-decided))

@@ -10,14 +10,14 @@ use Rattle.sim_changes.proofs.new_client.Tie as tie
 
 -- the block's words are stored
 module _ (c : tie.After-put-client) where
-  abbrev made : tie.After-new
-  made = c .before .before .before .before .before
+  abbrev made : tie.After-fresh-head
+  made = c .before .before .before
 
   abbrev entry : tie.Start
   entry = made .before .before .before
 
   opened : c .put-client .last .0 ≡ newClient (entry .args .n) (entry .args .m) (entry .args .k) (now (entry .args .w))
-  opened = client-opened (entry .args .n) (entry .args .m) (entry .args .k .0) (now (entry .args .w)) (entry .pre) _ (made .new .ensures .0) _
+  opened = client-opened (entry .args .n) (entry .args .m) (entry .args .k .0) (now (entry .args .w)) (entry .pre) _ (made .fresh-head .ensures) _
       (c .put-client .ensures)
 
 same-length : tie.Need-same-length

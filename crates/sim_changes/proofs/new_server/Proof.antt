@@ -9,7 +9,7 @@ use Rattle.sim_changes.proofs.new_server.Statement.{statement}
 use Rattle.sim_changes.proofs.new_server.Tie as tie
 
 -- the server is up, and its record made
-module _ (c : tie.After-new) where
+module _ (c : tie.After-empty-head) where
   abbrev risen : tie.After-rise-server
   risen = c .before .before .before
 
@@ -19,18 +19,18 @@ module _ (c : tie.After-new) where
   there : ServerIn (risen .rise-server .last .0) (entry .args .j)
   there = risen-in (entry .args .n) (entry .args .j .0) (now (entry .args .w)) (entry .pre) _ (risen .rise-server .ensures)
 
-  short : c .new .result .server .head .votes .len ≤ maxWord
-  short = new-short (entry .args .n) (entry .args .j .0) _ (c .new .ensures .0)
+  short : c .empty-head .result .votes .len ≤ maxWord
+  short = new-short (entry .args .n) (entry .args .j) _ (c .empty-head .ensures)
 
 put-server-requires : tie.Need-put-server-requires
-put-server-requires c κs = (there (c .before .before .before .before), search needs, short (c .before .before .before .before))
+put-server-requires c κs = (there (c .before .before), search needs, short (c .before .before))
 
 returns : tie.Need-returns
 returns c =
     let p = c .before .before in
-    let r = p .before .before .before .before .before in
+    let r = p .before .before .before in
     let d = entry r in
-    server-opened (d .args .n) (d .args .j .0) (now (d .args .w)) (d .pre) _ (risen r .rise-server .ensures) _ (r .new .ensures .0) _ (p .put-server .ensures)
+    server-opened (d .args .n) (d .args .j .0) (now (d .args .w)) (d .pre) _ (risen r .rise-server .ensures) _ (r .empty-head .ensures) _ (p .put-server .ensures)
 
 pub new-server-spec : {M : Type 1} → statement M
 new-server-spec =

@@ -2,8 +2,8 @@
 use Rattle.sim_layout.proofs.LendLaws.{client-read, client-lent, client-block-long}
 use denote.Ref.{now}
 use lib.ListN.{length}
-use Rattle.sim_blocks.specs.Blocks.{clientRecord, clientBlock}
-use Rattle.words.specs.Records.{clientHeadFrom, holdsClient}
+use Rattle.sim_blocks.specs.Blocks.{clientRecord, clientBlock, holdsClientRecord}
+use Rattle.words.specs.Records.{clientHeadFrom}
 use borrow.Author.Needs.{needs}
 use Rattle.sim_layout.proofs.client_head.Statement.{statement}
 use Rattle.sim_layout.proofs.client_head.Tie as tie
@@ -14,7 +14,7 @@ client-head-requires c κs =
     let a = d .args in
     let i = d .pre .0 in (
       client-lent (now (a .w)) (a .k) i length clientBlock (client-block-long (now (a .w)) (a .k .0) (i .long) (i .first) (i .last)),
-      client-lent (now (a .w)) (a .k) i (λ b. holdsClient (clientRecord b)) _ (d .pre .1),
+      client-lent (now (a .w)) (a .k) i (λ b. holdsClientRecord (clientRecord b)) _ (d .pre .1),
     )
 
 returns : tie.Need-returns

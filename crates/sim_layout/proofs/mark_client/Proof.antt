@@ -8,11 +8,10 @@ use mathlib.Core.List.{List}
 use lib.ListN.{length, set, length-set}
 use Rattle.ids.specs.Choice.{if_then_else_}
 use Rattle.system.specs.Places.{inEpoch}
-use Rattle.sim_blocks.specs.Blocks.{clientPlace}
+use Rattle.sim_blocks.specs.Blocks.{clientPlace, clientRecordSize}
 use borrow.Author.Needs.{needs}
 use Rattle.sim_layout.proofs.mark_client.Statement.{statement}
 use Rattle.sim_layout.proofs.mark_client.Tie as tie
-use Rattle.words.specs.Records.{clientSize}
 
 length-either : (x : Bool) (b : List ℕ) (i : ℕ) → length (if x then set b i 1 else b) ≡ length b
 length-either true b i = length-set b i 1
@@ -22,8 +21,8 @@ returns : tie.Need-returns
 returns c =
     let d = c .before .before .before .before .before .before in
     let a = d .args in
-    client-written (now (a .w)) (a .k) (d .pre .0) (λ b. if inEpoch (clientPlace b) then set b (clientSize + a .j .0) 1 else b) _
-    (λ l. length-either (inEpoch (clientPlace l)) l (clientSize + a .j .0)) (c .before .before .mark-down .ensures)
+    client-written (now (a .w)) (a .k) (d .pre .0) (λ b. if inEpoch (clientPlace b) then set b (clientRecordSize + a .j .0) 1 else b) _
+    (λ l. length-either (inEpoch (clientPlace l)) l (clientRecordSize + a .j .0)) (c .before .before .mark-down .ensures)
 
 pub mark-client-spec : {M : Type 1} → statement M
 mark-client-spec =

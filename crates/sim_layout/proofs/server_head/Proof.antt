@@ -2,8 +2,8 @@
 use Rattle.sim_layout.proofs.LendLaws.{server-read, server-lent, server-block-long}
 use denote.Ref.{now}
 use lib.ListN.{length}
-use Rattle.sim_blocks.specs.Blocks.{serverRecord, serverBlock}
-use Rattle.words.specs.Records.{serverHeadFrom, holdsServer}
+use Rattle.sim_blocks.specs.Blocks.{serverRecord, serverBlock, holdsServerRecord}
+use Rattle.words.specs.Records.{serverHeadFrom}
 use borrow.Author.Needs.{needs}
 use Rattle.sim_layout.proofs.server_head.Statement.{statement}
 use Rattle.sim_layout.proofs.server_head.Tie as tie
@@ -14,7 +14,7 @@ server-head-requires c κs =
     let a = d .args in
     let i = d .pre .0 in (
       server-lent (now (a .w)) (a .j) i length serverBlock (server-block-long (now (a .w)) (a .j .0) (i .long) (i .first) (i .last)),
-      server-lent (now (a .w)) (a .j) i (λ b. holdsServer (serverRecord b)) _ (d .pre .1),
+      server-lent (now (a .w)) (a .j) i (λ b. holdsServerRecord (serverRecord b)) _ (d .pre .1),
     )
 
 returns : tie.Need-returns

@@ -6,8 +6,8 @@ use lib.Seq.{sets, length-sets}
 use mathlib.Core.Path.{_≡_, _∙_}
 use mathlib.Core.List.{List}
 use Prim.Native.Nat.{ℕ}
-use Rattle.sim_blocks.specs.Blocks.{serverRecord, emptied, serverBlock}
-use Rattle.words.specs.Records.{serverFrom, serverWords, holdsServer}
+use Rattle.sim_blocks.specs.Blocks.{serverRecord, emptied, serverBlock, holdsServerRecord}
+use Rattle.words.specs.Records.{serverFrom, serverWords}
 use borrow.Author.Needs.{needs}
 use Rattle.sim_layout.proofs.sink_server.Statement.{statement}
 use Rattle.sim_layout.proofs.sink_server.Tie as tie
@@ -18,7 +18,7 @@ sink-requires c κs =
     let a = d .args in
     let i = d .pre .0 in (
       server-lent (now (a .w)) (a .j) i length serverBlock (server-block-long (now (a .w)) (a .j .0) (i .long) (i .first) (i .last)),
-      server-lent (now (a .w)) (a .j) i (λ b. holdsServer (serverRecord b)) _ (d .pre .1),
+      server-lent (now (a .w)) (a .j) i (λ b. holdsServerRecord (serverRecord b)) _ (d .pre .1),
     )
 
 abbrev sunk : List ℕ → List ℕ

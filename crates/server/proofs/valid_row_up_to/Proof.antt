@@ -1,11 +1,11 @@
--- `server::valid_row` meets its contract: each test is one part of `valid`.
+-- `server::valid_row_up_to` meets its contract: each test is one part of `validUpTo`.
 use Rattle.server.proofs.RecordLaws.{server-1, server-2, server-3, server-4, row-padded}
 use borrow.Author.Needs.{needs}
-use Rattle.server.proofs.valid_row.Statement.{statement}
-use Rattle.server.proofs.valid_row.Tie as tie
+use Rattle.server.proofs.valid_row_up_to.Statement.{statement}
+use Rattle.server.proofs.valid_row_up_to.Tie as tie
 
-pub valid-row-spec : {M : Type 1} → statement M
-valid-row-spec =
+pub valid-row-up-to-spec : {M : Type 1} → statement M
+valid-row-up-to-spec =
     tie.close
     (tie.spec
     (λ c. search needs)

@@ -1,13 +1,13 @@
--- `client::valid_row` meets its contract: the tests in the definition's order.
+-- `client::valid_row_up_to` meets its contract: the tests in the definition's order.
 use Rattle.ids.proofs.Choice.{holds}
 use Rattle.rows.proofs.GoodLaws.{good-padded}
 use Rattle.client.proofs.ValidLaws.{sizes-fail, id-fails, timestamp-fails, row-fails, places-decide}
 use borrow.Author.Needs.{needs}
-use Rattle.client.proofs.valid_row.Statement.{statement}
-use Rattle.client.proofs.valid_row.Tie as tie
+use Rattle.client.proofs.valid_row_up_to.Statement.{statement}
+use Rattle.client.proofs.valid_row_up_to.Tie as tie
 
-pub valid-row-spec : {M : Type 1} → statement M
-valid-row-spec =
+pub valid-row-up-to-spec : {M : Type 1} → statement M
+valid-row-up-to-spec =
     tie.close
     (tie.spec
     (λ c κs. search needs)
