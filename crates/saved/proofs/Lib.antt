@@ -1,0 +1,6 @@
+pub mod Limits
+pub mod Players
+pub mod FormLaws
+pub mod Rules
+pub mod Taken
+pub mod GoesOn
