@@ -72,21 +72,21 @@ uint32_t sigma_packet_pack(const uint8_t *bytes, size_t bytes_len, uint8_t *out,
 
 /* A record is words that stay where the host put them; an accepted call writes the new record over the old.
  * 0 is none. A record slice of another length, or one that holds no valid record, is refused 21.
- *   server: n, its number, owner, owner's timestamp, queue length, then client and timestamp of 16 places
- *   client: n, m, its number, section, timestamp, then owner and timestamp of the responses of servers 1 to 31
+ *   server: n, its number, owner, owner's timestamp, queue length, then client and timestamp of 32 places
+ *   client: n, m, its number, section, timestamp, then owner and timestamp of the responses of servers 1 to 255
  * The messages that a step sends stand one after another at the start of `out`, and the bytes behind them stay;
  * `sent` takes their number and their bytes. A server sends at most 28 bytes in a step, a client 12 times n. */
 enum {
     SIGMA_REMAINDER = 0,
     SIGMA_TRYING = 1,
     SIGMA_CRITICAL = 2,
-    SIGMA_SERVER_WORDS = 37,
-    SIGMA_CLIENT_WORDS = 67,
+    SIGMA_SERVER_WORDS = 69,
+    SIGMA_CLIENT_WORDS = 515,
     SIGMA_SENT_WORDS = 2,
-    SIGMA_QUEUE_PLACES = 16
+    SIGMA_QUEUE_PLACES = 32
 };
 
-/* Writes the record of server `id` of 1 to n, without an owner, in the first 37 words.
+/* Writes the record of server `id` of 1 to n, without an owner, in the first 69 words.
  * Refusal: 7 a number out of range, or fewer words lent. */
 uint32_t sigma_server_new(uint32_t n, uint32_t id, uint32_t *record, size_t record_len);
 
@@ -104,7 +104,7 @@ uint32_t sigma_server_suspect(uint32_t *record, size_t record_len, uint8_t *out,
 uint32_t sigma_server_check(uint32_t *record, size_t record_len, uint8_t *out, size_t out_len,
                             uint32_t *sent, size_t sent_len);
 
-/* A server's record as a struct, for a host that calls its numbers by name: the 37 words of the record, then what the last
+/* A server's record as a struct, for a host that calls its numbers by name: the 69 words of the record, then what the last
  * accepted call sent. A new server is n and its number, and 0 everywhere else. The struct stays where the host put it;
  * an accepted call writes record and counts in it, and a refused call leaves all of it. */
 struct sigma_request {
@@ -128,7 +128,7 @@ uint32_t sigma_host_message(struct sigma_host *host, const uint32_t *message, si
 uint32_t sigma_host_suspect(struct sigma_host *host, uint8_t *out, size_t out_len);
 uint32_t sigma_host_check(struct sigma_host *host, uint8_t *out, size_t out_len);
 
-/* Writes the record of client `id` with n servers and threshold m, which has never tried, in the first 67 words.
+/* Writes the record of client `id` with n servers and threshold m, which has never tried, in the first 515 words.
  * Refusal: 7 a number out of range, or fewer words lent. */
 uint32_t sigma_client_new(uint32_t n, uint32_t m, uint32_t id, uint32_t *record, size_t record_len);
 
@@ -145,7 +145,16 @@ uint32_t sigma_client_exit(uint32_t *record, size_t record_len, uint8_t *out, si
 uint32_t sigma_client_message(uint32_t *record, size_t record_len, const uint32_t *message, size_t message_len,
                               uint8_t *out, size_t out_len, uint32_t *sent, size_t sent_len);
 
-/* A setting is n servers, 1 to 31, threshold m, 1 to n, and faults f, 0 to n. An event is two words: its kind, and the
+/* A record that an earlier library saved is taken over, its queue or responses in front and the other places empty. `saved` is a whole record, in any
+ * form that it has had:
+ *   server: 37 words (n up to 31, 16 places), or today's 69; of a struct sigma_host these are the words before `sent`
+ *   client: 67 words (n up to 31), or today's 515
+ * The record of today stands in the first 69 or 515 words of `record`, another slice than `saved`, and the words behind it stay.
+ * Refusals: 21 another length, or words that were no valid record by the rules of their own time, 6 fewer words lent. */
+uint32_t sigma_server_upgrade(const uint32_t *saved, size_t saved_len, uint32_t *record, size_t record_len);
+uint32_t sigma_client_upgrade(const uint32_t *saved, size_t saved_len, uint32_t *record, size_t record_len);
+
+/* A setting is n servers, 1 to 255, threshold m, 1 to n, and faults f, 0 to n. An event is two words: its kind, and the
  * number of the client (try, exit, fall), server (down, up, miss, check) or message (take, drop). */
 enum {
     SIGMA_EVENT_TRY = 1,
@@ -174,7 +183,7 @@ uint32_t sigma_run_event(uint32_t n, uint32_t m, uint32_t f, uint32_t i, uint32_
  * Refusals: 7 n out of range, 6 no word lent. */
 uint32_t sigma_default_threshold(uint32_t n, uint32_t *words, size_t words_len);
 
-/* A simulated system: n servers with threshold m, 1 to 16 clients, and at most 512 messages in transit, as words that stay where
+/* A simulated system: n servers, 1 to 31, with threshold m, 1 to 16 clients, and at most 512 messages in transit, as words that stay where
  * the host put them. f is kept with them, and no event is held to it. An event is the two words of sigma_run_event. */
 enum {
     SIGMA_SIMULATION_WORDS = 7424,

@@ -7,7 +7,8 @@ use mathlib.Core.List.{List, map}
 use mathlib.Core.Logic.{⊎-elim}
 use mathlib.Core.Option.{some}
 use lib.Dec.{ltb}
-use lib.ListN.{length, length-map, length-drop}
+use lib.ListN.{length, length-map}
+use borrow.Author.Tests.{le-ltb}
 use Rattle.ids.specs.declared.Refusal.the-variants.{InvalidRecord, RoomShort}
 use Rattle.ids.proofs.Choice.{decided, passed}
 use Rattle.wire.specs.Step.{Step, Outcome, refused, stepped, withRoom}
@@ -25,9 +26,13 @@ use Rattle.client.proofs.ValidLaws.{valid-padded, padded-words}
 use Rattle.client.proofs.KeepsValid.{begin-valid, exit-valid, message-valid}
 use Rattle.words.specs.Messages.{messageIn, messageOr}
 use Rattle.words.specs.Records.{serverSize, clientSize, holdsServer, serverFrom, serverIn, holdsClient, clientFrom, clientIn}
-use Rattle.words.proofs.RecordsLaws.{server-held, client-held}
+use Rattle.words.proofs.RecordsLaws.{server-held, server-row, client-held, client-row}
 use Rattle.words.proofs.RoundTrip.{server-read-back, client-read-back}
-use Rattle.capi.specs.Steps.{inWords, lent, withCounts, onServer, serverWith, serverMessage, serverSuspect, serverCheck, onClient, clientWith, clientMessage, clientBegin, clientExit, recordInto}
+use Rattle.saved.specs.Forms.{savedServer, serverNow, savedClient, clientNow}
+use Rattle.saved.specs.Taken.{serverToday, clientToday}
+use Rattle.saved.proofs.FormLaws.{servers, clients, now-long}
+use Rattle.saved.proofs.Taken.{server-taken-over, client-taken-over}
+use Rattle.capi.specs.Steps.{inWords, lent, withCounts, onServer, serverWith, serverMessage, serverSuspect, serverCheck, onClient, clientWith, clientMessage, clientBegin, clientExit, recordInto, upgrade, serverUpgrade, clientUpgrade}
 use Rattle.capi.specs.Inner.{serverOutcome, clientOutcome}
 use Rattle.capi.specs.declared.ServerCall.{ServerCall}
 use Rattle.capi.specs.declared.ServerCall.the-variants.{Message as ServerMessage, Suspect, Check}
@@ -56,7 +61,7 @@ module _ (ws : List ℕ) (call : ServerCall) where
       let a = server-accepted call s q e in
       record {
         held = server-calls.serverAfter s (stepped q);
-        read = server-read-back (server-calls.serverAfter s (stepped q)) (a .after) (length-row-of (length (s .row)) (q .state .queue) (a .room) ∙ l);
+        read = server-read-back (server-calls.serverAfter s (stepped q)) (a .after) server.rowWords (length-row-of (length (s .row)) (q .state .queue) (a .room) ∙ l);
         valid = a .after;
       }
 
@@ -70,20 +75,17 @@ module _ (ws : List ℕ) (call : ServerCall) where
   read-size : (vs : List ℕ) → ValidServer vs → length vs ≡ serverSize
   read-size vs W =
       ⊎-elim
-      (λ (t : holdsServer vs ≡ true). server-held vs t .size)
+      (λ (t : holdsServer vs ≡ true). server-held server.rowWords vs t .size)
       (λ (t : holdsServer vs ≡ false). let h = rw t at (W .read) in let z : _≡_ {A = ℕ} 0 1 = cc in absurd (omega arith))
       (decided (holdsServer vs))
-
-  server-row : holdsServer ws ≡ true → length (serverFrom ws .row) ≡ server.rowWords
-  server-row t = simp length-drop (omega (arith, server-held ws t .size))
 
   server-stays : (p : Step (List ℕ)) → onServer ws (serverOutcome call) ≡ stepped p → ValidServer (recordInto ws (stepped p))
   unfolding onServer
   server-stays p e =
       ⊎-elim
       (λ (t : holdsServer ws ≡ true).
-      let W = from-outcome (serverFrom ws) p (server-row t) (serverOutcome call (serverFrom ws)) refl (rw t at e) in
-      rw (whole ws (p .state) (read-size (p .state) W ∙ sym (server-held ws t .size))) W)
+      let W = from-outcome (serverFrom ws) p (server-row server.rowWords ws t) (serverOutcome call (serverFrom ws)) refl (rw t at e) in
+      rw (whole ws (p .state) (read-size (p .state) W ∙ sym (server-held server.rowWords ws t .size))) W)
       (λ (t : holdsServer ws ≡ false). absurd (never InvalidRecord p (rw t at e)))
       (decided (holdsServer ws))
 
@@ -120,7 +122,7 @@ module _ (ws : List ℕ) (call : ClientCall) where
       let g = padded-words (c .row) (c .head .n) (valid-padded c (a .before)) in
       record {
         held = client-calls.clientAfter c (stepped q);
-        read = client-read-back (client-calls.clientAfter c (stepped q)) v
+        read = client-read-back (client-calls.clientAfter c (stepped q)) v client.rowWords
             (length-row-of (length (c .row)) (map place (q .state .responses)) (simp length-map (omega (arith, g, a .long))) ∙ l);
         valid = v;
       }
@@ -135,20 +137,17 @@ module _ (ws : List ℕ) (call : ClientCall) where
   client-size : (vs : List ℕ) → ValidClient vs → length vs ≡ clientSize
   client-size vs W =
       ⊎-elim
-      (λ (t : holdsClient vs ≡ true). client-held vs t .size)
+      (λ (t : holdsClient vs ≡ true). client-held client.rowWords vs t .size)
       (λ (t : holdsClient vs ≡ false). let h = rw t at (W .read) in let z : _≡_ {A = ℕ} 0 1 = cc in absurd (omega arith))
       (decided (holdsClient vs))
-
-  client-row : holdsClient ws ≡ true → length (clientFrom ws .row) ≡ client.rowWords
-  client-row t = simp length-drop (omega (arith, client-held ws t .size))
 
   client-stays : (p : Step (List ℕ)) → onClient ws (clientOutcome call) ≡ stepped p → ValidClient (recordInto ws (stepped p))
   unfolding onClient
   client-stays p e =
       ⊎-elim
       (λ (t : holdsClient ws ≡ true).
-      let W = from-client-outcome (clientFrom ws) p (client-row t) (clientOutcome call (clientFrom ws)) refl (rw t at e) in
-      rw (whole ws (p .state) (client-size (p .state) W ∙ sym (client-held ws t .size))) W)
+      let W = from-client-outcome (clientFrom ws) p (client-row client.rowWords ws t) (clientOutcome call (clientFrom ws)) refl (rw t at e) in
+      rw (whole ws (p .state) (client-size (p .state) W ∙ sym (client-held client.rowWords ws t .size))) W)
       (λ (t : holdsClient ws ≡ false). absurd (never InvalidRecord p (rw t at e)))
       (decided (holdsClient ws))
 
@@ -163,3 +162,19 @@ module _ (ws out sent : List ℕ) (p : Step (List ℕ)) where
 
   pub client-exit-stays-valid : lent out sent (clientExit ws) ≡ stepped p → ValidClient (recordInto ws (stepped p))
   client-exit-stays-valid e = client-stays ws Exit p (lent-stepped out sent (clientExit ws) p e)
+
+-- a saved record that is taken over leaves one too
+module _ (ws s : List ℕ) where
+  pub server-upgrade-valid : savedServer ws ≡ true → length s ≡ serverSize → ValidServer (recordInto s (serverUpgrade ws (length s)))
+  unfolding upgrade
+  server-upgrade-valid v l =
+      let T = server-taken-over ws v in
+      rw (v, le-ltb (length s) serverSize (omega (arith, l)), whole s (serverNow ws) (now-long servers ws v ∙ sym l))
+      (record { held = serverToday (serverFrom ws); read = T .read; valid = T .valid })
+
+  pub client-upgrade-valid : savedClient ws ≡ true → length s ≡ clientSize → ValidClient (recordInto s (clientUpgrade ws (length s)))
+  unfolding upgrade
+  client-upgrade-valid v l =
+      let T = client-taken-over ws v in
+      rw (v, le-ltb (length s) clientSize (omega (arith, l)), whole s (clientNow ws) (now-long clients ws v ∙ sym l))
+      (record { held = clientToday (clientFrom ws); read = T .read; valid = T .valid })

@@ -2,7 +2,7 @@
 -- leaves in record, buffer and counts are four short functions of that outcome.
 use Prim.Native.Nat.{ℕ}
 use mathlib.Core.Path.{_≡_}
-use mathlib.Core.Bool.{_&&_}
+use mathlib.Core.Bool.{Bool, _&&_, not}
 use mathlib.Core.List.{List, [], _∷_}
 use mathlib.Core.Option.{Option, none, some}
 use lib.Dec.{ltb, leb}
@@ -25,6 +25,7 @@ use Rattle.client.specs.Calls as client-calls
 use Rattle.client.specs.declared.Client.{Client}
 use Rattle.words.specs.Messages.{messageIn}
 use Rattle.words.specs.Records.{serverIn, serverSize, serverWords, clientIn, clientSize, clientWords}
+use Rattle.saved.specs.Forms as saved
 
 module _ {A : Type 0} where
   -- an outcome with the new state as the words of its record
@@ -116,3 +117,16 @@ clientNew n m k room =
     if leb clientSize room && (client.validSizes n m && validClient (record { 0 = k })) then
     stepped (stay (clientWords (client.store n m (record { 0 = k }) (client-state.fresh n))))
     else refused ParameterOutOfRange
+
+-- a saved record taken over (document 02, L3): 21 if it is broken, then 6 where fewer words are lent than a record has
+unfoldable pub upgrade : Bool → ℕ → ℕ → List ℕ → Outcome (List ℕ)
+upgrade sound size room ws =
+    if not sound then refused InvalidRecord
+    else if ltb room size then refused RoomShort
+    else stepped (stay ws)
+
+abbrev pub serverUpgrade : List ℕ → ℕ → Outcome (List ℕ)
+serverUpgrade ws room = upgrade (saved.savedServer ws) serverSize room (saved.serverNow ws)
+
+abbrev pub clientUpgrade : List ℕ → ℕ → Outcome (List ℕ)
+clientUpgrade ws room = upgrade (saved.savedClient ws) clientSize room (saved.clientNow ws)

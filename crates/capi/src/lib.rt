@@ -14,7 +14,7 @@ ghost use Rattle.client.specs.Steps.{Answers};
 ghost use Rattle.words.specs.Messages.{messageIn};
 ghost use Rattle.words.specs.Records.{maxWord, recordHead, serverSize, clientSize, serverWords, clientHeadWords, clientWords};
 ghost use Rattle.capi.specs.Calls.{readSize, readCode, readWords, writtenCode, writeCode, writeBuffer};
-ghost use Rattle.capi.specs.Steps.{lent, Leaves, codeOf, recordInto, serverMessage, serverSuspect, serverCheck, clientMessage, clientBegin, clientExit, serverNew, clientNew, onServer, onClient};
+ghost use Rattle.capi.specs.Steps.{lent, Leaves, codeOf, recordInto, serverMessage, serverSuspect, serverCheck, clientMessage, clientBegin, clientExit, serverNew, clientNew, serverUpgrade, clientUpgrade, onServer, onClient};
 ghost use Rattle.capi.specs.Inner.{answerCode, answerRecord, answerCounts, shortCode, shortAnswer, Storable, turnedWords, acceptedWords, serverOutcome, clientOutcome};
 use ids::ClientId;
 use ids::Refusal;
@@ -403,4 +403,34 @@ pub extern "C" fn sigma_client_new(n: u32, m: u32, id: u32, state: &mut [u32]) -
     let k = ClientId(id as u16);
     let r = client::new(n as u16, m as u16, k);
     client_made(r, state)
+}
+
+// A server's saved record, in any form that it has had, as a record of today in the first words. Refused 21, 6.
+#[no_mangle]
+pub extern "C" fn sigma_server_upgrade(old: &[u32], state: &mut [u32]) -> u32
+    ensures { λ r. ⌜ (r ≡ codeOf (serverUpgrade (now (old .entry)) (length (now (state .entry))))) × (now (state .exit) ≡ recordInto (now (state .entry)) (serverUpgrade (now (old .entry)) (length (now (state .entry))))) ⌝ }
+{
+    if !saved::valid_server(old) {
+        return ids::code_of(Refusal::InvalidRecord);
+    }
+    if state.len() < words::SERVER_WORDS {
+        return ids::code_of(Refusal::RoomShort);
+    }
+    saved::take_server(old, state);
+    0
+}
+
+// A client's. Refused 21, 6.
+#[no_mangle]
+pub extern "C" fn sigma_client_upgrade(old: &[u32], state: &mut [u32]) -> u32
+    ensures { λ r. ⌜ (r ≡ codeOf (clientUpgrade (now (old .entry)) (length (now (state .entry))))) × (now (state .exit) ≡ recordInto (now (state .entry)) (clientUpgrade (now (old .entry)) (length (now (state .entry))))) ⌝ }
+{
+    if !saved::valid_client(old) {
+        return ids::code_of(Refusal::InvalidRecord);
+    }
+    if state.len() < words::CLIENT_WORDS {
+        return ids::code_of(Refusal::RoomShort);
+    }
+    saved::take_client(old, state);
+    0
 }
