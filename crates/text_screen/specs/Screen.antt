@@ -2,6 +2,7 @@
 -- Each is the list of the texts that stand one after another.
 use Prim.Native.Nat.{ℕ, zero, suc}
 use mathlib.Core.List.{List, [], _∷_, _++_}
+use lib.Dec.{leb}
 use lib.IntN.{ℤ, pos, negsuc}
 use Rattle.ids.specs.Choice.{if_then_else_}
 use Rattle.ids.specs.Refusals.{code}
@@ -11,6 +12,7 @@ use Rattle.script_numbers.specs.Decimals.{decimal}
 use Rattle.script_lines.specs.Printed.{eventLine, settingLine}
 use Rattle.text_sheet.specs.Sheet.{ends}
 use Rattle.script_lines.specs.Words.{text, newline}
+use Rattle.system.specs.Limits.{systemServers}
 use Rattle.system.specs.declared.Setting.{Setting}
 use Rattle.quorum.specs.declared.Asked.{Asked}
 use Rattle.quorum.specs.declared.Asked.the-variants.{Event, Refused}
@@ -52,9 +54,20 @@ unfoldable pub thresholdText : Threshold → List (List ℕ)
 thresholdText (Default m) = text "usual threshold " ∷ decimal m ∷ ends
 thresholdText Outside = []
 
+-- a run of more servers than a simulation has can be read, not played
+unfoldable pub limitText : ℕ → List (List ℕ)
+limitText n = if leb n systemServers then [] else text "fits no gallery: at most " ∷ decimal systemServers ∷ text " keepers" ∷ ends
+
+unfoldable pub fitsText : ℕ → Verdict → List (List ℕ)
+fitsText n (Unsafe x events) = limitText n
+fitsText n (Accepted x) = []
+fitsText n (Stalls x) = []
+fitsText n OutOfRange = []
+
 -- all that is said of a setting
 abbrev pub report : ℕ → ℕ → ℕ → List (List ℕ)
-report n m f = verdictText (verdict n m f) ++ marginText n m f ++ eventsText (verdict n m f) ++ thresholdText (thresholdOf n)
+report n m f =
+    verdictText (verdict n m f) ++ marginText n m f ++ eventsText (verdict n m f) ++ fitsText n (verdict n m f) ++ thresholdText (thresholdOf n)
 
 -- the script's first line: the setting with two clients
 abbrev pub opening : ℕ → ℕ → ℕ → Setting

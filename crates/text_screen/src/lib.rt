@@ -8,7 +8,7 @@ ghost use Rattle.script_lines.specs.Printed.{eventLine};
 ghost use Rattle.quorum.specs.Run.{runEvent};
 ghost use Rattle.script_lines.specs.Words.{newline, text};
 ghost use Rattle.text_sheet.specs.Sheet.{sheet as sheetOf, puts, ends};
-ghost use Rattle.text_screen.specs.Screen.{signed, marginText, refusedText, verdictText, eventsText, thresholdText, report, openingText, askedText, scriptText};
+ghost use Rattle.text_screen.specs.Screen.{signed, marginText, refusedText, verdictText, eventsText, limitText, fitsText, thresholdText, report, openingText, askedText, scriptText};
 use ids::Refusal;
 use quorum::Asked;
 use quorum::Threshold;
@@ -77,6 +77,29 @@ fn put_events(out: &mut [u8], at: usize, v: Verdict) -> usize
     }
 }
 
+// A run of more servers than a simulation has fits none.
+fn put_limit(out: &mut [u8], at: usize, n: u32) -> usize
+    ensures { λ r. ⌜ sheetOf (now (out .exit)) r ≡ puts (limitText n) (sheetOf (now (out .entry)) at) ⌝ }
+{
+    if n <= system::MAX_SERVERS {
+        return at;
+    }
+    let p = text_sheet::put_with(out, at, b"fits no gallery: at most ", system::MAX_SERVERS);
+    let q = text_sheet::put(out, p, b" keepers");
+    text_sheet::put(out, q, b"\n")
+}
+
+fn put_fits(out: &mut [u8], at: usize, n: u32, v: Verdict) -> usize
+    ensures { λ r. ⌜ sheetOf (now (out .exit)) r ≡ puts (fitsText n v) (sheetOf (now (out .entry)) at) ⌝ }
+{
+    match v {
+        Verdict::Unsafe(_, _) => put_limit(out, at, n),
+        Verdict::Accepted(_) => at,
+        Verdict::Stalls(_) => at,
+        Verdict::OutOfRange => at,
+    }
+}
+
 fn put_threshold(out: &mut [u8], at: usize, t: Threshold) -> usize
     ensures { λ r. ⌜ sheetOf (now (out .exit)) r ≡ puts (thresholdText t) (sheetOf (now (out .entry)) at) ⌝ }
 {
@@ -94,7 +117,8 @@ pub fn put_report(out: &mut [u8], n: u32, m: u32, f: u32) -> usize
     let p = put_verdict(out, 0, v);
     let q = put_margin(out, p, n, m, f);
     let t = put_events(out, q, v);
-    put_threshold(out, t, quorum::default_threshold(n))
+    let u = put_fits(out, t, n, v);
+    put_threshold(out, u, quorum::default_threshold(n))
 }
 
 fn put_event(out: &mut [u8], at: usize, e: Event) -> usize
