@@ -6,6 +6,7 @@ use sigma_tests::gallery::{Event, Gallery, Kind, RUN};
 use sigma_tests::keeper::Keeper;
 use sigma_tests::kiosk::{Kiosk, HOLDING, REMAINDER};
 use sigma_tests::model::INQUIRY;
+use sigma_tests::players::NEW;
 use sigma_tests::random::Random;
 use sigma_tests::setting::Setting;
 use std::collections::{BTreeMap, BTreeSet};
@@ -124,8 +125,8 @@ fn run(gallery: &mut Gallery, r: &mut Random, met: &mut Met) -> bool {
 }
 
 fn valid(gallery: &Gallery) -> bool {
-    let clients = gallery.clients.iter().all(|c| Kiosk::read(&c.record.words()).as_ref() == Ok(&c.record));
-    let servers = gallery.servers.iter().all(|s| Keeper::read(&s.record.words()).as_ref() == Ok(&s.record));
+    let clients = gallery.clients.iter().all(|c| Kiosk::read(NEW, &c.record.words(NEW)).as_ref() == Ok(&c.record));
+    let servers = gallery.servers.iter().all(|s| Keeper::read(NEW, &s.record.words(NEW)).as_ref() == Ok(&s.record));
     clients && servers
 }
 
