@@ -138,7 +138,7 @@ fn a_million_keeper_steps() {
         let mut record = vec![0; 69];
         assert_eq!(library::server_new(n as u32, 1 + r.below(n) as u32, &mut record), 0);
         let crowd = Crowd::draw(&mut r, 32);
-        for _ in 0..250 {
+        for _ in 0..500 {
             let before = Keeper::read(NEW, &record).expect("histories lead to valid records");
             let (message, call) = crowd.event(&mut r, &before);
             let filler = r.next() as u8;
@@ -228,7 +228,7 @@ fn a_million_kiosk_steps() {
         let many = r.one_of(&[32, 33, 254, 255, 255, many]);
         let n = if r.below(12) == 0 { many } else { r.one_of(&[1, 2, 3, 4, 31, few, few, few]) };
         let any = 1 + r.below(u64::from(n)) as u32;
-        let m = r.one_of(&[n, n - n / 3, any, any]);
+        let m = r.one_of(&[n, n - n / 3, any, if n > 31 { n } else { any }]);
         let id = r.one_of(&[1, 2, 5, 300, 65_535]);
         let mut record = vec![0; 515];
         assert_eq!(library::client_new(n, m, id, &mut record), 0);
