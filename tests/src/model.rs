@@ -32,6 +32,7 @@ pub fn length_of(kind: u32) -> usize {
 }
 
 /// Writes a message in range to a buffer that has room for it; the bytes written.
+#[inline(always)]
 pub fn put(m: &Message, out: &mut [u8]) -> usize {
     let length = length_of(m.kind);
     out[0..2].copy_from_slice(&(length as u16).to_le_bytes());
