@@ -364,13 +364,13 @@ int main(void)
     static const uint8_t response[] = {0x0E, 0, 5, 0, 5, 0, 1, 0, 3, 0, 0, 0, 2, 0};
     static const uint32_t request_words[] = {SIGMA_REQUEST, 5, 1, 3, 0};
     static const uint32_t response_words[] = {SIGMA_RESPONSE, 5, 1, 3, 2};
-    static const uint8_t to_the_last[] = {0x0C, 0, 1, 0, 5, 0, 255, 0, 3, 0, 0, 0}, too_far[] = {0x0C, 0, 1, 0, 5, 0, 0, 1, 3, 0, 0, 0};
+    static const uint8_t to_the_last[] = {0x0C, 0, 1, 0, 5, 0, 255, 0, 3, 0, 0, 0}, too_far[] = {0x0C, 0, 1, 0, 5, 0, 1, 1, 3, 0, 0, 0};
     static const uint32_t last_words[] = {SIGMA_REQUEST, 5, 255, 3, 0};
     uint32_t words[SIGMA_READ_WORDS];
     round_trip(request, sizeof request, request_words);
     round_trip(response, sizeof response, response_words);
     round_trip(to_the_last, sizeof to_the_last, last_words);
-    expect(sigma_read(too_far, sizeof too_far, words, SIGMA_READ_WORDS) == 5, "server 256");
+    expect(sigma_read(too_far, sizeof too_far, words, SIGMA_READ_WORDS) == 5, "server 257");
     enter_and_leave();
     in_a_struct();
     a_full_queue();

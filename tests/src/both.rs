@@ -104,13 +104,13 @@ pub fn compare(event: Event, record: &[u32], room: usize, words: usize, filler: 
     let record = [&edge, record, &edge].concat();
     let before = Loan { record, out: vec![filler; room + 2 * EDGE], sent: [word; 3 + 2 * EDGE] };
     let record = EDGE..before.record.len() - EDGE;
-    let call = |by: &dyn Fn(Event, &mut [u32], &mut [u8], &mut [u32]) -> u32| {
+    let call = |by: fn(Event, &mut [u32], &mut [u8], &mut [u32]) -> u32| {
         let mut loan = before.clone();
         let (out, sent) = (&mut loan.out[EDGE..EDGE + room], &mut loan.sent[EDGE..EDGE + words]);
         (by(event, &mut loan.record[record.clone()], out, sent), loan)
     };
-    let ours = call(&by_library);
-    let theirs = call(&|event, record, out, sent| by_model(NEW, event, record, out, sent));
+    let ours = call(by_library);
+    let theirs = call(|event, record, out, sent| by_model(NEW, event, record, out, sent));
     let record = &before.record[record];
     assert!(ours == theirs, "{event:?} on {record:?}, {room} bytes, {words} words\nlibrary {ours:?}\nmodel {theirs:?}");
     let (number, loan) = ours;

@@ -259,6 +259,7 @@ impl Gallery {
     fn server_takes(&mut self, at: usize, message: &Message) -> Result<usize, u32> {
         let j = self.standing(u64::from(message.keeper))?;
         let mut record = self.servers[j].record.clone();
+        // With 16 kiosks no line is full: "In a gallery 14 never occurs."
         let sent = self.send(&record.message_with(message, NEW.line, self.fault)?, 0)?;
         self.servers[j].record = record;
         self.kept[at].taken = self.fault != Fault::ComesTwice;

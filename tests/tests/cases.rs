@@ -336,6 +336,27 @@ fn after_a_round() {
     accepted(record, Event::KioskTakes(&answer(1, own)), kiosk(HOLDING, 3, [own, NONE, own, own]), &[]);
 }
 
+/// Kiosk 5 needs all of 255 keepers: it tries, holds with their answers and leaves; with the last one's for another it writes to all.
+#[test]
+fn every_keeper_there_is() {
+    let largest = |section, ticket, answers: &[[u32; 2]]| {
+        let mut words = with([0; KIOSK], &[(0, 255), (1, 255), (2, 5), (3, section), (4, ticket)]);
+        words[5..5 + 2 * answers.len()].copy_from_slice(answers.as_flattened());
+        words
+    };
+    let all = |kind| (1..=255).map(|keeper| to(kind, keeper, 3)).collect::<Vec<_>>();
+    let (own, message) = ([[5, 3]; 255], answer(255, [5, 3]));
+    accepted(largest(REMAINDER, 2, &[]), Event::Try, largest(TRYING, 3, &[]), &all(REQUEST));
+    accepted(largest(TRYING, 3, &own[..254]), Event::KioskTakes(&message), largest(HOLDING, 3, &own), &[]);
+    accepted(largest(HOLDING, 3, &own), Event::Exit, largest(REMAINDER, 4, &[]), &all(RELEASE));
+    let mut round = all(YIELD);
+    round[254] = to(INQUIRY, 255, 3);
+    accepted(largest(TRYING, 3, &own[..254]), Event::KioskTakes(&answer(255, [2, 3])), largest(TRYING, 3, &[]), &round);
+    refused(&largest(TRYING, 3, &own), Event::Exit, ROOM, 2, 21);
+    refused(&largest(HOLDING, 3, &own[..254]), Event::Exit, ROOM, 2, 21);
+    refused(&largest(TRYING, 3, &[]), Event::KioskTakes(&answer(256, [5, 3])), ROOM, 2, 5);
+}
+
 #[test]
 fn answers_elsewhere_and_checks() {
     let own = [5, 3];

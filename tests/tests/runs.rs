@@ -184,6 +184,18 @@ fn one_holder_in_larger_galleries() {
     no_two_holders(&larger, if long() { 5_000_000 } else { 500_000 });
 }
 
+/// More than a gallery has; an entry then takes a hundred events and more.
+#[test]
+fn one_holder_with_many_keepers() {
+    let many = [(33, 22, 10), (64, 43, 21)].map(|(n, m, f)| Setting { n, m, f });
+    for setting in many {
+        let (found, met) = search(&[setting], Fault::None, if long() { 3_000_000 } else { 150_000 });
+        println!("{setting:?}: {} entries, {:?}", met.entries, met.kinds);
+        assert!(found.is_none(), "{setting:?}: two holders after {} steps", met.steps);
+        assert!(met.entries > 50, "{setting:?}: only {} entries in {} steps", met.entries, met.steps);
+    }
+}
+
 #[test]
 fn two_holders_where_the_margin_is_not_above_0() {
     let margin_0_or_less = settings(false);

@@ -1,7 +1,7 @@
 //! The model's settings on their own: document 01's worked ones, and every unsafe run up to 31 keepers made event by event, and
 //! many of up to 255.
 
-use sigma_tests::gallery::{Gallery, Kind, Limits, GALLERY, RUN};
+use sigma_tests::gallery::{Event, Gallery, Kind, Limits, GALLERY, RUN};
 use sigma_tests::script;
 use sigma_tests::setting::{self, usual_threshold, Setting, Verdict};
 
@@ -101,6 +101,33 @@ fn unsafe_runs_with_more_keepers_than_a_gallery_has() {
                 assert_eq!(Gallery::new(setting, 2, GALLERY), Err(7), "{setting:?}");
                 ends_with_two_holders(setting, RUN);
             }
+        }
+    }
+}
+
+/// Where the margin is 1, the same plan with all the restarts that f allows leaves kiosk 2 one answer short, and only one holds.
+#[test]
+fn the_same_plan_where_the_margin_is_1() {
+    for n in [4u32, 7, 31, 32, 33, 128, 254, 255] {
+        for m in [n / 2 + 1, (2 * n).div_ceil(3), n - 1, n] {
+            let setting = Setting::new(n, m, 2 * m - n - 1).expect("in range");
+            assert!(setting.margin() == 1 && setting.unsafe_run().is_empty(), "{setting:?}");
+            let mut gallery = Gallery::new(setting, 2, RUN).expect("in range");
+            let mut all = |kind, numbers: &mut dyn Iterator<Item = u32>| {
+                for number in numbers.map(u64::from) {
+                    assert!(gallery.event(Event { kind, number }).is_ok(), "{setting:?} {kind:?} {number}");
+                }
+            };
+            all(Kind::Try, &mut (1..=1));
+            all(Kind::Take, &mut (1..=m));
+            all(Kind::Take, &mut (n + 1..=n + m));
+            all(Kind::Down, &mut (1..=setting.f));
+            all(Kind::Up, &mut (1..=setting.f));
+            all(Kind::Try, &mut (2..=2));
+            all(Kind::Take, &mut (1..=setting.f).chain(m + 1..=n).map(|j| n + m + j));
+            all(Kind::Take, &mut (2 * n + m + 1..2 * n + 2 * m));
+            assert_eq!((gallery.holders(), gallery.most_down as u32), (1, setting.f), "{setting:?}");
+            assert_eq!(gallery.clients[1].record.filled(), m - 1, "{setting:?}");
         }
     }
 }

@@ -55,28 +55,29 @@ impl Before {
         }
     }
 
-    pub fn new(&self, n: u32, m: u32, id: u32, record: &mut [u32]) -> u32 {
+    pub fn client_new(&self, n: u32, m: u32, id: u32, record: &mut [u32]) -> u32 {
         unsafe { (self.new)(n, m, id, record.as_mut_ptr(), record.len()) }
     }
 
-    pub fn begin(&self, record: &mut [u32], out: &mut [u8], sent: &mut [u32]) -> u32 {
+    pub fn client_begin(&self, record: &mut [u32], out: &mut [u8], sent: &mut [u32]) -> u32 {
         unsafe { (self.begin)(record.as_mut_ptr(), record.len(), out.as_mut_ptr(), out.len(), sent.as_mut_ptr(), sent.len()) }
     }
 
-    pub fn message(&self, record: &mut [u32], message: &[u32], out: &mut [u8], sent: &mut [u32]) -> u32 {
+    pub fn client_message(&self, record: &mut [u32], message: &[u32], out: &mut [u8], sent: &mut [u32]) -> u32 {
         let (r, m, o, s) = (record.as_mut_ptr(), message.as_ptr(), out.as_mut_ptr(), sent.as_mut_ptr());
         unsafe { (self.message)(r, record.len(), m, message.len(), o, out.len(), s, sent.len()) }
     }
 
-    pub fn exit(&self, record: &mut [u32], out: &mut [u8], sent: &mut [u32]) -> u32 {
+    pub fn client_exit(&self, record: &mut [u32], out: &mut [u8], sent: &mut [u32]) -> u32 {
         unsafe { (self.exit)(record.as_mut_ptr(), record.len(), out.as_mut_ptr(), out.len(), sent.as_mut_ptr(), sent.len()) }
     }
 
     /// The words of the record that its steps take, of these; none where n is out of its range.
     pub fn words(&self, n: u32, m: u32, forms: &[usize]) -> Option<usize> {
         let (mut record, mut out) = (vec![0; 1 << 12], vec![0; 12 * n as usize]);
-        let mut takes =
-            |words: usize| self.new(n, m, 5, &mut record) == 0 && self.begin(&mut record[..words], &mut out, &mut [0; 2]) == 0;
+        let mut takes = |words: usize| {
+            self.client_new(n, m, 5, &mut record) == 0 && self.client_begin(&mut record[..words], &mut out, &mut [0; 2]) == 0
+        };
         forms.iter().copied().find(|&words| takes(words))
     }
 }

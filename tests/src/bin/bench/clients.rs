@@ -11,13 +11,17 @@ use sigma_tests::{kiosk, library};
 /// n, m and how often a client comes and goes in a round.
 const COURSES: [(u32, u32, usize); 3] = [(4, 3, 50_000), (31, 21, 10_000), (255, 170, 300)];
 
+type New<'a> = &'a dyn Fn(u32, u32, u32, &mut [u32]) -> u32;
+type Step<'a> = &'a dyn Fn(&mut [u32], &mut [u8], &mut [u32]) -> u32;
+type Message<'a> = &'a dyn Fn(&mut [u32], &[u32], &mut [u8], &mut [u32]) -> u32;
+
 /// The words of a record, and the calls on it.
 struct Calls<'a> {
     words: usize,
-    new: &'a dyn Fn(u32, u32, u32, &mut [u32]) -> u32,
-    begin: &'a dyn Fn(&mut [u32], &mut [u8], &mut [u32]) -> u32,
-    message: &'a dyn Fn(&mut [u32], &[u32], &mut [u8], &mut [u32]) -> u32,
-    exit: &'a dyn Fn(&mut [u32], &mut [u8], &mut [u32]) -> u32,
+    new: New<'a>,
+    begin: Step<'a>,
+    message: Message<'a>,
+    exit: Step<'a>,
 }
 
 /// Calls of one visit: a try, a round of responses of which not all are its own, a round of those that are, and an exit.
@@ -73,10 +77,10 @@ pub fn run() {
             Some((old, words)) => {
                 let earlier = Calls {
                     words,
-                    new: &|n, m, id, record| old.new(n, m, id, record),
-                    begin: &|record, out, sent| old.begin(record, out, sent),
-                    message: &|record, message, out, sent| old.message(record, message, out, sent),
-                    exit: &|record, out, sent| old.exit(record, out, sent),
+                    new: &|n, m, id, record| old.client_new(n, m, id, record),
+                    begin: &|record, out, sent| old.client_begin(record, out, sent),
+                    message: &|record, message, out, sent| old.client_message(record, message, out, sent),
+                    exit: &|record, out, sent| old.client_exit(record, out, sent),
                 };
                 let [a, b, c] = best(&name, [&mut our_work, &mut their_work, &mut || visits(&earlier, n, m, times)]);
                 row(&name, count, a, b);
