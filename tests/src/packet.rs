@@ -18,7 +18,8 @@ fn first(messages: &[u8]) -> Result<&[u8], u32> {
 }
 
 impl Players {
-    /// 22 unless the messages, walked by their length fields, end exactly where the bytes do; then the first bad message's own number.
+    /// 22 unless the messages, walked by their length fields, end exactly where the bytes do; then the first bad message's own
+    /// number.
     fn judge(self, messages: &[u8]) -> Result<(), u32> {
         let (mut rest, mut first_bad) = (messages, Ok(()));
         while !rest.is_empty() {

@@ -242,7 +242,8 @@ fn a_full_line() {
     accepted(full([5, 3]), Event::KeeperTakes(&from(RELEASE, 7, 1)), full([5, 3]), &[]);
 }
 
-/// Kiosks ask one after the other, later ones with earlier tickets, until the line is full: 1 owns, 2 to 33 wait, 34 finds no place.
+/// Kiosks ask one after the other, later ones with earlier tickets, until the line is full: 1 owns, 2 to 33 wait, and 34 finds no
+/// place.
 #[test]
 fn a_line_fills() {
     let waiting = |count: u32| (0..count).map(|i| [count + 1 - i, 1000 - (count + 1 - i)]).collect::<Vec<_>>();
@@ -253,7 +254,7 @@ fn a_line_fills() {
         record = after;
     }
     refused(&record, Event::KeeperTakes(&from(REQUEST, 34, 966)), ROOM, 2, 14);
-    // One place is free again, behind a RELEASE or where the owner goes.
+    // Where the owner goes, one place is free again.
     let mut fewer = waiting(32);
     let head = fewer.remove(0);
     accepted(record, Event::Missing, keeper(head, &fewer), &[told(33, head)]);
@@ -336,7 +337,8 @@ fn after_a_round() {
     accepted(record, Event::KioskTakes(&answer(1, own)), kiosk(HOLDING, 3, [own, NONE, own, own]), &[]);
 }
 
-/// Kiosk 5 needs all of 255 keepers: it tries, holds with their answers and leaves; with the last one's for another it writes to all.
+/// Kiosk 5 needs all of 255 keepers: it tries, holds with their answers and leaves; with the last one's for another it writes to
+/// all.
 #[test]
 fn every_keeper_there_is() {
     let largest = |section, ticket, answers: &[[u32; 2]]| {
@@ -480,6 +482,9 @@ fn broken_keepers() {
             refused(&record, event, 0, 0, 21);
         }
     }
+    for n in [31, 32, 255] {
+        assert_eq!(compare(Event::Check, &with(record, &[(0, n), (1, n)]), ROOM, 2, 0x77).number, 0, "keeper {n} of {n}");
+    }
     for event in [Event::Missing, Event::Check, Event::KeeperTakes(&from(REQUEST, 5, 3))] {
         refused(&record[..KEEPER - 1], event, ROOM, 2, 21);
         refused(&record[..37], event, ROOM, 2, 21);
@@ -538,6 +543,9 @@ fn broken_kiosks() {
         for event in [Event::Try, Event::Exit, Event::KioskTakes(&check), Event::KioskTakes(&[])] {
             refused(&record, event, 0, 0, 21);
         }
+    }
+    for n in [31, 32, 255] {
+        assert_eq!(compare(Event::Try, &with(remainder, &[(0, n), (1, n)]), ROOM, 2, 0x77).sent()[0], n, "{n} keepers");
     }
     for event in [Event::Try, Event::Exit, Event::KioskTakes(&check)] {
         refused(&remainder[..KIOSK - 1], event, ROOM, 2, 21);

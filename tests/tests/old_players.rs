@@ -20,8 +20,8 @@ const POISON: u32 = 0xA5A5_5A5A;
 /// How often each pair of answers was met, the old players' and the new ones'.
 type Met = BTreeMap<(u32, u32), usize>;
 
-/// What the old players say where the new ones say this and the message's keeper is an added one: 5 stands behind 1 to 4 and behind a
-/// packet's 22, and before 6 and being accepted.
+/// What the old players say where the new ones say this and the message's keeper is an added one: 5 stands behind 1 to 4, and before
+/// 6 and being accepted.
 fn old_answer(new: u32) -> u32 {
     if [0, 6].contains(&new) {
         5
@@ -174,8 +174,8 @@ fn packets_with_an_added_keeper() {
 }
 
 /// The event by old players on their record, and by the library and the new ones on the same record, taken over. What the old ones
-/// accept the new ones do alike; a message to an added keeper is 5 to the old ones, and 12 or 13 to the new ones, or 5 for its other
-/// numbers. Only a full line of 16 tells them apart otherwise. Both answers.
+/// accept the new ones do alike; a message to an added keeper is 5 to the old ones, and 12 or 13 to the new ones, or 5 for its
+/// other numbers. Only a full line of 16 tells them apart otherwise. Both answers.
 fn step(event: Event, old: &mut [u32], upgrade: fn(&[u32], &mut [u32]) -> u32) -> (u32, u32) {
     let before = old.to_vec();
     let mut record = vec![0; if old.len() == OLD.keeper_words() { NEW.keeper_words() } else { NEW.kiosk_words() }];

@@ -42,6 +42,13 @@ const CLIENT: Call = Call {
     unmet: kiosk_unmet,
 };
 
+/// Words, and 0 behind them up to this number.
+fn padded(words: &[u32], length: usize) -> Vec<u32> {
+    let mut padded = words.to_vec();
+    padded.resize(length, 0);
+    padded
+}
+
 /// What is lent begins `EDGE` words from the start, and as many stand behind it.
 const EDGE: usize = 4;
 
@@ -82,9 +89,7 @@ impl Call {
         let (number, record) = self.compare(saved, room, filler);
         assert_eq!(number, self.expected(saved, room), "{}: {saved:?} into {room} words", self.name);
         if number == 0 {
-            let mut expected = saved.to_vec();
-            expected.resize(self.present, 0);
-            assert!(record == expected, "{}: {saved:?} became {record:?}", self.name);
+            assert!(record == padded(saved, self.present), "{}: {saved:?} became {record:?}", self.name);
         }
         number
     }
@@ -99,13 +104,6 @@ impl Call {
 
 // By hand ---------------------------------------------------------------------------------------------------------------------
 
-/// Words, and 0 behind them up to this number.
-fn padded(words: &[u32], length: usize) -> Vec<u32> {
-    let mut padded = words.to_vec();
-    padded.resize(length, 0);
-    padded
-}
-
 /// Keeper 2 of 31: without an owner, with one, with two and with sixteen in line.
 fn keepers() -> [Vec<u32>; 4] {
     let line = |count: u32| (0..count).flat_map(|i| [100 + i, 7]).collect::<Vec<_>>();
@@ -113,7 +111,8 @@ fn keepers() -> [Vec<u32>; 4] {
     [keeper([31, 2, 0, 0, 0]), keeper([31, 2, 5, 3, 0]), keeper([31, 2, 5, 3, 2]), keeper([31, 2, 5, 3, 16])]
 }
 
-/// Kiosk 5 with 31 keepers and threshold 30: never tried; trying with the answers of keepers 2 and 31; holding with those of 1 to 30.
+/// Kiosk 5 with 31 keepers and threshold 30: never tried; trying with the answers of keepers 2 and 31; holding with those of 1 to
+/// 30.
 fn kiosks() -> [Vec<u32>; 3] {
     let mut trying = padded(&[31, 30, 5, TRYING, 9], 67);
     trying[7..9].copy_from_slice(&[2, 4]);

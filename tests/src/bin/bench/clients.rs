@@ -1,5 +1,5 @@
-//! A client's call by the number of its servers: it tries, takes a RESPONSE, or exits. An earlier library's calls are timed in the same
-//! rounds where there is one (`before.rs`); their ratio is the time now over the time before.
+//! A client's call by the number of its servers: it tries, takes a RESPONSE, or exits. An earlier library's calls are timed in the
+//! same rounds where there is one (`before.rs`); their ratio is the time now over the time before.
 
 use crate::before::Before;
 use crate::{best, each, row};
