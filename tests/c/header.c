@@ -1,6 +1,6 @@
 /* Shows that include/sigma.h is right: both examples of document 01, one client's way into its critical section
- * and out of it, a server in a struct, a round of yields in one packet, the unsafe run in a simulation, and the example of a
- * script, through the functions as it declares them. */
+ * and out of it, a server in a struct, its queue filled, saved records taken over, a round of yields in one packet, the unsafe run
+ * in a simulation, and the example of a script, through the functions as it declares them. */
 #include "sigma.h"
 
 #include <assert.h>
@@ -39,7 +39,7 @@ static void enter_and_leave(void)
 {
     uint32_t client[SIGMA_CLIENT_WORDS], server[SIGMA_SERVER_WORDS], sent[SIGMA_SENT_WORDS], words[SIGMA_READ_WORDS];
     uint8_t out[28];
-    expect(sigma_client_new(1, 1, 5, client, SIGMA_CLIENT_WORDS - 1) == 7, "66 words lent");
+    expect(sigma_client_new(1, 1, 5, client, SIGMA_CLIENT_WORDS - 1) == 7, "514 words lent");
     expect(sigma_client_new(1, 1, 5, client, SIGMA_CLIENT_WORDS) == 0, "a new client");
     expect(sigma_server_new(1, 2, server, SIGMA_SERVER_WORDS) == 7, "server 2 of 1");
     expect(sigma_server_new(1, 1, server, SIGMA_SERVER_WORDS) == 0, "a new server");
@@ -71,7 +71,11 @@ static void enter_and_leave(void)
     expect(sigma_server_check(server, SIGMA_SERVER_WORDS, out, sizeof out, sent, SIGMA_SENT_WORDS) == 21, "broken");
 }
 
+/* Five words, then two for each of 32 places of a queue and for the responses of 255 servers. */
+static_assert(SIGMA_QUEUE_PLACES == 32 && SIGMA_SERVER_WORDS == 69 && SIGMA_CLIENT_WORDS == 515, "the records' words");
+
 /* The struct is the record's words and the two counts, in this order and with nothing between them. */
+static_assert(sizeof(struct sigma_host) == 71 * sizeof(uint32_t), "71 words");
 static_assert(sizeof(struct sigma_host) == (SIGMA_SERVER_WORDS + SIGMA_SENT_WORDS) * sizeof(uint32_t), "no padding");
 static_assert(offsetof(struct sigma_host, id) == 1 * sizeof(uint32_t), "id");
 static_assert(offsetof(struct sigma_host, owner) == 2 * sizeof(uint32_t), "owner");
@@ -130,12 +134,103 @@ static void in_a_struct(void)
     expect(sigma_host_check(&host, host_out, sizeof host_out) == 21 && host.queue_length == SIGMA_QUEUE_PLACES + 1, "a broken struct");
 }
 
-/* Client 5 needs all of 31 servers. The last one's owner is client 2, whose request comes before client 5's, which so yields the 30 others. */
-enum { ROUND = 31 };
+/* Client 100 owns; clients 1 to 32 take the queue's 32 places, the last come first. A 33rd is refused, and a yield goes through 33. */
+static void a_full_queue(void)
+{
+    uint32_t i;
+    memset(&host, 0, sizeof host);
+    memset(counts, 0, sizeof counts);
+    host.n = 255;
+    host.id = 1;
+    expect(sigma_server_new(255, 1, record, SIGMA_SERVER_WORDS) == 0, "server 1 of 255");
+    expect(both_take(SIGMA_REQUEST, 100, 50, sizeof host_out) == 0 && host.owner == 100, "client 100 is owner");
+    for (i = 1; i <= SIGMA_QUEUE_PLACES; i++)
+        expect(both_take(SIGMA_REQUEST, i, 40 - i, sizeof host_out) == 0 && host.queue_length == i, "one more waits");
+    expect(host.queue[0].client == 32 && host.queue[0].timestamp == 8, "the lowest timestamp first");
+    expect(host.queue[31].client == 1 && host.queue[31].timestamp == 39, "the highest last");
+    expect(both_take(SIGMA_REQUEST, 33, 7, sizeof host_out) == 14 && host.queue_length == 32, "no place for a 33rd");
+    expect(both_take(SIGMA_INQUIRY, 33, 7, sizeof host_out) == 0 && host.sent == 1, "which may ask");
+    expect(both_take(SIGMA_YIELD, 100, 50, sizeof host_out) == 0 && host.sent == 2 && host.bytes == 28, "the owner gives way");
+    expect(host.owner == 32 && host.owner_timestamp == 8 && host.queue_length == 32, "the first of 33 is owner, 32 wait");
+    expect(host.queue[0].client == 31 && host.queue[31].client == 100 && host.queue[31].timestamp == 50, "the old owner last");
+    expect(both_take(SIGMA_RELEASE, 31, 9, sizeof host_out) == 0 && host.queue_length == 31, "one goes");
+    expect(both_take(SIGMA_REQUEST, 33, 7, sizeof host_out) == 0 && host.queue[0].client == 33, "and another comes");
+}
+
+/* Records saved before there were so many places: a server's with 16, a client's with 31. */
+enum { SAVED_SERVER_WORDS = 37, SAVED_CLIENT_WORDS = 67 };
+
+static int all(const uint32_t *words, size_t length, uint32_t word)
+{
+    while (length > 0)
+        if (words[--length] != word)
+            return 0;
+    return 1;
+}
+
+static void saved_server(void)
+{
+    uint32_t saved[SAVED_SERVER_WORDS] = {31, 2, 5, 3, 16}, before[SAVED_SERVER_WORDS], taken[SIGMA_SERVER_WORDS + 1], i;
+    uint32_t again[SIGMA_SERVER_WORDS];
+    for (i = 0; i < 16; i++) {
+        saved[5 + 2 * i] = 10 + i;
+        saved[6 + 2 * i] = 4;
+    }
+    memcpy(before, saved, sizeof saved);
+    memset(taken, 0x77, sizeof taken);
+    expect(sigma_server_check(saved, SAVED_SERVER_WORDS, host_out, sizeof host_out, counts, SIGMA_SENT_WORDS) == 21, "no step takes it");
+    expect(sigma_server_upgrade(saved, SAVED_SERVER_WORDS - 1, taken, SIGMA_SERVER_WORDS) == 21, "36 words");
+    expect(sigma_server_upgrade(saved, SAVED_SERVER_WORDS, taken, SIGMA_SERVER_WORDS - 1) == 6, "68 words lent");
+    saved[0] = 32;
+    expect(sigma_server_upgrade(saved, SAVED_SERVER_WORDS, taken, 0) == 21, "n 32, which 37 words could not say");
+    saved[0] = 31;
+    expect(all(taken, SIGMA_SERVER_WORDS + 1, 0x77777777), "refused, all is as it was");
+    expect(sigma_server_upgrade(saved, SAVED_SERVER_WORDS, taken, SIGMA_SERVER_WORDS + 1) == 0, "taken over");
+    expect(memcmp(taken, saved, sizeof saved) == 0 && all(taken + SAVED_SERVER_WORDS, 32, 0), "the queue in front, all else empty");
+    expect(taken[SIGMA_SERVER_WORDS] == 0x77777777 && memcmp(saved, before, sizeof saved) == 0, "nothing else is written");
+    expect(sigma_server_upgrade(taken, SIGMA_SERVER_WORDS, again, SIGMA_SERVER_WORDS) == 0, "the present form");
+    expect(memcmp(again, taken, sizeof again) == 0, "is copied");
+    {
+        uint32_t request[SIGMA_MESSAGE_WORDS] = {SIGMA_REQUEST, 9, 2, 4, 0};
+        expect(sigma_server_message(taken, SIGMA_SERVER_WORDS, request, SIGMA_MESSAGE_WORDS, host_out, sizeof host_out, counts,
+                                    SIGMA_SENT_WORDS) == 0 && taken[4] == 17 && taken[5] == 9, "a 17th waits, and is the first");
+    }
+}
+
+static void saved_client(void)
+{
+    /* Client 5 with 31 servers and threshold 2: server 31 has answered for it. */
+    uint32_t saved[SAVED_CLIENT_WORDS] = {31, 2, 5, SIGMA_TRYING, 3}, before[SAVED_CLIENT_WORDS], taken[SIGMA_CLIENT_WORDS + 1];
+    uint32_t again[SIGMA_CLIENT_WORDS];
+    saved[65] = 5;
+    saved[66] = 3;
+    memcpy(before, saved, sizeof saved);
+    memset(taken, 0x77, sizeof taken);
+    expect(sigma_client_exit(saved, SAVED_CLIENT_WORDS, host_out, sizeof host_out, counts, SIGMA_SENT_WORDS) == 21, "no step takes it");
+    expect(sigma_client_upgrade(saved, SAVED_SERVER_WORDS, taken, SIGMA_CLIENT_WORDS) == 21, "37 words");
+    expect(sigma_client_upgrade(saved, SAVED_CLIENT_WORDS, taken, SIGMA_CLIENT_WORDS - 1) == 6, "514 words lent");
+    saved[0] = 32;
+    expect(sigma_client_upgrade(saved, SAVED_CLIENT_WORDS, taken, 0) == 21, "n 32, which 67 words could not say");
+    saved[0] = 31;
+    expect(all(taken, SIGMA_CLIENT_WORDS + 1, 0x77777777), "refused, all is as it was");
+    expect(sigma_client_upgrade(saved, SAVED_CLIENT_WORDS, taken, SIGMA_CLIENT_WORDS + 1) == 0, "taken over");
+    expect(memcmp(taken, saved, sizeof saved) == 0 && all(taken + SAVED_CLIENT_WORDS, 448, 0), "the responses in front, all else empty");
+    expect(taken[SIGMA_CLIENT_WORDS] == 0x77777777 && memcmp(saved, before, sizeof saved) == 0, "nothing else is written");
+    expect(sigma_client_upgrade(taken, SIGMA_CLIENT_WORDS, again, SIGMA_CLIENT_WORDS) == 0, "the present form");
+    expect(memcmp(again, taken, sizeof again) == 0, "is copied");
+    {
+        uint32_t response[SIGMA_MESSAGE_WORDS] = {SIGMA_RESPONSE, 5, 1, 3, 5};
+        expect(sigma_client_message(taken, SIGMA_CLIENT_WORDS, response, SIGMA_MESSAGE_WORDS, host_out, 0, counts,
+                                    SIGMA_SENT_WORDS) == 0 && taken[3] == SIGMA_CRITICAL, "the second response brings it in");
+    }
+}
+
+/* Client 5 needs all of 255 servers. The last one's owner is client 2, whose request comes before client 5's, which so yields the 254 others. */
+enum { ROUND = 255 };
 
 static uint32_t delivered = 0;
 
-/* The round's next message: YIELD to servers 1 to 30, then INQUIRY to server 31. */
+/* The round's next message: YIELD to servers 1 to 254, then INQUIRY to server 255. */
 static void deliver(const uint32_t *words, const uint8_t *part)
 {
     uint32_t alone[SIGMA_READ_WORDS], kind = ++delivered < ROUND ? SIGMA_YIELD : SIGMA_INQUIRY;
@@ -192,7 +287,7 @@ static void packets(void)
 static void settings(void)
 {
     uint32_t words[2] = {7, 7};
-    expect(sigma_setting(32, 2, 1, words, SIGMA_SETTING_WORDS) == 7 && words[0] == 7, "out of range");
+    expect(sigma_setting(256, 2, 1, words, SIGMA_SETTING_WORDS) == 7 && words[0] == 7, "out of range");
     expect(sigma_setting(3, 2, 1, words, 1) == 6 && words[0] == 7, "one word lent");
     expect(sigma_setting(3, 2, 1, words, SIGMA_SETTING_WORDS) == 8 && words[0] == 0 && words[1] == 12, "unsafe");
     expect(sigma_setting(3, 1, 3, words, SIGMA_SETTING_WORDS) == 8 && (int32_t)words[0] == -4, "a margin below 0");
@@ -201,6 +296,11 @@ static void settings(void)
     expect(sigma_run_event(3, 2, 1, 1, words, SIGMA_EVENT_WORDS) == 0 && words[0] == SIGMA_EVENT_TRY && words[1] == 1, "try 1");
     expect(sigma_run_event(3, 2, 1, 13, words, SIGMA_EVENT_WORDS) == 17, "behind the run");
     expect(sigma_default_threshold(7, words, 1) == 0 && words[0] == 5, "two thirds of 7");
+    expect(sigma_default_threshold(255, words, 1) == 0 && words[0] == 170, "two thirds of 255");
+    expect(sigma_default_threshold(256, words, 1) == 7 && words[0] == 170, "out of range");
+    expect(sigma_setting(255, 255, 255, words, SIGMA_SETTING_WORDS) == 8 && words[0] == 0 && words[1] == 1532, "the longest run");
+    expect(sigma_run_event(255, 255, 255, 1532, words, SIGMA_EVENT_WORDS) == 0 && words[0] == SIGMA_EVENT_TAKE && words[1] == 1020, "its end");
+    expect(sigma_run_event(255, 255, 255, 1533, words, SIGMA_EVENT_WORDS) == 17, "behind it");
 }
 
 /* Document 01's example, in two parts and with room for one line at a time. */
@@ -241,6 +341,7 @@ static void simulation(void)
     uint32_t answer[SIGMA_ANSWER_WORDS] = {7, 7}, setting[SIGMA_SETTING_WORDS], event[SIGMA_EVENT_WORDS], i;
     expect(sigma_simulation_new(3, 2, 1, 2, words, SIGMA_SIMULATION_WORDS - 1) == 7, "too few words");
     expect(sigma_simulation_new(3, 2, 1, 17, words, SIGMA_SIMULATION_WORDS) == 7, "17 clients");
+    expect(sigma_simulation_new(32, 2, 1, 2, words, SIGMA_SIMULATION_WORDS) == 7, "32 servers");
     expect(sigma_simulation_new(3, 2, 1, 2, words, SIGMA_SIMULATION_WORDS) == 0, "a fresh start");
     memcpy(before, words, sizeof words);
     expect(sigma_simulation_event(words, SIGMA_SIMULATION_WORDS, SIGMA_EVENT_CHECK + 1, 1, answer, 2) == 16, "no such kind");
@@ -263,10 +364,18 @@ int main(void)
     static const uint8_t response[] = {0x0E, 0, 5, 0, 5, 0, 1, 0, 3, 0, 0, 0, 2, 0};
     static const uint32_t request_words[] = {SIGMA_REQUEST, 5, 1, 3, 0};
     static const uint32_t response_words[] = {SIGMA_RESPONSE, 5, 1, 3, 2};
+    static const uint8_t to_the_last[] = {0x0C, 0, 1, 0, 5, 0, 255, 0, 3, 0, 0, 0}, too_far[] = {0x0C, 0, 1, 0, 5, 0, 1, 1, 3, 0, 0, 0};
+    static const uint32_t last_words[] = {SIGMA_REQUEST, 5, 255, 3, 0};
+    uint32_t words[SIGMA_READ_WORDS];
     round_trip(request, sizeof request, request_words);
     round_trip(response, sizeof response, response_words);
+    round_trip(to_the_last, sizeof to_the_last, last_words);
+    expect(sigma_read(too_far, sizeof too_far, words, SIGMA_READ_WORDS) == 5, "server 257");
     enter_and_leave();
     in_a_struct();
+    a_full_queue();
+    saved_server();
+    saved_client();
     packets();
     settings();
     simulation();

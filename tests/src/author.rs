@@ -76,10 +76,10 @@ pub fn any_script(r: &mut Random) -> Vec<u8> {
     let (setting, kiosks) = any_setting(r);
     let Setting { n, m, f } = setting;
     let mut script = vec![];
-    let out_of_range =
-        [format!("setting 32 {m} {f} {kiosks}"), format!("setting {n} {m} {f} 17"), format!("setting {n} 0 {f} 1")];
-    let first =
-        if r.below(20) == 0 { out_of_range[r.below(3) as usize].clone() } else { format!("setting {n} {m} {f} {kiosks}") };
+    let too_many = [32, 33, 255, 256].map(|n| format!("setting {n} {m} {f} {kiosks}"));
+    let out_of_range = [format!("setting {n} {m} {f} 17"), format!("setting {n} 0 {f} 1")];
+    let wrong = [&too_many[..], &out_of_range].concat();
+    let first = if r.below(20) == 0 { wrong[r.below(6) as usize].clone() } else { format!("setting {n} {m} {f} {kiosks}") };
     push_line(&mut script, &first, damage / 3, r);
     let mut gallery = Gallery::new(setting, kiosks, GALLERY).expect("in range");
     for _ in 0..r.below(300) {

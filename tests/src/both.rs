@@ -1,7 +1,8 @@
 //! One step of a kiosk or keeper, made by the library and by the model on equal loans, and all that either could have
 //! changed held against each other.
 
-use crate::{keeper, kiosk, library, model};
+use crate::library;
+use crate::players::{Players, NEW};
 
 #[derive(Clone, Copy, Debug)]
 pub enum Event<'a> {
@@ -24,27 +25,49 @@ fn by_library(event: Event, record: &mut [u32], out: &mut [u8], sent: &mut [u32]
     }
 }
 
-fn by_model(event: Event, record: &mut [u32], out: &mut [u8], sent: &mut [u32]) -> u32 {
+fn by_model(players: Players, event: Event, record: &mut [u32], out: &mut [u8], sent: &mut [u32]) -> u32 {
     match event {
-        Event::KeeperTakes(message) => keeper::message(record, message, out, sent),
-        Event::Missing => keeper::missing(record, out, sent),
-        Event::Check => keeper::check(record, out, sent),
-        Event::KioskTakes(message) => kiosk::message(record, message, out, sent),
-        Event::Try => kiosk::try_wall(record, out, sent),
-        Event::Exit => kiosk::exit(record, out, sent),
+        Event::KeeperTakes(message) => players.keeper_takes(record, message, out, sent),
+        Event::Missing => players.keeper_misses(record, out, sent),
+        Event::Check => players.keeper_checks(record, out, sent),
+        Event::KioskTakes(message) => players.kiosk_takes(record, message, out, sent),
+        Event::Try => players.kiosk_tries(record, out, sent),
+        Event::Exit => players.kiosk_exits(record, out, sent),
     }
 }
 
-/// Room for everything that any step sends.
-pub const ROOM: usize = 380;
+/// Room for everything that any step sends: a kiosk's to 255 keepers.
+pub const ROOM: usize = 3068;
+
+/// The messages that stand in these bytes.
+fn messages_in(bytes: &[u8]) -> Vec<[u32; 5]> {
+    let (mut rest, mut messages) = (bytes, vec![]);
+    while !rest.is_empty() {
+        let (m, used) = NEW.parse(rest).expect("a step writes whole messages");
+        messages.push([m.kind, m.kiosk, m.keeper, m.ticket, m.owner]);
+        rest = &rest[used..];
+    }
+    messages
+}
+
+/// The step by players of either generation alone, with room enough: the messages sent, or the refusal, which leaves the record.
+pub fn played(players: Players, event: Event, record: &mut [u32]) -> Result<Vec<[u32; 5]>, u32> {
+    let (mut out, mut sent, before) = ([0; ROOM], [0; 2], record.to_vec());
+    let number = by_model(players, event, record, &mut out, &mut sent);
+    if number != 0 {
+        assert!(record == before, "{number} changed something: {event:?} on {before:?}");
+        return Err(number);
+    }
+    Ok(messages_in(&out[..sent[1] as usize]))
+}
 
 /// What is lent begins `EDGE` elements from the start of each array, and as many stand behind it at least.
 const EDGE: usize = 4;
 
 #[derive(Clone, PartialEq, Eq, Debug)]
 struct Loan {
-    record: [u32; 80],
-    out: [u8; ROOM + 2 * EDGE],
+    record: Vec<u32>,
+    out: Vec<u8>,
     sent: [u32; 3 + 2 * EDGE],
 }
 
@@ -55,8 +78,8 @@ pub struct Outcome {
 }
 
 impl Outcome {
-    pub fn record<const W: usize>(&self) -> [u32; W] {
-        std::array::from_fn(|i| self.loan.record[EDGE + i])
+    pub fn record(&self) -> &[u32] {
+        &self.loan.record[EDGE..self.loan.record.len() - EDGE]
     }
 
     /// How many messages an accepted step sent, and their bytes.
@@ -70,30 +93,25 @@ impl Outcome {
 
     /// The messages that an accepted step sent.
     pub fn messages(&self) -> Vec<[u32; 5]> {
-        let mut rest = self.bytes();
-        let mut messages = vec![];
-        while !rest.is_empty() {
-            let (m, used) = model::parse(rest).expect("a step writes whole messages");
-            messages.push([m.kind, m.kiosk, m.keeper, m.ticket, m.owner]);
-            rest = &rest[used..];
-        }
-        messages
+        messages_in(self.bytes())
     }
 }
 
 /// Lends both the record, `room` bytes of `out` and `words` words of `sent`, all else holding `filler`.
 pub fn compare(event: Event, record: &[u32], room: usize, words: usize, filler: u8) -> Outcome {
     let word = u32::from_ne_bytes([filler; 4]);
-    let mut before = Loan { record: [word; 80], out: [filler; ROOM + 2 * EDGE], sent: [word; 3 + 2 * EDGE] };
-    before.record[EDGE..EDGE + record.len()].copy_from_slice(record);
+    let edge = [word; EDGE];
+    let record = [&edge, record, &edge].concat();
+    let before = Loan { record, out: vec![filler; room + 2 * EDGE], sent: [word; 3 + 2 * EDGE] };
+    let record = EDGE..before.record.len() - EDGE;
     let call = |by: fn(Event, &mut [u32], &mut [u8], &mut [u32]) -> u32| {
         let mut loan = before.clone();
-        let record = &mut loan.record[EDGE..EDGE + record.len()];
-        let number = by(event, record, &mut loan.out[EDGE..EDGE + room], &mut loan.sent[EDGE..EDGE + words]);
-        (number, loan)
+        let (out, sent) = (&mut loan.out[EDGE..EDGE + room], &mut loan.sent[EDGE..EDGE + words]);
+        (by(event, &mut loan.record[record.clone()], out, sent), loan)
     };
     let ours = call(by_library);
-    let theirs = call(by_model);
+    let theirs = call(|event, record, out, sent| by_model(NEW, event, record, out, sent));
+    let record = &before.record[record];
     assert!(ours == theirs, "{event:?} on {record:?}, {room} bytes, {words} words\nlibrary {ours:?}\nmodel {theirs:?}");
     let (number, loan) = ours;
     assert!(number == 0 || loan == before, "{number} changed something: {event:?} on {record:?}, {room}, {words}");

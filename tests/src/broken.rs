@@ -2,16 +2,17 @@
 //! is broken if ..', and document 02, L2, a rule for each thing that they name. Where they leave a choice the rule says what was
 //! chosen.
 
-use crate::gallery::{GALLERY, KIOSKS};
+use crate::gallery::{GALLERY, KEEPERS, KIOSKS};
 use crate::kiosk::{HOLDING, REMAINDER, TRYING};
-use crate::model::{in_range, Message, KEEPERS};
-use crate::simulation::{client_at, flags_at, index_of, server_at, slot_at, INDEX, WORDS};
+use crate::model::Message;
+use crate::players::{Players, NEW};
+use crate::simulation::{client_at, flags_at, index_of, server_at, slot_at, FORM, INDEX, WORDS};
 
 #[derive(Clone, Copy, Debug, PartialEq, Eq, PartialOrd, Ord)]
 pub enum Rule {
     /// A gallery has so many words, and no other number of them. Ours: it is no rule of the document's.
     Length,
-    /// "n 1 to 31, threshold m 1 to n, losses f 0 to n."
+    /// "n 1 to 31, threshold m 1 to n, losses f 0 to n.", as a gallery still has it.
     Setting,
     /// "A gallery has 1 to 16 kiosks .."
     Kiosks,
@@ -91,10 +92,11 @@ fn pairs_unmet(pairs: &[(u32, u32)]) -> Vec<Rule> {
     ])
 }
 
-/// The kiosk's record by itself. Where its numbers are out of range, nothing else can be said of it.
-fn kiosk_unmet(record: &[u32]) -> Vec<Rule> {
+/// The kiosk's record by itself, with as many words as these players' have. Where its numbers are out of range, nothing else can be
+/// said of it.
+pub fn kiosk_unmet(players: Players, record: &[u32]) -> Vec<Rule> {
     let [n, m, id, section, ticket] = std::array::from_fn(|i| record[i]);
-    let settled = (1..=KEEPERS).contains(&n) && (1..=n).contains(&m);
+    let settled = (1..=players.keepers).contains(&n) && (1..=n).contains(&m);
     if !settled || !(1..=65_535).contains(&id) || ![REMAINDER, TRYING, HOLDING].contains(&section) {
         return vec![Rule::Number];
     }
@@ -117,10 +119,10 @@ fn kiosk_unmet(record: &[u32]) -> Vec<Rule> {
     ])
 }
 
-/// The keeper's record by itself.
-fn keeper_unmet(record: &[u32]) -> Vec<Rule> {
+/// The keeper's record by itself, the same.
+pub fn keeper_unmet(players: Players, record: &[u32]) -> Vec<Rule> {
     let [n, id, owner, ticket, length] = std::array::from_fn(|i| record[i]);
-    if !(1..=KEEPERS).contains(&n) || !(1..=n).contains(&id) {
+    if !(1..=players.keepers).contains(&n) || !(1..=n).contains(&id) {
         return vec![Rule::Number];
     }
     let places = pairs(&record[5..]);
@@ -171,7 +173,7 @@ impl Parties {
     /// Kiosk `number`: its record, and which keepers are noted as down in its epoch.
     fn client_unmet(&self, number: u32, block: &[u32], flags: &[u32]) -> Vec<Rule> {
         let (living, record) = (block[0], &block[1..]);
-        let mut wrong = kiosk_unmet(record);
+        let mut wrong = kiosk_unmet(FORM, record);
         if readable(&wrong) {
             let place = [self.n, self.m, number];
             let named = self.have(&pairs(&record[5..5 + 2 * self.n as usize]));
@@ -188,7 +190,7 @@ impl Parties {
 
     fn server_unmet(&self, number: u32, block: &[u32]) -> Vec<Rule> {
         let (up, record) = (block[0], &block[1..]);
-        let mut wrong = keeper_unmet(record);
+        let mut wrong = keeper_unmet(FORM, record);
         if readable(&wrong) {
             let line = pairs(&record[5..5 + 2 * record[4] as usize]);
             let named = self.have(&line) && self.have(&[(record[2], record[3])]);
@@ -202,7 +204,7 @@ impl Parties {
     /// kept the document leaves open; it may.
     fn message_unmet(&self, slot: &[u32], before: u32, last: u32) -> Vec<Rule> {
         let [number, taken, kind, kiosk, keeper, ticket, owner] = std::array::from_fn(|i| slot[i]);
-        let good = in_range(&Message { kind, kiosk, keeper, ticket, owner });
+        let good = NEW.in_range(&Message { kind, kiosk, keeper, ticket, owner });
         let named = kiosk <= self.kiosks && keeper <= self.n && owner <= self.kiosks;
         unmet([
             (Rule::Message, good),

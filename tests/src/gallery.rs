@@ -1,10 +1,11 @@
 //! The gallery: document 01, 'The gallery script' and the row 'gallery event' of its refusal table. The same step is
-//! that of a run, which has no refusal 19: there the limits are out of reach.
+//! that of a run, which has any n in range and no refusal 19: there the limits are out of reach.
 
 use crate::fault::Fault;
 use crate::keeper::Keeper;
 use crate::kiosk::{Kiosk, HOLDING};
 use crate::model::{Message, RESPONSE};
+use crate::players::NEW;
 use crate::setting::Setting;
 use std::collections::BTreeSet;
 
@@ -29,16 +30,19 @@ pub struct Event {
     pub number: u64,
 }
 
-/// What refusal 19 goes by: the messages kept at once, and the largest message number.
+/// The keepers, which 7 goes by, and what refusal 19 goes by: the messages kept at once, and the largest message number.
 #[derive(Clone, Copy, Debug, PartialEq, Eq)]
 pub struct Limits {
+    pub keepers: u32,
     pub places: usize,
     pub numbers: u64,
 }
 
-pub const GALLERY: Limits = Limits { places: 512, numbers: 4_294_967_295 };
-pub const RUN: Limits = Limits { places: usize::MAX, numbers: u64::MAX };
+pub const GALLERY: Limits = Limits { keepers: KEEPERS, places: 512, numbers: 4_294_967_295 };
+pub const RUN: Limits = Limits { keepers: u32::MAX, places: usize::MAX, numbers: u64::MAX };
 
+/// Document 02, L3: a gallery keeps its 31 keepers, whatever n its players could have.
+pub const KEEPERS: u32 = 31;
 pub const KIOSKS: u32 = 16;
 
 /// A kiosk, and while its epoch is open the keepers ever down in it.
@@ -92,11 +96,11 @@ fn place(number: u64, count: usize) -> Result<usize, u32> {
 impl Gallery {
     /// All kiosks live, in remainder, and have never tried; all keepers are up and have no owner.
     pub fn new(setting: Setting, kiosks: u32, limits: Limits) -> Result<Gallery, u32> {
-        if !(1..=KIOSKS).contains(&kiosks) {
+        if !(1..=KIOSKS).contains(&kiosks) || setting.n > limits.keepers {
             return Err(7);
         }
-        let client = |k| Ok(Client { living: true, record: Kiosk::new(setting.n, setting.m, k)?, epoch: None });
-        let server = |j| Ok(Server { up: true, record: Keeper::new(setting.n, j)? });
+        let client = |k| Ok(Client { living: true, record: Kiosk::new(NEW, setting.n, setting.m, k)?, epoch: None });
+        let server = |j| Ok(Server { up: true, record: Keeper::new(NEW, setting.n, j)? });
         Ok(Gallery {
             setting,
             clients: (1..=kiosks).map(client).collect::<Result<_, u32>>()?,
@@ -208,7 +212,7 @@ impl Gallery {
     fn down(&mut self, j: u64) -> Result<usize, u32> {
         let at = self.standing(j)?;
         let id = self.servers[at].record.id;
-        self.servers[at] = Server { up: false, record: Keeper::new(self.setting.n, id)? };
+        self.servers[at] = Server { up: false, record: Keeper::new(NEW, self.setting.n, id)? };
         for kept in self.kept.iter_mut().filter(|kept| kept.message.kind < RESPONSE && kept.message.keeper == id) {
             kept.taken = false;
         }
@@ -255,7 +259,8 @@ impl Gallery {
     fn server_takes(&mut self, at: usize, message: &Message) -> Result<usize, u32> {
         let j = self.standing(u64::from(message.keeper))?;
         let mut record = self.servers[j].record.clone();
-        let sent = self.send(&record.message_with(message, self.fault)?, 0)?;
+        // With 16 kiosks no line is full: "In a gallery 14 never occurs."
+        let sent = self.send(&record.message_with(message, NEW.line, self.fault)?, 0)?;
         self.servers[j].record = record;
         self.kept[at].taken = self.fault != Fault::ComesTwice;
         Ok(sent)

@@ -1,8 +1,8 @@
 //! The index beside the table: document 02, L2, "per receiver, the kept message numbers in ascending order, with waiting or
 //! taken", made afresh from what is kept, and its words. The order of the words is the library's own; no paper has it.
 
-use crate::gallery::{Kept, GALLERY, KIOSKS};
-use crate::model::{Message, CHECK, INQUIRY, KEEPERS, REQUEST, RESPONSE};
+use crate::gallery::{Kept, GALLERY, KEEPERS, KIOSKS};
+use crate::model::{Message, CHECK, INQUIRY, REQUEST, RESPONSE};
 use std::fmt;
 
 /// Whom a message goes to. Keepers have places 0 to 30, kiosks 31 to 46.

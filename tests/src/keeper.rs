@@ -1,12 +1,12 @@
-//! The keeper: document 01, 'The keeper', and Figure 1, lines 26 to 56.
+//! The keeper: document 01, 'The keeper', and Figure 1, lines 26 to 56; and its saved record, document 02, L3.
 
 use crate::fault::Fault;
-use crate::model::{Message, CHECK, INQUIRY, KEEPERS, RELEASE, REQUEST, RESPONSE, YIELD};
-use crate::records::{hand_over, message_of, number_of, pair, place, places, words_of, Pair};
+use crate::model::{Message, CHECK, INQUIRY, RELEASE, REQUEST, RESPONSE, YIELD};
+use crate::players::{saved_by, Players, NEW};
+use crate::records::{hand_over, number_of, pair, place, places, words_of, Pair};
 
 /// n, the keeper's number, owner, the owner's ticket, the line's length, then kiosk and ticket of each place.
-pub const WORDS: usize = 37;
-const PLACES: usize = 16;
+pub const WORDS: usize = NEW.keeper_words();
 
 #[derive(Clone, Debug, PartialEq, Eq)]
 pub struct Keeper {
@@ -17,8 +17,8 @@ pub struct Keeper {
 }
 
 impl Keeper {
-    pub fn new(n: u32, id: u32) -> Result<Keeper, u32> {
-        if (1..=KEEPERS).contains(&n) && (1..=n).contains(&id) {
+    pub fn new(players: Players, n: u32, id: u32) -> Result<Keeper, u32> {
+        if (1..=players.keepers).contains(&n) && (1..=n).contains(&id) {
             Ok(Keeper { n, id, owner: None, line: vec![] })
         } else {
             Err(7)
@@ -26,33 +26,40 @@ impl Keeper {
     }
 
     /// The record in these words, or 21 if they are broken.
-    pub fn read(words: &[u32]) -> Result<Keeper, u32> {
-        if words.len() != WORDS {
+    pub fn read(players: Players, words: &[u32]) -> Result<Keeper, u32> {
+        if words.len() != players.keeper_words() {
             return Err(21);
         }
         let length = words[4] as usize;
         let owner = place(words[2], words[3])?;
         let places = places(&words[5..])?;
         let line: Vec<Pair> = places.iter().copied().flatten().collect();
-        let in_front = length <= PLACES && places.iter().enumerate().all(|(i, p)| p.is_some() == (i < length));
+        let in_front = length <= players.line && places.iter().enumerate().all(|(i, p)| p.is_some() == (i < length));
         let in_order = line.windows(2).all(|two| two[0] < two[1]);
         let everyone: Vec<&Pair> = owner.iter().chain(&line).collect();
         let twice = (0..everyone.len()).any(|i| everyone[..i].iter().any(|p| p.kiosk == everyone[i].kiosk));
         if !in_front || !in_order || twice || (owner.is_none() && length > 0) {
             return Err(21);
         }
-        let new = Keeper::new(words[0], words[1]).map_err(|_| 21u32)?;
+        let new = Keeper::new(players, words[0], words[1]).map_err(|_| 21u32)?;
         Ok(Keeper { owner, line, ..new })
     }
 
-    pub fn words(&self) -> [u32; WORDS] {
-        let mut words = [0; WORDS];
+    /// The line stands in front, and the other places are empty.
+    pub fn put(&self, words: &mut [u32]) {
         words[..2].copy_from_slice(&[self.n, self.id]);
         words[2..4].copy_from_slice(&words_of(self.owner));
         words[4] = self.line.len() as u32;
-        for (i, &p) in self.line.iter().enumerate() {
-            words[5 + 2 * i..7 + 2 * i].copy_from_slice(&words_of(Some(p)));
+        let (line, behind) = words[5..].split_at_mut(2 * self.line.len());
+        for (place, &p) in line.chunks_mut(2).zip(&self.line) {
+            place.copy_from_slice(&words_of(Some(p)));
         }
+        behind.fill(0);
+    }
+
+    pub fn words(&self, players: Players) -> Vec<u32> {
+        let mut words = vec![0; players.keeper_words()];
+        self.put(&mut words);
         words
     }
 
@@ -85,11 +92,12 @@ impl Keeper {
         None
     }
 
-    pub fn message(&mut self, m: &Message) -> Result<Vec<Message>, u32> {
-        self.message_with(m, Fault::None)
+    /// With a line of so many places.
+    pub fn message(&mut self, m: &Message, places: usize) -> Result<Vec<Message>, u32> {
+        self.message_with(m, places, Fault::None)
     }
 
-    pub fn message_with(&mut self, m: &Message, fault: Fault) -> Result<Vec<Message>, u32> {
+    pub fn message_with(&mut self, m: &Message, places: usize, fault: Fault) -> Result<Vec<Message>, u32> {
         if !(REQUEST..=INQUIRY).contains(&m.kind) || m.keeper != self.id {
             return Err(13);
         }
@@ -113,7 +121,7 @@ impl Keeper {
                 if self.owner.is_none() {
                     self.owner = Some(sender);
                 } else if !self.line.contains(&sender) {
-                    if self.line.len() == PLACES {
+                    if self.line.len() == places {
                         return Err(14);
                     }
                     self.join(sender);
@@ -154,33 +162,60 @@ impl Keeper {
 
 // The same steps over lent words, as the library offers them.
 
-fn step<F>(record: &mut [u32], out: &mut [u8], sent: &mut [u32], event: F) -> u32
-where
-    F: FnOnce(&mut Keeper) -> Result<Vec<Message>, u32>,
-{
-    number_of(Keeper::read(record).and_then(|mut keeper| {
-        let messages = event(&mut keeper)?;
-        hand_over(&messages, out, sent)?;
-        record.copy_from_slice(&keeper.words());
-        Ok(())
-    }))
+impl Players {
+    fn keeper_step<F>(self, record: &mut [u32], out: &mut [u8], sent: &mut [u32], event: F) -> u32
+    where
+        F: FnOnce(&mut Keeper) -> Result<Vec<Message>, u32>,
+    {
+        number_of(Keeper::read(self, record).and_then(|mut keeper| {
+            let messages = event(&mut keeper)?;
+            hand_over(&messages, out, sent)?;
+            keeper.put(record);
+            Ok(())
+        }))
+    }
+
+    pub fn keeper_new(self, n: u32, id: u32, record: &mut [u32]) -> u32 {
+        number_of(Keeper::new(self, n, id).and_then(|keeper| {
+            keeper.put(record.get_mut(..self.keeper_words()).ok_or(7u32)?);
+            Ok(())
+        }))
+    }
+
+    pub fn keeper_takes(self, record: &mut [u32], message: &[u32], out: &mut [u8], sent: &mut [u32]) -> u32 {
+        self.keeper_step(record, out, sent, |keeper| keeper.message(&self.message_of(message)?, self.line))
+    }
+
+    pub fn keeper_misses(self, record: &mut [u32], out: &mut [u8], sent: &mut [u32]) -> u32 {
+        self.keeper_step(record, out, sent, Keeper::missing)
+    }
+
+    pub fn keeper_checks(self, record: &mut [u32], out: &mut [u8], sent: &mut [u32]) -> u32 {
+        self.keeper_step(record, out, sent, |keeper| Ok(keeper.check()))
+    }
 }
 
 pub fn new(n: u32, id: u32, record: &mut [u32]) -> u32 {
-    number_of(Keeper::new(n, id).and_then(|keeper| {
-        record.get_mut(..WORDS).ok_or(7u32)?.copy_from_slice(&keeper.words());
-        Ok(())
-    }))
+    NEW.keeper_new(n, id, record)
 }
 
 pub fn message(record: &mut [u32], message: &[u32], out: &mut [u8], sent: &mut [u32]) -> u32 {
-    step(record, out, sent, |keeper| keeper.message(&message_of(message)?))
+    NEW.keeper_takes(record, message, out, sent)
 }
 
 pub fn missing(record: &mut [u32], out: &mut [u8], sent: &mut [u32]) -> u32 {
-    step(record, out, sent, Keeper::missing)
+    NEW.keeper_misses(record, out, sent)
 }
 
 pub fn check(record: &mut [u32], out: &mut [u8], sent: &mut [u32]) -> u32 {
-    step(record, out, sent, |keeper| Ok(keeper.check()))
+    NEW.keeper_checks(record, out, sent)
+}
+
+/// "A saved record, unless broken (21), is taken over with its line .. in front, the other places empty." Then 6 without room.
+pub fn upgrade(saved: &[u32], record: &mut [u32]) -> u32 {
+    let keeper = saved_by(saved, Players::keeper_words).and_then(|players| Keeper::read(players, saved));
+    number_of(keeper.and_then(|keeper| {
+        keeper.put(record.get_mut(..WORDS).ok_or(6u32)?);
+        Ok(())
+    }))
 }

@@ -1,11 +1,12 @@
-//! The kiosk: document 01, 'The kiosk', and Figure 1, lines 1 to 25.
+//! The kiosk: document 01, 'The kiosk', and Figure 1, lines 1 to 25; and its saved record, document 02, L3.
 
 use crate::fault::Fault;
-use crate::model::{Message, CHECK, INQUIRY, KEEPERS, RELEASE, REQUEST, RESPONSE, YIELD};
-use crate::records::{hand_over, message_of, number_of, pair, place, places, words_of, Pair};
+use crate::model::{Message, CHECK, INQUIRY, RELEASE, REQUEST, RESPONSE, YIELD};
+use crate::players::{saved_by, Players, NEW};
+use crate::records::{hand_over, number_of, pair, place, places, words_of, Pair};
 
 /// n, m, the kiosk's number, section, ticket, then kiosk and ticket of the answer in each keeper's place.
-pub const WORDS: usize = 67;
+pub const WORDS: usize = NEW.kiosk_words();
 
 pub const REMAINDER: u32 = 0;
 pub const TRYING: u32 = 1;
@@ -18,30 +19,32 @@ pub struct Kiosk {
     pub id: u32,
     pub section: u32,
     pub ticket: u32,
+    /// The places of keepers 1 to n.
     pub answers: Vec<Option<Pair>>,
 }
 
-fn empty() -> Vec<Option<Pair>> {
-    vec![None; KEEPERS as usize]
+fn empty(n: u32) -> Vec<Option<Pair>> {
+    vec![None; n as usize]
 }
 
 impl Kiosk {
-    pub fn new(n: u32, m: u32, id: u32) -> Result<Kiosk, u32> {
-        if (1..=KEEPERS).contains(&n) && (1..=n).contains(&m) && (1..=65_535).contains(&id) {
-            Ok(Kiosk { n, m, id, section: REMAINDER, ticket: 0, answers: empty() })
+    pub fn new(players: Players, n: u32, m: u32, id: u32) -> Result<Kiosk, u32> {
+        if (1..=players.keepers).contains(&n) && (1..=n).contains(&m) && (1..=65_535).contains(&id) {
+            Ok(Kiosk { n, m, id, section: REMAINDER, ticket: 0, answers: empty(n) })
         } else {
             Err(7)
         }
     }
 
     /// The record in these words, or 21 if they are broken.
-    pub fn read(words: &[u32]) -> Result<Kiosk, u32> {
-        if words.len() != WORDS {
+    pub fn read(players: Players, words: &[u32]) -> Result<Kiosk, u32> {
+        if words.len() != players.kiosk_words() {
             return Err(21);
         }
-        let new = Kiosk::new(words[0], words[1], words[2]).map_err(|_| 21u32)?;
-        let kiosk = Kiosk { section: words[3], ticket: words[4], answers: places(&words[5..])?, ..new };
-        let past = kiosk.answers[kiosk.n as usize..].iter().any(|p| p.is_some());
+        let new = Kiosk::new(players, words[0], words[1], words[2]).map_err(|_| 21u32)?;
+        let (answers, past) = words[5..].split_at(2 * new.n as usize);
+        let kiosk = Kiosk { section: words[3], ticket: words[4], answers: places(answers)?, ..new };
+        let past = past.iter().any(|&word| word != 0);
         let old = kiosk.answers.iter().flatten().any(|p| p.kiosk == kiosk.id && p.ticket != kiosk.ticket);
         let ticket = (1..u32::MAX).contains(&kiosk.ticket);
         let fits = match kiosk.section {
@@ -57,12 +60,19 @@ impl Kiosk {
         }
     }
 
-    pub fn words(&self) -> [u32; WORDS] {
-        let mut words = [0; WORDS];
+    /// The answers stand in front, and the places past keeper n are empty.
+    pub fn put(&self, words: &mut [u32]) {
         words[..5].copy_from_slice(&[self.n, self.m, self.id, self.section, self.ticket]);
-        for (i, &p) in self.answers.iter().enumerate() {
-            words[5 + 2 * i..7 + 2 * i].copy_from_slice(&words_of(p));
+        let (answers, past) = words[5..].split_at_mut(2 * self.answers.len());
+        for (place, &p) in answers.chunks_mut(2).zip(&self.answers) {
+            place.copy_from_slice(&words_of(p));
         }
+        past.fill(0);
+    }
+
+    pub fn words(&self, players: Players) -> Vec<u32> {
+        let mut words = vec![0; players.kiosk_words()];
+        self.put(&mut words);
         words
     }
 
@@ -96,7 +106,7 @@ impl Kiosk {
             return Err(11);
         }
         self.ticket += 1;
-        self.answers = empty();
+        self.answers = empty(self.n);
         self.section = TRYING;
         Ok(self.to_all(REQUEST, self.ticket))
     }
@@ -107,7 +117,7 @@ impl Kiosk {
         }
         let old = self.ticket;
         self.ticket += 1;
-        self.answers = empty();
+        self.answers = empty(self.n);
         self.section = REMAINDER;
         Ok(self.to_all(RELEASE, old))
     }
@@ -150,7 +160,7 @@ impl Kiosk {
     fn round(&mut self, fault: Fault) -> Vec<Message> {
         let answers = self.answers.clone();
         if fault != Fault::KeepsAnswers {
-            self.answers = empty();
+            self.answers = empty(self.n);
         }
         let filled = answers.iter().zip(1..).filter_map(|(place, keeper)| place.map(|p| (p, keeper)));
         filled
@@ -170,33 +180,60 @@ impl Kiosk {
 
 // The same steps over lent words, as the library offers them.
 
-fn step<F>(record: &mut [u32], out: &mut [u8], sent: &mut [u32], event: F) -> u32
-where
-    F: FnOnce(&mut Kiosk) -> Result<Vec<Message>, u32>,
-{
-    number_of(Kiosk::read(record).and_then(|mut kiosk| {
-        let messages = event(&mut kiosk)?;
-        hand_over(&messages, out, sent)?;
-        record.copy_from_slice(&kiosk.words());
-        Ok(())
-    }))
+impl Players {
+    fn kiosk_step<F>(self, record: &mut [u32], out: &mut [u8], sent: &mut [u32], event: F) -> u32
+    where
+        F: FnOnce(&mut Kiosk) -> Result<Vec<Message>, u32>,
+    {
+        number_of(Kiosk::read(self, record).and_then(|mut kiosk| {
+            let messages = event(&mut kiosk)?;
+            hand_over(&messages, out, sent)?;
+            kiosk.put(record);
+            Ok(())
+        }))
+    }
+
+    pub fn kiosk_new(self, n: u32, m: u32, id: u32, record: &mut [u32]) -> u32 {
+        number_of(Kiosk::new(self, n, m, id).and_then(|kiosk| {
+            kiosk.put(record.get_mut(..self.kiosk_words()).ok_or(7u32)?);
+            Ok(())
+        }))
+    }
+
+    pub fn kiosk_tries(self, record: &mut [u32], out: &mut [u8], sent: &mut [u32]) -> u32 {
+        self.kiosk_step(record, out, sent, Kiosk::try_wall)
+    }
+
+    pub fn kiosk_exits(self, record: &mut [u32], out: &mut [u8], sent: &mut [u32]) -> u32 {
+        self.kiosk_step(record, out, sent, Kiosk::exit)
+    }
+
+    pub fn kiosk_takes(self, record: &mut [u32], message: &[u32], out: &mut [u8], sent: &mut [u32]) -> u32 {
+        self.kiosk_step(record, out, sent, |kiosk| kiosk.message(&self.message_of(message)?))
+    }
 }
 
 pub fn new(n: u32, m: u32, id: u32, record: &mut [u32]) -> u32 {
-    number_of(Kiosk::new(n, m, id).and_then(|kiosk| {
-        record.get_mut(..WORDS).ok_or(7u32)?.copy_from_slice(&kiosk.words());
-        Ok(())
-    }))
+    NEW.kiosk_new(n, m, id, record)
 }
 
 pub fn try_wall(record: &mut [u32], out: &mut [u8], sent: &mut [u32]) -> u32 {
-    step(record, out, sent, Kiosk::try_wall)
+    NEW.kiosk_tries(record, out, sent)
 }
 
 pub fn exit(record: &mut [u32], out: &mut [u8], sent: &mut [u32]) -> u32 {
-    step(record, out, sent, Kiosk::exit)
+    NEW.kiosk_exits(record, out, sent)
 }
 
 pub fn message(record: &mut [u32], message: &[u32], out: &mut [u8], sent: &mut [u32]) -> u32 {
-    step(record, out, sent, |kiosk| kiosk.message(&message_of(message)?))
+    NEW.kiosk_takes(record, message, out, sent)
+}
+
+/// "A saved record, unless broken (21), is taken over with its .. answers in front, the other places empty." Then 6 without room.
+pub fn upgrade(saved: &[u32], record: &mut [u32]) -> u32 {
+    let kiosk = saved_by(saved, Players::kiosk_words).and_then(|players| Kiosk::read(players, saved));
+    number_of(kiosk.and_then(|kiosk| {
+        kiosk.put(record.get_mut(..WORDS).ok_or(6u32)?);
+        Ok(())
+    }))
 }

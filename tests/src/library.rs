@@ -31,6 +31,8 @@ extern "C" {
         sent: *mut u32,
         sent_len: usize,
     ) -> u32;
+    fn sigma_server_upgrade(saved: *const u32, saved_len: usize, record: *mut u32, record_len: usize) -> u32;
+    fn sigma_client_upgrade(saved: *const u32, saved_len: usize, record: *mut u32, record_len: usize) -> u32;
     fn sigma_setting(n: u32, m: u32, f: u32, words: *mut u32, words_len: usize) -> u32;
     fn sigma_run_event(n: u32, m: u32, f: u32, i: u32, words: *mut u32, words_len: usize) -> u32;
     fn sigma_default_threshold(n: u32, words: *mut u32, words_len: usize) -> u32;
@@ -104,6 +106,14 @@ pub fn client_exit(record: &mut [u32], out: &mut [u8], sent: &mut [u32]) -> u32 
 pub fn client_message(record: &mut [u32], message: &[u32], out: &mut [u8], sent: &mut [u32]) -> u32 {
     let (r, m, o, s) = (record.as_mut_ptr(), message.as_ptr(), out.as_mut_ptr(), sent.as_mut_ptr());
     unsafe { sigma_client_message(r, record.len(), m, message.len(), o, out.len(), s, sent.len()) }
+}
+
+pub fn server_upgrade(saved: &[u32], record: &mut [u32]) -> u32 {
+    unsafe { sigma_server_upgrade(saved.as_ptr(), saved.len(), record.as_mut_ptr(), record.len()) }
+}
+
+pub fn client_upgrade(saved: &[u32], record: &mut [u32]) -> u32 {
+    unsafe { sigma_client_upgrade(saved.as_ptr(), saved.len(), record.as_mut_ptr(), record.len()) }
 }
 
 pub fn setting(n: u32, m: u32, f: u32, words: &mut [u32]) -> u32 {

@@ -1,7 +1,7 @@
 //! What the records of kiosk and keeper have in common: pairs, places, and how a step hands its messages over.
 //! A refusal is the error of a `Result`; where a call may be refused, its caller works on a copy of the record.
 
-use crate::model::{emit, in_range, length_of, Message};
+use crate::model::{length_of, put, Message};
 
 /// A kiosk with one of its tickets. The derived order is the document's: lower ticket first, then lower kiosk.
 #[derive(Clone, Copy, Debug, PartialEq, Eq, PartialOrd, Ord)]
@@ -31,19 +31,6 @@ pub fn words_of(place: Option<Pair>) -> [u32; 2] {
     place.map_or([0, 0], |p| [p.kiosk, p.ticket])
 }
 
-/// The message of five words.
-pub fn message_of(words: &[u32]) -> Result<Message, u32> {
-    let &[kind, kiosk, keeper, ticket, owner] = words else {
-        return Err(5);
-    };
-    let m = Message { kind, kiosk, keeper, ticket, owner };
-    if in_range(&m) {
-        Ok(m)
-    } else {
-        Err(5)
-    }
-}
-
 /// Writes the messages one after another, and their number and bytes; the room is judged for all of them at once.
 pub fn hand_over(messages: &[Message], out: &mut [u8], sent: &mut [u32]) -> Result<(), u32> {
     let bytes: usize = messages.iter().map(|m| length_of(m.kind)).sum();
@@ -52,7 +39,7 @@ pub fn hand_over(messages: &[Message], out: &mut [u8], sent: &mut [u32]) -> Resu
     }
     let mut at = 0;
     for m in messages {
-        at += emit(m, &mut out[at..])?;
+        at += put(m, &mut out[at..]);
     }
     sent[..2].copy_from_slice(&[messages.len() as u32, bytes as u32]);
     Ok(())

@@ -13,7 +13,7 @@ pub fn bytes_of(words: &[u32; 5]) -> Vec<u8> {
 pub fn random_message(r: &mut Random) -> [u32; 5] {
     let kind = 1 + r.below(6) as u32;
     let kiosk = 1 + r.below(65_535) as u32;
-    let keeper = 1 + r.below(31) as u32;
+    let keeper = 1 + r.below(255) as u32;
     let ticket = if r.below(8) == 0 { u32::MAX } else { 1 + r.below(1 << 20) as u32 };
     if kind != RESPONSE {
         return [kind, kiosk, keeper, ticket, 0];

@@ -1,7 +1,7 @@
-//! The setting: document 01, 'The setting' and the row 'setting, usual threshold' of its refusal table.
+//! The setting: document 01, 'The setting' and the row 'setting, usual threshold' of its refusal table, with document 02's n.
 
 use crate::gallery::{Event, Kind};
-use crate::model::KEEPERS;
+use crate::players::NEW;
 
 /// n keepers, threshold m, losses f.
 #[derive(Clone, Copy, Debug, PartialEq, Eq)]
@@ -22,7 +22,7 @@ pub enum Verdict {
 
 impl Setting {
     pub fn new(n: u32, m: u32, f: u32) -> Result<Setting, u32> {
-        if (1..=KEEPERS).contains(&n) && (1..=n).contains(&m) && f <= n {
+        if (1..=NEW.keepers).contains(&n) && (1..=n).contains(&m) && f <= n {
             Ok(Setting { n, m, f })
         } else {
             Err(7)
@@ -91,7 +91,7 @@ impl Setting {
 
 /// Two thirds of n, rounded up.
 pub fn usual_threshold(n: u32) -> Result<u32, u32> {
-    if (1..=KEEPERS).contains(&n) {
+    if (1..=NEW.keepers).contains(&n) {
         Ok((2 * n).div_ceil(3))
     } else {
         Err(7)

@@ -1,20 +1,23 @@
 //! A gallery as the words that the library keeps of it, and the library's two ways to give it an event. The order of the
 //! words is the library's own; no paper has it.
 
-use crate::gallery::{Client, Event, Gallery, Kept, Server, GALLERY, KIOSKS};
+use crate::gallery::{Client, Event, Gallery, Kept, Server, GALLERY, KEEPERS, KIOSKS};
 use crate::keeper::Keeper;
 use crate::kiosk::{Kiosk, REMAINDER};
-use crate::model::{Message, KEEPERS};
+use crate::model::Message;
+use crate::players::{Players, OLD};
 use crate::script::line_of;
 use crate::setting::Setting;
-use crate::{index, keeper, kiosk, library};
+use crate::{index, library};
 
+/// How records stand in these words: with places for a gallery's keepers and kiosks, as before document 02, L3.
+pub const FORM: Players = OLD;
 /// n, m, f, the kiosks, the messages kept, the last message's number, the most keepers down within an epoch.
 pub const HEAD: usize = 7;
 /// 1 for a kiosk that lives, its record, and for each keeper 1 if it was ever down in the epoch.
-pub const CLIENT: usize = 1 + kiosk::WORDS + KEEPERS as usize;
+pub const CLIENT: usize = 1 + FORM.kiosk_words() + KEEPERS as usize;
 /// 1 for a keeper that is up, and its record.
-pub const SERVER: usize = 1 + keeper::WORDS;
+pub const SERVER: usize = 1 + FORM.keeper_words();
 /// The message's number, 1 if it is taken, and its five words.
 pub const SLOT: usize = 7;
 /// Where the index begins, behind the last slot.
@@ -36,7 +39,7 @@ pub const fn slot_at(place: usize) -> usize {
 
 /// Where the flags of the kiosk in this place begin.
 pub const fn flags_at(place: usize) -> usize {
-    client_at(place) + 1 + kiosk::WORDS
+    client_at(place) + 1 + FORM.kiosk_words()
 }
 
 pub fn words_of(gallery: &Gallery) -> Vec<u32> {
@@ -47,14 +50,14 @@ pub fn words_of(gallery: &Gallery) -> Vec<u32> {
     words[3..HEAD].copy_from_slice(&counts);
     for (i, client) in gallery.clients.iter().enumerate() {
         words[client_at(i)] = client.living.into();
-        words[client_at(i) + 1..flags_at(i)].copy_from_slice(&client.record.words());
+        client.record.put(&mut words[client_at(i) + 1..flags_at(i)]);
         for &down in client.epoch.iter().flatten() {
             words[flags_at(i) + down as usize - 1] = 1;
         }
     }
     for (i, server) in gallery.servers.iter().enumerate() {
         words[server_at(i)] = server.up.into();
-        words[server_at(i) + 1..server_at(i + 1)].copy_from_slice(&server.record.words());
+        server.record.put(&mut words[server_at(i) + 1..server_at(i + 1)]);
     }
     for (i, Kept { number, message, taken }) in gallery.kept.iter().enumerate() {
         let Message { kind, kiosk, keeper, ticket, owner } = *message;
@@ -83,14 +86,16 @@ pub fn index_of(words: &[u32]) -> Vec<u32> {
 /// The gallery in words that are not broken. An epoch runs while a kiosk lives and is not in remainder.
 pub fn gallery_of(words: &[u32]) -> Result<Gallery, u32> {
     let client = |i: usize| {
-        let record = Kiosk::read(&words[client_at(i) + 1..flags_at(i)])?;
+        let record = Kiosk::read(FORM, &words[client_at(i) + 1..flags_at(i)])?;
         let living = words[client_at(i)] == 1;
         let down = (1..=KEEPERS).filter(|j| words[flags_at(i) + *j as usize - 1] == 1).collect();
         let epoch = (living && record.section != REMAINDER).then_some(down);
         Ok(Client { living, record, epoch })
     };
-    let server =
-        |i: usize| Ok(Server { up: words[server_at(i)] == 1, record: Keeper::read(&words[server_at(i) + 1..server_at(i + 1)])? });
+    let server = |i: usize| {
+        let record = Keeper::read(FORM, &words[server_at(i) + 1..server_at(i + 1)])?;
+        Ok(Server { up: words[server_at(i)] == 1, record })
+    };
     let mut gallery = Gallery::new(Setting::new(words[0], words[1], words[2])?, words[3], GALLERY)?;
     gallery.clients = (0..words[3] as usize).map(client).collect::<Result<_, u32>>()?;
     gallery.servers = (0..words[0] as usize).map(server).collect::<Result<_, u32>>()?;

@@ -3,10 +3,10 @@
 
 use sigma_tests::author::{any_event, any_setting};
 use sigma_tests::broken::{broken, Rule};
-use sigma_tests::gallery::{Client, Event, Gallery, Kept, Kind, Server, GALLERY, KIOSKS};
+use sigma_tests::gallery::{Client, Event, Gallery, Kept, Kind, Server, GALLERY, KEEPERS, KIOSKS};
 use sigma_tests::index::{self, List, Receiver, MARKS, NUMBERS, RECEIVERS};
 use sigma_tests::kiosk::{HOLDING, REMAINDER, TRYING};
-use sigma_tests::model::{KEEPERS, RESPONSE};
+use sigma_tests::model::RESPONSE;
 use sigma_tests::random::Random;
 use sigma_tests::records::Pair;
 use sigma_tests::setting::Setting;
@@ -295,7 +295,7 @@ type Break = fn(&mut Scene) -> Option<Vec<Damage>>;
 
 #[rustfmt::skip]
 const HEAD_BREAKS: &[(&str, &[Rule], Break)] = &[
-    ("n", &[Rule::Setting], |_| Some(set(0, &[0, 32, 65_537, LAST]))),
+    ("n", &[Rule::Setting], |_| Some(set(0, &[0, 32, 33, 254, 255, 256, 65_537, LAST]))),
     ("m", &[Rule::Setting], |s| Some(set(1, &[0, s.n + 1, 65_536 + s.m, LAST]))),
     ("f", &[Rule::Setting], |s| Some(set(2, &[s.n + 1, LAST]))),
     ("m, another than the records'", &[Rule::Differs], |s| { let m = s.other(s.m)?; Some(set(1, &[m])) }),
@@ -318,7 +318,7 @@ const HEAD_BREAKS: &[(&str, &[Rule], Break)] = &[
 const KIOSK_BREAKS: &[(&str, &[Rule], Break)] = &[
     ("living", &[Rule::Bit], |s| { let k = s.kiosk(|_| true)?; Some(set(client_at(k), &[2, 256, LAST])) }),
     ("n out of range", &[Rule::Number],
-        |s| { let k = s.kiosk(|_| true)?; Some(set(kiosk_word(k, 0), &[0, 32, 65_536 + s.n, LAST])) }),
+        |s| { let k = s.kiosk(|_| true)?; Some(set(kiosk_word(k, 0), &[0, 32, 255, 256, 65_536 + s.n, LAST])) }),
     ("n one more", &[Rule::Differs], |s| { let k = s.kiosk(|c| c.record.n < 31)?; Some(set(kiosk_word(k, 0), &[s.n + 1])) }),
     ("n one less", &[Rule::Differs], |s| {
         let k = s.kiosk(|c| c.record.m < c.record.n && c.record.answers[c.record.n as usize - 1].is_none())?;
@@ -459,7 +459,7 @@ const KEEPER_BREAKS: &[(&str, &[Rule], Break)] = &[
     ("n out of range", &[Rule::Number], |s| {
         let j = s.keeper(|_| true)?;
         // With n below its own number it is that number that is out of range.
-        Some(set(keeper_word(j, 0), &[0, j as u32, 32, 65_536 + s.n, LAST]))
+        Some(set(keeper_word(j, 0), &[0, j as u32, 32, 255, 256, 65_536 + s.n, LAST]))
     }),
     ("n another", &[Rule::Differs], |s| {
         let j = s.keeper(|_| true)?;
@@ -514,7 +514,7 @@ const KEEPER_BREAKS: &[(&str, &[Rule], Break)] = &[
         Some(set_pair(keeper_word(j, 2), &[(kiosk, ticket), (kiosk, ticket + 1), (kiosk, LAST)]))
     }),
     ("the line's length", &[Rule::LineLength],
-        |s| { let j = s.keeper(|_| true)?; Some(set(keeper_word(j, 4), &[17, 32, 65_536, LAST])) }),
+        |s| { let j = s.keeper(|_| true)?; Some(set(keeper_word(j, 4), &[17, 32, 33, 65_536, LAST])) }),
     ("the line's length, one more", &[Rule::Number], |s| {
         let j = s.keeper(|_| true)?;
         Some(set(keeper_word(j, 4), &[s.gallery.servers[j].record.line.len() as u32 + 1, 16]))
@@ -590,10 +590,10 @@ const MESSAGE_BREAKS: &[(&str, &[Rule], Break)] = &[
         |s| { let i = s.message(|_| true)?; Some(set(slot_at(i) + 3, &[s.kiosks + 1, 65_535])) }),
     ("keeper", &[Rule::Message], |s| {
         let i = s.message(|_| true)?;
-        Some(set(slot_at(i) + 4, &[0, 32, 65_536 + s.gallery.kept[i].message.keeper, LAST]))
+        Some(set(slot_at(i) + 4, &[0, 256, 257, 65_536 + s.gallery.kept[i].message.keeper, LAST]))
     }),
     ("a keeper that is not there", &[Rule::Names],
-        |s| { let i = s.message(|_| true).filter(|_| s.n < 31)?; Some(set(slot_at(i) + 4, &[s.n + 1, 31])) }),
+        |s| { let i = s.message(|_| true)?; Some(set(slot_at(i) + 4, &[s.n + 1, 31.max(s.n + 1), 32, 255])) }),
     ("ticket 0", &[Rule::Message],
         |s| { let i = s.message(|kept| kept.message.ticket > 0)?; Some(set(slot_at(i) + 5, &[0])) }),
     ("a ticket without an owner", &[Rule::Message], |s| {
@@ -989,7 +989,7 @@ fn alike(words: &[u32], at: usize, r: &mut Random) -> usize {
 
 fn any_word(words: &[u32], at: usize, r: &mut Random) -> u32 {
     let [n, m, kiosks] = [words[0], words[1], words[3]];
-    let edges = [0, 1, 2, 3, 6, 7, 15, 16, 17, 31, 32, 512, 513, 65_535, 65_536, 65_537, LAST - 2, LAST - 1, LAST];
+    let edges = [0, 1, 2, 3, 6, 7, 15, 16, 17, 31, 32, 33, 255, 256, 512, 513, 65_535, 65_536, 65_537, LAST - 2, LAST - 1, LAST];
     let own = [m - 1, m, n, n + 1, kiosks, kiosks + 1];
     match r.below(10) {
         0 | 1 => r.one_of(&edges),

@@ -1,8 +1,9 @@
-//! The cases of document 01 about kiosk and keeper. Records and messages are written out from its text; library and
-//! model must both give them.
+//! The cases of document 01 about kiosk and keeper, at document 02's limits. Records and messages are written out from their
+//! text; library and model must both give them.
 
 use sigma_tests::both::{compare, Event, Outcome, ROOM};
 use sigma_tests::model::{CHECK, INQUIRY, RELEASE, REQUEST, RESPONSE, YIELD};
+use sigma_tests::players::NEW;
 use sigma_tests::{keeper, kiosk, library};
 
 const REMAINDER: u32 = 0;
@@ -10,17 +11,21 @@ const TRYING: u32 = 1;
 const HOLDING: u32 = 2;
 const LAST: u32 = 4_294_967_295;
 
+/// The words of the two records: five, then two for each of 32 places of a line, and of 255 answers.
+const KEEPER: usize = 69;
+const KIOSK: usize = 515;
+
 /// Keeper 1 of 4.
-fn keeper(owner: [u32; 2], line: &[[u32; 2]]) -> [u32; 37] {
-    let mut words = [0; 37];
+fn keeper(owner: [u32; 2], line: &[[u32; 2]]) -> [u32; KEEPER] {
+    let mut words = [0; KEEPER];
     words[..5].copy_from_slice(&[4, 1, owner[0], owner[1], line.len() as u32]);
     words[5..5 + 2 * line.len()].copy_from_slice(line.as_flattened());
     words
 }
 
 /// Kiosk 5 with n 4 and m 3, and the answers of its four keepers.
-fn kiosk(section: u32, ticket: u32, answers: [[u32; 2]; 4]) -> [u32; 67] {
-    let mut words = [0; 67];
+fn kiosk(section: u32, ticket: u32, answers: [[u32; 2]; 4]) -> [u32; KIOSK] {
+    let mut words = [0; KIOSK];
     words[..5].copy_from_slice(&[4, 3, 5, section, ticket]);
     words[5..13].copy_from_slice(answers.as_flattened());
     words
@@ -96,7 +101,7 @@ fn starred() {
 
 #[test]
 fn the_two_messages_in_bytes() {
-    let mut trying = [0; 67];
+    let mut trying = [0; KIOSK];
     trying[..5].copy_from_slice(&[1, 1, 5, REMAINDER, 2]);
     let request = compare(Event::Try, &trying, 12, 2, 0x77);
     assert_eq!(request.bytes(), [0x0C, 0, 0x01, 0, 0x05, 0, 0x01, 0, 0x03, 0, 0, 0]);
@@ -106,37 +111,43 @@ fn the_two_messages_in_bytes() {
 
 #[test]
 fn new_records() {
-    let mut words = [7; 40];
-    for (n, id) in [(1, 1), (4, 1), (31, 31)] {
-        assert_eq!(library::server_new(n, id, &mut words[..37]), 0);
-        let mut expected = [0; 37];
+    let mut words = [7; 520];
+    for (n, id) in [(1, 1), (4, 1), (31, 31), (32, 1), (32, 32), (254, 254), (255, 1), (255, 255)] {
+        assert_eq!(library::server_new(n, id, &mut words[..KEEPER]), 0);
+        let mut expected = [0; KEEPER];
         expected[..2].copy_from_slice(&[n, id]);
-        assert_eq!(words[..37], expected);
-        assert_eq!(Ok(expected), keeper::Keeper::new(n, id).map(|k| k.words()));
+        assert_eq!(words[..KEEPER], expected);
+        assert_eq!(Ok(expected.to_vec()), keeper::Keeper::new(NEW, n, id).map(|k| k.words(NEW)));
     }
-    let mut words = [7; 70];
-    for (n, m, id) in [(1, 1, 1), (4, 3, 5), (31, 31, 65_535), (31, 1, 1)] {
-        assert_eq!(library::client_new(n, m, id, &mut words[..67]), 0);
-        let mut expected = [0; 67];
+    let threes =
+        [(1, 1, 1), (4, 3, 5), (31, 31, 65_535), (31, 1, 1), (32, 32, 5), (254, 170, 5), (255, 255, 65_535), (255, 1, 1)];
+    for (n, m, id) in threes {
+        assert_eq!(library::client_new(n, m, id, &mut words[..KIOSK]), 0);
+        let mut expected = [0; KIOSK];
         expected[..3].copy_from_slice(&[n, m, id]);
-        assert_eq!(words[..67], expected);
-        assert_eq!(Ok(expected), kiosk::Kiosk::new(n, m, id).map(|k| k.words()));
+        assert_eq!(words[..KIOSK], expected);
+        assert_eq!(Ok(expected.to_vec()), kiosk::Kiosk::new(NEW, n, m, id).map(|k| k.words(NEW)));
     }
-    let mut words = [7; 70];
-    for (n, id) in [(0, 0), (0, 1), (4, 0), (4, 5), (32, 1), (LAST, 1), (260, 1), (4, 257), (31, LAST)] {
+    let mut words = [7; 520];
+    let twos = [(0, 0), (0, 1), (4, 0), (4, 5), (256, 1), (257, 1), (LAST, 1), (260, 1), (4, 257), (255, 256), (255, LAST)];
+    for (n, id) in twos {
         assert_eq!(library::server_new(n, id, &mut words), 7, "n {n}, keeper {id}");
         assert_eq!(keeper::new(n, id, &mut words), 7);
     }
-    let threes = [(0, 0, 5), (4, 0, 5), (4, 5, 5), (32, 3, 5), (4, 3, 0), (4, 3, 65_536), (260, 3, 5), (4, 259, 5), (4, 3, LAST)];
-    for (n, m, id) in threes {
+    let ranges = [(0, 0, 5), (4, 0, 5), (4, 5, 5), (256, 3, 5), (260, 3, 5), (4, 259, 5), (255, 256, 5), (65_536, 3, 5)];
+    for (n, m, id) in ranges.into_iter().chain([(4, 3, 0), (4, 3, 65_536), (4, 3, LAST)]) {
         assert_eq!(library::client_new(n, m, id, &mut words), 7, "n {n}, m {m}, kiosk {id}");
         assert_eq!(kiosk::new(n, m, id, &mut words), 7);
     }
-    assert_eq!(library::server_new(4, 1, &mut words[..36]), 7);
-    assert_eq!(keeper::new(4, 1, &mut words[..36]), 7);
-    assert_eq!(library::client_new(4, 3, 5, &mut words[..66]), 7);
-    assert_eq!(kiosk::new(4, 3, 5, &mut words[..66]), 7);
-    assert_eq!(words, [7; 70]);
+    for length in [0, 37, KEEPER - 1] {
+        assert_eq!(library::server_new(4, 1, &mut words[..length]), 7);
+        assert_eq!(keeper::new(4, 1, &mut words[..length]), 7);
+    }
+    for length in [0, 67, KIOSK - 1] {
+        assert_eq!(library::client_new(4, 3, 5, &mut words[..length]), 7);
+        assert_eq!(kiosk::new(4, 3, 5, &mut words[..length]), 7);
+    }
+    assert_eq!(words, [7; 520]);
 }
 
 /// The head moves up and is told, whether the owner is removed by RELEASE, by a newer ticket or because it is missing.
@@ -198,8 +209,8 @@ fn inquiry_and_check() {
 
 #[test]
 fn a_full_line() {
-    // Kiosks 101 to 116 wait with tickets 11 to 26.
-    let line: [[u32; 2]; 16] = std::array::from_fn(|i| [101 + i as u32, 11 + i as u32]);
+    // Kiosks 101 to 132 wait with tickets 11 to 42.
+    let line: [[u32; 2]; 32] = std::array::from_fn(|i| [101 + i as u32, 11 + i as u32]);
     let full = |owner| keeper(owner, &line);
     let all_but_the_first = |last: [u32; 2]| {
         let mut behind = line[1..].to_vec();
@@ -207,7 +218,7 @@ fn a_full_line() {
         behind
     };
 
-    // The first of the 17 is owner and 16 wait, wherever the old owner's place among them is.
+    // The first of the 33 is owner and 32 wait, wherever the old owner's place among them is.
     let after = keeper(line[0], &all_but_the_first([5, 99]));
     accepted(full([5, 99]), Event::KeeperTakes(&from(YIELD, 5, 99)), after, &[told(101, line[0]), told(5, line[0])]);
     let mut second = line;
@@ -221,14 +232,38 @@ fn a_full_line() {
     refused(&full([5, 3]), Event::KeeperTakes(&from(REQUEST, 7, LAST)), 0, 0, 14);
     accepted(full([5, 3]), Event::KeeperTakes(&from(REQUEST, 101, 11)), full([5, 3]), &[told(101, [5, 3])]);
     accepted(full([5, 3]), Event::KeeperTakes(&from(REQUEST, 5, 3)), full([5, 3]), &[]);
-    let rejoined = keeper([5, 3], &all_but_the_first([101, 40]));
-    accepted(full([5, 3]), Event::KeeperTakes(&from(REQUEST, 101, 40)), rejoined, &[told(101, [5, 3])]);
-    let moved = keeper(line[0], &all_but_the_first([5, 40]));
-    accepted(full([5, 3]), Event::KeeperTakes(&from(REQUEST, 5, 40)), moved, &[told(101, line[0]), told(5, line[0])]);
+    let rejoined = keeper([5, 3], &all_but_the_first([101, 50]));
+    accepted(full([5, 3]), Event::KeeperTakes(&from(REQUEST, 101, 50)), rejoined, &[told(101, [5, 3])]);
+    let moved = keeper(line[0], &all_but_the_first([5, 50]));
+    accepted(full([5, 3]), Event::KeeperTakes(&from(REQUEST, 5, 50)), moved, &[told(101, line[0]), told(5, line[0])]);
     for kind in [YIELD, INQUIRY] {
         accepted(full([5, 3]), Event::KeeperTakes(&from(kind, 7, 1)), full([5, 3]), &[told(7, [5, 3])]);
     }
     accepted(full([5, 3]), Event::KeeperTakes(&from(RELEASE, 7, 1)), full([5, 3]), &[]);
+}
+
+/// Kiosks ask one after the other, later ones with earlier tickets, until the line is full: 1 owns, 2 to 33 wait, and 34 finds no
+/// place.
+#[test]
+fn a_line_fills() {
+    let waiting = |count: u32| (0..count).map(|i| [count + 1 - i, 1000 - (count + 1 - i)]).collect::<Vec<_>>();
+    let mut record = keeper([1, 999], &[]);
+    for kiosk in 2..=33 {
+        let after = keeper([1, 999], &waiting(kiosk - 1));
+        accepted(record, Event::KeeperTakes(&from(REQUEST, kiosk, 1000 - kiosk)), after, &[told(kiosk, [1, 999])]);
+        record = after;
+    }
+    refused(&record, Event::KeeperTakes(&from(REQUEST, 34, 966)), ROOM, 2, 14);
+    // Where the owner goes, one place is free again.
+    let mut fewer = waiting(32);
+    let head = fewer.remove(0);
+    accepted(record, Event::Missing, keeper(head, &fewer), &[told(33, head)]);
+    accepted(
+        keeper(head, &fewer),
+        Event::KeeperTakes(&from(REQUEST, 34, 966)),
+        keeper(head, &[&[[34, 966]], &fewer[..]].concat()),
+        &[told(34, head)],
+    );
 }
 
 #[test]
@@ -295,10 +330,33 @@ fn after_a_round() {
     let own = [5, 3];
     let mut record = kiosk(TRYING, 3, [own, own, NONE, NONE]);
     for message in [answer(3, [2, 3]), answer(3, own), answer(4, own)] {
-        record = compare(Event::KioskTakes(&message), &record, ROOM, 2, 0).record();
+        let outcome = compare(Event::KioskTakes(&message), &record, ROOM, 2, 0);
+        record.copy_from_slice(outcome.record());
     }
     assert_eq!(record, kiosk(TRYING, 3, [NONE, NONE, own, own]));
     accepted(record, Event::KioskTakes(&answer(1, own)), kiosk(HOLDING, 3, [own, NONE, own, own]), &[]);
+}
+
+/// Kiosk 5 needs all of 255 keepers: it tries, holds with their answers and leaves; with the last one's for another it writes to
+/// all.
+#[test]
+fn every_keeper_there_is() {
+    let largest = |section, ticket, answers: &[[u32; 2]]| {
+        let mut words = with([0; KIOSK], &[(0, 255), (1, 255), (2, 5), (3, section), (4, ticket)]);
+        words[5..5 + 2 * answers.len()].copy_from_slice(answers.as_flattened());
+        words
+    };
+    let all = |kind| (1..=255).map(|keeper| to(kind, keeper, 3)).collect::<Vec<_>>();
+    let (own, message) = ([[5, 3]; 255], answer(255, [5, 3]));
+    accepted(largest(REMAINDER, 2, &[]), Event::Try, largest(TRYING, 3, &[]), &all(REQUEST));
+    accepted(largest(TRYING, 3, &own[..254]), Event::KioskTakes(&message), largest(HOLDING, 3, &own), &[]);
+    accepted(largest(HOLDING, 3, &own), Event::Exit, largest(REMAINDER, 4, &[]), &all(RELEASE));
+    let mut round = all(YIELD);
+    round[254] = to(INQUIRY, 255, 3);
+    accepted(largest(TRYING, 3, &own[..254]), Event::KioskTakes(&answer(255, [2, 3])), largest(TRYING, 3, &[]), &round);
+    refused(&largest(TRYING, 3, &own), Event::Exit, ROOM, 2, 21);
+    refused(&largest(HOLDING, 3, &own[..254]), Event::Exit, ROOM, 2, 21);
+    refused(&largest(TRYING, 3, &[]), Event::KioskTakes(&answer(256, [5, 3])), ROOM, 2, 5);
 }
 
 #[test]
@@ -326,8 +384,8 @@ fn answers_elsewhere_and_checks() {
 #[test]
 fn messages_refused() {
     let record = keeper([5, 3], &[[2, 3]]);
-    // In the message's own keeper field 1 to 31 is in range, whatever n is.
-    for keeper in [2, 4, 5, 31] {
+    // In the message's own keeper field 1 to 255 is in range, whatever n is.
+    for keeper in [2, 4, 5, 31, 32, 33, 254, 255] {
         refused(&record, Event::KeeperTakes(&[REQUEST, 7, keeper, 3, 0]), 0, 0, 13);
     }
     for message in [told(7, [5, 3]), from(CHECK, 5, 3)] {
@@ -336,6 +394,10 @@ fn messages_refused() {
     let mine = kiosk(TRYING, 3, [[5, 3], NONE, NONE, NONE]);
     for message in [answer(5, [5, 3]), answer(31, NONE), [RESPONSE, 6, 1, 3, 5], [CHECK, 6, 1, 3, 0], to(CHECK, 5, 3)] {
         refused(&mine, Event::KioskTakes(&message), 0, 0, 12);
+    }
+    for keeper in [32, 33, 254, 255] {
+        refused(&mine, Event::KioskTakes(&answer(keeper, [5, 3])), 0, 0, 12);
+        refused(&mine, Event::KioskTakes(&to(CHECK, keeper, 3)), 0, 0, 12);
     }
     for kind in [REQUEST, YIELD, RELEASE, INQUIRY] {
         refused(&mine, Event::KioskTakes(&to(kind, 1, 3)), 0, 0, 12);
@@ -347,14 +409,16 @@ fn messages_refused() {
         [REQUEST, 0, 1, 3, 0],
         [REQUEST, 65_536, 1, 3, 0],
         [REQUEST, 5, 0, 3, 0],
-        [REQUEST, 5, 32, 3, 0],
+        [REQUEST, 5, 256, 3, 0],
+        [REQUEST, 5, 257, 3, 0],
         [REQUEST, 5, 1, 0, 0],
         [REQUEST, 5, 1, 3, 5],
         [CHECK, 5, 1, 0, 0],
         [RESPONSE, 5, 1, 3, 0],
         [RESPONSE, 5, 1, 0, 5],
         [RESPONSE, 5, 1, 3, 65_536],
-        [RESPONSE, 6, 32, 3, 5],
+        [RESPONSE, 6, 256, 3, 5],
+        [RESPONSE, 5, 65_537, 3, 5],
     ];
     for message in ranges {
         refused(&record, Event::KeeperTakes(&message), 0, 0, 5);
@@ -380,8 +444,9 @@ fn broken_keepers() {
     let record = keeper([5, 3], &[[9, 4], [2, 7]]);
     let broken = [
         with(record, &[(0, 0)]),
-        with(record, &[(0, 32)]),
+        with(record, &[(0, 256)]),
         with(record, &[(0, 256 + 4)]),
+        with(record, &[(0, 65_536 + 4)]),
         with(record, &[(1, 0)]),
         with(record, &[(1, 5)]),
         with(record, &[(2, 0)]),
@@ -390,7 +455,7 @@ fn broken_keepers() {
         with(record, &[(2, 65_536 + 5)]),
         with(record, &[(4, 1)]),
         with(record, &[(4, 3)]),
-        with(record, &[(4, 17)]),
+        with(record, &[(4, 33)]),
         with(record, &[(4, LAST)]),
         with(record, &[(5, 0)]),
         with(record, &[(6, 0)]),
@@ -399,6 +464,8 @@ fn broken_keepers() {
         with(record, &[(9, 7)]),
         with(record, &[(10, 9)]),
         with(record, &[(35, 7), (36, 9)]),
+        with(record, &[(37, 7), (38, 9)]),
+        with(record, &[(67, 7), (68, 9)]),
         // a line without an owner
         with(record, &[(2, 0), (3, 0)]),
         // a line not strictly in order
@@ -415,8 +482,12 @@ fn broken_keepers() {
             refused(&record, event, 0, 0, 21);
         }
     }
+    for n in [31, 32, 255] {
+        assert_eq!(compare(Event::Check, &with(record, &[(0, n), (1, n)]), ROOM, 2, 0x77).number, 0, "keeper {n} of {n}");
+    }
     for event in [Event::Missing, Event::Check, Event::KeeperTakes(&from(REQUEST, 5, 3))] {
-        refused(&record[..36], event, ROOM, 2, 21);
+        refused(&record[..KEEPER - 1], event, ROOM, 2, 21);
+        refused(&record[..37], event, ROOM, 2, 21);
         refused(&[record.as_slice(), &[0]].concat(), event, ROOM, 2, 21);
         refused(&[], event, ROOM, 2, 21);
     }
@@ -431,7 +502,7 @@ fn broken_kiosks() {
     let broken = [
         with(remainder, &[(0, 0)]),
         with(remainder, &[(0, 2)]),
-        with(remainder, &[(0, 32)]),
+        with(remainder, &[(0, 256)]),
         with(remainder, &[(0, 256 + 4)]),
         with(remainder, &[(1, 0)]),
         with(remainder, &[(1, 5)]),
@@ -445,6 +516,8 @@ fn broken_kiosks() {
         // a place past keeper n
         with(trying, &[(7, 0), (8, 0), (13, 9), (14, 1)]),
         with(trying, &[(7, 0), (8, 0), (65, 9), (66, 1)]),
+        with(trying, &[(7, 0), (8, 0), (67, 9), (68, 1)]),
+        with(trying, &[(7, 0), (8, 0), (513, 9), (514, 1)]),
         // trying with m places filled, or more
         with(trying, &[(9, 9), (10, 1)]),
         with(trying, &[(9, 9), (10, 1), (11, 9), (12, 1)]),
@@ -471,8 +544,12 @@ fn broken_kiosks() {
             refused(&record, event, 0, 0, 21);
         }
     }
+    for n in [31, 32, 255] {
+        assert_eq!(compare(Event::Try, &with(remainder, &[(0, n), (1, n)]), ROOM, 2, 0x77).sent()[0], n, "{n} keepers");
+    }
     for event in [Event::Try, Event::Exit, Event::KioskTakes(&check)] {
-        refused(&remainder[..66], event, ROOM, 2, 21);
+        refused(&remainder[..KIOSK - 1], event, ROOM, 2, 21);
+        refused(&remainder[..67], event, ROOM, 2, 21);
         refused(&[remainder.as_slice(), &[0]].concat(), event, ROOM, 2, 21);
         refused(&[], event, ROOM, 2, 21);
     }
@@ -480,15 +557,15 @@ fn broken_kiosks() {
 
 /// Kiosks and keepers of one setting, and messages numbered from 1 as sent: the papers' two runs, event by event.
 struct Wall {
-    kiosks: Vec<[u32; 67]>,
-    keepers: Vec<[u32; 37]>,
+    kiosks: Vec<Vec<u32>>,
+    keepers: Vec<Vec<u32>>,
     messages: Vec<[u32; 5]>,
 }
 
 impl Wall {
     fn new(n: u32, m: u32, kiosks: u32) -> Wall {
-        let kiosk = |id| with([0; 67], &[(0, n), (1, m), (2, id)]);
-        let keeper = |id| with([0; 37], &[(0, n), (1, id)]);
+        let kiosk = |id| with([0; KIOSK], &[(0, n), (1, m), (2, id)]).to_vec();
+        let keeper = |id| with([0; KEEPER], &[(0, n), (1, id)]).to_vec();
         Wall { kiosks: (1..=kiosks).map(kiosk).collect(), keepers: (1..=n).map(keeper).collect(), messages: vec![] }
     }
 
@@ -499,7 +576,7 @@ impl Wall {
 
     fn attempt(&mut self, kiosk: usize) {
         let outcome = compare(Event::Try, &self.kiosks[kiosk - 1], ROOM, 2, 0);
-        self.kiosks[kiosk - 1] = outcome.record();
+        self.kiosks[kiosk - 1] = outcome.record().to_vec();
         self.keep(&outcome);
     }
 
@@ -507,13 +584,13 @@ impl Wall {
         let message = self.messages[number - 1];
         let outcome = if message[0] < RESPONSE {
             let keeper = &mut self.keepers[message[2] as usize - 1];
-            let outcome = compare(Event::KeeperTakes(&message), &*keeper, ROOM, 2, 0);
-            *keeper = outcome.record();
+            let outcome = compare(Event::KeeperTakes(&message), keeper, ROOM, 2, 0);
+            *keeper = outcome.record().to_vec();
             outcome
         } else {
             let kiosk = &mut self.kiosks[message[1] as usize - 1];
-            let outcome = compare(Event::KioskTakes(&message), &*kiosk, ROOM, 2, 0);
-            *kiosk = outcome.record();
+            let outcome = compare(Event::KioskTakes(&message), kiosk, ROOM, 2, 0);
+            *kiosk = outcome.record().to_vec();
             outcome
         };
         self.keep(&outcome);
@@ -563,4 +640,32 @@ fn the_unsafe_run_of_3_2_1() {
     }
     assert_eq!(wall.seen(), (10, 2));
     assert_eq!(wall.messages[8..], [[RESPONSE, 2, 1, 1, 2], [RESPONSE, 2, 3, 1, 2]]);
+}
+
+/// The unsafe run of this setting, asked for event by event and made by the library's own steps.
+fn unsafe_run(n: u32, m: u32, f: u32) {
+    let mut check = [0; 2];
+    assert_eq!(library::setting(n, m, f, &mut check), 8, "{n} {m} {f}");
+    let mut wall = Wall::new(n, m, 2);
+    for i in 1..=check[1] {
+        assert!(wall.seen().1 < 2, "two hold before event {i} of {n} {m} {f}");
+        let mut event = [0; 2];
+        assert_eq!(library::run_event(n, m, f, i, &mut event), 0);
+        let number = event[1] as usize;
+        match event[0] {
+            1 => wall.attempt(number),
+            4 => wall.restart(number),
+            5 => (),
+            6 => wall.take(number),
+            kind => panic!("kind {kind} in the run of {n} {m} {f}"),
+        }
+    }
+    assert_eq!(wall.seen().1, 2, "{n} {m} {f}");
+}
+
+#[test]
+fn unsafe_runs_with_many_keepers() {
+    for (n, m, f) in [(31, 31, 31), (32, 32, 32), (32, 16, 0), (60, 40, 20), (254, 169, 84), (255, 170, 85), (255, 255, 255)] {
+        unsafe_run(n, m, f);
+    }
 }

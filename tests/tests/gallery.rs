@@ -90,7 +90,7 @@ fn sections_and_tickets() {
 /// Of two messages one has a place: neither is kept. What sends nothing needs none.
 #[test]
 fn places_for_what_is_sent() {
-    let limits = Limits { places: 3, numbers: 100 };
+    let limits = Limits { places: 3, numbers: 100, ..GALLERY };
     let mut full = after(gallery(2, 2, 2, limits), &[(Kind::Try, 1)]);
     assert_eq!(give(&mut full, Kind::Try, 2), Err(19));
     let mut full = after(full, &[(Kind::Take, 1)]);
@@ -107,7 +107,7 @@ fn places_for_what_is_sent() {
 #[test]
 fn a_kiosks_take_frees_its_place_first() {
     for (places, answer) in [(8, Err(19)), (9, Ok(2))] {
-        let start = gallery(2, 2, 2, Limits { places, numbers: 100 });
+        let start = gallery(2, 2, 2, Limits { places, numbers: 100, ..GALLERY });
         let events = [(Kind::Try, 1), (Kind::Try, 2), (Kind::Take, 1), (Kind::Take, 4), (Kind::Take, 2), (Kind::Take, 3)];
         let mut divided = after(after(start, &events), &[(Kind::Take, 5), (Kind::Check, 1)]);
         assert_eq!((divided.kept.len(), give(&mut divided, Kind::Take, 7)), (8, answer), "{places} places");
@@ -118,7 +118,7 @@ fn a_kiosks_take_frees_its_place_first() {
 #[test]
 fn numbers_for_what_is_sent() {
     for (numbers, answer) in [(9, Err(19)), (10, Ok(3)), (4_294_967_295, Ok(3))] {
-        let start = gallery(3, 2, 3, Limits { places: 512, numbers });
+        let start = gallery(3, 2, 3, Limits { numbers, ..GALLERY });
         let mut late = after(start, &[(Kind::Try, 1), (Kind::Take, 2), (Kind::Try, 2)]);
         assert_eq!((late.last, give(&mut late, Kind::Try, 3)), (7, answer), "{numbers}");
         assert_eq!(late.last, if answer.is_ok() { 10 } else { 7 });
@@ -176,7 +176,7 @@ fn a_refused_event_changes_nothing_and_only_19_parts_gallery_and_run() {
     let mut r = Random::new(19);
     let mut met = BTreeMap::new();
     for _ in 0..3000 {
-        let mut bounded = gallery(3, 2, 4, Limits { places: 20, numbers: 60 });
+        let mut bounded = gallery(3, 2, 4, Limits { places: 20, numbers: 60, ..GALLERY });
         let mut free = Some(gallery(3, 2, 4, RUN));
         for _ in 0..120 {
             let event = any_event(&bounded, &mut r);

@@ -19,12 +19,12 @@ const RESPONSE_READ: [u32; 6] = [5, 5, 1, 3, 2, 14];
 /// A message of each kind, and an answer without an owner.
 const MESSAGES: [[u32; 5]; 7] = [
     [1, 5, 1, 3, 0],
-    [2, 1, 31, 1, 0],
+    [2, 1, 255, 1, 0],
     [3, 65_535, 2, u32::MAX, 0],
     [4, 7, 9, 258, 0],
     [5, 5, 1, 3, 2],
     [5, 2, 3, 0, 0],
-    [6, 256, 16, 65_536, 0],
+    [6, 256, 32, 65_536, 0],
 ];
 
 /// Places that no small packet has; some are one of its places in their last 16 or 32 bits.
@@ -89,12 +89,13 @@ fn long(length: usize, kind: u8) -> Vec<u8> {
 
 /// Messages that reading refuses, with the refusal.
 fn bad() -> Vec<(u32, Vec<u8>)> {
-    let (mut nobody, mut nowhere, mut owner) = (REQUEST.to_vec(), REQUEST.to_vec(), RESPONSE.to_vec());
+    let (mut nobody, mut nowhere, mut far, mut owner) = (REQUEST.to_vec(), REQUEST.to_vec(), REQUEST.to_vec(), RESPONSE.to_vec());
     nobody[4] = 0;
     nowhere[6] = 0;
+    far[7] = 1; // keeper 257
     owner[8] = 0;
     let of_length = [(2, long(12, 0)), (2, long(4, 7)), (3, long(14, 1)), (3, long(12, 5)), (3, long(4, 6)), (3, long(300, 2))];
-    let of_range = [(5, nobody), (5, nowhere), (5, owner)];
+    let of_range = [(5, nobody), (5, nowhere), (5, far), (5, owner)];
     of_length.into_iter().chain(of_range).collect()
 }
 
@@ -150,6 +151,21 @@ fn examples_by_hand() {
     damaged[14] = 13;
     assert_eq!(compare_next(&damaged, 2, 8).0, 22, "the walk has a byte left, though the first is 5");
     assert_eq!(compare_pack(&damaged[2..], 28).0, 22);
+}
+
+/// What the largest kiosk sends at a try: 255 messages of 12 bytes.
+#[test]
+fn a_round_to_every_keeper() {
+    let (mut record, mut out, mut sent) = ([0; 515], [0; 12 * 255], [0; 2]);
+    assert_eq!(library::client_new(255, 170, 5, &mut record), 0);
+    assert_eq!(library::client_begin(&mut record, &mut out, &mut sent), 0);
+    assert_eq!(sent, [255, 3060]);
+    let (number, packet) = compare_pack(&out, 3062);
+    assert_eq!((number, &packet[..2]), (0, &[0xF6, 0x0B][..]), "a total of 3,062");
+    for keeper in 1..=255 {
+        assert_eq!(compare_next(&packet, 12 * keeper as usize - 10, 6), (0, [1, 5, keeper, 1, 0, 12]));
+    }
+    assert_eq!(compare_next(&packet, 3062, 6), (0, [0; 6]), "its end");
 }
 
 #[test]

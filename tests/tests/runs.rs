@@ -6,6 +6,7 @@ use sigma_tests::gallery::{Event, Gallery, Kind, RUN};
 use sigma_tests::keeper::Keeper;
 use sigma_tests::kiosk::{Kiosk, HOLDING, REMAINDER};
 use sigma_tests::model::INQUIRY;
+use sigma_tests::players::NEW;
 use sigma_tests::random::Random;
 use sigma_tests::setting::Setting;
 use std::collections::{BTreeMap, BTreeSet};
@@ -124,8 +125,8 @@ fn run(gallery: &mut Gallery, r: &mut Random, met: &mut Met) -> bool {
 }
 
 fn valid(gallery: &Gallery) -> bool {
-    let clients = gallery.clients.iter().all(|c| Kiosk::read(&c.record.words()).as_ref() == Ok(&c.record));
-    let servers = gallery.servers.iter().all(|s| Keeper::read(&s.record.words()).as_ref() == Ok(&s.record));
+    let clients = gallery.clients.iter().all(|c| Kiosk::read(NEW, &c.record.words(NEW)).as_ref() == Ok(&c.record));
+    let servers = gallery.servers.iter().all(|s| Keeper::read(NEW, &s.record.words(NEW)).as_ref() == Ok(&s.record));
     clients && servers
 }
 
@@ -181,6 +182,18 @@ fn one_holder_where_the_margin_is_above_0() {
 fn one_holder_in_larger_galleries() {
     let larger = [(5, 4, 1), (5, 4, 2), (7, 5, 2)].map(|(n, m, f)| Setting { n, m, f });
     no_two_holders(&larger, if long() { 5_000_000 } else { 500_000 });
+}
+
+/// More than a gallery has; an entry then takes a hundred events and more.
+#[test]
+fn one_holder_with_many_keepers() {
+    let many = [(33, 22, 10), (64, 43, 21)].map(|(n, m, f)| Setting { n, m, f });
+    for setting in many {
+        let (found, met) = search(&[setting], Fault::None, if long() { 3_000_000 } else { 150_000 });
+        println!("{setting:?}: {} entries, {:?}", met.entries, met.kinds);
+        assert!(found.is_none(), "{setting:?}: two holders after {} steps", met.steps);
+        assert!(met.entries > 50, "{setting:?}: only {} entries in {} steps", met.entries, met.steps);
+    }
 }
 
 #[test]

@@ -3,12 +3,12 @@
 
 use sigma_tests::author::any_script;
 use sigma_tests::files::scripts;
-use sigma_tests::gallery::{Gallery, GALLERY};
+use sigma_tests::gallery::{Event, Gallery, Kind, GALLERY};
 use sigma_tests::library::{script_feed, script_new};
 use sigma_tests::random::Random;
 use sigma_tests::script::{event, first, lines};
 use sigma_tests::setting::Setting;
-use sigma_tests::simulation::{by_call, by_model, new_by_call, words_of, INDEX, STATE, WORDS};
+use sigma_tests::simulation::{by_call, by_model, by_script, client_at, new_by_call, server_at, words_of, INDEX, STATE, WORDS};
 use std::collections::BTreeMap;
 
 const LAST: u32 = u32::MAX;
@@ -41,7 +41,7 @@ fn settings_out_of_range() {
         assert!(new_by_call(n, m, f, kiosks, WORDS).is_ok());
         // Cut to 8 or 16 bits, some of these would be in range.
         let past = |number: u32| [number + 256, number + 65_536, 1 << 31, LAST];
-        let wrong_n = [[0, 32].as_slice(), &past(n)].concat().into_iter().map(|n| (n, m.min(n), f.min(n), kiosks));
+        let wrong_n = [[0, 32, 33, 254, 255].as_slice(), &past(n)].concat().into_iter().map(|n| (n, m.min(n), f.min(n), kiosks));
         let wrong_m = [[0, n + 1].as_slice(), &past(m)].concat().into_iter().map(|m| (n, m, f, kiosks));
         let wrong_f = [[n + 1].as_slice(), &past(f)].concat().into_iter().map(|f| (n, m, f, kiosks));
         let wrong_kiosks = [[0, 17].as_slice(), &past(kiosks)].concat().into_iter().map(|kiosks| (n, m, f, kiosks));
@@ -51,6 +51,32 @@ fn settings_out_of_range() {
         }
         for room in [0, 1, 7, INDEX, WORDS - 1, WORDS + 1, STATE + WORDS] {
             assert_eq!(new_by_call(n, m, f, kiosks, room), Err(7), "{room} words");
+        }
+    }
+}
+
+/// Settings that kiosks and keepers run with, but that no gallery has: in a call, in a script's first line, and where the words say
+/// so, in front or in every record too.
+#[test]
+fn more_keepers_than_a_gallery_has() {
+    let words = begun(31, 21, 10, 2);
+    let records = (0..2).map(|i| client_at(i) + 1).chain((0..31).map(|i| server_at(i) + 1)).collect::<Vec<_>>();
+    for n in 32..=300 {
+        for (m, f) in [(1, 0), (n - n / 3, (n - 1) / 3), (n, n)] {
+            assert_eq!(new_by_call(n, m, f, 2, WORDS), Err(7), "{n} {m} {f}");
+            let (mut state, mut out, mut counts) = (vec![0; STATE + WORDS], [0; 52], [0; 2]);
+            assert_eq!(script_new(&mut state), 0);
+            let line = format!("setting {n} {m} {f} 2\n");
+            assert_eq!(script_feed(&mut state, line.as_bytes(), &mut out, &mut counts), 0);
+            assert_eq!((counts, &out[..5]), ([line.len(), 5], &b"no 7\n"[..]), "{line}");
+        }
+        let mut wrong = words.clone();
+        for places in [&[0], &records[..]] {
+            places.iter().for_each(|&at| wrong[at] = n);
+            for event in [Event { kind: Kind::Try, number: 1 }, Event { kind: Kind::Check, number: n.into() }] {
+                assert_eq!(by_call(&mut wrong.clone(), event.kind as u32, event.number as u32, 2), Err(21), "{n}");
+                assert_eq!(by_script(&mut wrong.clone(), event), Err(21), "{n}");
+            }
         }
     }
 }

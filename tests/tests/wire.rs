@@ -46,7 +46,7 @@ fn examples_of_document_01() {
 #[test]
 fn every_length_of_input() {
     let mut seen = [0usize; 7];
-    for words in [[1, 5, 1, 3, 0], [5, 5, 1, 3, 2], [5, 5, 1, 0, 0], [6, 65_535, 31, u32::MAX, 0]] {
+    for words in [[1, 5, 1, 3, 0], [5, 5, 1, 3, 2], [5, 5, 1, 0, 0], [6, 65_535, 255, u32::MAX, 0]] {
         for behind in [0u8, 1, 0xFF] {
             let mut bytes = bytes_of(&words);
             bytes.resize(40, behind);
@@ -80,7 +80,7 @@ fn every_kind_and_length_word() {
 fn boundary_numbers_of_each_field() {
     let kinds = [0, 1, 2, 3, 4, 5, 6, 7, 65_535, 65_536, 65_537, u32::MAX];
     let shorts = [0, 1, 2, 65_534, 65_535, 65_536, 65_537, u32::MAX];
-    let keepers = [0, 1, 2, 30, 31, 32, 33, 255, 256, 257, 65_535, 65_536, 65_537, u32::MAX];
+    let keepers = [0, 1, 2, 30, 31, 32, 33, 34, 253, 254, 255, 256, 257, 258, 65_535, 65_536, 65_537, u32::MAX];
     let tickets = [0, 1, 2, 65_536, u32::MAX - 1, u32::MAX];
     for kind in kinds {
         for kiosk in shorts {
@@ -103,10 +103,24 @@ fn boundary_numbers_of_each_field() {
             }
         }
     }
-    assert_eq!(compare_write(&[1, 5, 31, 3, 0], 12), 0);
-    assert_eq!(compare_write(&[1, 5, 32, 3, 0], 12), 5, "keeper 32");
+    assert_eq!(compare_write(&[1, 5, 255, 3, 0], 12), 0);
+    assert_eq!(compare_write(&[1, 5, 256, 3, 0], 12), 5, "keeper 256");
     assert_eq!(compare_write(&[5, 5, 1, 0, 7], 14), 5, "an owner with ticket 0");
     assert_eq!(compare_write(&[5, 5, 1, 7, 0], 14), 5, "a ticket with owner 0");
+}
+
+/// All that the field's two bytes can say, in a message of each kind: 1 to 255 is in range.
+#[test]
+fn every_keeper_number() {
+    for keeper in 0..=65_535 {
+        let expected = if (1..=255).contains(&keeper) { 0 } else { 5 };
+        for kind in 1..=6 {
+            let mut bytes = bytes_of(&[kind, 5, 1, 3, if kind == 5 { 2 } else { 0 }]);
+            bytes[6..8].copy_from_slice(&(keeper as u16).to_le_bytes());
+            assert_eq!(compare_read(&bytes, 6), expected, "keeper {keeper} in kind {kind}");
+        }
+        assert_eq!(compare_write(&[6, 5, keeper, 3, 0], 12), expected, "keeper {keeper}");
+    }
 }
 
 #[test]
@@ -155,13 +169,14 @@ fn a_million_random_inputs() {
             bytes[3] = 0;
             bytes[2] = r.below(8) as u8;
             bytes[0] = r.one_of(&[12, 14]);
-            bytes[6] = r.below(40) as u8;
-            bytes[7] = 0;
+            let any = r.next() as u8;
+            bytes[6] = r.one_of(&[0, 1, 31, 32, 254, 255, any]);
+            bytes[7] = r.one_of(&[0, 0, 0, 1]);
         }
         seen[compare_read(&bytes[..length], r.below(9) as usize) as usize] += 1;
         let mut words = random_message(&mut r);
         let at = r.below(5) as usize;
-        words[at] = r.one_of(&[0, 1, 5, 31, 32, 65_535, 65_536, u32::MAX, words[at]]);
+        words[at] = r.one_of(&[0, 1, 5, 31, 32, 255, 256, 65_535, 65_536, u32::MAX, words[at]]);
         seen[compare_write(&words, r.below(21) as usize) as usize] += 1;
     }
     assert!(seen.iter().all(|&n| n > 1000), "each refusal was met: {seen:?}");

@@ -3,6 +3,8 @@
 //! The library's calls go through C and are not inlined; nor are the model's. Both take turns, and the best round of each
 //! counts, so that a busy neighbour of the machine slows none alone.
 
+mod before;
+mod clients;
 mod codec;
 mod gallery;
 mod packet;
@@ -12,11 +14,15 @@ use std::time::{Duration, Instant};
 
 const ROUNDS: usize = 7;
 
-/// One line of the table: nanoseconds for each of `count` pieces of work.
+/// Nanoseconds for each of `count` pieces of work.
+fn each(time: Duration, count: usize) -> f64 {
+    time.as_nanos() as f64 / count as f64
+}
+
+/// One line of the table.
 fn row(name: &str, count: usize, ours: Duration, theirs: Duration) {
-    let each = |t: Duration| t.as_nanos() as f64 / count as f64;
     let ratio = ours.as_secs_f64() / theirs.as_secs_f64();
-    println!("{name:<42}{:>10.1}{:>10.1}{ratio:>8.2}", each(ours), each(theirs));
+    println!("{name:<42}{:>10.1}{:>10.1}{ratio:>8.2}", each(ours, count), each(theirs, count));
 }
 
 fn timed(work: &mut dyn FnMut() -> u64) -> (Duration, u64) {
@@ -25,16 +31,23 @@ fn timed(work: &mut dyn FnMut() -> u64) -> (Duration, u64) {
     (start.elapsed(), sum)
 }
 
-/// The best of several rounds of each, taken in turns; each round gives a sum that both must agree on.
-fn compare(name: &str, count: usize, ours: &mut dyn FnMut() -> u64, theirs: &mut dyn FnMut() -> u64) {
-    let (mut a, mut b) = (Duration::MAX, Duration::MAX);
+/// The best of several rounds of each, taken in turns; each round gives a sum that all must agree on.
+fn best<const N: usize>(name: &str, mut works: [&mut dyn FnMut() -> u64; N]) -> [Duration; N] {
+    let mut best = [Duration::MAX; N];
     for _ in 0..ROUNDS {
-        let (time, sum) = timed(ours);
-        let (other, check) = timed(theirs);
-        assert_eq!(sum, check, "{name}: both did the same");
-        a = a.min(time);
-        b = b.min(other);
+        let mut sums = vec![];
+        for (best, work) in best.iter_mut().zip(&mut works) {
+            let (time, sum) = timed(work);
+            *best = time.min(*best);
+            sums.push(sum);
+        }
+        assert!(sums.iter().all(|sum| *sum == sums[0]), "{name}: all did the same");
     }
+    best
+}
+
+fn compare(name: &str, count: usize, ours: &mut dyn FnMut() -> u64, theirs: &mut dyn FnMut() -> u64) {
+    let [a, b] = best(name, [ours, theirs]);
     row(name, count, a, b);
 }
 
@@ -46,5 +59,6 @@ fn main() {
     codec::run();
     packet::run();
     steps::run();
+    clients::run();
     gallery::run();
 }
