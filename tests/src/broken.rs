@@ -22,7 +22,7 @@ pub enum Rule {
     Number,
     /// "0 means none, allowed only for an owner with its ticket (both or neither) .."
     Half,
-    /// "A keeper's waiting line has 16 places."
+    /// "A keeper's waiting line has 16 places." In document 02, L3, 32.
     LineLength,
     /// "a place behind the line .. is not empty"
     BehindLine,

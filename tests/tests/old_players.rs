@@ -1,5 +1,6 @@
 //! Old players beside new ones, document 02, L3: a message with keeper 32 to 255 is refused 5 by the model at document 01's limits
-//! wherever the model at the new ones accepts it, and nothing else tells the two apart. The library agrees with the new one.
+//! wherever the model at the new ones accepts it, and nothing else tells the two apart but a full line of 16. The
+//! library agrees with the new one.
 
 use sigma_tests::both::{compare, played, Event};
 use sigma_tests::histories::{damage, first_ticket, kiosk_event, to_keeper, to_kiosk, Crowd};
