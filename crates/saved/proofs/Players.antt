@@ -56,7 +56,7 @@ module _ (k : ClientId) (j : ServerId) where
   unfolding validResponseUpTo validPartiesUpTo
   answered o = rw (below (j .0)) (last-asked (validClient k) (within (j .0) maxServers) (validNamed o) (leb (j .0) earlierServers))
 
--- a message is in an old player's range if it is in today's and names a server that it earlierKnows
+-- a message is in an old player's range if it is in today's and names a server that it knows
 pub valid-known : (m : Message) → validUpTo earlierServers m ≡ valid m && earlierKnows m
 unfolding validUpTo fieldsOf
 valid-known (Request k j t) = stamped k j t

@@ -38,7 +38,7 @@ earlierServerTakes = server.messageOutcomeUpTo earlierServers
 abbrev pub earlierClientTakes : Client → Message → Outcome responses.State
 earlierClientTakes = client.messageOutcomeUpTo earlierServers
 
--- it earlierKnows the server that a message names
+-- such a player knows the server that a message names
 abbrev pub earlierKnows : Message → Bool
 earlierKnows m = leb (serverNamed m .0) earlierServers
 
