@@ -73,7 +73,7 @@ uint32_t sigma_packet_pack(const uint8_t *bytes, size_t bytes_len, uint8_t *out,
 /* A record is words that stay where the host put them; an accepted call writes the new record over the old.
  * 0 is none. A record slice of another length, or one that holds no valid record, is refused 21.
  *   server: n, its number, owner, owner's timestamp, queue length, then client and timestamp of 32 places
- *   client: n, m, its number, section, timestamp, then owner and timestamp of the responses of servers 1 to 255
+ *   client: n, m, its number, section, timestamp, the largest timestamp seen, then owner and timestamp of the responses of servers 1 to 255
  * The messages that a step sends stand one after another at the start of `out`, and the bytes behind them stay;
  * `sent` takes their number and their bytes. A server sends at most 28 bytes in a step, a client 12 times n. */
 enum {
@@ -81,7 +81,7 @@ enum {
     SIGMA_TRYING = 1,
     SIGMA_CRITICAL = 2,
     SIGMA_SERVER_WORDS = 69,
-    SIGMA_CLIENT_WORDS = 515,
+    SIGMA_CLIENT_WORDS = 516,
     SIGMA_SENT_WORDS = 2,
     SIGMA_QUEUE_PLACES = 32
 };
@@ -128,19 +128,20 @@ uint32_t sigma_host_message(struct sigma_host *host, const uint32_t *message, si
 uint32_t sigma_host_suspect(struct sigma_host *host, uint8_t *out, size_t out_len);
 uint32_t sigma_host_check(struct sigma_host *host, uint8_t *out, size_t out_len);
 
-/* Writes the record of client `id` with n servers and threshold m, which has never tried, in the first 515 words.
+/* Writes the record of client `id` with n servers and threshold m, which has never tried and has seen nothing, in the first 516 words.
  * Refusal: 7 a number out of range, or fewer words lent. */
 uint32_t sigma_client_new(uint32_t n, uint32_t m, uint32_t id, uint32_t *record, size_t record_len);
 
-/* The client, in its remainder section, starts trying. Refusals: 21, 10 another section, 11 timestamps spent, 6. */
+/* The client, in its remainder section, starts trying, with a timestamp one above its last and all that it has seen.
+ * Refusals: 21, 10 another section, 11 timestamps spent (the larger of the two above 4294967293), 6. */
 uint32_t sigma_client_begin(uint32_t *record, size_t record_len, uint8_t *out, size_t out_len,
                             uint32_t *sent, size_t sent_len);
 
-/* The client leaves its critical section. Refusals: 21, 10 another section, 6. */
+/* The client leaves its critical section, and takes its last timestamp plus one. Refusals: 21, 10 another section, 6. */
 uint32_t sigma_client_exit(uint32_t *record, size_t record_len, uint8_t *out, size_t out_len,
                            uint32_t *sent, size_t sent_len);
 
-/* The client takes a RESPONSE or CHECK.
+/* The client takes a RESPONSE or CHECK, and has seen its timestamp, in any section, unless the call is refused.
  * Refusals: 21, 5 not five words, or a number out of range, 12 wrong kind, client or server, 6. */
 uint32_t sigma_client_message(uint32_t *record, size_t record_len, const uint32_t *message, size_t message_len,
                               uint8_t *out, size_t out_len, uint32_t *sent, size_t sent_len);
@@ -148,8 +149,8 @@ uint32_t sigma_client_message(uint32_t *record, size_t record_len, const uint32_
 /* A record that an earlier library saved is taken over, its queue or responses in front and the other places empty. `saved` is a whole record, in any
  * form that it has had:
  *   server: 37 words (n up to 31, 16 places), or today's 69; of a struct sigma_host these are the words before `sent`
- *   client: 67 words (n up to 31), or today's 515
- * The record of today stands in the first 69 or 515 words of `record`, another slice than `saved`, and the words behind it stay.
+ *   client: 67 words (n up to 31), 515 (both without what it has seen: taken over, it has seen nothing), or today's 516
+ * The record of today stands in the first 69 or 516 words of `record`, another slice than `saved`, and the words behind it stay.
  * Refusals: 21 another length, or words that were no valid record by the rules of their own time, 6 fewer words lent. */
 uint32_t sigma_server_upgrade(const uint32_t *saved, size_t saved_len, uint32_t *record, size_t record_len);
 uint32_t sigma_client_upgrade(const uint32_t *saved, size_t saved_len, uint32_t *record, size_t record_len);
@@ -186,12 +187,12 @@ uint32_t sigma_default_threshold(uint32_t n, uint32_t *words, size_t words_len);
 /* A simulated system: n servers, 1 to 31, with threshold m, 1 to 16 clients, and at most 512 messages in transit, as words that stay where
  * the host put them. f is kept with them, and no event is held to it. An event is the two words of sigma_run_event. */
 enum {
-    SIGMA_SIMULATION_WORDS = 7424,
+    SIGMA_SIMULATION_WORDS = 7440,
     SIGMA_ANSWER_WORDS = 2
 };
 
 /* A fresh start: all clients living, in the remainder section, all servers up, nothing sent.
- * Refusal: 7 a number out of range, or not 7424 words. */
+ * Refusal: 7 a number out of range, or not 7440 words. */
 uint32_t sigma_simulation_new(uint32_t n, uint32_t m, uint32_t f, uint32_t clients, uint32_t *words, size_t words_len);
 
 /* An event: accepted, the words are the system after it, and the first two words of `answer` are the messages sent and the living
@@ -205,13 +206,13 @@ uint32_t sigma_simulation_event(uint32_t *words, size_t words_len, uint32_t kind
  * `counts` takes the bytes of the input used and the bytes written. All that the calls write, joined, is the script's whole
  * output, however the input is cut and however small the buffers are. */
 enum {
-    SIGMA_SCRIPT_WORDS = 7470,
+    SIGMA_SCRIPT_WORDS = 7486,
     SIGMA_SCRIPT_LINE = 52,
     SIGMA_SCRIPT_END = 104,
     SIGMA_SCRIPT_COUNTS = 2
 };
 
-/* A new script, before its first line. Refusal: 7 not 7470 words. */
+/* A new script, before its first line. Refusal: 7 not 7486 words. */
 uint32_t sigma_script_new(uint32_t *state, size_t state_len);
 
 /* Takes in the input's bytes while there is room for one more line, which has at most 52 bytes: at least one byte, if there is

@@ -28,8 +28,8 @@ use Rattle.words.specs.Messages.{messageIn, messageOr}
 use Rattle.words.specs.Records.{serverSize, clientSize, holdsServer, serverFrom, serverIn, holdsClient, clientFrom, clientIn}
 use Rattle.words.proofs.RecordsLaws.{server-held, server-row, client-held, client-row}
 use Rattle.words.proofs.RoundTrip.{server-read-back, client-read-back}
-use Rattle.saved.specs.Forms.{savedServer, serverNow, savedClient, clientNow}
-use Rattle.saved.specs.Taken.{serverToday, clientToday}
+use Rattle.saved.specs.Forms.{savedServer, serverNow, ordered, savedClient, clientNow}
+use Rattle.saved.specs.Taken.{serverToday, clientToday, savedAs}
 use Rattle.saved.proofs.FormLaws.{servers, clients, now-long}
 use Rattle.saved.proofs.Taken.{server-taken-over, client-taken-over}
 use Rattle.capi.specs.Steps.{inWords, lent, withCounts, onServer, serverWith, serverMessage, serverSuspect, serverCheck, onClient, clientWith, clientMessage, clientBegin, clientExit, recordInto, upgrade, serverUpgrade, clientUpgrade}
@@ -176,5 +176,5 @@ module _ (ws s : List ℕ) where
   unfolding upgrade
   client-upgrade-valid v l =
       let T = client-taken-over ws v in
-      rw (v, le-ltb (length s) clientSize (omega (arith, l)), whole s (clientNow ws) (now-long clients ws v ∙ sym l))
-      (record { held = clientToday (clientFrom ws); read = T .read; valid = T .valid })
+      rw (v, le-ltb (length s) clientSize (omega (arith, l)), whole s (clientNow ws) (now-long clients (ordered ws) v ∙ sym l))
+      (record { held = clientToday (savedAs ws); read = T .read; valid = T .valid })

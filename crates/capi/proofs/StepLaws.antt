@@ -3,12 +3,12 @@ use Prim.Native.Nat.{ℕ, _+_, _*_, _-_, _<_, _≤_}
 use native.Mathlib.Omega.{arith}
 use mathlib.Core.Path.{_≡_, refl, sym, ap, _∙_}
 use mathlib.Core.Bool.{Bool, true, false, not}
-use mathlib.Core.List.{List, _++_, map, append-nil, append-assoc}
+use mathlib.Core.List.{List, _++_, map, append-nil}
 use mathlib.Core.Logic.{⊎-elim}
 use mathlib.Core.Option.{Option, none, some}
 use lib.Dec.{ltb}
 use lib.ListN.{length, take, drop, length-append, length-drop, length-map}
-use lib.Seq.{sets, sets-eq, take-all, drop-length, drop-drop, drop-at, length-take-le}
+use lib.Seq.{sets, sets-eq, take-all, drop-length, drop-at, length-take-le}
 use borrow.Author.Tests.{lt-ltb, le-ltb, not-true, not-false}
 use borrow.Rule.Slice.PartMut.{putMid, put-same}
 use Rattle.ids.specs.Refusals.{code}
@@ -45,7 +45,8 @@ use Rattle.client.specs.declared.Client.{Client}
 use Rattle.client.specs.declared.Turned.{Turned as ClientTurned}
 use Rattle.client.proofs.ValidLaws.{valid-known, valid-padded, padded-words}
 use Rattle.words.specs.Messages.{messageOr}
-use Rattle.words.specs.Records.{maxWord, recordHead, serverSize, clientSize, holdsServer, serverHeadFrom, serverFrom, holdsClient, clientHeadFrom, clientHeadWords, clientFrom, clientWords}
+use Rattle.rows.proofs.CopyLaws.{part-whole}
+use Rattle.words.specs.Records.{maxWord, serverHead, clientHead, serverSize, clientSize, holdsServer, serverHeadFrom, serverFrom, holdsClient, clientHeadFrom, clientHeadWords, clientFrom, clientWords}
 use Rattle.words.proofs.RecordsLaws.{server-held, client-held}
 use Rattle.sends.proofs.ServerSends.{never, size-few}
 use Rattle.capi.specs.Steps.{inWords, lent, Leaves, onServer, onClient, serverWith, clientWith, serverTakes, clientTakes}
@@ -63,33 +64,31 @@ whole ws vs e =
     let z : 0 + length vs ≡ length ws = omega arith in
     sets-eq vs ws 0 (omega arith) ∙ rw (z, drop-length ws) (append-nil vs)
 
--- the words behind a head, lent and back as the row
-pub row-copied : (ws row back : List ℕ) → recordHead + length row ≤ length ws → back ≡ row
-    → putMid recordHead (recordHead + length row - recordHead) ws back ≡ sets ws recordHead row
-row-copied ws row back h e =
-    let z : recordHead + length row - recordHead ≡ length row = omega arith in
-    rw (e, z, drop-drop (length row) recordHead ws) (sym (append-assoc (take recordHead ws) row (drop (recordHead + length row) ws)) ∙
-    sym (sets-eq row ws recordHead h))
+-- the words behind a head of so many, lent and back as the row
+pub row-copied : (head : ℕ) (ws row back : List ℕ) → head + length row ≤ length ws → back ≡ row
+    → putMid head (head + length row - head) ws back ≡ sets ws head row
+row-copied head ws row back h e = part-whole ws back row head (head + length row - head) (omega (arith, h)) (omega arith) e
 
-module _ (ws : List ℕ) (n : ℕ) (l : length ws ≡ recordHead + n) where
-  rest-long : length (drop recordHead ws) ≡ n
+module _ (head : ℕ) (ws : List ℕ) (n : ℕ) (l : length ws ≡ head + n) where
+  rest-long : length (drop head ws) ≡ n
   rest-long = simp length-drop (omega (arith, l))
 
-  pub whole-row : take n (drop recordHead ws) ≡ drop recordHead ws
-  whole-row = take-all n (drop recordHead ws) (omega (arith, rest-long))
+  pub whole-row : take n (drop head ws) ≡ drop head ws
+  whole-row = take-all n (drop head ws) (omega (arith, rest-long))
 
-  module _ (row head : List ℕ) (r : length row ≡ n) (h : length head ≡ recordHead) where
-    row-back : putMid recordHead n ws row ≡ take recordHead ws ++ row
-    row-back = let e = rw rest-long at (drop-length (drop recordHead ws)) in rw (e, append-nil row)
+  module _ (row front : List ℕ) (r : length row ≡ n) (h : length front ≡ head) where
+    row-back : putMid head n ws row ≡ take head ws ++ row
+    row-back = let e = rw rest-long at (drop-length (drop head ws)) in rw (e, append-nil row)
 
-    head-over : sets (take recordHead ws ++ row) 0 head ≡ head ++ row
+    head-over : sets (take head ws ++ row) 0 front ≡ front ++ row
     head-over =
-        let k : length (take recordHead ws) ≡ recordHead = length-take-le recordHead ws (omega (arith, l)) in
-        sets-eq head (take recordHead ws ++ row) 0 (simp length-append (omega (arith, k, h))) ∙ rw (h, drop-at (take recordHead ws) row recordHead k)
+        let k : length (take head ws) ≡ head = length-take-le head ws (omega (arith, l)) in
+        let z : 0 + length front ≡ head = omega (arith, h) in
+        sets-eq front (take head ws ++ row) 0 (simp length-append (omega (arith, k, h))) ∙ rw (z, drop-at (take head ws) row head k)
 
     -- the row first and the head then are the whole record
-    pub row-then-head : sets (putMid recordHead n ws row) 0 head ≡ sets ws 0 (head ++ row)
-    row-then-head = rw row-back (head-over ∙ sym (whole ws (head ++ row) (simp length-append (omega (arith, l, r, h)))))
+    pub row-then-head : sets (putMid head n ws row) 0 front ≡ sets ws 0 (front ++ row)
+    row-then-head = rw row-back (head-over ∙ sym (whole ws (front ++ row) (simp length-append (omega (arith, l, r, h)))))
 
 -- A REFUSED CALL changes nothing
 pub refused-leaves : (o : Outcome (List ℕ)) (e : Refusal) (r : ℕ) (ws out sent : List ℕ) → o ≡ refused e → r ≡ code e
@@ -192,12 +191,12 @@ module _ (ws : List ℕ) (b : Bool) (e : b ≡ holdsServer ws) where
     pub server-long : length ws ≡ serverSize
     server-long = server-held server.rowWords ws (is-server n) .size
 
-    module _ (h : ServerHead) (row : List ℕ) (eh : h ≡ serverHeadFrom ws) (er : row ≡ take server.rowWords (drop recordHead ws)) where
+    module _ (h : ServerHead) (row : List ℕ) (eh : h ≡ serverHeadFrom ws) (er : row ≡ take server.rowWords (drop serverHead ws)) where
       pub row-long : length row ≡ server.rowWords
-      row-long = rw (er, whole-row ws server.rowWords server-long) (rest-long ws server.rowWords server-long)
+      row-long = rw (er, whole-row serverHead ws server.rowWords server-long) (rest-long serverHead ws server.rowWords server-long)
 
       its-server : server.serverOf h row ≡ serverFrom ws
-      its-server = rw (eh, er, whole-row ws server.rowWords server-long)
+      its-server = rw (eh, er, whole-row serverHead ws server.rowWords server-long)
 
       module _ (call : ServerCall) (t : ServerTurned) (after : List ℕ) (T : Turns h row (serverOutcome call (server.serverOf h row)) t after) where
         by-outcome : (o : Outcome votes.State) → serverOutcome call (server.serverOf h row) ≡ o → Turns h row o t after
@@ -229,32 +228,32 @@ pub client-short-answers : (call : ClientCall) (h : ClientHead) (row copy after 
 client-short-answers call h row copy after o l t r c (a, b, d, s) e =
     rw (← c) (short-answers (clientOutcome call (client.clientOf h copy)) (length o) r (rw a at e))
 
-length-head-words : (h : ClientHead) → length (clientHeadWords h) ≡ recordHead
+length-head-words : (h : ClientHead) → length (clientHeadWords h) ≡ clientHead
 unfolding clientHeadWords
 length-head-words h = refl
 
 -- the step in place, its head stored and its counts
 module _ (ws : List ℕ) (l : length ws ≡ clientSize) (h : ClientHead) where
   abbrev row : List ℕ
-  row = take client.rowWords (drop recordHead ws)
+  row = take client.rowWords (drop clientHead ws)
 
   long : length row ≡ client.rowWords
-  long = rw (whole-row ws client.rowWords l) (rest-long ws client.rowWords l)
+  long = rw (whole-row clientHead ws client.rowWords l) (rest-long clientHead ws client.rowWords l)
 
   done-leaves : (o : Outcome client-state.State) (t : ClientTurned) (row′ : List ℕ) (out out′ sent sent′ ws′ : List ℕ) (r : ℕ) → 2 ≤ length sent
       → ((p : Step client-state.State) → o ≡ stepped p → 2 * length (p .state .responses) ≤ client.rowWords)
       → Answers h row o out t row′ out′
-      → (r ≡ answerCode (t .answer)) × (ws′ ≡ answerRecord (clientHeadWords (t .head)) (putMid recordHead client.rowWords ws row′) (t .answer))
+      → (r ≡ answerCode (t .answer)) × (ws′ ≡ answerRecord (clientHeadWords (t .head)) (putMid clientHead client.rowWords ws row′) (t .answer))
       × (sent′ ≡ answerCounts sent (t .answer))
       → Leaves (lent out sent (inWords (clientWith (client.clientOf h row)) o)) r ws ws′ out out′ sent sent′
   unfolding withRoom clientWords
   done-leaves (refused e) t row′ out out′ sent sent′ ws′ r g few (a, b, c, s) (er, ew, es) =
-      record { returned = rw a at er; stored = rw (a, b, put-same recordHead client.rowWords ws) at ew; written = c; counted = rw a at es }
+      record { returned = rw a at er; stored = rw (a, b, put-same clientHead client.rowWords ws) at ew; written = c; counted = rw a at es }
   done-leaves (stepped p) t row′ out out′ sent sent′ ws′ r g few (a, b, c, s) (er, ew, es) =
       ⊎-elim
       (λ (u : ltb (length out) (sizeOfAll (p .sent)) ≡ true).
       rw u (record
-      { returned = rw (a, u) at er; stored = rw (a, b, u, put-same recordHead client.rowWords ws) at ew; written = rw u at c; counted = rw (a, u) at es }))
+      { returned = rw (a, u) at er; stored = rw (a, b, u, put-same clientHead client.rowWords ws) at ew; written = rw u at c; counted = rw (a, u) at es }))
       (λ (u : ltb (length out) (sizeOfAll (p .sent)) ≡ false).
       let k : List ℕ = client-calls.rowAfter row (stepped p) in
       let d : row′ ≡ k = rw u at b in
@@ -263,7 +262,7 @@ module _ (ws : List ℕ) (l : length ws ≡ clientSize) (h : ClientHead) where
       rw (u, le-ltb _ _ g)
       (record {
         returned = rw (a, u) at er;
-        stored = w ∙ row-then-head ws client.rowWords l k (clientHeadWords (client-calls.headAfter h (stepped p)))
+        stored = w ∙ row-then-head clientHead ws client.rowWords l k (clientHeadWords (client-calls.headAfter h (stepped p)))
             (length-row-of (length row) (map place (p .state .responses)) f ∙ long)
             (length-head-words (client-calls.headAfter h (stepped p)));
         written = rw u at c;
@@ -283,15 +282,15 @@ module _ (ws : List ℕ) (b : Bool) (e : b ≡ holdsClient ws) where
     pub client-long : length ws ≡ clientSize
     client-long = client-held client.rowWords ws (is-client n) .size
 
-    pub client-row-long : length (take client.rowWords (drop recordHead ws)) ≡ client.rowWords
-    client-row-long = rw (whole-row ws client.rowWords client-long) (rest-long ws client.rowWords client-long)
+    pub client-row-long : length (take client.rowWords (drop clientHead ws)) ≡ client.rowWords
+    client-row-long = rw (whole-row clientHead ws client.rowWords client-long) (rest-long clientHead ws client.rowWords client-long)
 
     module _ (h : ClientHead) (eh : h ≡ clientHeadFrom ws) where
       abbrev its : Client
-      its = client.clientOf h (take client.rowWords (drop recordHead ws))
+      its = client.clientOf h (take client.rowWords (drop clientHead ws))
 
       its-client : its ≡ clientFrom ws
-      its-client = rw (eh, whole-row ws client.rowWords client-long)
+      its-client = rw (eh, whole-row clientHead ws client.rowWords client-long)
 
       on-client : (f : Client → Outcome client-state.State) → onClient ws f ≡ inWords (clientWith its) (f its)
       unfolding onClient
@@ -303,7 +302,7 @@ module _ (ws : List ℕ) (b : Bool) (e : b ≡ holdsClient ws) where
         client-short-leaves r l k = rw (on-client (clientOutcome call)) (short-leaves (clientWith its) ws out sent (clientOutcome call its) r l k)
 
         module _ (t : ClientTurned) (row′ out′ : List ℕ)
-            (A : Answers h (take client.rowWords (drop recordHead ws)) (clientOutcome call its) out t row′ out′) where
+            (A : Answers h (take client.rowWords (drop clientHead ws)) (clientOutcome call its) out t row′ out′) where
           pub client-storable : Storable (t .answer)
           client-storable =
               fitting (withRoom (length out) (clientOutcome call its)) (t .answer) (rw (A .0))
@@ -313,7 +312,7 @@ module _ (ws : List ℕ) (b : Bool) (e : b ≡ holdsClient ws) where
               (omega (arith, a .most .few), omega (arith, a .most .small)))
 
           pub client-done-leaves : (r : ℕ) (ws′ sent′ : List ℕ) → 2 ≤ length sent
-              → (r ≡ answerCode (t .answer)) × (ws′ ≡ answerRecord (clientHeadWords (t .head)) (putMid recordHead client.rowWords ws row′) (t .answer))
+              → (r ≡ answerCode (t .answer)) × (ws′ ≡ answerRecord (clientHeadWords (t .head)) (putMid clientHead client.rowWords ws row′) (t .answer))
               × (sent′ ≡ answerCounts sent (t .answer))
               → Leaves (lent out sent (onClient ws (clientOutcome call))) r ws ws′ out out′ sent sent′
           client-done-leaves r ws′ sent′ l F =

@@ -12,7 +12,7 @@ ghost use Rattle.server.specs.Rows.{Turns};
 ghost use Rattle.client.specs.Record as client;
 ghost use Rattle.client.specs.Steps.{Answers};
 ghost use Rattle.words.specs.Messages.{messageIn};
-ghost use Rattle.words.specs.Records.{maxWord, recordHead, serverSize, clientSize, serverWords, clientHeadWords, clientWords};
+ghost use Rattle.words.specs.Records.{maxWord, serverHead, clientHead, serverSize, clientSize, serverWords, clientHeadWords, clientWords};
 ghost use Rattle.capi.specs.Calls.{readSize, readCode, readWords, writtenCode, writeCode, writeBuffer};
 ghost use Rattle.capi.specs.Steps.{lent, Leaves, codeOf, recordInto, serverMessage, serverSuspect, serverCheck, clientMessage, clientBegin, clientExit, serverNew, clientNew, serverUpgrade, clientUpgrade, onServer, onClient};
 ghost use Rattle.capi.specs.Inner.{answerCode, answerRecord, answerCounts, shortCode, shortAnswer, Storable, turnedWords, acceptedWords, serverOutcome, clientOutcome};
@@ -95,30 +95,30 @@ pub enum ClientCall {
     Exit,
 }
 
-// Writes a row behind the five words of a head.
-fn put_row(state: &mut [u32], row: &[u32])
-    requires { ⌜ recordHead + length (now row) ≤ length (now state) ⌝ }
-    ensures { λ _. ⌜ now (state .exit) ≡ sets (now (state .entry)) recordHead (now (row .entry)) ⌝ }
+// Writes a row behind a head of so many words.
+fn put_row(state: &mut [u32], head: usize, row: &[u32])
+    requires { ⌜ head + length (now row) ≤ length (now state) ⌝ }
+    ensures { λ _. ⌜ now (state .exit) ≡ sets (now (state .entry)) head (now (row .entry)) ⌝ }
 {
-    let end = words::HEAD_WORDS + row.len();
-    rows::copy(row, &mut state[words::HEAD_WORDS..end]);
+    let end = head + row.len();
+    rows::copy(row, &mut state[head..end]);
 }
 
 // Writes a record in the first words: its head, and the row behind it.
 fn put_server(state: &mut [u32], h: server::Head, row: &[u32])
-    requires { ⌜ (recordHead + length (now row) ≤ length (now state)) × (h .votes .len ≤ maxWord) ⌝ }
+    requires { ⌜ (serverHead + length (now row) ≤ length (now state)) × (h .votes .len ≤ maxWord) ⌝ }
     ensures { λ _. ⌜ now (state .exit) ≡ sets (now (state .entry)) 0 (serverWords (server.serverOf h (now (row .entry)))) ⌝ }
 {
     words::put_server_head(state, h);
-    put_row(state, row);
+    put_row(state, words::SERVER_HEAD, row);
 }
 
 fn put_client(state: &mut [u32], h: client::Head, row: &[u32])
-    requires { ⌜ recordHead + length (now row) ≤ length (now state) ⌝ }
+    requires { ⌜ clientHead + length (now row) ≤ length (now state) ⌝ }
     ensures { λ _. ⌜ now (state .exit) ≡ sets (now (state .entry)) 0 (clientWords (client.clientOf h (now (row .entry)))) ⌝ }
 {
     words::put_client_head(state, h);
-    put_row(state, row);
+    put_row(state, words::CLIENT_HEAD, row);
 }
 
 fn put_counts(sent: &mut [u32], count: usize, bytes: usize)
@@ -141,7 +141,7 @@ fn server_step(h: server::Head, row: &mut [u32], call: ServerCall) -> server::Tu
 
 // An accepted step's record and counts are stored; a refused one's number is returned.
 fn server_store(a: Answer, h: server::Head, row: &[u32], state: &mut [u32], sent: &mut [u32]) -> u32
-    requires { ⌜ (recordHead + length (now row) ≤ length (now state)) × (2 ≤ length (now sent)) × (h .votes .len ≤ maxWord) × Storable a ⌝ }
+    requires { ⌜ (serverHead + length (now row) ≤ length (now state)) × (2 ≤ length (now sent)) × (h .votes .len ≤ maxWord) × Storable a ⌝ }
     ensures { λ x. ⌜ (x ≡ answerCode a) × (now (state .exit) ≡ answerRecord (serverWords (server.serverOf h (now (row .entry)))) (now (state .entry)) a) × (now (sent .exit) ≡ answerCounts (now (sent .entry)) a) ⌝ }
 {
     match a {
@@ -162,7 +162,7 @@ fn server_send(
     out: &mut [u8],
     sent: &mut [u32],
 ) -> u32
-    requires { ⌜ (recordHead + length (now row) ≤ length (now state)) × (t .head .votes .len ≤ maxWord) ⌝ }
+    requires { ⌜ (serverHead + length (now row) ≤ length (now state)) × (t .head .votes .len ≤ maxWord) ⌝ }
     ensures { λ r. ⌜ Leaves (lent (now (out .entry)) (now (sent .entry)) (acceptedWords t (now (row .entry)))) r (now (state .entry)) (now (state .exit)) (now (out .entry)) (now (out .exit)) (now (sent .entry)) (now (sent .exit)) ⌝ }
 {
     if sent.len() < 2 {
@@ -184,7 +184,7 @@ fn server_finish(
     out: &mut [u8],
     sent: &mut [u32],
 ) -> u32
-    requires { ⌜ (recordHead + length (now row) ≤ length (now state)) × (t .ruling ≡ Ruling.Done → t .head .votes .len ≤ maxWord) ⌝ }
+    requires { ⌜ (serverHead + length (now row) ≤ length (now state)) × (t .ruling ≡ Ruling.Done → t .head .votes .len ≤ maxWord) ⌝ }
     ensures { λ r. ⌜ Leaves (lent (now (out .entry)) (now (sent .entry)) (turnedWords t (now (row .entry)))) r (now (state .entry)) (now (state .exit)) (now (out .entry)) (now (out .exit)) (now (sent .entry)) (now (sent .exit)) ⌝ }
 {
     let ruling = t.ruling;
@@ -203,7 +203,7 @@ fn server_call(call: ServerCall, state: &mut [u32], out: &mut [u8], sent: &mut [
     }
     let h = words::server_head(state);
     let mut row = [0u32; server::ROW_WORDS];
-    rows::copy(&state[words::HEAD_WORDS..words::SERVER_WORDS], &mut row);
+    rows::copy(&state[words::SERVER_HEAD..words::SERVER_WORDS], &mut row);
     let t = server_step(h, &mut row, call);
     server_finish(t, &row, state, out, sent)
 }
@@ -243,7 +243,7 @@ fn client_short(h: client::Head, row: &[u32], call: ClientCall) -> u32
 
 // An accepted step's head and counts are stored, its row stands already; a refused one's number is returned.
 fn client_finish(t: client::Turned, state: &mut [u32], sent: &mut [u32]) -> u32
-    requires { ⌜ (recordHead ≤ length (now state)) × (2 ≤ length (now sent)) × Storable (t .answer) ⌝ }
+    requires { ⌜ (clientHead ≤ length (now state)) × (2 ≤ length (now sent)) × Storable (t .answer) ⌝ }
     ensures { λ x. ⌜ (x ≡ answerCode (t .answer)) × (now (state .exit) ≡ answerRecord (clientHeadWords (t .head)) (now (state .entry)) (t .answer)) × (now (sent .exit) ≡ answerCounts (now (sent .entry)) (t .answer)) ⌝ }
 {
     let answer = t.answer;
@@ -267,11 +267,11 @@ fn client_call(call: ClientCall, state: &mut [u32], out: &mut [u8], sent: &mut [
     }
     let h = words::client_head(state);
     if sent.len() < 2 {
-        return client_short(h, &state[words::HEAD_WORDS..words::CLIENT_WORDS], call);
+        return client_short(h, &state[words::CLIENT_HEAD..words::CLIENT_WORDS], call);
     }
     let t = client_step(
         h,
-        &mut state[words::HEAD_WORDS..words::CLIENT_WORDS],
+        &mut state[words::CLIENT_HEAD..words::CLIENT_WORDS],
         call,
         out,
     );

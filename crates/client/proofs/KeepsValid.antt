@@ -32,7 +32,7 @@ use Rattle.rows.proofs.GoodLaws.{padded-good}
 use Rattle.rows.proofs.RowLaws.{row-of-queue, row-of-padded}
 use Rattle.client_responses.specs.declared.Section.{Section}
 use Rattle.client_responses.specs.declared.Section.the-variants.{Remainder, Trying, Critical}
-use Rattle.client_responses.specs.Figure1.{State, fresh, next, filled, count, own, enough, isRemainder, isCritical, mayTry, lastTry, tries, exits, current, heard, judge, responds, checked}
+use Rattle.client_responses.specs.Figure1.{State, fresh, next, latest, saw, filled, count, own, enough, isRemainder, isCritical, mayTry, lastTry, tries, exits, current, told, heard, judge, uponResponse, uponCheck, responds, checked}
 use Rattle.client_responses.specs.Row.{shown, place, responsesIn, ownIsCurrent}
 use Rattle.client_responses.proofs.CountLaws.{length-responses}
 use Rattle.client_responses.proofs.HearLaws.{shown-place, place-fits}
@@ -102,7 +102,7 @@ module _ (limit n m : ℕ) (k : ClientId) (s : State) (F : FitsUpTo limit n m k 
 
   pub kept-view : view kept ≡ s
   unfolding view
-  kept-view = λ i. record { section = s .section; timestamp = s .timestamp; responses = shows i }
+  kept-view = λ i. record { section = s .section; timestamp = s .timestamp; seen = s .seen; responses = shows i }
 
   pub kept-valid : validUpTo limit kept ≡ true
   kept-valid =
@@ -155,10 +155,10 @@ none-filled : (n : ℕ) → count (map filled (replicate n Nobody)) ≡ 0
 none-filled zero = refl
 none-filled (suc n) = omega (arith, none-filled n)
 
-module _ {limit : ℕ} (n m : ℕ) (k : ClientId) (R : InRangeUpTo limit n m k) (t : Timestamp) where
+module _ {limit : ℕ} (n m : ℕ) (k : ClientId) (R : InRangeUpTo limit n m k) (t seen : Timestamp) where
   without-fits : (a : Section) → fitsTimestamp a t ≡ true
       → fitsSection (enough m) a (record { client = k; timestamp = t }) (replicate n Nobody) ≡ true → noMore a m (replicate n Nobody) ≡ true
-      → FitsUpTo limit n m k (without n a t)
+      → FitsUpTo limit n m k (without n a t seen)
   unfolding validOwner
   without-fits a h g b =
       record {
@@ -171,11 +171,11 @@ module _ {limit : ℕ} (n m : ℕ) (k : ClientId) (R : InRangeUpTo limit n m k) 
         more = b;
       }
 
-  pub trying-fits : fitsTimestamp Trying t ≡ true → FitsUpTo limit n m k (without n Trying t)
+  pub trying-fits : fitsTimestamp Trying t ≡ true → FitsUpTo limit n m k (without n Trying t seen)
   unfolding enough
   trying-fits h = without-fits Trying h (rw (none-filled n, lt-leb m 0 (R .threshold))) refl
 
-  pub remainder-fits : FitsUpTo limit n m k (without n Remainder t)
+  pub remainder-fits : FitsUpTo limit n m k (without n Remainder t seen)
   remainder-fits = without-fits Remainder refl (rw none-filled refl) refl
 
 -- one response more
@@ -256,15 +256,15 @@ module _ (m : ℕ) (r : Request) (l : List Owner) where
   critical-exactly = by-counts (leb m (count (own r l))) (leb (count (map filled l)) m) refl refl
 
 -- what lines 10 to 18 leave
-module _ {limit : ℕ} (n m : ℕ) (k : ClientId) (t : Timestamp) (l : List Owner) (B : FitsUpTo limit n m k (without n Trying t)) where
+module _ {limit : ℕ} (n m : ℕ) (k : ClientId) (c : State) (l : List Owner) (B : FitsUpTo limit n m k (without n Trying (c .timestamp) (c .seen))) where
   abbrev mine : Request
-  mine = record { client = k; timestamp = t }
+  mine = record { client = k; timestamp = c .timestamp }
 
   abbrev with : Section → List Owner → State
-  with s a = record { section = s; timestamp = t; responses = a }
+  with s a = record { section = s; timestamp = c .timestamp; seen = c .seen; responses = a }
 
   module _ (long : length l ≡ n) (owners : every validOwner l ≡ true) (own : every (ownIsCurrent mine) l ≡ true) (most : count (map filled l) ≤ m) where
-    left-fits : (s : Section) → fitsTimestamp s t ≡ true → fitsSection (enough m) s mine l ≡ true → noMore s m l ≡ true → FitsUpTo limit n m k (with s l)
+    left-fits : (s : Section) → fitsTimestamp s (c .timestamp) ≡ true → fitsSection (enough m) s mine l ≡ true → noMore s m l ≡ true → FitsUpTo limit n m k (with s l)
     left-fits s h g b =
         record {
           ranges = B .ranges;
@@ -288,7 +288,7 @@ module _ {limit : ℕ} (n m : ℕ) (k : ClientId) (t : Timestamp) (l : List Owne
     lifted true false x y z = refl
     lifted false b x y z = refl
 
-    judge-fits : FitsUpTo limit n m k (judge (enough m) n mine l .state)
+    judge-fits : FitsUpTo limit n m k (judge (enough m) n k c l .state)
     unfolding judge enough
     judge-fits = rw lifted (judged (leb m (count (map filled l))) (leb m (count (map (isRequest mine) l))) refl refl)
 
@@ -297,41 +297,59 @@ few-filled : (m : ℕ) (l : List Owner) → not (enough m (map filled l)) ≡ tr
 unfolding enough
 few-filled m l h = leb-false m (count (map filled l)) (not-true _ h)
 
+-- what was seen is held to nothing
+pub saw-fits : {limit : ℕ} (n m : ℕ) (k : ClientId) (t : Timestamp) (s : State) → FitsUpTo limit n m k s → FitsUpTo limit n m k (saw t s)
+saw-fits n m k t s F =
+    record {
+      ranges = F .ranges;
+      long = F .long;
+      timestamp = F .timestamp;
+      owners = F .owners;
+      own = F .own;
+      section = F .section;
+      more = F .more;
+    }
+
 -- lines 7 to 18, by the section
 module _ {limit : ℕ} (n m : ℕ) (k : ClientId) (j : ServerId) (o : Owner) (v : validOwner o ≡ true) where
-  responds-by : (a : Section) (t : Timestamp) (l : List Owner) → FitsUpTo limit n m k (record { section = a; timestamp = t; responses = l })
-      → FitsUpTo limit n m k (responds (enough m) n k j o (record { section = a; timestamp = t; responses = l }) .state)
-  unfolding responds
-  responds-by Remainder t l F = F
-  responds-by Critical t l F = F
-  responds-by Trying t l F =
+  upon-response : (a : Section) (t seen : Timestamp) (l : List Owner)
+      → FitsUpTo limit n m k (record { section = a; timestamp = t; seen = seen; responses = l })
+      → FitsUpTo limit n m k (uponResponse (enough m) n k j o (record { section = a; timestamp = t; seen = seen; responses = l }) .state)
+  unfolding uponResponse
+  upon-response Remainder t seen l F = F
+  upon-response Critical t seen l F = F
+  upon-response Trying t seen l F =
       let r : Request = record { client = k; timestamp = t } in
-      judge-fits n m k t (heard r l j o) (trying-fits n m k (F .ranges) t (F .timestamp)) (heard-length r l j o ∙ F .long)
+      judge-fits n m k (record { section = Trying; timestamp = t; seen = seen; responses = l }) (heard r l j o)
+      (trying-fits n m k (F .ranges) t seen (F .timestamp)) (heard-length r l j o ∙ F .long)
       (heard-every r l j o validOwner (F .owners) (λ h. v)) (heard-every r l j o (ownIsCurrent r) (F .own) (current-own r o))
       (omega (arith, heard-count r l j o filled, few-filled m l (F .section)))
 
   pub responds-fits : (s : State) → FitsUpTo limit n m k s → FitsUpTo limit n m k (responds (enough m) n k j o s .state)
-  responds-fits s F = responds-by (s .section) (s .timestamp) (s .responses) F
+  responds-fits s F = upon-response (s .section) (s .timestamp) (saw (told o) s .seen) (s .responses) (saw-fits n m k (told o) s F)
 
--- lines 24 and 25 change nothing
-pub checked-state : (k : ClientId) (j : ServerId) (t : Timestamp) (s : State) → checked k j t s .state ≡ s
-unfolding checked
-checked-state k j t s = by-test (eqb (t .0) (s .timestamp .0)) where
+-- lines 24 and 25 change nothing, and the step only what was seen
+upon-check : (k : ClientId) (j : ServerId) (t : Timestamp) (s : State) → uponCheck k j t s .state ≡ s
+unfolding uponCheck
+upon-check k j t s = by-test (eqb (t .0) (s .timestamp .0)) where
   by-test : (b : Bool) → (if b then stay s else record { state = s; sent = Release k j t ∷ [] }) .state ≡ s
   by-test true = refl
   by-test false = refl
 
+pub checked-state : (k : ClientId) (j : ServerId) (t : Timestamp) (s : State) → checked k j t s .state ≡ saw t s
+checked-state k j t s = upon-check k j t (saw t s)
+
 -- lines 1 to 5 and 19 to 23
 module _ {limit : ℕ} (n m : ℕ) (k : ClientId) (s : State) (R : InRangeUpTo limit n m k) where
-  pub tries-fits : s .timestamp .0 ≤ lastTry → FitsUpTo limit n m k (tries n k s .state)
+  pub tries-fits : latest s .0 ≤ lastTry → FitsUpTo limit n m k (tries n k s .state)
   unfolding tries next
   tries-fits h =
-      trying-fits n m k R (record { 0 = s .timestamp .0 + 1 })
-      (rw (le-leb 1 (s .timestamp .0 + 1) (omega arith)) (lt-ltb (s .timestamp .0 + 1) maxTimestamp (omega arith)))
+      trying-fits n m k R (record { 0 = latest s .0 + 1 }) (s .seen)
+      (rw (le-leb 1 (latest s .0 + 1) (omega arith)) (lt-ltb (latest s .0 + 1) maxTimestamp (omega arith)))
 
   pub exits-fits : FitsUpTo limit n m k (exits n k s .state)
   unfolding exits
-  exits-fits = remainder-fits n m k R (next (s .timestamp))
+  exits-fits = remainder-fits n m k R (next (s .timestamp)) (s .seen)
 
 -- what an outcome that is no refusal says of the tests before it
 never : (e : Refusal) (s : Step State) → refused e ≡ stepped s → ⊥
@@ -373,7 +391,7 @@ module _ (limit : ℕ) (c : Client) (s : Step State) (v : validUpTo limit c ≡ 
       after (responds (enough (c .head .m)) (c .head .n) k j o (view c)) (cc) (rw i F)
   received-valid (Check k j t) w h =
       let (a, e) = taken (forClient (c .head) k j) (never NotForClient s) h in
-      after (checked k j t (view c)) (cc) (rw checked-state (view-fits c known))
+      after (checked k j t (view c)) (cc) (rw checked-state (saw-fits (c .head .n) (c .head .m) (c .head .id) t (view c) (view-fits c known)))
 
   pub message-valid-up-to : (m : Message) → messageOutcomeUpTo limit c m ≡ stepped s → validUpTo limit (clientAfter c (stepped s)) ≡ true
   unfolding messageOutcomeUpTo
@@ -393,7 +411,7 @@ module _ (c : Client) (s : Step State) (v : valid c ≡ true) where
       let (b, h₂) = taken (isRemainder (view c .section)) (never WrongSection s) h₁ in
       let (d, h₃) = taken (mayTry (view c)) (never TimestampsSpent s) h₂ in
       after maxServers c s v (tries (c .head .n) (c .head .id) (view c)) (cc)
-      (tries-fits (c .head .n) (c .head .m) (c .head .id) (view c) ranges (leb-true (view c .timestamp .0) lastTry d))
+      (tries-fits (c .head .n) (c .head .m) (c .head .id) (view c) ranges (leb-true (latest (view c) .0) lastTry d))
 
   pub exit-valid : exitOutcome c ≡ stepped s → valid (clientAfter c (stepped s)) ≡ true
   unfolding exitOutcome
@@ -409,4 +427,4 @@ module _ (c : Client) (s : Step State) (v : valid c ≡ true) where
 pub new-valid : (n m : ℕ) (k : ClientId) → validSizes n m ≡ true → validClient k ≡ true → valid (store n m k (fresh n)) ≡ true
 new-valid n m k z h =
     let (a, b, d, e) = sizes-range n m z in
-    store-valid maxPlaces n m k (fresh n) (remainder-fits n m k (record { some = a; few = b; threshold = d; reached = e; client = h }) (record { 0 = 0 })) b
+    store-valid maxPlaces n m k (fresh n) (remainder-fits n m k (record { some = a; few = b; threshold = d; reached = e; client = h }) (record { 0 = 0 }) (record { 0 = 0 })) b

@@ -1,5 +1,5 @@
 -- What a call answers at each of its returns: a refusal, no room, or the step's head, row and messages.
-use Prim.Native.Nat.{ℕ, _+_, _*_, _-_, _≤_, _<_}
+use Prim.Native.Nat.{ℕ, _+_, _*_, _-_, _≤_, _<_, max}
 use native.Mathlib.Omega.{arith}
 use mathlib.Core.Path.{_≡_, refl, _∙_, ap, sym}
 use mathlib.Core.Bool.{Bool, true, false, true≢false, not, _&&_}
@@ -32,7 +32,7 @@ use Rattle.wire.proofs.Sequence.{sizeOfAll-one, bytesOfAll-one}
 use Rattle.rows.specs.Rows.{rowOf, Padded, Put}
 use Rattle.client_responses.specs.declared.Section.{Section}
 use Rattle.client_responses.specs.declared.Section.the-variants.{Remainder, Trying, Critical}
-use Rattle.client_responses.specs.Figure1.{State, fresh, next, filled, count, own, enough, isRemainder, isTrying, isCritical, lastTry, toAll, tries, exits, round, decide, judge, responds, checked}
+use Rattle.client_responses.specs.Figure1.{State, fresh, next, later, filled, count, own, enough, isRemainder, isTrying, isCritical, lastTry, toAll, tries, exits, round, decide, judge, told, uponResponse, uponCheck, responds, checked}
 use Rattle.client_responses.specs.Row.{place, responsesIn, placeOf, heardRow}
 use Rattle.client_responses.proofs.CountLaws.{length-responses}
 use Rattle.client_responses.proofs.SendLaws.{request-plain, release-plain, length-toAll, size-toAll}
@@ -42,10 +42,10 @@ use Rattle.client.specs.declared.Client.{Client}
 use Rattle.client.specs.declared.Head.{Head}
 use Rattle.client.specs.declared.Stepped.{Stepped}
 use Rattle.client.specs.declared.Turned.{Turned}
-use Rattle.client.specs.Record.{maxPlaces, rowWords, clientOf, headIn, validSizes, valid, view, store}
+use Rattle.client.specs.Record.{maxPlaces, rowWords, clientOf, headIn, validSizes, validUpTo, valid, view, store}
 use Rattle.client.specs.Calls.{newResult, NewGives, beginOutcome, exitOutcome, messageOutcome, messageOutcomeUpTo, forClient, received, rowAfter, turned, Gives}
 use Rattle.client.specs.Steps.{Answers}
-use Rattle.client.specs.Inner.{request, headWith, without, requests, releases, refusedNew, yields, isRefused}
+use Rattle.client.specs.Inner.{request, headWith, sawIn, without, requests, releases, refusedNew, yields, isRefused, settled}
 use Rattle.client.proofs.ValidLaws.{valid-known, valid-padded, padded-words, critical-below, sizes-range}
 use Rattle.client.proofs.RecordLaws.{row-without, row-again, fresh-stored}
 
@@ -83,7 +83,7 @@ answers-stay h row x o r s q e p = answers-done h row x o r (stay s) q row o (om
 
 -- a message to each server, and the row emptied
 module _ (h : Head) (row : List ℕ) (f : ServerId → Message) (plain : (j : ServerId) → sizeOf (f j) ≡ messageBytes) (x : Outcome State)
-    (a : Section) (t : Timestamp) (o : List ℕ) (r : Turned) (q : x ≡ stepped (record { state = without (h .n) a t; sent = toAll f (h .n) }))
+    (a : Section) (t : Timestamp) (o : List ℕ) (r : Turned) (q : x ≡ stepped (record { state = without (h .n) a t (h .seen); sent = toAll f (h .n) }))
   where
     all-short : length o < messageBytes * h .n → r ≡ turned h (refused RoomShort) → Answers h row x o r row o
     all-short g p = answers-short h row x o r _ q (omega (arith, size-toAll f plain (h .n))) p
@@ -95,10 +95,25 @@ module _ (h : Head) (row : List ℕ) (f : ServerId → Message) (plain : (j : Se
         answers-done h row x o r _ q after l (omega (arith, size-toAll f plain (h .n))) (rw (length-toAll f (h .n), size-toAll f plain (h .n)) p) (z ∙
         sym (row-without (length row) (h .n) (padded-words row (h .n) k))) e
 
--- `attempt` and `leave`
+-- `later`
+pub later-is : (a b t : Timestamp) → t .0 ≡ max (a .0) (b .0) → t ≡ later a b
+later-is a b t e = λ i. record { 0 = e i }
+
+-- `attempt` and `leave`: room for one timestamp more, by the code's `last` and by the definition
+module _ (a b last : Timestamp) (e : last ≡ later a b) where
+  pub try-left : later a b .0 ≤ lastTry → last .0 ≤ lastTry
+  try-left h = rw e h
+
+  pub left-to-try : last .0 ≤ lastTry → later a b .0 ≤ lastTry
+  left-to-try h = rw e at h
+
 module _ (h : Head) (row : List ℕ) (o : List ℕ) (r : Turned) where
-  abbrev taken : Timestamp
-  taken = record { 0 = h .timestamp .0 + 1 }
+  -- the timestamp that a try takes, and the one that an exit does
+  abbrev taken : Timestamp → Timestamp
+  taken last = record { 0 = last .0 + 1 }
+
+  abbrev left : Timestamp
+  left = record { 0 = h .timestamp .0 + 1 }
 
   abbrev tried : Outcome State
   tried = stepped (tries (h .n) (h .id) (view (clientOf h row)))
@@ -106,27 +121,32 @@ module _ (h : Head) (row : List ℕ) (o : List ℕ) (r : Turned) where
   abbrev exited : Outcome State
   exited = stepped (exits (h .n) (h .id) (view (clientOf h row)))
 
-  its-try : tried ≡ stepped (record { state = without (h .n) Trying taken; sent = toAll (requests (h .id) taken) (h .n) })
+  its-try : (last : Timestamp) → last ≡ later (h .timestamp) (h .seen)
+      → tried ≡ stepped (record { state = without (h .n) Trying (taken last) (h .seen); sent = toAll (requests (h .id) (taken last)) (h .n) })
   unfolding tries view next
-  its-try = refl
+  its-try last e = rw e
 
-  its-exit : exited ≡ stepped (record { state = without (h .n) Remainder taken; sent = toAll (releases (h .id) (h .timestamp)) (h .n) })
+  its-exit : exited ≡ stepped (record { state = without (h .n) Remainder left (h .seen); sent = toAll (releases (h .id) (h .timestamp)) (h .n) })
   unfolding exits view next
   its-exit = refl
 
   module _ (g : length o < messageBytes * h .n) (p : r ≡ turned h (refused RoomShort)) where
     pub tries-short : Answers h row tried o r row o
-    tries-short = all-short h row (requests (h .id) taken) (request-plain (h .id) taken) _ _ _ o r its-try g p
+    tries-short =
+        let last = later (h .timestamp) (h .seen) in
+        all-short h row (requests (h .id) (taken last)) (request-plain (h .id) (taken last)) _ _ _ o r (its-try last refl) g p
 
     pub exits-short : Answers h row exited o r row o
     exits-short = all-short h row (releases (h .id) (h .timestamp)) (release-plain (h .id) (h .timestamp)) _ _ _ o r its-exit g p
 
   module _ (after l : List ℕ) (k : Padded row (h .n)) (g : messageBytes * h .n ≤ length o) (z : after ≡ replicate (length row) 0) where
-    pub tries-done : r ≡ record { head = headWith h Trying taken; answer = Sent (h .n) (messageBytes * h .n) }
-        → l ≡ sets o 0 (bytesOfAll (toAll (requests (h .id) taken) (h .n))) → Answers h row tried o r after l
-    tries-done p e = all-done h row (requests (h .id) taken) (request-plain (h .id) taken) _ _ _ o r its-try after l k g p z e
+    pub tries-done : (last : Timestamp) → last ≡ later (h .timestamp) (h .seen)
+        → r ≡ record { head = headWith h Trying (taken last); answer = Sent (h .n) (messageBytes * h .n) }
+        → l ≡ sets o 0 (bytesOfAll (toAll (requests (h .id) (taken last)) (h .n))) → Answers h row tried o r after l
+    tries-done last q p e =
+        all-done h row (requests (h .id) (taken last)) (request-plain (h .id) (taken last)) _ _ _ o r (its-try last q) after l k g p z e
 
-    pub exits-done : r ≡ record { head = headWith h Remainder taken; answer = Sent (h .n) (messageBytes * h .n) }
+    pub exits-done : r ≡ record { head = headWith h Remainder left; answer = Sent (h .n) (messageBytes * h .n) }
         → l ≡ sets o 0 (bytesOfAll (toAll (releases (h .id) (h .timestamp)) (h .n))) → Answers h row exited o r after l
     exits-done p e = all-done h row (releases (h .id) (h .timestamp)) (release-plain (h .id) (h .timestamp)) _ _ _ o r its-exit after l k g p z e
 
@@ -146,13 +166,18 @@ module _ (h : Head) (row : List ℕ) (x : Bool) (p : x ≡ valid (clientOf h row
       unfolding beginOutcome view
       begin-elsewhere u = rw (holds x (valid (clientOf h row)) p t, fails y (isRemainder (h .section)) q u)
 
-      pub begin-spent : not y ≡ false → lastTry < h .timestamp .0 → beginOutcome (clientOf h row) ≡ refused TimestampsSpent
-      unfolding beginOutcome view
-      begin-spent u g = rw (holds x (valid (clientOf h row)) p t, holds y (isRemainder (h .section)) q u, lt-leb (h .timestamp .0) lastTry g)
+      module _ (last : Timestamp) (l : last ≡ later (h .timestamp) (h .seen)) (u : not y ≡ false) where
+        pub begin-spent : lastTry < last .0 → beginOutcome (clientOf h row) ≡ refused TimestampsSpent
+        unfolding beginOutcome view
+        begin-spent g =
+            let k : lastTry < later (h .timestamp) (h .seen) .0 = rw l at g in
+            rw (holds x (valid (clientOf h row)) p t, holds y (isRemainder (h .section)) q u, lt-leb (later (h .timestamp) (h .seen) .0) lastTry k)
 
-      pub begin-tries : not y ≡ false → h .timestamp .0 ≤ lastTry → beginOutcome (clientOf h row) ≡ stepped (tries (h .n) (h .id) (view (clientOf h row)))
-      unfolding beginOutcome view
-      begin-tries u g = rw (holds x (valid (clientOf h row)) p t, holds y (isRemainder (h .section)) q u, le-leb (h .timestamp .0) lastTry g)
+        pub begin-tries : last .0 ≤ lastTry → beginOutcome (clientOf h row) ≡ stepped (tries (h .n) (h .id) (view (clientOf h row)))
+        unfolding beginOutcome view
+        begin-tries g =
+            let k : later (h .timestamp) (h .seen) .0 ≤ lastTry = rw l at g in
+            rw (holds x (valid (clientOf h row)) p t, holds y (isRemainder (h .section)) q u, le-leb (later (h .timestamp) (h .seen) .0) lastTry k)
 
     module _ (q : y ≡ isCritical (h .section)) where
       pub exit-elsewhere : not y ≡ true → exitOutcome (clientOf h row) ≡ refused WrongSection
@@ -198,7 +223,7 @@ filled-few row n found good f = omega (arith, count-within filled (responsesIn r
 
 module _ (h : Head) (row : List ℕ) (found : ℕ) (o : List ℕ) (r : Turned) (f : found ≡ count (map filled (responsesIn row (h .n)))) where
   abbrev yielded : Step State
-  yielded = yields (h .n) (request h) (responsesIn row (h .n))
+  yielded = yields h (responsesIn row (h .n))
 
   its-size : sizeOfAll (round (request h) 1 (responsesIn row (h .n))) ≡ messageBytes * found
   its-size = rw f (size-round (request h) 1 (responsesIn row (h .n)))
@@ -219,40 +244,46 @@ module _ (h : Head) (row : List ℕ) (found : ℕ) (o : List ℕ) (r : Turned) (
 -- what the verdicts decide
 module _ (full mine : Bool) (h : Head) (row : List ℕ) (good : Padded row (h .n)) where
   abbrev decided : Step State
-  decided = decide full mine (h .n) (request h) (responsesIn row (h .n))
+  decided = decide full mine (h .n) (h .id) (view (clientOf h row)) (responsesIn row (h .n))
 
   pub decide-waits : (o : List ℕ) (r : Turned) → not full ≡ true → r ≡ record { head = headWith h Trying (h .timestamp); answer = Sent 0 0 }
       → Answers h row (stepped decided) o r row o
+  unfolding view
   decide-waits o r t p =
       let e : full ≡ false = fails full full refl t in
-      answers-stay h row (stepped decided) o r (record { section = Trying; timestamp = h .timestamp; responses = responsesIn row (h .n) })
+      answers-stay h row (stepped decided) o r
+      (record { section = Trying; timestamp = h .timestamp; seen = h .seen; responses = responsesIn row (h .n) })
       (rw e) (row-again row (h .n) good) p
 
   module _ (t : not full ≡ false) where
     pub decide-enters : (o : List ℕ) (r : Turned) → mine ≡ true
         → r ≡ record { head = headWith h Critical (h .timestamp); answer = Sent 0 0 } → Answers h row (stepped decided) o r row o
+    unfolding view
     decide-enters o r u p =
         let e : full ≡ true = holds full full refl t in
         answers-stay h row (stepped decided) o r
-        (record { section = Critical; timestamp = h .timestamp; responses = responsesIn row (h .n) }) (rw (e, u))
+        (record { section = Critical; timestamp = h .timestamp; seen = h .seen; responses = responsesIn row (h .n) }) (rw (e, u))
         (row-again row (h .n) good) p
 
-    pub decide-yields : mine ≡ false → stepped decided ≡ stepped (yields (h .n) (request h) (responsesIn row (h .n)))
+    pub decide-yields : mine ≡ false → stepped decided ≡ stepped (yields h (responsesIn row (h .n)))
+    unfolding view
     decide-yields u = let e : full ≡ true = holds full full refl t in rw (e, u)
 
-pub verdicts : (m n : ℕ) (r q : Request) (l : List Owner) (found mine : ℕ) → found ≡ count (map filled l) → q ≡ r → mine ≡ count (own q l)
-    → stepped (judge (enough m) n r l) ≡ stepped (decide (leb m found) (leb m mine) n r l)
-unfolding judge enough
-verdicts m n r q l found mine f e g = rw (f, g, e)
+pub verdicts : (h : Head) (row : List ℕ) (q : Request) (found mine : ℕ) → found ≡ count (map filled (responsesIn row (h .n))) → q ≡ request h
+    → mine ≡ count (own q (responsesIn row (h .n)))
+    → stepped (judge (enough (h .m)) (h .n) (h .id) (view (clientOf h row)) (responsesIn row (h .n)))
+    ≡ stepped (decide (leb (h .m) found) (leb (h .m) mine) (h .n) (h .id) (view (clientOf h row)) (responsesIn row (h .n)))
+unfolding judge enough view
+verdicts h row q found mine f e g = rw (f, g, e)
 
--- `respond_row`: what is known of the row in which o was heard, and of the request that stood in its place
+-- `upon_response`: what is known of the row in which o was heard, and of the request that stood in its place
 abbrev pub responded : Head → List ℕ → ServerId → Owner → Outcome State
-responded h row j o = stepped (responds (enough (h .m)) (h .n) (h .id) j o (view (clientOf h row)))
+responded h row j o = stepped (uponResponse (enough (h .m)) (h .n) (h .id) j o (view (clientOf h row)))
 
 pub record Heard (h : Head) (row : List ℕ) (j : ServerId) (o : Owner) (old : Request) (mid : List ℕ) : Type 0 where
   pub padded : Padded mid (h .n)
   pub size : length mid ≡ length row
-  pub judges : responded h row j o ≡ stepped (judge (enough (h .m)) (h .n) (request h) (responsesIn mid (h .n)))
+  pub judges : responded h row j o ≡ stepped (judge (enough (h .m)) (h .n) (h .id) (view (clientOf h mid)) (responsesIn mid (h .n)))
   pub undone : (after : List ℕ) → Put mid after (j .0 - 1) old → after ≡ row
 
 module _ (h : Head) (row : List ℕ) (v : valid (clientOf h row) ≡ true) (j : ServerId) (o : Owner) (x : Bool) (p : x ≡ isTrying (h .section)) where
@@ -261,7 +292,7 @@ module _ (h : Head) (row : List ℕ) (v : valid (clientOf h row) ≡ true) (j : 
 
   -- outside the trying section nothing changes
   elsewhere : not x ≡ true → responded h row j o ≡ stepped (stay (view (clientOf h row)))
-  unfolding responds view
+  unfolding uponResponse view
   elsewhere t = rw (fails x (isTrying (h .section)) p t)
 
   pub respond-elsewhere : (b : List ℕ) (r : Turned) → not x ≡ true
@@ -271,8 +302,9 @@ module _ (h : Head) (row : List ℕ) (v : valid (clientOf h row) ≡ true) (j : 
 
   -- else the response is heard
   module _ (low : 1 ≤ j .0) (high : j .0 ≤ h .n) (w : validOwner o ≡ true) (t : not x ≡ false) where
-    its-judgement : responded h row j o ≡ stepped (judge (enough (h .m)) (h .n) (request h) (responsesIn (heardRow (request h) row j o) (h .n)))
-    unfolding responds view
+    its-judgement : responded h row j o
+        ≡ stepped (judge (enough (h .m)) (h .n) (h .id) (view (clientOf h (heardRow (request h) row j o))) (responsesIn (heardRow (request h) row j o) (h .n)))
+    unfolding uponResponse judge view
     its-judgement = rw (holds x (isTrying (h .section)) p t, heardRow-shown (request h) row j o w (h .n) low high)
 
     pub respond-heard : (q : Request) (old : Request) (mid : List ℕ) → q ≡ request h → old ≡ placeOf row j → mid ≡ heardRow q row j o → Heard h row j o old mid
@@ -297,7 +329,7 @@ module _ (h : Head) (row : List ℕ) (j : ServerId) (o : Owner) (old : Request) 
   undone-by (stepped s) p a n after P = let z : true ≡ false = sym n ∙ ap (λ (x : Turned). isRefused (x .answer)) p in absurd (true≢false z)
 
   abbrev judgement : Outcome State
-  judgement = stepped (judge (enough (h .m)) (h .n) (request h) (responsesIn mid (h .n)))
+  judgement = stepped (judge (enough (h .m)) (h .n) (h .id) (view (clientOf h mid)) (responsesIn mid (h .n)))
 
   module _ (b l : List ℕ) (A : Answers h mid judgement b r left l) (x : Bool) (d : x ≡ isRefused (r .answer)) where
     pub respond-kept : x ≡ false → Answers h row (responded h row j o) b r left l
@@ -306,37 +338,84 @@ module _ (h : Head) (row : List ℕ) (j : ServerId) (o : Owner) (old : Request) 
     pub respond-undone : (after : List ℕ) → x ≡ true → Put left after (j .0 - 1) old → Answers h row (responded h row j o) b r after l
     respond-undone after t P = rw (H .judges) (A .0, undone-by (withRoom (length b) judgement) (A .0) (A .1) (sym d ∙ t) after P, A .2, A .3)
 
--- `check_row`
+-- `upon_check`
 module _ (h : Head) (row : List ℕ) (v : valid (clientOf h row) ≡ true) (j : ServerId) (t : Timestamp) (o : List ℕ) (r : Turned) where
-  abbrev told : Outcome State
-  told = stepped (checked (h .id) j t (view (clientOf h row)))
+  abbrev asked : Outcome State
+  asked = stepped (uponCheck (h .id) j t (view (clientOf h row)))
 
   kept : rowOf (length row) (map place (view (clientOf h row) .responses)) ≡ row
   unfolding view
   kept = row-again row (h .n) (valid-padded (clientOf h row) v)
 
-  pub check-same : t .0 ≡ h .timestamp .0 → r ≡ record { head = headWith h (h .section) (h .timestamp); answer = Sent 0 0 } → Answers h row told o r row o
-  unfolding checked view
-  check-same g e = answers-stay h row told o r (view (clientOf h row)) (rw (eq-eqb (t .0) (h .timestamp .0) g)) kept e
+  pub check-same : t .0 ≡ h .timestamp .0 → r ≡ record { head = headWith h (h .section) (h .timestamp); answer = Sent 0 0 } → Answers h row asked o r row o
+  unfolding uponCheck view
+  check-same g e = answers-stay h row asked o r (view (clientOf h row)) (rw (eq-eqb (t .0) (h .timestamp .0) g)) kept e
 
   module _ (g : t .0 ≡ h .timestamp .0 → ⊥) where
-    its-release : told ≡ stepped (tell (view (clientOf h row)) (Release (h .id) j t))
-    unfolding checked view
+    its-release : asked ≡ stepped (tell (view (clientOf h row)) (Release (h .id) j t))
+    unfolding uponCheck view
     its-release = rw (ne-eqb (t .0) (h .timestamp .0) g)
 
     one-size : sizeOfAll (Release (h .id) j t ∷ []) ≡ messageBytes
     one-size = sizeOfAll-one (Release (h .id) j t) ∙ release-plain (h .id) t j
 
-    pub check-short : length o < messageBytes → r ≡ turned h (refused RoomShort) → Answers h row told o r row o
-    check-short s e = answers-short h row told o r _ its-release (omega (arith, one-size)) e
+    pub check-short : length o < messageBytes → r ≡ turned h (refused RoomShort) → Answers h row asked o r row o
+    check-short s e = answers-short h row asked o r _ its-release (omega (arith, one-size)) e
 
     pub check-done : (b : List ℕ) (n : ℕ) → messageBytes ≤ length o → n ≡ 0 + sizeOf (Release (h .id) j t)
         → b ≡ sets o 0 (bytesOf (Release (h .id) j t)) → r ≡ record { head = headWith h (h .section) (h .timestamp); answer = Sent 1 n }
-        → Answers h row told o r row b
+        → Answers h row asked o r row b
     unfolding view
     check-done b n s z e p =
         let k : n ≡ sizeOfAll (Release (h .id) j t ∷ []) = omega (arith, one-size, release-plain (h .id) t j) in
-        answers-done h row told o r _ its-release row b (omega (arith, one-size)) (rw (← k) p) (sym kept) (rw (bytesOfAll-one (Release (h .id) j t)) e)
+        answers-done h row asked o r _ its-release row b (omega (arith, one-size)) (rw (← k) p) (sym kept) (rw (bytesOfAll-one (Release (h .id) j t)) e)
+
+-- `settle`, and with it `respond_row` and `check_row`: the step of the head with more seen, which a refused call has not
+pub settled-refused : (h : Head) (r : Turned) (x : Bool) → x ≡ isRefused (r .answer) → x ≡ true
+    → record { head = h; answer = r .answer } ≡ settled h r
+settled-refused h r x p t = rw (← p, t)
+
+pub settled-taken : (h : Head) (r : Turned) (x : Bool) → x ≡ isRefused (r .answer) → x ≡ false → r ≡ settled h r
+settled-taken h r x p t = rw (← p, t)
+
+module _ (t : Timestamp) (h : Head) (row : List ℕ) where
+  saw-valid : valid (clientOf (sawIn t h) row) ≡ valid (clientOf h row)
+  unfolding validUpTo view
+  saw-valid = refl
+
+  settled-by : (w : Outcome State) → settled h (turned (sawIn t h) w) ≡ turned h w
+  settled-by (refused e) = refl
+  settled-by (stepped p) = refl
+
+  settles : (x : Outcome State) (o : List ℕ) (r s : Turned) (after l : List ℕ) → Answers (sawIn t h) row x o r after l → s ≡ settled h r
+      → Answers h row x o s after l
+  settles x o r s after l A e =
+      let p : s ≡ turned h (withRoom (length o) x) = e ∙ ap (settled h) (A .0) ∙ settled-by (withRoom (length o) x) in
+      (p, A .1, A .2, said h s (withRoom (length o) x) p)
+
+  module _ (g : Head) (p : g ≡ sawIn t h) where
+    pub still-valid : valid (clientOf h row) ≡ true → valid (clientOf g row) ≡ true
+    still-valid v = rw (p, saw-valid) v
+
+    pub still-served : (j : ServerId) → j .0 ≤ h .n → j .0 ≤ g .n
+    still-served j a = rw p a
+
+module _ (t : Timestamp) (h : Head) (row : List ℕ) (g : Head) (p : g ≡ sawIn t h) (o : List ℕ) (r s : Turned) (after l : List ℕ) (e : s ≡ settled h r)
+    (j : ServerId)
+  where
+    pub responded-to : (q : Owner) → t ≡ told q
+        → Answers g row (stepped (uponResponse (enough (g .m)) (g .n) (g .id) j q (view (clientOf g row)))) o r after l
+        → Answers h row (stepped (responds (enough (h .m)) (h .n) (h .id) j q (view (clientOf h row)))) o s after l
+    unfolding view
+    responded-to q d A =
+        let k : g ≡ sawIn (told q) h = rw d at p in
+        settles (told q) h row (stepped (uponResponse (enough (h .m)) (h .n) (h .id) j q (view (clientOf (sawIn (told q) h) row)))) o r s after l (rw k at A) e
+
+    pub checked-by : Answers g row (stepped (uponCheck (g .id) j t (view (clientOf g row)))) o r after l
+        → Answers h row (stepped (checked (h .id) j t (view (clientOf h row)))) o s after l
+    unfolding view
+    checked-by A =
+        settles t h row (stepped (uponCheck (h .id) j t (view (clientOf (sawIn t h) row)))) o r s after l (rw p at A) e
 
 -- `receive`: whom the message is for
 module _ (h : Head) (row : List ℕ) (k : ClientId) (j : ServerId) (x : Bool) (p : x ≡ forClient h k j) where

@@ -31,11 +31,16 @@ clientOf h row = record { head = h; row = row }
 -- the state that a record holds: the responses of its n servers
 unfoldable pub view : Client → State
 view c =
-    record { section = c .head .section; timestamp = c .head .timestamp; responses = responsesIn (c .row) (c .head .n) }
+    record {
+      section = c .head .section;
+      timestamp = c .head .timestamp;
+      seen = c .head .seen;
+      responses = responsesIn (c .row) (c .head .n);
+    }
 
 -- the head that holds a state, and the record with so many places: those past its responses are empty
 abbrev pub headIn : ℕ → ℕ → ClientId → State → Head
-headIn n m k s = record { n = n; m = m; id = k; section = s .section; timestamp = s .timestamp }
+headIn n m k s = record { n = n; m = m; id = k; section = s .section; timestamp = s .timestamp; seen = s .seen }
 
 unfoldable pub storeIn : ℕ → ℕ → ℕ → ClientId → State → Client
 storeIn places n m k s = clientOf (headIn n m k s) (rowOf (2 * places) (map place (s .responses)))
@@ -69,7 +74,7 @@ fitsTimestamp Remainder t = true
 fitsTimestamp Trying t = leb 1 (t .0) && ltb (t .0) maxTimestamp
 fitsTimestamp Critical t = leb 1 (t .0) && ltb (t .0) maxTimestamp
 
--- document 01's paragraph 'A record is broken if ..', turned round
+-- document 01's paragraph 'A record is broken if ..', turned round; the largest timestamp seen may be any
 unfoldable pub validUpTo : ℕ → Client → Bool
 validUpTo limit c =
     let h : Head = c .head in

@@ -9,12 +9,12 @@ ghost use Rattle.wire.specs.Format.{messageBytes, bytesOfAll};
 ghost use Rattle.wire.specs.Format as format;
 ghost use Rattle.wire.specs.Step.{refused, stepped, withRoom, sentInto};
 ghost use Rattle.rows.specs.Rows.{Padded};
-ghost use Rattle.client_responses.specs.Figure1.{isRemainder, isTrying, isCritical, fresh as freshOf, enough, lastTry, toAll, tries, exits, decide as decideOf, judge as judgeOf, responds, checked};
+ghost use Rattle.client_responses.specs.Figure1.{isRemainder, isTrying, isCritical, fresh as freshOf, enough, later as laterOf, lastTry, toAll, tries, exits, decide as decideOf, judge as judgeOf, uponResponse, uponCheck, responds, checked};
 ghost use Rattle.client_responses.specs.Row.{responsesIn};
 ghost use Rattle.client.specs.Record.{rowWords, clientOf, headIn, validSizesUpTo, fitsSection, noMore, fitsTimestamp, validUpTo, valid, view};
 ghost use Rattle.client.specs.Calls.{forClient, received, NewGives, beginOutcome, exitOutcome, messageOutcome, Gives, turned};
 ghost use Rattle.client.specs.Steps.{Answers};
-ghost use Rattle.client.specs.Inner.{request, headWith, validPlaces, isRefused, refusedNew, requests, releases, yields};
+ghost use Rattle.client.specs.Inner.{request, headWith, sawIn, validPlaces, isRefused, settled, refusedNew, requests, releases, yields};
 use client_responses::Section;
 use ids::ClientId;
 use ids::Owner;
@@ -26,7 +26,7 @@ use wire::Answer;
 use wire::MESSAGE_BYTES;
 use wire::Message;
 
-// The last timestamp with which a client may still try.
+// The last timestamp, taken or seen, with which a client may still try.
 pub const LAST_TRY: u32 = 4_294_967_293;
 
 // The places of a record by value, one for each server that it can have, and the words of its row, two a place.
@@ -41,6 +41,7 @@ pub struct Head {
     pub id: ClientId,
     pub section: Section,
     pub timestamp: Timestamp,
+    pub seen: Timestamp,
 }
 
 // Head and row in one record.
@@ -161,17 +162,53 @@ fn refuse(h: Head, e: Refusal) -> Turned
     Turned { head: h, answer }
 }
 
+fn later(a: Timestamp, b: Timestamp) -> Timestamp
+    ensures { λ t. ⌜ t ≡ laterOf a b ⌝ }
+{
+    if a.0 < b.0 {
+        return b;
+    }
+    a
+}
+
+// The largest timestamp that the client has taken or was told of.
+fn latest(h: Head) -> Timestamp
+    ensures { λ t. ⌜ t ≡ laterOf (h .timestamp) (h .seen) ⌝ }
+{
+    later(h.timestamp, h.seen)
+}
+
+// The head, told of timestamp `t`.
+fn saw(h: Head, t: Timestamp) -> Head
+    ensures { λ r. ⌜ r ≡ sawIn t h ⌝ }
+{
+    let id = h.id;
+    let section = h.section;
+    let timestamp = h.timestamp;
+    let seen = later(h.seen, t);
+    Head {
+        n: h.n,
+        m: h.m,
+        id,
+        section,
+        timestamp,
+        seen,
+    }
+}
+
 // The answer with the head in another section and with another timestamp, once `count` messages of `size` bytes are sent.
 fn moved(h: Head, section: Section, timestamp: Timestamp, count: usize, size: usize) -> Turned
     ensures { λ r. ⌜ r ≡ record { head = headWith h section timestamp; answer = Answer.Sent count size } ⌝ }
 {
     let id = h.id;
+    let seen = h.seen;
     let head = Head {
         n: h.n,
         m: h.m,
         id,
         section,
         timestamp,
+        seen,
     };
     let answer = Answer::Sent(count, size);
     Turned { head, answer }
@@ -235,16 +272,17 @@ fn release_all(k: ClientId, t: Timestamp, n: u16, out: &mut [u8])
     }
 }
 
-// Lines 1 to 5 of a valid record in the remainder section with two timestamps left: for `begin_row`.
+// Lines 1 to 5 of a valid record in the remainder section with two timestamps left above all it knows: for `begin_row`.
 fn attempt(h: Head, row: &mut [u32], out: &mut [u8]) -> Turned
-    requires { ⌜ Padded (now row) (h .n) × (h .timestamp .0 ≤ lastTry) ⌝ }
+    requires { ⌜ Padded (now row) (h .n) × (laterOf (h .timestamp) (h .seen) .0 ≤ lastTry) ⌝ }
     ensures { λ r. ⌜ Answers h (now (row .entry)) (stepped (tries (h .n) (h .id) (view (clientOf h (now (row .entry)))))) (now (out .entry)) r (now (row .exit)) (now (out .exit)) ⌝ }
 {
     let n = h.n as usize;
     if out.len() < MESSAGE_BYTES * n {
         return refuse(h, Refusal::RoomShort);
     }
-    let t = Timestamp(h.timestamp.0 + 1);
+    let last = latest(h);
+    let t = Timestamp(last.0 + 1);
     request_all(h.id, t, h.n, out);
     rows::clear(row, n);
     moved(h, Section::Trying, t, n, MESSAGE_BYTES * n)
@@ -276,7 +314,8 @@ pub fn begin_row(h: Head, row: &mut [u32], out: &mut [u8]) -> Turned
     if !is_remainder(section) {
         return refuse(h, Refusal::WrongSection);
     }
-    if LAST_TRY < h.timestamp.0 {
+    let last = latest(h);
+    if LAST_TRY < last.0 {
         return refuse(h, Refusal::TimestampsSpent);
     }
     attempt(h, row, out)
@@ -299,7 +338,7 @@ pub fn exit_row(h: Head, row: &mut [u32], out: &mut [u8]) -> Turned
 // Lines 14 to 18: a reply to each server that named an owner, and the responses forgotten.
 fn yield_round(h: Head, row: &mut [u32], out: &mut [u8]) -> Turned
     requires { ⌜ Padded (now row) (h .n) ⌝ }
-    ensures { λ r. ⌜ Answers h (now (row .entry)) (stepped (yields (h .n) (request h) (responsesIn (now (row .entry)) (h .n)))) (now (out .entry)) r (now (row .exit)) (now (out .exit)) ⌝ }
+    ensures { λ r. ⌜ Answers h (now (row .entry)) (stepped (yields h (responsesIn (now (row .entry)) (h .n)))) (now (out .entry)) r (now (row .exit)) (now (out .exit)) ⌝ }
 {
     let n = h.n as usize;
     let found = client_responses::filled_count(row, n);
@@ -315,7 +354,7 @@ fn yield_round(h: Head, row: &mut [u32], out: &mut [u8]) -> Turned
 // Lines 10 to 18, by the quorum's verdicts on the filled places and on the own ones: enter, or yield, or wait on.
 fn decide(full: bool, own: bool, h: Head, row: &mut [u32], out: &mut [u8]) -> Turned
     requires { ⌜ Padded (now row) (h .n) ⌝ }
-    ensures { λ r. ⌜ Answers h (now (row .entry)) (stepped (decideOf full own (h .n) (request h) (responsesIn (now (row .entry)) (h .n)))) (now (out .entry)) r (now (row .exit)) (now (out .exit)) ⌝ }
+    ensures { λ r. ⌜ Answers h (now (row .entry)) (stepped (decideOf full own (h .n) (h .id) (view (clientOf h (now (row .entry)))) (responsesIn (now (row .entry)) (h .n)))) (now (out .entry)) r (now (row .exit)) (now (out .exit)) ⌝ }
 {
     if !full {
         return moved(h, Section::Trying, h.timestamp, 0, 0);
@@ -329,7 +368,7 @@ fn decide(full: bool, own: bool, h: Head, row: &mut [u32], out: &mut [u8]) -> Tu
 // The same by a threshold: m responses are enough.
 fn judge(h: Head, row: &mut [u32], out: &mut [u8]) -> Turned
     requires { ⌜ Padded (now row) (h .n) ⌝ }
-    ensures { λ r. ⌜ Answers h (now (row .entry)) (stepped (judgeOf (enough (h .m)) (h .n) (request h) (responsesIn (now (row .entry)) (h .n)))) (now (out .entry)) r (now (row .exit)) (now (out .exit)) ⌝ }
+    ensures { λ r. ⌜ Answers h (now (row .entry)) (stepped (judgeOf (enough (h .m)) (h .n) (h .id) (view (clientOf h (now (row .entry)))) (responsesIn (now (row .entry)) (h .n)))) (now (out .entry)) r (now (row .exit)) (now (out .exit)) ⌝ }
 {
     let n = h.n as usize;
     let m = h.m as usize;
@@ -347,11 +386,10 @@ fn is_refused(a: Answer) -> bool
     }
 }
 
-// Lines 7 to 18 of a valid record and a RESPONSE for it: for `message_row`, and for callers that know as much. Where the yields have no room
-// the place that was heard is put back.
-pub fn respond_row(h: Head, row: &mut [u32], j: ServerId, o: Owner, out: &mut [u8]) -> Turned
+// Lines 7 to 18 of a valid record and a RESPONSE for it. Where the yields have no room the place that was heard is put back.
+fn upon_response(h: Head, row: &mut [u32], j: ServerId, o: Owner, out: &mut [u8]) -> Turned
     requires { ⌜ (valid (clientOf h (now row)) ≡ true) × (1 ≤ j .0) × (j .0 ≤ h .n) × (validOwner o ≡ true) ⌝ }
-    ensures { λ r. ⌜ Answers h (now (row .entry)) (stepped (responds (enough (h .m)) (h .n) (h .id) j o (view (clientOf h (now (row .entry)))))) (now (out .entry)) r (now (row .exit)) (now (out .exit)) ⌝ }
+    ensures { λ r. ⌜ Answers h (now (row .entry)) (stepped (uponResponse (enough (h .m)) (h .n) (h .id) j o (view (clientOf h (now (row .entry)))))) (now (out .entry)) r (now (row .exit)) (now (out .exit)) ⌝ }
 {
     let section = h.section;
     if !is_trying(section) {
@@ -367,10 +405,10 @@ pub fn respond_row(h: Head, row: &mut [u32], j: ServerId, o: Owner, out: &mut [u
     r
 }
 
-// Lines 24 and 25 of a valid record and a CHECK for it: for `message_row`, and for callers that know as much. The row is read by no line of it.
-pub fn check_row(h: Head, row: &[u32], j: ServerId, t: Timestamp, out: &mut [u8]) -> Turned
+// Lines 24 and 25 of a valid record and a CHECK for it. The row is read by no line of it.
+fn upon_check(h: Head, row: &[u32], j: ServerId, t: Timestamp, out: &mut [u8]) -> Turned
     requires { ⌜ valid (clientOf h (now row)) ≡ true ⌝ }
-    ensures { λ r. ⌜ Answers h (now (row .entry)) (stepped (checked (h .id) j t (view (clientOf h (now (row .entry)))))) (now (out .entry)) r (now (row .entry)) (now (out .exit)) ⌝ }
+    ensures { λ r. ⌜ Answers h (now (row .entry)) (stepped (uponCheck (h .id) j t (view (clientOf h (now (row .entry)))))) (now (out .entry)) r (now (row .entry)) (now (out .exit)) ⌝ }
 {
     let section = h.section;
     if t.0 == h.timestamp.0 {
@@ -383,6 +421,36 @@ pub fn check_row(h: Head, row: &[u32], j: ServerId, t: Timestamp, out: &mut [u8]
     let m = Message::Release(id, j, t);
     let size = wire::put(out, 0, m);
     moved(h, section, h.timestamp, 1, size)
+}
+
+// The answer of a step that was given a head with more seen than `h` has: a refused call leaves `h`.
+fn settle(h: Head, r: Turned) -> Turned
+    ensures { λ t. ⌜ t ≡ settled h r ⌝ }
+{
+    let answer = r.answer;
+    if is_refused(answer) {
+        return Turned { head: h, answer };
+    }
+    r
+}
+
+// A valid record takes a RESPONSE for it, and has seen its timestamp in every section: for `message_row`, and for callers that know as much.
+pub fn respond_row(h: Head, row: &mut [u32], j: ServerId, o: Owner, out: &mut [u8]) -> Turned
+    requires { ⌜ (valid (clientOf h (now row)) ≡ true) × (1 ≤ j .0) × (j .0 ≤ h .n) × (validOwner o ≡ true) ⌝ }
+    ensures { λ r. ⌜ Answers h (now (row .entry)) (stepped (responds (enough (h .m)) (h .n) (h .id) j o (view (clientOf h (now (row .entry)))))) (now (out .entry)) r (now (row .exit)) (now (out .exit)) ⌝ }
+{
+    let t = client_responses::told(o);
+    let r = upon_response(saw(h, t), row, j, o, out);
+    settle(h, r)
+}
+
+// The same of a CHECK.
+pub fn check_row(h: Head, row: &[u32], j: ServerId, t: Timestamp, out: &mut [u8]) -> Turned
+    requires { ⌜ valid (clientOf h (now row)) ≡ true ⌝ }
+    ensures { λ r. ⌜ Answers h (now (row .entry)) (stepped (checked (h .id) j t (view (clientOf h (now (row .entry)))))) (now (out .entry)) r (now (row .entry)) (now (out .exit)) ⌝ }
+{
+    let r = upon_check(saw(h, t), row, j, t, out);
+    settle(h, r)
 }
 
 // Whether a message for client `k` from server `j` is for this client, from one of its servers.
@@ -454,7 +522,7 @@ pub fn message_row(h: Head, row: &mut [u32], m: Message, out: &mut [u8]) -> Turn
     receive(h, row, m, out)
 }
 
-// The head of client `id` in the remainder section, with no timestamp taken, whether or not these numbers are in range.
+// The head of client `id` in the remainder section, with no timestamp taken or seen, whether or not these numbers are in range.
 pub fn fresh_head(n: u16, m: u16, id: ClientId) -> Head
     ensures { λ h. ⌜ h ≡ headIn n m id (freshOf n) ⌝ }
 {
@@ -464,6 +532,7 @@ pub fn fresh_head(n: u16, m: u16, id: ClientId) -> Head
         id,
         section: Section::Remainder,
         timestamp: Timestamp(0),
+        seen: Timestamp(0),
     }
 }
 
@@ -493,7 +562,7 @@ fn no_client() -> Stepped
     Stepped { client, answer }
 }
 
-// A new client with `n` servers and threshold `m`: in the remainder section, no timestamp taken.
+// A new client with `n` servers and threshold `m`: in the remainder section, no timestamp taken or seen.
 pub fn new(n: u16, m: u16, id: ClientId) -> Stepped
     ensures { λ r. ⌜ NewGives n m id r ⌝ }
 {

@@ -19,7 +19,7 @@ use Rattle.ids.specs.declared.Owner.the-variants.{Nobody, Of}
 use Rattle.ids.proofs.LimitsLaws.{client-range, request-range}
 use Rattle.rows.specs.Rows.{wordsOf, requestWords, requestsIn, fitsPlace, Places, Put, Padded}
 use Rattle.rows.proofs.WordLaws.{put-requests, put-size, put-made, row-again}
-use Rattle.client_responses.specs.Figure1.{current, heard}
+use Rattle.client_responses.specs.Figure1.{current, told, heard}
 use Rattle.client_responses.specs.Row.{shown, place, responsesIn, placeOf, heardRow}
 
 pub current-other : (r q : Request) → (q .client .0 ≡ r .client .0 → ⊥) → true ≡ current r (Of q)
@@ -27,6 +27,11 @@ current-other r q n = rw (ne-eqb (q .client .0) (r .client .0) n)
 
 pub current-own : (r q : Request) → q .client .0 ≡ r .client .0 → eqb (q .timestamp .0) (r .timestamp .0) ≡ current r (Of q)
 current-own r q e = rw (eq-eqb (q .client .0) (r .client .0) e)
+
+-- what a response tells of is the timestamp of its place
+pub told-place : (o : Owner) (q : Request) → q ≡ place o → q .timestamp ≡ told o
+told-place Nobody q e = rw e
+told-place (Of r) q e = rw e
 
 -- the tests of the code
 module _ (r : Request) (row : List ℕ) (j : ServerId) (o : Owner) (q : Request) (g : q ≡ placeOf row j) (b : Bool) (p : b ≡ isRequest r (shown q)) where

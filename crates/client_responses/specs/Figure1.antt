@@ -1,6 +1,6 @@
--- The client: Figure 1 of the report, lines 1 to 25, on a section, a timestamp and the responses of n servers.
+-- The client: Figure 1 of the report, lines 1 to 25, on a section, a timestamp, the largest timestamp seen and the responses of n servers.
 -- Document 01 says kiosk for client, ticket for timestamp, answers for responses, holding the wall for being in the critical section.
-use Prim.Native.Nat.{ℕ, zero, suc, _+_, _-_}
+use Prim.Native.Nat.{ℕ, zero, suc, _+_, _-_, max}
 use mathlib.Core.Bool.{Bool, true, false, _&&_, _||_, not}
 use mathlib.Core.List.{List, [], _∷_, _++_, map}
 use lib.Dec.{eqb, leb}
@@ -15,6 +15,7 @@ use Rattle.ids.specs.declared.Request.{Request}
 use Rattle.ids.specs.declared.Owner.{Owner}
 use Rattle.ids.specs.declared.Owner.the-variants.{Nobody, Of}
 use Rattle.ids.specs.declared.Refusal.the-variants.{WrongSection, TimestampsSpent}
+use Rattle.wire.specs.Format.{ownerTimestamp}
 use Rattle.wire.specs.Step.{Step, stay, tell, Outcome, refused}
 use Rattle.wire.specs.declared.Message.{Message}
 use Rattle.wire.specs.declared.Message.the-variants.{Request as REQUEST, Yield as YIELD, Release as RELEASE, Inquiry as INQUIRY}
@@ -25,26 +26,45 @@ pub record State : Type 0 where
   pub section : Section
   -- the last timestamp taken, 0 before the first
   pub timestamp : Timestamp
+  -- the largest timestamp that a RESPONSE or a CHECK has told it of, 0 before the first
+  pub seen : Timestamp
   -- resp[1..n]: the owner that each server named, nobody for (nil, nil)
   pub responses : List Owner
 
 abbrev pub fresh : ℕ → State
-fresh n = record { section = Remainder; timestamp = record { 0 = 0 }; responses = replicate n Nobody }
+fresh n =
+    record { section = Remainder; timestamp = record { 0 = 0 }; seen = record { 0 = 0 }; responses = replicate n Nobody }
 
--- GetTimeStamp: the last one plus one
+-- the request that client k stands for
+abbrev pub request : ClientId → State → Request
+request k c = record { client = k; timestamp = c .timestamp }
+
+-- the larger of two timestamps
+abbrev pub later : Timestamp → Timestamp → Timestamp
+later a b = record { 0 = max (a .0) (b .0) }
+
+-- GetTimeStamp. The report asks for numbers that increase, and allows logical clocks: one more than the last one and all that the client was told
+-- of. Document 02, L4, asks for that at a try; an exit takes the last one plus one.
 unfoldable pub next : Timestamp → Timestamp
 next t = record { 0 = t .0 + 1 }
 
--- the timestamp that a try takes, or an exit
-abbrev pub taken : State → Timestamp
-taken c = next (c .timestamp)
+abbrev pub latest : State → Timestamp
+latest c = later (c .timestamp) (c .seen)
 
--- the last timestamp with which a client may still try: two are left, for the try and for its exit
+abbrev pub taken : State → Timestamp
+taken c = next (latest c)
+
+-- the client is told of timestamp t
+abbrev pub saw : Timestamp → State → State
+saw t c =
+    record { section = c .section; timestamp = c .timestamp; seen = later (c .seen) t; responses = c .responses }
+
+-- the last timestamp, taken or seen, with which a client may still try: two are left, for the try and for its exit
 abbrev pub lastTry : ℕ
 lastTry = 4294967293
 
 abbrev pub mayTry : State → Bool
-mayTry c = leb (c .timestamp .0) lastTry
+mayTry c = leb (latest c .0) lastTry
 
 abbrev pub isRemainder : Section → Bool
 isRemainder Remainder = true
@@ -95,7 +115,7 @@ toAll f (suc n) = toAll f n ++ (f (record { 0 = suc n }) ∷ [])
 unfoldable pub tries : ℕ → ClientId → State → Step State
 tries n k c =
     record {
-      state = record { section = Trying; timestamp = taken c; responses = replicate n Nobody };
+      state = record { section = Trying; timestamp = taken c; seen = c .seen; responses = replicate n Nobody };
       sent = toAll (λ j. REQUEST k j (taken c)) n;
     }
 
@@ -103,7 +123,8 @@ tries n k c =
 unfoldable pub exits : ℕ → ClientId → State → Step State
 exits n k c =
     record {
-      state = record { section = Remainder; timestamp = taken c; responses = replicate n Nobody };
+      state =
+          record { section = Remainder; timestamp = next (c .timestamp); seen = c .seen; responses = replicate n Nobody };
       sent = toAll (λ j. RELEASE k j (c .timestamp)) n;
     }
 
@@ -144,25 +165,36 @@ round r j (o ∷ l) = replies r (record { 0 = j }) o ++ round r (suc j) l
 abbrev pub own : Request → List Owner → List Bool
 own r l = map (isRequest r) l
 
--- lines 10 to 18, by the quorum's verdicts on the filled places and on the own ones: with enough responses of its own it enters, with
--- enough it yields and forgets them, else it waits on
-abbrev pub decide : Bool → Bool → ℕ → Request → List Owner → Step State
-decide full mine n r l =
-    let with : Section → List Owner → State = λ s a. record { section = s; timestamp = r .timestamp; responses = a } in
+-- lines 10 to 18, for client k in state c with responses l, by the quorum's verdicts on the filled places and on the own ones: with enough
+-- responses of its own it enters, with enough it yields and forgets them, else it waits on
+abbrev pub decide : Bool → Bool → ℕ → ClientId → State → List Owner → Step State
+decide full mine n k c l =
+    let with : Section → List Owner → State =
+    λ s a. record { section = s; timestamp = c .timestamp; seen = c .seen; responses = a } in
     if full then
     (if mine then stay (with Critical l)
-    else record { state = with Trying (replicate n Nobody); sent = round r 1 l })
+    else record { state = with Trying (replicate n Nobody); sent = round (request k c) 1 l })
     else stay (with Trying l)
 
-unfoldable pub judge : Quorum → ℕ → Request → List Owner → Step State
-judge wins n r l = decide (wins (map filled l)) (wins (own r l)) n r l
+unfoldable pub judge : Quorum → ℕ → ClientId → State → List Owner → Step State
+judge wins n k c l = decide (wins (map filled l)) (wins (own (request k c) l)) n k c l
 
--- lines 7 to 18: client k takes a RESPONSE of server j that names o; outside the trying section it changes nothing
-unfoldable pub responds : Quorum → ℕ → ClientId → ServerId → Owner → State → Step State
-responds wins n k j o c =
-    let r : Request = record { client = k; timestamp = c .timestamp } in
-    if isTrying (c .section) then judge wins n r (heard r (c .responses) j o) else stay c
+-- lines 7 to 18: upon a RESPONSE of server j that names o; outside the trying section it changes nothing
+unfoldable pub uponResponse : Quorum → ℕ → ClientId → ServerId → Owner → State → Step State
+uponResponse wins n k j o c =
+    if isTrying (c .section) then judge wins n k c (heard (request k c) (c .responses) j o) else stay c
 
--- lines 24 and 25: client k takes a CHECK of server j
-unfoldable pub checked : ClientId → ServerId → Timestamp → State → Step State
-checked k j t c = if eqb (t .0) (c .timestamp .0) then stay c else tell c (RELEASE k j t)
+-- lines 24 and 25: upon a CHECK of server j
+unfoldable pub uponCheck : ClientId → ServerId → Timestamp → State → Step State
+uponCheck k j t c = if eqb (t .0) (c .timestamp .0) then stay c else tell c (RELEASE k j t)
+
+-- the timestamp that a RESPONSE tells of, 0 if it names nobody
+abbrev pub told : Owner → Timestamp
+told o = record { 0 = ownerTimestamp o }
+
+-- Client k takes a RESPONSE or a CHECK of server j: it has seen the timestamp, in every section and whatever the lines make of it (L4).
+abbrev pub responds : Quorum → ℕ → ClientId → ServerId → Owner → State → Step State
+responds wins n k j o c = uponResponse wins n k j o (saw (told o) c)
+
+abbrev pub checked : ClientId → ServerId → Timestamp → State → Step State
+checked k j t c = uponCheck k j t (saw t c)

@@ -9,12 +9,13 @@ ghost use Rattle.ids.specs.Limits.{maxClient};
 ghost use Rattle.ids.specs.Requests.{same, isRequest, noRequest};
 ghost use Rattle.wire.specs.Format.{messageBytes, bytesOfAll, sizeOfAll};
 ghost use Rattle.rows.specs.Rows.{Places};
-ghost use Rattle.client_responses.specs.Figure1.{filled as filledOf, count, own as ownOf, current, reply as replyOf, replies, round};
+ghost use Rattle.client_responses.specs.Figure1.{filled as filledOf, count, own as ownOf, current, told as toldOf, reply as replyOf, replies, round};
 ghost use Rattle.client_responses.specs.Row.{shown, place, responsesIn, placeOf, misfit as misfitOf, heardRow};
 ghost use Rattle.client_responses.specs.Inner.{pair, one};
 use ids::Owner;
 use ids::Request;
 use ids::ServerId;
+use ids::Timestamp;
 use wire::Message;
 
 pub enum Section {
@@ -145,6 +146,14 @@ fn place_of(o: Owner) -> Request
         Owner::Nobody => rows::nobody(),
         Owner::Of(q) => q,
     }
+}
+
+// The timestamp that a RESPONSE tells of, 0 if it names nobody.
+pub fn told(o: Owner) -> Timestamp
+    ensures { λ t. ⌜ t ≡ toldOf o ⌝ }
+{
+    let q = place_of(o);
+    q.timestamp
 }
 
 // Lines 8 and 9: server `j` named `o`. Returns what stood in its place, for a caller that must undo it.

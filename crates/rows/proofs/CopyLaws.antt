@@ -1,14 +1,18 @@
--- Words copied, and words cleared: the invariant of each loop says what stands before place i.
+-- Words copied, and words cleared: the invariant of each loop says what stands before place i. And a part that is lent and comes back.
 use Prim.Native.Nat.{ℕ, _+_, _*_, _-_, _<_, _≤_}
 use native.Mathlib.Numerals.{add-one}
 use native.Mathlib.Omega.{arith}
 use mathlib.Core.Path.{_≡_, refl, sym, ap, _∙_}
-use mathlib.Core.List.{List, _++_, append-nil}
+use mathlib.Core.List.{List, _++_, append-nil, append-assoc}
 use lib.ListN.{length, getD, set, take, drop, replicate, length-set, drop-of-length-le, replicate-append-replicate}
-use lib.Seq.{take-suc, take-suc-set, take-all, length-take-le}
+use lib.Seq.{sets, sets-eq, drop-drop, take-suc, take-suc-set, take-all, length-take-le}
 use borrow.Author.Fill.{fill-more}
 use Rattle.rows.specs.Rows.{Padded}
 use Rattle.rows.proofs.RowLaws.{row-behind}
+
+-- a part is written over whole
+pub part-whole : (b ys vs : List ℕ) (a k : ℕ) → a + k ≤ length b → length vs ≡ k → ys ≡ vs → take a b ++ (ys ++ drop k (drop a b)) ≡ sets b a vs
+part-whole b ys vs a k h e p = rw (p, drop-drop k a b, ← e) (sym (append-assoc (take a b) vs (drop (a + length vs) b)) ∙ sym (sets-eq vs b a (omega arith)))
 
 -- the words before i are copied
 pub record Copying (from to₀ to : List ℕ) (i : ℕ) : Type 0 where

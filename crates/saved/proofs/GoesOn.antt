@@ -1,5 +1,6 @@
 -- A record that was taken over goes on as it would have: a step that the saved record accepts, or an old player on it, gives the same state and messages, since
--- Figure 1 sees the state alone, and leaves the record of today with that state. Only where a server's queue was full has it more places now.
+-- Figure 1 sees the state alone, and leaves the record of today with that state. Only where a server's queue was full has it more places now, and a client
+-- from before L4 begins to keep what it sees.
 use Prim.Native.Nat.{ℕ, _*_, _≤_}
 use native.Mathlib.Omega.{arith}
 use mathlib.Core.Path.{_≡_, refl, sym, ap, _∙_}
@@ -30,12 +31,14 @@ use Rattle.client.specs.Calls as client-calls
 use Rattle.client.specs.declared.Client.{Client}
 use Rattle.client_responses.specs.Figure1 as responses
 use Rattle.client.proofs.KeepsValid.{after-stored}
-use Rattle.ids.specs.Limits.{earlierServers}
-use Rattle.words.specs.Records.{holdsServerOf, serverFrom, holdsClientOf, clientFrom}
-use Rattle.saved.specs.Forms.{earlierQueue, earlierResponses, soundServer, soundClient, savedServer, savedClient}
-use Rattle.saved.specs.Players.{earlierServerTakes, earlierClientTakes, earlierKnows, takeKnown}
-use Rattle.saved.proofs.Players.{server-known, client-known}
-use Rattle.saved.specs.Taken.{serverToday, clientToday, ServerTaken, ClientTaken}
+use Rattle.ids.specs.Limits.{maxServers, earlierServers}
+use Rattle.words.specs.Records.{holdsServerOf, serverFrom, holdsClientOf, clientSize}
+use Rattle.saved.specs.Forms.{earlierQueue, earlierResponses, earlierSizeOf, soundServer, soundClient, savedServer, ordered, savedClient}
+use Rattle.saved.specs.Players.{earlierServerTakes, leavingBlind, clocklessTakes, earlierClientTakes, earlierKnows, takeKnown}
+use Rattle.saved.proofs.Players.{server-known, client-known, clockless-known}
+use Rattle.saved.specs.Taken.{serverToday, clientToday, savedAs, ServerTaken, ClientTaken}
+use Rattle.saved.proofs.Ordered.{ordered-earlier, earlier-head, seen-nothing}
+use Rattle.saved.proofs.Rules.{client-form-1}
 use Rattle.saved.proofs.Taken.{Fitting, server-fitting, server-taken-over, client-was-valid, client-today-long, client-taken-over}
 
 -- a refusal is no step
@@ -116,7 +119,7 @@ module _ (ws : List ℕ) (v : savedServer ws ≡ true) where
 -- a client's record: all its calls
 module _ (ws : List ℕ) (v : savedClient ws ≡ true) where
   abbrev c : Client
-  c = clientFrom ws
+  c = savedAs ws
 
   abbrev K : ClientTaken ws
   K = client-taken-over ws v
@@ -145,12 +148,25 @@ module _ (ws : List ℕ) (v : savedClient ws ≡ true) where
   unfolding client-calls.exitOutcome
   client-exit-goes-on = rw (K .valid, client-was-valid ws v, K .shows, same-head)
 
-  pub client-as-before : soundClient earlierResponses earlierServers ws ≡ true → (m : Message)
-      → earlierClientTakes c m ≡ takeKnown m (client-calls.messageOutcome (clientToday c) m)
+  -- an old client, whose record is of form 1, leaves what this one does but for what it has seen
+  pub client-as-before : length ws ≡ earlierSizeOf earlierResponses → (m : Message)
+      → earlierClientTakes c m ≡ takeKnown m (leavingBlind (client-calls.messageOutcome (clientToday c) m))
   unfolding soundClient
-  client-as-before e m =
-      let (a, b) = both (holdsClientOf earlierResponses ws) (client.validUpTo earlierServers c) e in
-      client-known c m b ∙ ap (takeKnown m) (sym (client-message-goes-on m))
+  client-as-before l m =
+      let e : soundClient earlierResponses earlierServers (ordered ws) ≡ true =
+      ap (λ (x : List ℕ). soundClient earlierResponses earlierServers x) (ordered-earlier ws (omega (arith, l))) ∙ (sym (client-form-1 ws l) ∙ v) in
+      let (a, b) = both (holdsClientOf earlierResponses (ordered ws)) (client.validUpTo earlierServers c) e in
+      client-known c m b ∙ ap (λ (o : Outcome responses.State). takeKnown m (leavingBlind o)) (sym (client-message-goes-on m))
+
+  -- and so does one from between L3 and L4, whose record is of form 2
+  pub client-as-then : (m : Message) → clocklessTakes maxServers c m ≡ leavingBlind (client-calls.messageOutcome (clientToday c) m)
+  client-as-then m = clockless-known c m ∙ ap leavingBlind (sym (client-message-goes-on m))
+
+  -- a record from before L4 has seen nothing, so that a try made at once takes the last timestamp plus one, as it would have
+  pub tries-as-before : (length ws ≡ clientSize → ⊥) → responses.taken (client.view (clientToday c)) ≡ responses.next (client.view c .timestamp)
+  tries-as-before n =
+      let z : responses.latest (client.view c) .0 ≡ client.view c .timestamp .0 = omega (arith, seen-nothing ws (earlier-head ws v n) n) in
+      ap responses.taken (K .shows) ∙ ap responses.next (λ i. record { 0 = z i })
 
   pub client-stays-today : (p : Step responses.State)
       → client-calls.clientAfter (clientToday c) (stepped p) ≡ client.store (c .head .n) (c .head .m) (c .head .id) (p .state)

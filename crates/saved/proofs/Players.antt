@@ -1,10 +1,12 @@
 -- What a player from before L3 answers is today's answer, but for messages of a server that it does not know, which it refuses with 5: on all
--- bytes, every message and every record that it can have. Only the test of a message's numbers reads the limit, and it is the last one.
+-- bytes, every message and every record that it can have. Only the test of a message's numbers reads the limit, and it is the last one; and a client's
+-- lines pass on what it has seen without a look at it.
 use Prim.Native.Nat.{ℕ, _<_, _≤_}
 use native.Mathlib.Omega.{arith}
-use mathlib.Core.Path.{_≡_, refl, sym, _∙_}
+use mathlib.Core.Path.{_≡_, refl, sym, ap, _∙_}
 use mathlib.Core.Bool.{Bool, true, false, not, _&&_, and-false}
-use mathlib.Core.List.{List, _++_}
+use mathlib.Core.List.{List, _++_, map}
+use mathlib.Core.Logic.{⊎-elim}
 use lib.Dec.{leb, ltb, eqb}
 use lib.ListN.{length}
 use lib.Seq.{sets}
@@ -16,10 +18,10 @@ use Rattle.ids.specs.declared.ServerId.{ServerId}
 use Rattle.ids.specs.declared.Timestamp.{Timestamp}
 use Rattle.ids.specs.declared.Owner.{Owner}
 use Rattle.ids.specs.declared.Refusal.the-variants.{HeaderShort, KindUnknown, LengthWrong, MessageCut, NumberOutOfRange, RoomShort, InvalidRecord}
-use Rattle.ids.proofs.Choice.{and-true}
+use Rattle.ids.proofs.Choice.{decided, and-true}
 use Rattle.wire.specs.Format.{validUpTo, validResponseUpTo, validNamed, valid, fieldsOf, bytesOf, serverNamed, messageOf, fieldsIn, kindIn, lengthIn, lengthOf, known, sizeOf}
 use Rattle.wire.specs.Calls.{readUpTo, readOf, writeUpTo, writeOf, bufferAfterUpTo, bufferAfter}
-use Rattle.wire.specs.Step.{Outcome, refused}
+use Rattle.wire.specs.Step.{Outcome, refused, stepped}
 use Rattle.wire.specs.declared.Message.{Message}
 use Rattle.wire.specs.declared.Message.the-variants.{Request, Yield, Release, Inquiry, Response, Check}
 use Rattle.wire.specs.declared.Parsed.the-variants.{Accepted, Refused as NotRead}
@@ -33,7 +35,7 @@ use Rattle.client.specs.Record as client
 use Rattle.client.specs.Calls as client-calls
 use Rattle.client.specs.declared.Client.{Client}
 use Rattle.client_responses.specs.Figure1 as responses
-use Rattle.saved.specs.Players.{earlierRead, earlierWrite, earlierBuffer, earlierServerTakes, earlierClientTakes, earlierKnows, readKnown, writeKnown, takeKnown}
+use Rattle.saved.specs.Players.{earlierRead, earlierWrite, earlierBuffer, earlierServerTakes, blind, blindStep, leavingBlind, earlierReceived, clocklessTakes, earlierClientTakes, earlierKnows, readKnown, writeKnown, takeKnown}
 use Rattle.saved.proofs.Limits.{within-below, server-below, client-below}
 
 -- a number up to the earlier limit
@@ -139,15 +141,85 @@ pub server-known : (s : Server) (m : Message) → server.validUpTo earlierServer
 unfolding server-calls.messageOutcomeUpTo
 server-known s m v = rw (v, server-below earlierServers maxServers (omega arith) s v, valid-known m) (by-number (valid m) (earlierKnows m) (server-calls.received s m))
 
+-- What a client has seen changes no other part of a step: Figure 1's lines pass it on.
+module _ (n : ℕ) (k : ClientId) (s : responses.State) where
+  decide-blind : (a b : Bool) (l : List Owner) → blindStep (responses.decide a b n k s l) ≡ responses.decide a b n k (blind s) l
+  decide-blind true true l = refl
+  decide-blind true false l = refl
+  decide-blind false b l = refl
+
+  judge-blind : (wins : responses.Quorum) (l : List Owner) → blindStep (responses.judge wins n k s l) ≡ responses.judge wins n k (blind s) l
+  unfolding responses.judge
+  judge-blind wins l =
+      decide-blind (wins (map responses.filled l)) (wins (responses.own (responses.request k s) l)) l
+
+  response-blind : (wins : responses.Quorum) (j : ServerId) (o : Owner)
+      → blindStep (responses.uponResponse wins n k j o s) ≡ responses.uponResponse wins n k j o (blind s)
+  unfolding responses.uponResponse
+  response-blind wins j o =
+      ⊎-elim
+      (λ (e : responses.isTrying (s .section) ≡ true).
+      rw e (judge-blind wins (responses.heard (responses.request k s) (s .responses) j o)))
+      (λ (e : responses.isTrying (s .section) ≡ false). rw e)
+      (decided (responses.isTrying (s .section)))
+
+check-blind : (k : ClientId) (j : ServerId) (t : Timestamp) (s : responses.State)
+    → blindStep (responses.uponCheck k j t s) ≡ responses.uponCheck k j t (blind s)
+unfolding responses.uponCheck
+check-blind k j t s =
+    ⊎-elim
+    (λ (e : eqb (t .0) (s .timestamp .0) ≡ true). rw e)
+    (λ (e : eqb (t .0) (s .timestamp .0) ≡ false). rw e)
+    (decided (eqb (t .0) (s .timestamp .0)))
+
+-- so a client without a clock leaves what one with a clock does, but for what that one has seen
+received-blind : (c : Client) (m : Message) → earlierReceived c m ≡ leavingBlind (client-calls.received c m)
+unfolding earlierReceived
+received-blind c (Request k j t) = refl
+received-blind c (Yield k j t) = refl
+received-blind c (Release k j t) = refl
+received-blind c (Inquiry k j t) = refl
+received-blind c (Response k j o) =
+    ⊎-elim
+    (λ (e : client-calls.forClient (c .head) k j ≡ true).
+    rw e (ap stepped (sym (response-blind (c .head .n) k (responses.saw (responses.told o) (client.view c)) (responses.enough (c .head .m)) j o))))
+    (λ (e : client-calls.forClient (c .head) k j ≡ false). rw e)
+    (decided (client-calls.forClient (c .head) k j))
+received-blind c (Check k j t) =
+    ⊎-elim
+    (λ (e : client-calls.forClient (c .head) k j ≡ true). rw e (ap stepped (sym (check-blind k j t (responses.saw t (client.view c))))))
+    (λ (e : client-calls.forClient (c .head) k j ≡ false). rw e)
+    (decided (client-calls.forClient (c .head) k j))
+
 pub client-known : (c : Client) (m : Message) → client.validUpTo earlierServers c ≡ true
-    → earlierClientTakes c m ≡ takeKnown m (client-calls.messageOutcome c m)
-unfolding client-calls.messageOutcomeUpTo
-client-known c m v = rw (v, client-below earlierServers maxServers (omega arith) c v, valid-known m) (by-number (valid m) (earlierKnows m) (client-calls.received c m))
+    → earlierClientTakes c m ≡ takeKnown m (leavingBlind (client-calls.messageOutcome c m))
+unfolding client-calls.messageOutcomeUpTo clocklessTakes
+client-known c m v =
+    rw (v, client-below earlierServers maxServers (omega arith) c v, valid-known m, received-blind c m)
+    (by-sight (valid m) (earlierKnows m) (client-calls.received c m))
+  where
+    by-sight : (v k : Bool) (o : Outcome responses.State) → (if not (v && k) then refused NumberOutOfRange else leavingBlind o)
+        ≡ (if k then leavingBlind (if not v then refused NumberOutOfRange else o) else refused NumberOutOfRange)
+    by-sight true true o = refl
+    by-sight true false o = refl
+    by-sight false true o = refl
+    by-sight false false o = refl
+
+-- and one from between L3 and L4, which knows all servers, leaves it on every message
+pub clockless-known : (c : Client) (m : Message) → clocklessTakes maxServers c m ≡ leavingBlind (client-calls.messageOutcome c m)
+unfolding client-calls.messageOutcomeUpTo clocklessTakes
+clockless-known c m = rw (received-blind c m) (by-tests (client.valid c) (valid m) (client-calls.received c m))
+  where
+    by-tests : (a b : Bool) (o : Outcome responses.State) → (if not a then refused InvalidRecord else if not b then refused NumberOutOfRange else leavingBlind o)
+        ≡ leavingBlind (if not a then refused InvalidRecord else if not b then refused NumberOutOfRange else o)
+    by-tests true true o = refl
+    by-tests true false o = refl
+    by-tests false b o = refl
 
 pub server-broken : (s : Server) (m : Message) → server.validUpTo earlierServers s ≡ false → earlierServerTakes s m ≡ refused InvalidRecord
 unfolding server-calls.messageOutcomeUpTo
 server-broken s m v = rw v
 
 pub client-broken : (c : Client) (m : Message) → client.validUpTo earlierServers c ≡ false → earlierClientTakes c m ≡ refused InvalidRecord
-unfolding client-calls.messageOutcomeUpTo
+unfolding clocklessTakes
 client-broken c m v = rw v

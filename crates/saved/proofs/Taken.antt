@@ -25,13 +25,14 @@ use Rattle.client.specs.declared.Client.{Client}
 use Rattle.client.proofs.RecordLaws as client-records
 use Rattle.client.proofs.ValidLaws as client-valid
 use Rattle.client.proofs.KeepsValid as client-laws
-use Rattle.words.specs.Records.{recordSize, serverSize, clientSize, holdsServerOf, serverHeadWords, serverWords, serverFrom, serverIn, holdsClientOf, clientHeadWords, clientWords, clientFrom, clientIn}
+use Rattle.words.specs.Records.{serverSizeOf, clientSizeOf, serverSize, clientSize, holdsServerOf, serverHeadWords, serverWords, serverFrom, serverIn, holdsClientOf, clientHeadWords, clientWords, clientFrom, clientIn}
 use Rattle.words.proofs.RecordsLaws.{server-row, client-row}
 use Rattle.words.proofs.RoundTrip.{server-read-back, client-read-back, server-words-again, client-words-again}
-use Rattle.saved.specs.Forms.{earlierQueue, earlierResponses, soundServer, soundClient, savedServer, savedClient, serverNow, clientNow}
-use Rattle.saved.specs.Taken.{serverToday, clientToday, ServerTaken, ClientTaken}
+use Rattle.saved.specs.Forms.{earlierQueue, earlierResponses, soundServer, soundClient, savedServer, savedClient, serverNow, clientNow, orderedClient, ordered, widerClient}
+use Rattle.saved.specs.Taken.{serverToday, clientToday, savedAs, ServerTaken, ClientTaken}
+use Rattle.saved.proofs.Ordered.{ordered-same}
 use Rattle.saved.proofs.Limits.{server-below, client-below}
-use Rattle.saved.proofs.FormLaws.{Saved, servers, clients, form, second-valid, first-now, second-now}
+use Rattle.saved.proofs.FormLaws.{Saved, servers, clients, form, second-valid, first-now, second-now, now-long}
 
 -- a saved server is valid as it stands, and its row is no longer than today's
 pub record Fitting (ws : List ℕ) : Type 0 where
@@ -136,7 +137,7 @@ module _ (row k limit : ℕ) (more : row + k ≡ server.rowWords) (h : limit ≤
 pub server-taken-over : (ws : List ℕ) → savedServer ws ≡ true → ServerTaken ws
 server-taken-over ws v =
     ⊎-elim
-    (λ (f : (soundServer earlierQueue earlierServers ws ≡ true) × (length ws ≡ recordSize earlierQueue)).
+    (λ (f : (soundServer earlierQueue earlierServers ws ≡ true) × (length ws ≡ serverSizeOf earlierQueue)).
     server-taken-as earlierQueue (server.rowWords - earlierQueue) earlierServers refl (omega arith) ws (f .0) (first-now servers ws (f .1)))
     (λ (f : (soundServer server.rowWords maxServers ws ≡ true) × (length ws ≡ serverSize)).
     server-taken-as server.rowWords 0 maxServers refl (omega arith) ws (f .0) (second-now servers ws (f .1) ∙ sym (append-nil ws)))
@@ -145,11 +146,17 @@ server-taken-over ws v =
 pub server-fitting : (ws : List ℕ) → savedServer ws ≡ true → Fitting ws
 server-fitting ws v =
     ⊎-elim
-    (λ (f : (soundServer earlierQueue earlierServers ws ≡ true) × (length ws ≡ recordSize earlierQueue)).
+    (λ (f : (soundServer earlierQueue earlierServers ws ≡ true) × (length ws ≡ serverSizeOf earlierQueue)).
     server-fits earlierQueue (server.rowWords - earlierQueue) earlierServers refl (omega arith) ws (f .0))
     (λ (f : (soundServer server.rowWords maxServers ws ≡ true) × (length ws ≡ serverSize)).
     server-fits server.rowWords 0 maxServers refl (omega arith) ws (f .0))
     (form servers ws v)
+
+-- what is known of a client's words in today's order
+record Renewed (ws : List ℕ) : Type 0 where
+  read : clientIn (widerClient ws) ≡ some (clientToday (clientFrom ws))
+  valid : client.valid (clientToday (clientFrom ws)) ≡ true
+  shows : client.view (clientToday (clientFrom ws)) ≡ client.view (clientFrom ws)
 
 -- a client's record, in the same way
 module _ (row k limit : ℕ) (more : row + k ≡ client.rowWords) (h : limit ≤ maxServers) (ws : List ℕ) (e : soundClient row limit ws ≡ true) where
@@ -205,34 +212,47 @@ module _ (row k limit : ℕ) (more : row + k ≡ client.rowWords) (h : limit ≤
       rw client-words
       (client-read-back (clientToday c) client-stays client.rowWords (length-row-of client.rowWords places (omega (arith, client-few, client-short, more))))
 
-  client-taken-as : clientNow ws ≡ ws ++ replicate k 0 → ClientTaken ws
-  client-taken-as now =
-      let r : clientIn (clientNow ws) ≡ some (clientToday c) = rw now client-read in
-      let (a, b) = again clients (clientNow ws) (client-sound (clientNow ws) (clientToday c) r client-stays) in
-      record { read = r; valid = client-stays; shows = client-shows; saved = a; again = b }
+  renewed-as : widerClient ws ≡ ws ++ replicate k 0 → Renewed ws
+  renewed-as now = record { read = rw now client-read; valid = client-stays; shows = client-shows }
 
--- A CLIENT'S RECORD, in one form or the other
-pub client-taken-over : (ws : List ℕ) → savedClient ws ≡ true → ClientTaken ws
-client-taken-over ws v =
+renewed : (ws : List ℕ) → orderedClient ws ≡ true → Renewed ws
+renewed ws v =
     ⊎-elim
-    (λ (f : (soundClient earlierResponses earlierServers ws ≡ true) × (length ws ≡ recordSize earlierResponses)).
-    client-taken-as earlierResponses (client.rowWords - earlierResponses) earlierServers refl (omega arith) ws (f .0) (first-now clients ws (f .1)))
+    (λ (f : (soundClient earlierResponses earlierServers ws ≡ true) × (length ws ≡ clientSizeOf earlierResponses)).
+    renewed-as earlierResponses (client.rowWords - earlierResponses) earlierServers refl (omega arith) ws (f .0) (first-now clients ws (f .1)))
     (λ (f : (soundClient client.rowWords maxServers ws ≡ true) × (length ws ≡ clientSize)).
-    client-taken-as client.rowWords 0 maxServers refl (omega arith) ws (f .0) (second-now clients ws (f .1) ∙ sym (append-nil ws)))
+    renewed-as client.rowWords 0 maxServers refl (omega arith) ws (f .0) (second-now clients ws (f .1) ∙ sym (append-nil ws)))
     (form clients ws v)
 
-pub client-was-valid : (ws : List ℕ) → savedClient ws ≡ true → client.valid (clientFrom ws) ≡ true
-client-was-valid ws v =
+-- A CLIENT'S RECORD, in one of its forms
+pub client-taken-over : (ws : List ℕ) → savedClient ws ≡ true → ClientTaken ws
+client-taken-over ws v =
+    let R = renewed (ordered ws) v in
+    let o = ordered-same (clientNow ws) (now-long clients (ordered ws) v) in
+    let (a, b) = again clients (clientNow ws) (client-sound (clientNow ws) (clientToday (savedAs ws)) (R .read) (R .valid)) in
+    record {
+      read = R .read;
+      valid = R .valid;
+      shows = R .shows;
+      saved = ap (λ (l : List ℕ). orderedClient l) o ∙ a;
+      again = ap (λ (l : List ℕ). widerClient l) o ∙ b;
+    }
+
+was-valid : (ws : List ℕ) → orderedClient ws ≡ true → client.valid (clientFrom ws) ≡ true
+was-valid ws v =
     ⊎-elim
-    (λ (f : (soundClient earlierResponses earlierServers ws ≡ true) × (length ws ≡ recordSize earlierResponses)).
+    (λ (f : (soundClient earlierResponses earlierServers ws ≡ true) × (length ws ≡ clientSizeOf earlierResponses)).
     client-good earlierResponses (client.rowWords - earlierResponses) earlierServers refl (omega arith) ws (f .0))
     (λ (f : (soundClient client.rowWords maxServers ws ≡ true) × (length ws ≡ clientSize)).
     client-good client.rowWords 0 maxServers refl (omega arith) ws (f .0))
     (form clients ws v)
 
-pub client-today-long : (ws : List ℕ) → savedClient ws ≡ true → length (clientToday (clientFrom ws) .row) ≡ client.rowWords
+pub client-was-valid : (ws : List ℕ) → savedClient ws ≡ true → client.valid (savedAs ws) ≡ true
+client-was-valid ws v = was-valid (ordered ws) v
+
+pub client-today-long : (ws : List ℕ) → savedClient ws ≡ true → length (clientToday (savedAs ws) .row) ≡ client.rowWords
 unfolding client.storeIn
 client-today-long ws v =
-    let c = clientFrom ws in
+    let c = savedAs ws in
     let K = client-valid.valid-known c (client-was-valid ws v) in
     length-row-of client.rowWords (map place (client.view c .responses)) (rw (length-map, client-laws.view-fits c K .long) (omega (arith, K .few)))

@@ -4,7 +4,7 @@ use Rattle.ids.specs.Order.{before}
 use Rattle.ids.specs.Requests.{same as equal}
 use Rattle.rows.specs.Queue.{timestampIn, insert, without}
 use Rattle.server_votes.specs.Figure1.{enqueue, promote, delete, inform, act, receive, suspect, check}
-use Rattle.client_responses.specs.Figure1.{enough, toAll, tries, exits, next, heard, reply, round, judge, responds, checked}
+use Rattle.client_responses.specs.Figure1.{enough, toAll, tries, exits, next, heard, reply, round, judge, uponResponse, uponCheck}
 use Rattle.quorum.specs.Check.{inRangeUpTo}
 use Rattle.system.specs.Numbered.{added}
 use Rattle.system.specs.Transit.{numbered, pending, replaced}
@@ -20,7 +20,7 @@ use Rattle.script_output.specs.Samples.{lines, All, samples, example, tw
 
 pub samples-print : All samples
 unfolding before equal timestampIn insert enqueue without promote delete inform act receive suspect check enough toAll tries exits next
-    heard reply round judge responds checked inRangeUpTo added numbered pending replaced downFrom worst deliver event withPlaces after start
+    heard reply round judge uponResponse uponCheck inRangeUpTo added numbered pending replaced downFrom worst deliver event withPlaces after start
     runBy acceptedEvents mostHolders digitUpTo digitsUpTo numberUpTo lastDigits decimal same word rest spaced commandIn eventOf eventIn
     fourIn settingIn headerLine okLine noLine endLine refusedLine linesOf answerLine answers eventsIn endOf played printedFor output lines
     samples example twoHolders yieldRound redelivery ownerlessAnswer lostRelease fallenOwner epochs refusals empty firstLineEmpty

@@ -28,7 +28,7 @@ use Rattle.wire.specs.Step.{Step, stepped}
 use Rattle.wire.specs.declared.Message.{Message}
 use Rattle.wire.proofs.Sequence.{sizeOfAll-one}
 use Rattle.wire.specs.declared.Message.the-variants.{Request, Yield, Release, Inquiry, Response, Check}
-use Rattle.client_responses.specs.Figure1.{State, Quorum, filled, count, isTrying, enough, next, toAll, tries, exits, reply, round, heard, judge, responds, checked, isRemainder, isCritical, lastTry, mayTry}
+use Rattle.client_responses.specs.Figure1.{State, request, Quorum, filled, count, isTrying, enough, next, latest, taken, saw, toAll, tries, exits, reply, round, told, heard, judge, uponResponse, uponCheck, responds, checked, isRemainder, isCritical, lastTry, mayTry}
 use Rattle.client.specs.Record.{fitsTimestamp, valid, view}
 use Rattle.client.specs.Calls.{forClient, received, messageOutcomeUpTo, messageOutcome, beginOutcome, exitOutcome}
 use Rattle.client.specs.declared.Client.{Client}
@@ -61,9 +61,10 @@ nothing n = record { few = omega arith; small = omega arith }
 more : {n m : ℕ} {ms : List Message} → n ≤ m → AtMost n ms → AtMost m ms
 more h a = record { few = omega (arith, a .few); small = omega (arith, a .small) }
 
-judge-few : (wins : Quorum) (n : ℕ) (r : Pair) (l : List Owner) → AtMost (length l) (judge wins n r l .sent)
+judge-few : (wins : Quorum) (n : ℕ) (k : ClientId) (c : State) (l : List Owner) → AtMost (length l) (judge wins n k c l .sent)
 unfolding judge
-judge-few wins n r l =
+judge-few wins n k c l =
+    let r = request k c in
     ⊎-elim
     (λ (a : wins (map filled l) ≡ true).
     ⊎-elim
@@ -76,11 +77,11 @@ judge-few wins n r l =
 
 pub responds-few : (wins : Quorum) (n : ℕ) (k : ClientId) (j : ServerId) (o : Owner) (c : State)
     → AtMost (length (c .responses)) (responds wins n k j o c .sent)
-unfolding responds
+unfolding uponResponse
 responds-few wins n k j o c =
-    let r : Pair = record { client = k; timestamp = c .timestamp } in
+    let l = heard (request k c) (c .responses) j o in
     ⊎-elim
-    (λ (t : isTrying (c .section) ≡ true). rw t (more (omega (arith, heard-length r (c .responses) j o)) (judge-few wins n r (heard r (c .responses) j o))))
+    (λ (t : isTrying (c .section) ≡ true). rw t (more (omega (arith, heard-length (request k c) (c .responses) j o)) (judge-few wins n k (saw (told o) c) l)))
     (λ (t : isTrying (c .section) ≡ false). rw t (nothing (length (c .responses))))
     (decided (isTrying (c .section)))
 
@@ -88,7 +89,7 @@ released : (k : ClientId) (j : ServerId) (t : Timestamp) → AtMost 1 (Release k
 released k j t = record { few = omega arith; small = rw sizeOfAll-one (omega (arith, release-plain k t j)) }
 
 pub checked-few : (k : ClientId) (j : ServerId) (t : Timestamp) (c : State) → AtMost 1 (checked k j t c .sent)
-unfolding checked
+unfolding uponCheck
 checked-few k j t c =
     ⊎-elim (λ (e : eqb (t .0) (c .timestamp .0) ≡ true). rw e (nothing 1))
     (λ (e : eqb (t .0) (c .timestamp .0) ≡ false). rw e (released k j t)) (decided (eqb (t .0) (c .timestamp .0)))
@@ -98,7 +99,7 @@ to-all f h n = record { few = omega (arith, length-toAll f n); small = omega (ar
 
 pub tries-few : (n : ℕ) (k : ClientId) (c : State) → AtMost n (tries n k c .sent)
 unfolding tries
-tries-few n k c = to-all _ (request-plain k (next (c .timestamp))) n
+tries-few n k c = to-all _ (request-plain k (taken c)) n
 
 pub exits-few : (n : ℕ) (k : ClientId) (c : State) → AtMost n (exits n k c .sent)
 unfolding exits
@@ -106,9 +107,10 @@ exits-few n k c = to-all _ (release-plain k (c .timestamp)) n
 
 -- and it keeps a response for each server at most
 module _ (n : ℕ) where
-  judge-long : (wins : Quorum) (r : Pair) (l : List Owner) → length l ≤ n → length (judge wins n r l .state .responses) ≤ n
+  judge-long : (wins : Quorum) (k : ClientId) (c : State) (l : List Owner) → length l ≤ n → length (judge wins n k c l .state .responses) ≤ n
   unfolding judge
-  judge-long wins r l g =
+  judge-long wins k c l g =
+      let r = request k c in
       ⊎-elim
       (λ (a : wins (map filled l) ≡ true).
       ⊎-elim
@@ -120,11 +122,12 @@ module _ (n : ℕ) where
 
   responds-long : (wins : Quorum) (k : ClientId) (j : ServerId) (o : Owner) (c : State) → length (c .responses) ≤ n
       → length (responds wins n k j o c .state .responses) ≤ n
-  unfolding responds
+  unfolding uponResponse
   responds-long wins k j o c g =
-      let r : Pair = record { client = k; timestamp = c .timestamp } in
+      let r = request k c in
       ⊎-elim
-      (λ (t : isTrying (c .section) ≡ true). rw t (judge-long wins r (heard r (c .responses) j o) (omega (arith, heard-length r (c .responses) j o))))
+      (λ (t : isTrying (c .section) ≡ true).
+      rw t (judge-long wins k (saw (told o) c) (heard r (c .responses) j o) (omega (arith, heard-length r (c .responses) j o))))
       (λ (t : isTrying (c .section) ≡ false). rw t g)
       (decided (isTrying (c .section)))
 
@@ -231,10 +234,11 @@ module _ (f : Message → Bool) where
   round-passes r n j (Of o ∷ l) a b h =
       rw (reply-passes r (record { 0 = j }) o (h j a (omega arith))) (round-passes r n (suc j) l (omega arith) (omega arith) h)
 
-  judge-passes : (wins : Quorum) (n : ℕ) (r : Pair) (l : List Owner) → length l ≤ n
-      → ((i : ℕ) → 1 ≤ i → i ≤ n → Replies f r (record { 0 = i })) → every f (judge wins n r l .sent) ≡ true
+  judge-passes : (wins : Quorum) (n : ℕ) (k : ClientId) (c : State) (l : List Owner) → length l ≤ n
+      → ((i : ℕ) → 1 ≤ i → i ≤ n → Replies f (request k c) (record { 0 = i })) → every f (judge wins n k c l .sent) ≡ true
   unfolding judge
-  judge-passes wins n r l few h =
+  judge-passes wins n k c l few h =
+      let r = request k c in
       ⊎-elim
       (λ (a : wins (map filled l) ≡ true).
       ⊎-elim
@@ -245,7 +249,7 @@ module _ (f : Message → Bool) where
       (decided (wins (map filled l)))
 
   pub tries-passes : (n : ℕ) (k : ClientId) (c : State)
-      → ((j : ℕ) → 1 ≤ j → j ≤ n → f (Request k (record { 0 = j }) (next (c .timestamp))) ≡ true) → every f (tries n k c .sent) ≡ true
+      → ((j : ℕ) → 1 ≤ j → j ≤ n → f (Request k (record { 0 = j }) (taken c)) ≡ true) → every f (tries n k c .sent) ≡ true
   unfolding tries
   tries-passes n k c h = all-pass _ n h
 
@@ -255,18 +259,19 @@ module _ (f : Message → Bool) where
   exits-passes n k c h = all-pass _ n h
 
   pub responds-passes : (wins : Quorum) (n : ℕ) (k : ClientId) (j : ServerId) (o : Owner) (c : State) → length (c .responses) ≤ n
-      → (isTrying (c .section) ≡ true → (i : ℕ) → 1 ≤ i → i ≤ n → Replies f (record { client = k; timestamp = c .timestamp }) (record { 0 = i }))
+      → (isTrying (c .section) ≡ true → (i : ℕ) → 1 ≤ i → i ≤ n → Replies f (request k c) (record { 0 = i }))
       → every f (responds wins n k j o c .sent) ≡ true
-  unfolding responds
+  unfolding uponResponse
   responds-passes wins n k j o c few h =
-      let r : Pair = record { client = k; timestamp = c .timestamp } in
+      let r = request k c in
       ⊎-elim
-      (λ (t : isTrying (c .section) ≡ true). rw t (judge-passes wins n r (heard r (c .responses) j o) (omega (arith, heard-length r (c .responses) j o)) (h t)))
+      (λ (t : isTrying (c .section) ≡ true).
+      rw t (judge-passes wins n k (saw (told o) c) (heard r (c .responses) j o) (omega (arith, heard-length r (c .responses) j o)) (h t)))
       (λ (t : isTrying (c .section) ≡ false). rw t refl)
       (decided (isTrying (c .section)))
 
   pub checked-passes : (k : ClientId) (j : ServerId) (t : Timestamp) (c : State) → f (Release k j t) ≡ true → every f (checked k j t c .sent) ≡ true
-  unfolding checked
+  unfolding uponCheck
   checked-passes k j t c h =
       ⊎-elim (λ (e : eqb (t .0) (c .timestamp .0) ≡ true). rw e refl) (λ (e : eqb (t .0) (c .timestamp .0) ≡ false). rw (e, h))
       (decided (eqb (t .0) (c .timestamp .0)))
@@ -288,11 +293,11 @@ in-trying Trying t e h = trying-range t h
 in-trying Critical t e h = absurd (false≢true e)
 
 module _ (n m : ℕ) (k : ClientId) (s : State) (F : Fits n m k s) where
-  pub tries-valid : s .timestamp .0 ≤ lastTry → every format.valid (tries n k s .sent) ≡ true
+  pub tries-valid : latest s .0 ≤ lastTry → every format.valid (tries n k s .sent) ≡ true
   unfolding format.validUpTo next
   tries-valid h =
       tries-passes format.valid n k s
-      (λ j a b. stamped k j (next (s .timestamp)) (F .ranges .client) a (omega (arith, F .ranges .few)) (omega arith) (omega arith))
+      (λ j a b. stamped k j (taken s) (F .ranges .client) a (omega (arith, F .ranges .few)) (omega arith) (omega arith))
 
   pub exits-valid : isCritical (s .section) ≡ true → every format.valid (exits n k s .sent) ≡ true
   unfolding format.validUpTo

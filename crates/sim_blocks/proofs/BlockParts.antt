@@ -17,7 +17,7 @@ use Rattle.server.specs.declared.Server.{Server}
 use Rattle.client.specs.Record as client
 use Rattle.client.specs.declared.Client.{Client}
 use Rattle.system.specs.Places.{inEpoch}
-use Rattle.words.specs.Records.{clientWords, serverWords, serverFrom, recordHead, clientHeadWords, serverHeadWords, serverHeadFrom, maxWord}
+use Rattle.words.specs.Records.{clientWords, serverWords, serverFrom, serverHead, clientHead, clientHeadWords, serverHeadWords, serverHeadFrom, maxWord}
 use Rattle.sim_blocks.specs.Blocks.{namedPair, cleared, serverRecord, clientPlace, emptied, flagsFrom, clientBlock, serverBlock, clientRecordSize, serverRecordSize, responseWords, queueWords}
 use Rattle.ids.specs.Lists.{every}
 use Rattle.sim_blocks.proofs.Fronts.{Passing, passing-none, passing-more, passing-failed, passing-all, Clearing, clearing-all}
@@ -25,6 +25,7 @@ use Rattle.server.specs.Calls.{emptyHead}
 use Rattle.system.specs.Limits.{systemServers}
 use Rattle.rows.specs.Rows.{requestsIn}
 use Rattle.rows.proofs.WordLaws.{requests-at}
+use Rattle.rows.proofs.CopyLaws.{part-whole}
 use Rattle.wire.proofs.BytesLaws.{stored-on}
 use Rattle.client.specs.declared.Head.{Head as ClientHead}
 use Rattle.server.specs.declared.Head.{Head as ServerHead}
@@ -54,34 +55,34 @@ requests-fit [] (suc n) h = absurd (omega arith)
 requests-fit (k ∷ []) (suc n) h = absurd (omega arith)
 requests-fit (k ∷ (t ∷ ws)) (suc n) h = omega (arith, requests-fit ws n (omega arith))
 
-module _ (ws : List ℕ) (count clients : ℕ) where
+module _ (ws : List ℕ) (head count clients : ℕ) where
   abbrev requests : List Request
-  requests = requestsIn (drop recordHead ws)
+  requests = requestsIn (drop head ws)
 
   -- what `requests_named` knows before request i
   pub record Naming (i : ℕ) : Type 0 where
-    pub room : recordHead + 2 * count ≤ length ws
-    pub passing : Passing (namedPair clients) noRequest (requestsIn (drop recordHead ws)) count i
+    pub room : head + 2 * count ≤ length ws
+    pub passing : Passing (namedPair clients) noRequest (requestsIn (drop head ws)) count i
 
-  pub naming-none : recordHead + 2 * count ≤ length ws → Naming 0
+  pub naming-none : head + 2 * count ≤ length ws → Naming 0
   naming-none h =
       record {
         room = h;
         passing = passing-none (namedPair clients) noRequest requests count
-            (requests-fit (drop recordHead ws) count (omega (arith, length-drop recordHead ws)));
+            (requests-fit (drop head ws) count (omega (arith, length-drop head ws)));
       }
 
   module _ (i : ℕ) (S : Naming i) where
-    its-client : i < count → getD requests i noRequest .client .0 ≡ getD ws (recordHead + 2 * i) 0
+    its-client : i < count → getD requests i noRequest .client .0 ≡ getD ws (head + 2 * i) 0
     its-client h =
-        ap (λ (q : Request). q .client .0) (requests-at (drop recordHead ws) i (omega (arith, length-drop recordHead ws, S .room))) ∙
-        getD-drop recordHead ws (2 * i) 0
+        ap (λ (q : Request). q .client .0) (requests-at (drop head ws) i (omega (arith, length-drop head ws, S .room))) ∙
+        getD-drop head ws (2 * i) 0
 
-    pub naming-failed : i < count → clients < getD ws (recordHead + 2 * i) 0 → false ≡ every (namedPair clients) (take count (requestsIn (drop recordHead ws)))
+    pub naming-failed : i < count → clients < getD ws (head + 2 * i) 0 → false ≡ every (namedPair clients) (take count (requestsIn (drop head ws)))
     naming-failed h g = passing-failed (namedPair clients) noRequest requests count i (S .passing) h
         (lt-leb (getD requests i noRequest .client .0) clients (omega (arith, its-client h)))
 
-    pub naming-more : i < count → getD ws (recordHead + 2 * i) 0 ≤ clients → Naming (i + 1)
+    pub naming-more : i < count → getD ws (head + 2 * i) 0 ≤ clients → Naming (i + 1)
     naming-more h g =
         record {
           room = S .room;
@@ -89,7 +90,7 @@ module _ (ws : List ℕ) (count clients : ℕ) where
               (le-leb (getD requests i noRequest .client .0) clients (omega (arith, its-client h)));
         }
 
-    pub naming-all : count ≤ i → true ≡ every (namedPair clients) (take count (requestsIn (drop recordHead ws)))
+    pub naming-all : count ≤ i → true ≡ every (namedPair clients) (take count (requestsIn (drop head ws)))
     naming-all h = passing-all (namedPair clients) noRequest requests count i (S .passing) h
 
 -- the words of a record are read back as that record
@@ -115,7 +116,7 @@ part-stored b ys vs a k h e p =
     rw (p, covered (take k (drop a b)) vs l, drop-drop k a b, ← e) (sym (append-assoc (take a b) vs (drop (a + length vs) b)) ∙
     sym (sets-eq vs b a (omega arith)))
 
--- the front of a part is written, and a part is written over whole
+-- the front of a part is written
 pub part-front : (b ys vs : List ℕ) (a k : ℕ) → a + k ≤ length b → length vs ≤ k → ys ≡ sets (take k (drop a b)) 0 vs
     → take a b ++ (ys ++ drop k (drop a b)) ≡ sets b a vs
 part-front b ys vs a k h e p =
@@ -129,9 +130,6 @@ part-front b ys vs a k h e p =
     ∙ (ap (λ (l : List ℕ). take a b ++ l) (append-assoc vs (drop (length vs) (take k (drop a b))) (drop k (drop a b)) ∙ ap (λ (l : List ℕ). vs ++ l) d)
     ∙ (sym (append-assoc (take a b) vs (drop (a + length vs) b)) ∙ sym (sets-eq vs b a (omega arith))))
 
-pub part-whole : (b ys vs : List ℕ) (a k : ℕ) → a + k ≤ length b → length vs ≡ k → ys ≡ vs → take a b ++ (ys ++ drop k (drop a b)) ≡ sets b a vs
-part-whole b ys vs a k h e p = rw (p, drop-drop k a b, ← e) (sym (append-assoc (take a b) vs (drop (a + length vs) b)) ∙ sym (sets-eq vs b a (omega arith)))
-
 -- dropping in a part that is taken
 pub drop-take : (x y : ℕ) (l : List ℕ) → drop x (take (x + y) l) ≡ take y (drop x l)
 drop-take zero y l = let z : 0 + y ≡ y = omega arith in ap (λ (x : ℕ). take x l) z
@@ -143,29 +141,29 @@ drop-take (suc x) y [] = let z : suc x + y ≡ suc (x + y) = omega arith in ap (
 drop-take (suc x) y (a ∷ l) = let z : suc x + y ≡ suc (x + y) = omega arith in ap (λ (i : ℕ). drop (suc x) (take i (a ∷ l))) z ∙ drop-take x y l
 
 -- a record's row in its block, as it is lent
-pub row-lent : (b : List ℕ) (size : ℕ) → drop recordHead (take (recordHead + size) (drop 1 b)) ≡ take size (drop (1 + recordHead) b)
-row-lent b size = drop-take recordHead size (drop 1 b) ∙ ap (take size) (drop-drop recordHead 1 b)
+pub row-lent : (b : List ℕ) (head size : ℕ) → drop head (take (head + size) (drop 1 b)) ≡ take size (drop (1 + head) b)
+row-lent b head size = drop-take head size (drop 1 b) ∙ ap (take size) (drop-drop head 1 b)
 
 -- head and row are written one after another
-pub client-put : (b b₁ b₂ : List ℕ) (h : ClientHead) (row : List ℕ) → b₁ ≡ sets b 1 (clientHeadWords h) → b₂ ≡ sets b₁ (1 + recordHead) row
+pub client-put : (b b₁ b₂ : List ℕ) (h : ClientHead) (row : List ℕ) → b₁ ≡ sets b 1 (clientHeadWords h) → b₂ ≡ sets b₁ (1 + clientHead) row
     → b₂ ≡ sets b 1 (clientWords (client.clientOf h row))
 unfolding clientWords clientHeadWords
-client-put b b₁ b₂ h row p q = stored-on b b₁ b₂ (clientHeadWords h) row 1 (1 + recordHead) p q refl
+client-put b b₁ b₂ h row p q = stored-on b b₁ b₂ (clientHeadWords h) row 1 (1 + clientHead) p q refl
 
-pub server-put : (b b₁ b₂ : List ℕ) (h : ServerHead) (row : List ℕ) → b₁ ≡ sets b 1 (serverHeadWords h) → b₂ ≡ sets b₁ (1 + recordHead) row
+pub server-put : (b b₁ b₂ : List ℕ) (h : ServerHead) (row : List ℕ) → b₁ ≡ sets b 1 (serverHeadWords h) → b₂ ≡ sets b₁ (1 + serverHead) row
     → b₂ ≡ sets b 1 (serverWords (server.serverOf h row))
 unfolding serverWords serverHeadWords
-server-put b b₁ b₂ h row p q = stored-on b b₁ b₂ (serverHeadWords h) row 1 (1 + recordHead) p q refl
+server-put b b₁ b₂ h row p q = stored-on b b₁ b₂ (serverHeadWords h) row 1 (1 + serverHead) p q refl
 
 -- a part put back
 abbrev pub back : ℕ → ℕ → List ℕ → List ℕ → List ℕ
 back a k b x = take a b ++ (x ++ drop k (drop a b))
 
-pub client-head-long : (h : ClientHead) → length (clientHeadWords h) ≡ recordHead
+pub client-head-long : (h : ClientHead) → length (clientHeadWords h) ≡ clientHead
 unfolding clientHeadWords
 client-head-long h = refl
 
-pub server-head-long : (h : ServerHead) → length (serverHeadWords h) ≡ recordHead
+pub server-head-long : (h : ServerHead) → length (serverHeadWords h) ≡ serverHead
 unfolding serverHeadWords
 server-head-long h = refl
 
@@ -211,18 +209,18 @@ forgotten-short h e p = rw p (omega arith)
 -- what the two stores of `put_client` leave, and those of `put_server`
 pub client-put-back : (b x : List ℕ) (h : ClientHead) (row ys : List ℕ) → length b ≡ clientBlock → length row ≡ responseWords
     → x ≡ sets (take clientRecordSize (drop 1 b)) 0 (clientHeadWords h) → ys ≡ row
-    → back (1 + recordHead) responseWords (back 1 clientRecordSize b x) ys ≡ sets b 1 (clientWords (client.clientOf h row))
+    → back (1 + clientHead) responseWords (back 1 clientRecordSize b x) ys ≡ sets b 1 (clientWords (client.clientOf h row))
 client-put-back b x h row ys l m p q =
     let e : back 1 clientRecordSize b x ≡ sets b 1 (clientHeadWords h) = part-front b x (clientHeadWords h) 1 clientRecordSize (omega arith)
     (omega (arith, client-head-long h)) p in
     let n : length (back 1 clientRecordSize b x) ≡ clientBlock = ap length e ∙ (length-sets b 1 (clientHeadWords h) ∙ l) in
-    client-put b _ _ h row e (part-whole (back 1 clientRecordSize b x) ys row (1 + recordHead) responseWords (omega arith) m q)
+    client-put b _ _ h row e (part-whole (back 1 clientRecordSize b x) ys row (1 + clientHead) responseWords (omega arith) m q)
 
 pub server-put-back : (b x : List ℕ) (h : ServerHead) (row ys : List ℕ) → length b ≡ serverBlock → length row ≡ queueWords
     → x ≡ sets (take serverRecordSize (drop 1 b)) 0 (serverHeadWords h) → ys ≡ row
-    → back (1 + recordHead) queueWords (back 1 serverRecordSize b x) ys ≡ sets b 1 (serverWords (server.serverOf h row))
+    → back (1 + serverHead) queueWords (back 1 serverRecordSize b x) ys ≡ sets b 1 (serverWords (server.serverOf h row))
 server-put-back b x h row ys l m p q =
     let e : back 1 serverRecordSize b x ≡ sets b 1 (serverHeadWords h) = part-front b x (serverHeadWords h) 1 serverRecordSize (omega arith)
     (omega (arith, server-head-long h)) p in
     let n : length (back 1 serverRecordSize b x) ≡ serverBlock = ap length e ∙ (length-sets b 1 (serverHeadWords h) ∙ l) in
-    server-put b _ _ h row e (part-whole (back 1 serverRecordSize b x) ys row (1 + recordHead) queueWords (omega arith) m q)
+    server-put b _ _ h row e (part-whole (back 1 serverRecordSize b x) ys row (1 + serverHead) queueWords (omega arith) m q)

@@ -22,10 +22,10 @@ use Rattle.wire.specs.declared.Message.the-variants.{Response, Check}
 use Rattle.client.specs.declared.Client.{Client}
 use Rattle.client_responses.specs.declared.Section.{Section}
 use Rattle.client_responses.specs.declared.Section.the-variants.{Remainder, Trying, Critical}
-use Rattle.client_responses.specs.Figure1.{State, fresh, Quorum, filled, enough, tries, exits, heard, judge, responds, checked, isRemainder, isCritical, lastTry, mayTry}
+use Rattle.client_responses.specs.Figure1.{State, fresh, Quorum, filled, enough, tries, exits, heard, judge, responds, checked, isRemainder, isCritical, lastTry, mayTry, latest, saw, told, uponResponse}
 use Rattle.client.specs.Record as client
 use Rattle.client.specs.Calls.{clientAfter, beginOutcome, exitOutcome, messageOutcome, forClient, messageOutcomeUpTo}
-use Rattle.client.proofs.KeepsValid.{InRange, remainder-fits, Fits, tries-fits, exits-fits, responds-fits, checked-state, heard-every, after-stored}
+use Rattle.client.proofs.KeepsValid.{InRange, remainder-fits, Fits, tries-fits, exits-fits, responds-fits, saw-fits, checked-state, heard-every, after-stored}
 use Rattle.words.specs.Records.{clientFrom, clientWords}
 use Rattle.words.proofs.RecordsLaws.{client-row}
 use Rattle.system.specs.Places.{ClientPlace}
@@ -49,22 +49,25 @@ module _ (wins : Quorum) (n clients : ℕ) (k : ClientId) (j : ServerId) (o : Ow
   judged true false x y z f g h = g
   judged false b x y z f g h = h
 
-  trying : (t : Timestamp) (l : List Owner) → every (named clients) l ≡ true
-      → every (named clients) (judge wins n (record { client = k; timestamp = t }) l .state .responses) ≡ true
+  trying : (c : State) (l : List Owner) → every (named clients) l ≡ true → every (named clients) (judge wins n k c l .state .responses) ≡ true
   unfolding judge
-  trying t l h = judged (wins (map filled l)) (wins (map (isRequest (record { client = k; timestamp = t })) l)) _ _ _ h (named-none clients n) h
+  trying c l h =
+      judged (wins (map filled l)) (wins (map (isRequest (record { client = k; timestamp = c .timestamp })) l)) _ _ _ h (named-none clients n) h
 
-  by-section : (a : Section) (t : Timestamp) (l : List Owner) → every (named clients) l ≡ true
-      → every (named clients) (responds wins n k j o (record { section = a; timestamp = t; responses = l }) .state .responses) ≡ true
-  unfolding responds
-  by-section Remainder t l h = h
-  by-section Critical t l h = h
-  by-section Trying t l h =
+  abbrev with : Section → Timestamp → Timestamp → List Owner → State
+  with a t seen l = record { section = a; timestamp = t; seen = seen; responses = l }
+
+  by-section : (a : Section) (t seen : Timestamp) (l : List Owner) → every (named clients) l ≡ true
+      → every (named clients) (uponResponse wins n k j o (with a t seen l) .state .responses) ≡ true
+  unfolding uponResponse
+  by-section Remainder t seen l h = h
+  by-section Critical t seen l h = h
+  by-section Trying t seen l h =
       let r : Request = record { client = k; timestamp = t } in
-      trying t (heard r l j o) (heard-every r l j o (named clients) h (λ e. v))
+      trying (with Trying t seen l) (heard r l j o) (heard-every r l j o (named clients) h (λ e. v))
 
   pub responds-names : (s : State) → every (named clients) (s .responses) ≡ true → every (named clients) (responds wins n k j o s .state .responses) ≡ true
-  responds-names s h = by-section (s .section) (s .timestamp) (s .responses) h
+  responds-names s h = by-section (s .section) (s .timestamp) (saw (told o) s .seen) (s .responses) h
 
   never-left : (a b : Bool) (x y z : Step State) → isRemainder (x .state .section) ≡ false → isRemainder (y .state .section) ≡ false
       → isRemainder (z .state .section) ≡ false
@@ -73,17 +76,17 @@ module _ (wins : Quorum) (n clients : ℕ) (k : ClientId) (j : ServerId) (o : Ow
   never-left true false x y z f g h = g
   never-left false b x y z f g h = h
 
-  left-by : (a : Section) (t : Timestamp) (l : List Owner)
-      → isRemainder (responds wins n k j o (record { section = a; timestamp = t; responses = l }) .state .section) ≡ isRemainder a
-  unfolding responds judge
-  left-by Remainder t l = refl
-  left-by Critical t l = refl
-  left-by Trying t l =
+  left-by : (a : Section) (t seen : Timestamp) (l : List Owner)
+      → isRemainder (uponResponse wins n k j o (with a t seen l) .state .section) ≡ isRemainder a
+  unfolding uponResponse judge
+  left-by Remainder t seen l = refl
+  left-by Critical t seen l = refl
+  left-by Trying t seen l =
       let r : Request = record { client = k; timestamp = t } in
       never-left (wins (map filled (heard r l j o))) (wins (map (isRequest r) (heard r l j o))) _ _ _ refl refl refl
 
   pub responds-section : (s : State) → isRemainder (responds wins n k j o s .state .section) ≡ isRemainder (s .section)
-  responds-section s = left-by (s .section) (s .timestamp) (s .responses)
+  responds-section s = left-by (s .section) (s .timestamp) (saw (told o) s .seen) (s .responses)
 
 -- block b with the record of state s, and the place that it is
 abbrev pub written : ℕ → ℕ → ℕ → List ℕ → State → List ℕ
@@ -160,7 +163,7 @@ module _ (n m clients k : ℕ) (b : List ℕ) (ok : validClientBlock n m clients
   unfolding tries
   tries-block h g =
       stored-client n m clients k b ok (tries n me (at .state) .state)
-      (tries-fits n m me (at .state) (fits .ranges) (leb-true (at .state .timestamp .0) lastTry g)) (named-none clients n)
+      (tries-fits n m me (at .state) (fits .ranges) (leb-true (latest (at .state) .0) lastTry g)) (named-none clients n)
       (λ e. remainder-clear n m clients k b ok h)
 
   -- an exit ends the epoch: the flags are cleared before its record is written
@@ -183,10 +186,11 @@ module _ (n m clients k : ℕ) (b : List ℕ) (ok : validClientBlock n m clients
       → ClientIs n m clients k (written n m k b (checked (record { 0 = k }) j t (clientPlace b .state) .state))
       (placed b (checked (record { 0 = k }) j t (clientPlace b .state) .state))
   checked-block j t =
-      rw (checked-state me j t (at .state)) (stored-client n m clients k b ok (at .state) fits (B .names) (λ e. remainder-clear n m clients k b ok e))
+      rw (checked-state me j t (at .state))
+      (stored-client n m clients k b ok (saw t (at .state)) (saw-fits n m me t (at .state) fits) (B .names) (λ e. remainder-clear n m clients k b ok e))
 
 -- a new client's record, in a block without flags
 pub fresh-block : (n m clients k : ℕ) (b : List ℕ) → Frame n b → n ≤ systemServers → every zeroWord (flags b) ≡ true → InRange n m (record { 0 = k })
     → ClientIs n m clients k (written n m k b (fresh n)) (placed b (fresh n))
 fresh-block n m clients k b B few z R =
-    stored-frame n m clients k b B few (fresh n) (remainder-fits n m (record { 0 = k }) R (record { 0 = 0 })) (named-none clients n) (λ e. z)
+    stored-frame n m clients k b B few (fresh n) (remainder-fits n m (record { 0 = k }) R (record { 0 = 0 }) (record { 0 = 0 })) (named-none clients n) (λ e. z)

@@ -26,7 +26,7 @@ use Rattle.client_responses.specs.Row.{shown}
 use Rattle.client.specs.declared.Client.{Client}
 use Rattle.client.specs.declared.Head.{Head as ClientHead}
 use Rattle.server.specs.declared.Head.{Head as ServerHead}
-use Rattle.words.specs.Records.{serverFrom, clientFrom, sectionOf, recordHead, clientHeadFrom, serverHeadFrom}
+use Rattle.words.specs.Records.{serverFrom, clientFrom, sectionOf, serverHead, clientHead, clientHeadFrom, serverHeadFrom}
 use Rattle.words.proofs.RecordsLaws.{server-held, client-held, client-row}
 use Rattle.system.specs.Places.{inEpoch, isInside}
 use Rattle.sim_blocks.proofs.Facts.{few-by-row}
@@ -130,7 +130,7 @@ module _ (n m clients : ℕ) (k : ClientId) (ws : List ℕ) (c : Client) (e : c 
     servers-differ h = rw (good, ne-eqb (getD ws 0 0) n h)
 
     module _ (f : getD ws 0 0 ≡ n) where
-      pub servers-few : length (drop recordHead ws) ≡ responseWords → n ≤ systemServers
+      pub servers-few : length (drop clientHead ws) ≡ responseWords → n ≤ systemServers
       unfolding clientHeadFrom
       servers-few long = omega (arith, few-by-row (clientFrom ws) good long, f)
 
@@ -143,7 +143,7 @@ module _ (n m clients : ℕ) (k : ClientId) (ws : List ℕ) (c : Client) (e : c 
         unfolding fitsClient clientHeadFrom
         number-differs h = rw (good, eq-eqb (getD ws 0 0) n f, eq-eqb (getD ws 1 0) m g, ne-eqb (getD ws 2 0) (k .0) h)
 
-        pub named-decides : getD ws 2 0 ≡ k .0 → (y : Bool) → y ≡ every (namedPair clients) (take n (requestsIn (drop recordHead ws)))
+        pub named-decides : getD ws 2 0 ≡ k .0 → (y : Bool) → y ≡ every (namedPair clients) (take n (requestsIn (drop clientHead ws)))
             → y ≡ fitsClient n m clients k (clientFrom ws)
         unfolding fitsClient clientHeadFrom client.view
         named-decides h y q =
@@ -153,7 +153,7 @@ module _ (n m clients : ℕ) (k : ClientId) (ws : List ℕ) (c : Client) (e : c 
               eq-eqb (getD ws 1 0) m g,
               eq-eqb (getD ws 2 0) (k .0) h,
               f,
-              named-places clients (take n (requestsIn (drop recordHead ws))),
+              named-places clients (take n (requestsIn (drop clientHead ws))),
             ) q
 
 -- a server's record
@@ -177,13 +177,13 @@ module _ (n clients : ℕ) (j : ServerId) (ws : List ℕ) (s : Server) (e : s �
     sound : server.valid (serverFrom ws) ≡ true
     sound = holds x (server.valid (serverFrom ws)) (p ∙ ap server.valid e) t
 
-    pub length-fits : holdsServerRecord ws ≡ true → recordHead + 2 * getD ws 4 0 ≤ length ws
+    pub length-fits : holdsServerRecord ws ≡ true → serverHead + 2 * getD ws 4 0 ≤ length ws
     unfolding serverHeadFrom
     length-fits h = let P = valid-padded maxServers (serverFrom ws) sound in omega (
       arith,
       P .within,
       P .places .even,
-      length-drop recordHead ws,
+      length-drop serverHead ws,
       server-held queueWords ws h .size,
     )
 
@@ -198,7 +198,7 @@ module _ (n clients : ℕ) (j : ServerId) (ws : List ℕ) (s : Server) (e : s �
 
       module _ (g : getD ws 1 0 ≡ j .0) where
         abbrev queue : List Request
-        queue = take (getD ws 4 0) (requestsIn (drop recordHead ws))
+        queue = take (getD ws 4 0) (requestsIn (drop serverHead ws))
 
         pub owner-unknown : clients < getD ws 2 0 → false ≡ fitsServer n clients j (serverFrom ws)
         unfolding fitsServer serverHeadFrom
@@ -212,7 +212,7 @@ module _ (n clients : ℕ) (j : ServerId) (ws : List ℕ) (s : Server) (e : s �
             )
 
         pub queue-decides : getD ws 2 0 ≤ clients → (y : Bool)
-            → y ≡ every (namedPair clients) (take (getD ws 4 0) (requestsIn (drop recordHead ws)))
+            → y ≡ every (namedPair clients) (take (getD ws 4 0) (requestsIn (drop serverHead ws)))
             → y ≡ fitsServer n clients j (serverFrom ws)
         unfolding fitsServer serverHeadFrom
         queue-decides h y q =
@@ -292,9 +292,9 @@ module _ (n clients : ℕ) (j : ServerId) (b : List ℕ) where
 
 -- the record that was read and lent is the record in the words
 pub client-lent : (ws : List ℕ) (h : ClientHead) → holdsClientRecord ws ≡ true → h ≡ clientHeadFrom ws
-    → client.clientOf h (take (clientRecordSize - recordHead) (drop recordHead ws)) ≡ clientFrom ws
-client-lent ws h held e = rw (e, take-all (clientRecordSize - recordHead) (drop recordHead ws) (omega (arith, length-drop recordHead ws, client-held responseWords ws held .size)))
+    → client.clientOf h (take (clientRecordSize - clientHead) (drop clientHead ws)) ≡ clientFrom ws
+client-lent ws h held e = rw (e, take-all (clientRecordSize - clientHead) (drop clientHead ws) (omega (arith, length-drop clientHead ws, client-held responseWords ws held .size)))
 
 pub server-lent : (ws : List ℕ) (h : ServerHead) → holdsServerRecord ws ≡ true → h ≡ serverHeadFrom ws
-    → server.serverOf h (take (serverRecordSize - recordHead) (drop recordHead ws)) ≡ serverFrom ws
-server-lent ws h held e = rw (e, take-all (serverRecordSize - recordHead) (drop recordHead ws) (omega (arith, length-drop recordHead ws, server-held queueWords ws held .size)))
+    → server.serverOf h (take (serverRecordSize - serverHead) (drop serverHead ws)) ≡ serverFrom ws
+server-lent ws h held e = rw (e, take-all (serverRecordSize - serverHead) (drop serverHead ws) (omega (arith, length-drop serverHead ws, server-held queueWords ws held .size)))

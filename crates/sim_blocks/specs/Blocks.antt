@@ -20,7 +20,7 @@ use Rattle.server.specs.Calls.{emptyServerIn}
 use Rattle.server.specs.declared.Server.{Server}
 use Rattle.client.specs.Record as client
 use Rattle.client.specs.declared.Client.{Client}
-use Rattle.words.specs.Records.{recordSize, holdsServerOf, serverFrom, holdsClientOf, clientFrom}
+use Rattle.words.specs.Records.{serverSizeOf, clientSizeOf, holdsServerOf, serverFrom, holdsClientOf, clientFrom}
 use Rattle.system.specs.Limits.{systemClients, systemServers}
 use Rattle.system.specs.Places.{ClientPlace, ServerPlace, inEpoch}
 
@@ -34,10 +34,10 @@ queueWords = 2 * systemClients
 
 -- the words of these records, and words that hold one
 abbrev pub clientRecordSize : ℕ
-clientRecordSize = recordSize responseWords
+clientRecordSize = clientSizeOf responseWords
 
 abbrev pub serverRecordSize : ℕ
-serverRecordSize = recordSize queueWords
+serverRecordSize = serverSizeOf queueWords
 
 abbrev pub holdsClientRecord : List ℕ → Bool
 holdsClientRecord = holdsClientOf responseWords

@@ -8,7 +8,7 @@ ghost use lib.Seq.{sets};
 ghost use lib.Dec.{eqb, leb};
 ghost use Rattle.ids.specs.Choice.{if_then_else_};
 ghost use Rattle.ids.specs.Lists.{every};
-ghost use Rattle.words.specs.Records.{recordHead, maxWord, clientHeadFrom, serverHeadFrom, serverFrom, serverWords, clientFrom, clientWords};
+ghost use Rattle.words.specs.Records.{serverHead, clientHead, maxWord, clientHeadFrom, serverHeadFrom, serverFrom, serverWords, clientFrom, clientWords};
 ghost use Rattle.client.specs.Record as client;
 ghost use Rattle.server.specs.Record as server;
 ghost use Rattle.system.specs.Places.{inEpoch, isInside};
@@ -17,21 +17,24 @@ ghost use Rattle.system.specs.Limits.{systemServers};
 ghost use Rattle.rows.specs.Rows.{requestsIn};
 use ids::ClientId;
 use ids::ServerId;
-use words::HEAD_WORDS;
+use words::CLIENT_HEAD;
+use words::SERVER_HEAD;
 
 // The rows of a simulation's records: a place for each server, and one for each client.
 pub const RESPONSE_WORDS: usize = 2 * system::MAX_SERVERS as usize;
 
 pub const QUEUE_WORDS: usize = 2 * system::MAX_CLIENTS as usize;
 
-const CLIENT_RECORD: usize = HEAD_WORDS + RESPONSE_WORDS;
+const CLIENT_RECORD: usize = CLIENT_HEAD + RESPONSE_WORDS;
 
-const SERVER_RECORD: usize = HEAD_WORDS + QUEUE_WORDS;
+const SERVER_RECORD: usize = SERVER_HEAD + QUEUE_WORDS;
 
-// A flag for each server; where a record's row and the flags begin; the words of a client's block and of a server's.
+// A flag for each server; where the records' rows and the flags begin; the words of a client's block and of a server's.
 const FLAGS: usize = system::MAX_SERVERS as usize;
 
-const ROW_FROM: usize = 1 + HEAD_WORDS;
+const RESPONSES_FROM: usize = 1 + CLIENT_HEAD;
+
+const QUEUE_FROM: usize = 1 + SERVER_HEAD;
 
 const FLAGS_FROM: usize = 1 + CLIENT_RECORD;
 
@@ -53,14 +56,14 @@ fn at_most(words: &[u32], most: u32) -> bool
     true
 }
 
-// Whether the first `count` requests of a record's words are of clients 0 to `clients`.
-fn requests_named(words: &[u32], count: usize, clients: u32) -> bool
-    requires { ⌜ recordHead + 2 * count ≤ length (now words) ⌝ }
-    ensures { λ r. ⌜ r ≡ every (namedPair clients) (take count (requestsIn (drop recordHead (now (words .entry))))) ⌝ }
+// Whether the first `count` requests behind a record's head of so many words are of clients 0 to `clients`.
+fn requests_named(words: &[u32], head: usize, count: usize, clients: u32) -> bool
+    requires { ⌜ head + 2 * count ≤ length (now words) ⌝ }
+    ensures { λ r. ⌜ r ≡ every (namedPair clients) (take count (requestsIn (drop head (now (words .entry))))) ⌝ }
 {
     let mut i: usize = 0;
     while i < count {
-        if clients < words[HEAD_WORDS + 2 * i] {
+        if clients < words[head + 2 * i] {
             return false;
         }
         i += 1;
@@ -73,7 +76,7 @@ fn fits_client(words: &[u32], n: u32, m: u32, clients: u32, k: ClientId) -> bool
     ensures { λ r. ⌜ r ≡ fitsClient n m clients k (clientFrom (now (words .entry))) ⌝ }
 {
     let h = words::client_head(words);
-    if !client::valid_row(h, &words[HEAD_WORDS..CLIENT_RECORD]) {
+    if !client::valid_row(h, &words[CLIENT_HEAD..CLIENT_RECORD]) {
         return false;
     }
     if words[0] != n {
@@ -85,7 +88,7 @@ fn fits_client(words: &[u32], n: u32, m: u32, clients: u32, k: ClientId) -> bool
     if words[2] != k.0 as u32 {
         return false;
     }
-    requests_named(words, n as usize, clients)
+    requests_named(words, CLIENT_HEAD, n as usize, clients)
 }
 
 fn fits_flags(words: &[u32], n: u32, running: bool) -> bool
@@ -174,9 +177,9 @@ pub fn client_head(b: &[u32]) -> client::Head
 // The row of the client's responses, copied.
 pub fn client_row(b: &[u32], row: &mut [u32])
     requires { ⌜ (length (now b) ≡ clientBlock) × (length (now row) ≡ responseWords) ⌝ }
-    ensures { λ _. ⌜ now (row .exit) ≡ drop recordHead (clientRecord (now (b .entry))) ⌝ }
+    ensures { λ _. ⌜ now (row .exit) ≡ drop clientHead (clientRecord (now (b .entry))) ⌝ }
 {
-    rows::copy(&b[ROW_FROM..FLAGS_FROM], row);
+    rows::copy(&b[RESPONSES_FROM..FLAGS_FROM], row);
 }
 
 // Writes the client's record.
@@ -185,7 +188,7 @@ pub fn put_client(b: &mut [u32], h: client::Head, row: &[u32])
     ensures { λ _. ⌜ now (b .exit) ≡ sets (now (b .entry)) 1 (clientWords (client.clientOf h (now (row .entry)))) ⌝ }
 {
     words::put_client_head(&mut b[1..FLAGS_FROM], h);
-    rows::copy(row, &mut b[ROW_FROM..FLAGS_FROM]);
+    rows::copy(row, &mut b[RESPONSES_FROM..FLAGS_FROM]);
 }
 
 // No server counts any more.
@@ -265,7 +268,7 @@ fn fits_server(words: &[u32], n: u32, clients: u32, j: ServerId) -> bool
     ensures { λ r. ⌜ r ≡ fitsServer n clients j (serverFrom (now (words .entry))) ⌝ }
 {
     let h = words::server_head(words);
-    if !server::valid_row(h, &words[HEAD_WORDS..SERVER_RECORD]) {
+    if !server::valid_row(h, &words[SERVER_HEAD..SERVER_RECORD]) {
         return false;
     }
     if words[0] != n {
@@ -277,7 +280,7 @@ fn fits_server(words: &[u32], n: u32, clients: u32, j: ServerId) -> bool
     if clients < words[2] {
         return false;
     }
-    requests_named(words, words[4] as usize, clients)
+    requests_named(words, SERVER_HEAD, words[4] as usize, clients)
 }
 
 // Whether the words are block `j` of a simulation with `n` servers and so many clients.
@@ -316,9 +319,9 @@ pub fn server_head(b: &[u32]) -> server::Head
 // The row of the server's queue, copied.
 pub fn server_row(b: &[u32], row: &mut [u32])
     requires { ⌜ (length (now b) ≡ serverBlock) × (length (now row) ≡ queueWords) ⌝ }
-    ensures { λ _. ⌜ now (row .exit) ≡ drop recordHead (serverRecord (now (b .entry))) ⌝ }
+    ensures { λ _. ⌜ now (row .exit) ≡ drop serverHead (serverRecord (now (b .entry))) ⌝ }
 {
-    rows::copy(&b[ROW_FROM..SERVER_BLOCK], row);
+    rows::copy(&b[QUEUE_FROM..SERVER_BLOCK], row);
 }
 
 // Writes the server's record.
@@ -327,7 +330,7 @@ pub fn put_server(b: &mut [u32], h: server::Head, row: &[u32])
     ensures { λ _. ⌜ now (b .exit) ≡ sets (now (b .entry)) 1 (serverWords (server.serverOf h (now (row .entry)))) ⌝ }
 {
     words::put_server_head(&mut b[1..SERVER_BLOCK], h);
-    rows::copy(row, &mut b[ROW_FROM..SERVER_BLOCK]);
+    rows::copy(row, &mut b[QUEUE_FROM..SERVER_BLOCK]);
 }
 
 // The server goes down, and forgets everything.

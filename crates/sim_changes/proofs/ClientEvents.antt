@@ -32,7 +32,7 @@ use Rattle.client.specs.declared.Head.{Head}
 use Rattle.client.specs.declared.Stepped.{Stepped}
 use Rattle.client.specs.declared.Turned.{Turned}
 use Rattle.client.proofs.StepLaws.{response-range}
-use Rattle.words.specs.Records.{clientFrom, clientWords, clientHeadFrom, recordHead}
+use Rattle.words.specs.Records.{clientFrom, clientWords, clientHeadFrom, clientHead}
 use Rattle.system.specs.Numbered.{has, put, clientNo}
 use Rattle.system.specs.Places.{System, ClientPlace, noClient, clientAt, inEpoch, downFrom, worst}
 use Rattle.system.specs.Events.{event, clientMoves, responseTook, checkTook}
@@ -72,7 +72,7 @@ pub still-client : {w w₁ : List ℕ} {k : ℕ} {u : System} → Becomes w w₁
 still-client B H = record { valid = B .again; first = H .first; last = rw (B .setting) (H .last) }
 
 -- the record whose head and row were read
-pub client-read : (h : Head) (row ws : List ℕ) → h ≡ clientHeadFrom ws → row ≡ drop recordHead ws → clientOf h row ≡ clientFrom ws
+pub client-read : (h : Head) (row ws : List ℕ) → h ≡ clientHeadFrom ws → row ≡ drop clientHead ws → clientOf h row ≡ clientFrom ws
 client-read h row ws p q = λ i. clientOf (p i) (q i)
 
 -- client k, which is there

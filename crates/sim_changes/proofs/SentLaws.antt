@@ -71,7 +71,7 @@ module _ (n m clients k : ℕ) (b : List ℕ) (ok : validClientBlock n m clients
   pub tries-sends : mayTry (clientPlace b .state) ≡ true → Sends n clients (client.tries n (record { 0 = k }) (clientPlace b .state) .sent)
   unfolding names fieldsOf
   tries-sends h =
-      few-sends n clients _ few (of-client.tries-valid n m me at fits (leb-true (at .timestamp .0) lastTry h))
+      few-sends n clients _ few (of-client.tries-valid n m me at fits (leb-true (client.latest at .0) lastTry h))
       (of-client.tries-passes (names n clients) n me at (λ j p q. stamped-names n clients k j first last p q)) (of-client.tries-few n me at)
 
   pub exits-sends : isCritical (clientPlace b .state .section) ≡ true → Sends n clients (client.exits n (record { 0 = k }) (clientPlace b .state) .sent)

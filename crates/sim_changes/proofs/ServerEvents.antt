@@ -35,7 +35,7 @@ use Rattle.server.specs.Calls.{serverAfter, taken, messageOutcome, messageOutco
 use Rattle.server.specs.declared.Server.{Server}
 use Rattle.server.proofs.RecordLaws.{valid-padded}
 use Rattle.client_responses.specs.Figure1.{enough}
-use Rattle.words.specs.Records.{serverFrom, serverHeadFrom, serverWords, recordHead, maxWord}
+use Rattle.words.specs.Records.{serverFrom, serverHeadFrom, serverWords, serverHead, maxWord}
 use Rattle.system.specs.declared.Event.the-variants.{Miss}
 use Rattle.system.specs.Numbered.{has, serverNo}
 use Rattle.system.specs.Transit.{replaced, keeping}
@@ -72,7 +72,7 @@ pub still-server : {w w₁ : List ℕ} {j : ℕ} {u : System} → Becomes w w₁
 still-server B H = record { valid = B .again; first = H .first; last = rw (B .setting) (H .last) }
 
 -- the record whose head and row were read
-pub server-read : (h : Head) (row ws : List ℕ) → h ≡ serverHeadFrom ws → row ≡ drop recordHead ws → serverOf h row ≡ serverFrom ws
+pub server-read : (h : Head) (row ws : List ℕ) → h ≡ serverHeadFrom ws → row ≡ drop serverHead ws → serverOf h row ≡ serverFrom ws
 server-read h row ws p q = λ i. serverOf (p i) (q i)
 
 -- server j, which is there

@@ -1,14 +1,15 @@
 -- A block that was lent and came back changed: a store of the block at its place. And where a block stands in the words.
-use mathlib.Core.Path.{_≡_, sym, ap, _∙_}
+use mathlib.Core.Path.{_≡_, refl, sym, ap, _∙_}
 use Prim.Native.Nat.{ℕ, _+_, _*_, _-_, _≤_}
 use native.Mathlib.Omega.{arith}
-use mathlib.Core.List.{List, _++_, append-assoc}
+use mathlib.Core.List.{List}
 use lib.ListN.{length, take, drop, set, replicate, length-drop, length-set}
 use Rattle.ids.specs.declared.ClientId.{ClientId}
 use Rattle.ids.specs.declared.ServerId.{ServerId}
 use Rattle.sim_blocks.specs.Blocks.{cleared, clientBlock, serverBlock, flagsFrom}
-use lib.Seq.{sets, sets-eq, length-sets, drop-drop, take-take, length-take-le}
-use borrow.Rule.Slice.PartMut.{putMid, post-is}
+use lib.Seq.{sets, length-sets, drop-drop, take-take, length-take-le}
+use borrow.Rule.Slice.PartMut.{putMid}
+use Rattle.rows.proofs.CopyLaws.{part-whole}
 use Rattle.sim_blocks.proofs.BlockParts.{drop-take}
 use Rattle.sim_layout.specs.Layout.{clientWords, serverWords, clientsSize, serversFrom, serversSize, simulationSize, transitFrom, clientsFrom}
 use Rattle.sim_layout.specs.Parts.{clientBlockOf, serverBlockOf, ClientIn, ServerIn}
@@ -16,9 +17,7 @@ use Rattle.system.specs.Limits.{systemClients, systemServers}
 use Rattle.system.specs.Numbered.{clientNo, serverNo}
 
 pub came-back : (w : List ℕ) (a k : ℕ) (b : List ℕ) → length b ≡ k → a + k ≤ length w → putMid a (a + k - a) w b ≡ sets w a b
-came-back w a k b e h =
-    ap (λ (l : List ℕ). take a w ++ (b ++ l)) (post-is a (a + k) w (omega arith)) ∙
-    (ap (λ (i : ℕ). take a w ++ (b ++ drop (a + i) w)) (sym e) ∙ (sym (append-assoc (take a w) b (drop (a + length b) w)) ∙ sym (sets-eq b w a (omega arith))))
+came-back w a k b e h = part-whole w b b a (a + k - a) (omega (arith, h)) (omega (arith, e)) refl
 
 -- block i of a region of `count` blocks that begins at word `from`
 region-block : (from s i more : ℕ) (w : List ℕ) → take s (drop (i * s) (take (i * s + (s + more)) (drop from w))) ≡ take s (drop (from + i * s) w)

@@ -12,7 +12,7 @@ ghost use Rattle.client_responses.specs.Figure1.{count};
 ghost use Rattle.client.specs.Record as client;
 ghost use Rattle.server.specs.Record as server;
 ghost use Rattle.system.specs.Places.{isInside, holders as holdersOf, inEpoch, worst};
-ghost use Rattle.words.specs.Records.{recordHead, maxWord, clientHeadFrom, serverHeadFrom, clientFrom, clientWords, serverFrom, serverWords};
+ghost use Rattle.words.specs.Records.{serverHead, clientHead, maxWord, clientHeadFrom, serverHeadFrom, clientFrom, clientWords, serverFrom, serverWords};
 ghost use Rattle.sim_blocks.specs.Blocks.{clientPlace, serverPlace, clientRecord, serverRecord, cleared, emptied, validClientBlock, validServerBlock, clientBlock, serverBlock, holdsClientRecord, holdsServerRecord, clientRecordSize, responseWords, queueWords};
 ghost use Rattle.sim_blocks.specs.Regions.{blocks};
 ghost use Rattle.sim_layout.specs.Layout.{clientWords as clientsPart, serverWords as serversPart, transitWords, settingOf, lengthOf, sentOf, view, validFrom, itself, blank, valid as isValid, serversFrom, simulationSize};
@@ -89,7 +89,7 @@ pub fn client_head(w: &[u32], k: ClientId) -> client::Head
 
 pub fn client_row(w: &[u32], k: ClientId, row: &mut [u32])
     requires { ⌜ ClientIn (now w) k × (length (now row) ≡ responseWords) ⌝ }
-    ensures { λ _. ⌜ now (row .exit) ≡ drop recordHead (clientRecord (clientBlockOf (now (w .entry)) k)) ⌝ }
+    ensures { λ _. ⌜ now (row .exit) ≡ drop clientHead (clientRecord (clientBlockOf (now (w .entry)) k)) ⌝ }
 {
     let a = CLIENTS_FROM + CLIENT_BLOCK * (k.0 as usize - 1);
     let e = a + CLIENT_BLOCK;
@@ -165,7 +165,7 @@ pub fn server_head(w: &[u32], j: ServerId) -> server::Head
 
 pub fn server_row(w: &[u32], j: ServerId, row: &mut [u32])
     requires { ⌜ ServerIn (now w) j × (length (now row) ≡ queueWords) ⌝ }
-    ensures { λ _. ⌜ now (row .exit) ≡ drop recordHead (serverRecord (serverBlockOf (now (w .entry)) j)) ⌝ }
+    ensures { λ _. ⌜ now (row .exit) ≡ drop serverHead (serverRecord (serverBlockOf (now (w .entry)) j)) ⌝ }
 {
     let a = SERVERS_FROM + SERVER_BLOCK * (j.0 as usize - 1);
     let e = a + SERVER_BLOCK;

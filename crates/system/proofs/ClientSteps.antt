@@ -28,19 +28,18 @@ use Rattle.server_votes.specs.declared.Tag.{Tag}
 use Rattle.server_votes.specs.declared.Tag.the-variants.{Request as Asks, Yield as Yields, Release as Releases, Inquiry as Inquires}
 use Rattle.client_responses.specs.declared.Section.{Section}
 use Rattle.client_responses.specs.declared.Section.the-variants.{Remainder, Trying, Critical}
-use Rattle.client_responses.specs.Figure1.{State as ClientState, next, Quorum, filled, isTrying, toAll, responseOf, withResponse, current, heard, reply, round, judge, responds, checked, isRemainder, isCritical}
+use Rattle.client_responses.specs.Figure1.{State as ClientState, request, next, latest, taken, saw, Quorum, filled, isTrying, toAll, responseOf, withResponse, current, told, heard, reply, round, judge, uponResponse, uponCheck, responds, checked, isRemainder, isCritical}
 use Rattle.system.specs.Numbered.{at}
 use Rattle.system.proofs.Branch.{branch, bit, bit-one, if-zero, differ}
 use Rattle.system.proofs.Tokens.{age, worth, token, serverOf, sum, sum-append, All, empty, more, all-head, all-tail, all-append, all-set}
 
--- the request of client k with its last timestamp
-abbrev pub request : ClientId → ClientState → Request
-request k c = record { client = k; timestamp = c .timestamp }
-
--- all that these proofs use of a new timestamp
+-- all that these proofs use of a new timestamp: it is greater than the last one
 pub next-greater : (t : Timestamp) → t .0 < next t .0
 unfolding next
 next-greater t = omega arith
+
+pub taken-greater : (c : ClientState) → c .timestamp .0 < taken c .0
+taken-greater c = omega (arith, next-greater (latest c))
 
 -- 1 where the response of server j shows r
 abbrev pub shows : Request → List Owner → ℕ → ℕ
@@ -229,9 +228,16 @@ module _ (n : ℕ) (wins : Quorum) (k : ClientId) where
   pub calm-stay : {c : ClientState} {gain : ℕ → ℕ} → Fine n wins k c → Calm n wins k c gain (stay c)
   calm-stay f = record { timestamp = refl; epoch = refl; kept = λ j. omega arith; by = empty; fine = f }
 
+  -- what a client has seen matters to nothing here
+  saw-fine : {c : ClientState} (t : Timestamp) → Fine n wins k c → Fine n wins k (saw t c)
+  saw-fine t f = record { mine = f .mine; sized = f .sized; won = f .won }
+
+  calm-saw : {c : ClientState} {gain : ℕ → ℕ} {s : Step ClientState} (t : Timestamp) → Calm n wins k (saw t c) gain s → Calm n wins k c gain s
+  calm-saw t a = record { timestamp = a .timestamp; epoch = a .epoch; kept = a .kept; by = a .by; fine = a .fine }
+
   calm-judge : {c : ClientState} {gain : ℕ → ℕ} (l : List Owner) → isRemainder (c .section) ≡ false →
       ((j : ℕ) → shows (request k c) l j ≤ gain j + shows (request k c) (c .responses) j) → All (Mine (request k c)) l → length l ≡ n →
-      Calm n wins k c gain (judge wins n (request k c) l)
+      Calm n wins k c gain (judge wins n k c l)
   unfolding judge
   calm-judge {c} {gain} l s h g len =
       let r : Request = request k c in
@@ -269,10 +275,10 @@ module _ (n : ℕ) (wins : Quorum) (k : ClientId) where
   trying-epoch Trying e = refl
   trying-epoch Critical e = refl
 
-  pub calm-respond : {c : ClientState} (j : ServerId) (o : Owner) → 0 < j .0 → Fine n wins k c
-      → Calm n wins k c (λ i. token (request k c) i (RESPONSE k j o)) (responds wins n k j o c)
-  unfolding responds
-  calm-respond {c} j o pos f =
+  calm-upon-response : {c : ClientState} (j : ServerId) (o : Owner) → 0 < j .0 → Fine n wins k c
+      → Calm n wins k c (λ i. token (request k c) i (RESPONSE k j o)) (uponResponse wins n k j o c)
+  unfolding uponResponse
+  calm-upon-response {c} j o pos f =
       let r : Request = request k c in
       branch (Calm n wins k c (λ i. token r i (RESPONSE k j o))) (isTrying (c .section))
       (λ e. let s = trying-epoch (c .section) e in
@@ -282,10 +288,14 @@ module _ (n : ℕ) (wins : Quorum) (k : ClientId) where
       (heard-length r (c .responses) j o ∙ f .sized s))
       (λ e. calm-stay f)
 
-  pub calm-checked : {c : ClientState} {gain : ℕ → ℕ} (j : ServerId) (t : Timestamp) → t .0 ≤ c .timestamp .0 → Fine n wins k c
-      → Calm n wins k c gain (checked k j t c)
-  unfolding checked
-  calm-checked {c} {gain} j t le f =
+  pub calm-respond : {c : ClientState} (j : ServerId) (o : Owner) → 0 < j .0 → Fine n wins k c
+      → Calm n wins k c (λ i. token (request k c) i (RESPONSE k j o)) (responds wins n k j o c)
+  calm-respond {c} j o pos f = calm-saw (told o) (calm-upon-response j o pos (saw-fine (told o) f))
+
+  calm-upon-check : {c : ClientState} {gain : ℕ → ℕ} (j : ServerId) (t : Timestamp) → t .0 ≤ c .timestamp .0 → Fine n wins k c
+      → Calm n wins k c gain (uponCheck k j t c)
+  unfolding uponCheck
+  calm-upon-check {c} {gain} j t le f =
       branch (Calm n wins k c gain) (eqb (t .0) (c .timestamp .0)) (λ e. calm-stay f)
       (λ e. record {
         timestamp = refl;
@@ -294,3 +304,7 @@ module _ (n : ℕ) (wins : Quorum) (k : ClientId) where
         by = more {x = RELEASE k j t} (refl, omega (arith, eqb-false (t .0) (c .timestamp .0) e)) empty;
         fine = f;
       })
+
+  pub calm-checked : {c : ClientState} {gain : ℕ → ℕ} (j : ServerId) (t : Timestamp) → t .0 ≤ c .timestamp .0 → Fine n wins k c
+      → Calm n wins k c gain (checked k j t c)
+  calm-checked {c} {gain} j t le f = calm-saw t (calm-upon-check j t le (saw-fine t f))

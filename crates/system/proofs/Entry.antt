@@ -22,7 +22,7 @@ use Rattle.wire.specs.declared.Message.the-variants.{Request as REQUEST, Respon
 use Rattle.rows.specs.Queue.{timestampIn}
 use Rattle.server_votes.specs.Figure1.{State as ServerState, idle, act, receive}
 use Rattle.client_responses.specs.declared.Section.the-variants.{Trying, Critical}
-use Rattle.client_responses.specs.Figure1.{State as ClientState, next as newer, Quorum, filled, heard, judge, withResponse, responseOf, count, enough, tries, responds, isRemainder, lastTry}
+use Rattle.client_responses.specs.Figure1.{State as ClientState, later, latest, taken, Quorum, filled, heard, judge, withResponse, responseOf, count, enough, tries, uponResponse, responds, isRemainder, lastTry}
 use Rattle.system.specs.declared.Event.the-variants.{Try}
 use Rattle.system.specs.Numbered.{at, put, member, span, clientNo, serverNo}
 use Rattle.system.specs.Transit.{replaced, gone, keeping}
@@ -143,9 +143,10 @@ map-put f [] (suc x) v = refl
 map-put f (a ∷ l) (suc zero) v = refl
 map-put f (a ∷ l) (suc (suc x)) v = ap (λ (m : List _). f a ∷ m) (map-put f l (suc x) v)
 
--- client k after the answers l, with those of js to come
-abbrev Place : Timestamp → List ℕ → List Owner → List ℕ → ClientPlace
-Place t js l d = record { living = true; state = record { section = if isEmpty js then Critical else Trying; timestamp = t; responses = l }; downs = d }
+-- client k after the answers l, with those of js to come, when it has seen timestamp z
+abbrev Place : Timestamp → Timestamp → List ℕ → List Owner → List ℕ → ClientPlace
+Place t z js l d =
+    record { living = true; state = record { section = if isEmpty js then Critical else Trying; timestamp = t; seen = z; responses = l }; downs = d }
 
 module _ (n : ℕ) (wins : Quorum) (k : ℕ) (t : Timestamp) (d : List ℕ) where
   -- the answers l are k's own, with the flags b, and the places js are empty
@@ -175,17 +176,18 @@ module _ (n : ℕ) (wins : Quorum) (k : ℕ) (t : Timestamp) (d : List ℕ) wher
   unfolding heard
   hear l j pos e = rw (respond-at l j pos, e, eq-eqb k k refl, eq-eqb (t .0) (t .0) refl) (respond-put l j (Of (pair k t)) pos)
 
-  hear-client : (l : List Owner) {b : List Bool} (j : ℕ) (js : List ℕ) → 0 < j → at Nobody l j ≡ Nobody → Own (put l j (Of (pair k t))) b js → Tips wins b js →
-      responds wins n (clientNo k) (serverNo j) (Of (pair k t)) (record { section = Trying; timestamp = t; responses = l }) ≡ stay
-      (Place t js (put l j (Of (pair k t))) d .state)
-  unfolding responds judge
-  hear-client l j [] pos e o tips = rw (hear l j pos e, o .fills, o .own, tips)
-  hear-client l j (i ∷ js) pos e o tips = rw (hear l j pos e, o .fills, o .own, tips .0)
+  hear-client : (z : Timestamp) (l : List Owner) {b : List Bool} (j : ℕ) (js : List ℕ) → 0 < j → at Nobody l j ≡ Nobody
+      → Own (put l j (Of (pair k t))) b js → Tips wins b js →
+      responds wins n (clientNo k) (serverNo j) (Of (pair k t)) (Place t z (j ∷ js) l d .state) ≡ stay
+      (Place t (later z t) js (put l j (Of (pair k t))) d .state)
+  unfolding uponResponse judge
+  hear-client z l j [] pos e o tips = rw (hear l j pos e, o .fills, o .own, tips)
+  hear-client z l j (i ∷ js) pos e o tips = rw (hear l j pos e, o .fills, o .own, tips .0)
 
-  hear-event : (w : System) (i : ℕ) {l l′ : List Owner} (j : ℕ) (js : List ℕ) → clientAt w (clientNo k) ≡ Place t (j ∷ js) l d
+  hear-event : (w : System) (i : ℕ) {z z′ : Timestamp} {l l′ : List Owner} (j : ℕ) (js : List ℕ) → clientAt w (clientNo k) ≡ Place t z (j ∷ js) l d
       → Pends w i (RESPONSE (clientNo k) (serverNo j) (Of (pair k t))) →
-      responds wins n (clientNo k) (serverNo j) (Of (pair k t)) (record { section = Trying; timestamp = t; responses = l }) ≡ stay (Place t js l′ d .state) →
-      event n wins w (takes i) ≡ stepped (clientMoves w (clientNo k) (replaced i gone (w .transit)) d (stay (Place t js l′ d .state)))
+      responds wins n (clientNo k) (serverNo j) (Of (pair k t)) (Place t z (j ∷ js) l d .state) ≡ stay (Place t z′ js l′ d .state) →
+      event n wins w (takes i) ≡ stepped (clientMoves w (clientNo k) (replaced i gone (w .transit)) d (stay (Place t z′ js l′ d .state)))
   unfolding event deliver
   hear-event w i j js here m e = rw (m, here, e)
 
@@ -213,15 +215,17 @@ module _ (n : ℕ) (wins : Quorum) (k : ℕ) (t : Timestamp) (d : List ℕ) wher
     sent : u .sent ≡ w .sent
     others : (i : ℕ) → (i ≡ k → ⊥) → clientAt u (clientNo i) ≡ clientAt w (clientNo i)
     responses : List Owner
-    here : clientAt u (clientNo k) ≡ Place t [] responses d
+    seen : Timestamp
+    here : clientAt u (clientNo k) ≡ Place t seen [] responses d
 
-  hears : {js : List ℕ} {w : System} (i : ℕ) {l : List Owner} {b : List Bool} → Different n js → Own l b js → Tips wins b js →
-      clientAt w (clientNo k) ≡ Place t js l d → Answers k t w i js → Leads n wins w (map takes (span i (length js))) (Hears w)
-  hears i {l = l} no-more o tips here a = lead-none (record { servers = refl; sent = refl; others = λ _ _. refl; responses = l; here = here })
-  hears {w = w} i {l = l} {b = b} (another {j = j} {js = js} pos jn out df) o tips here a =
+  hears : {js : List ℕ} {w : System} (i : ℕ) {z : Timestamp} {l : List Owner} {b : List Bool} → Different n js → Own l b js → Tips wins b js →
+      clientAt w (clientNo k) ≡ Place t z js l d → Answers k t w i js → Leads n wins w (map takes (span i (length js))) (Hears w)
+  hears i {z = z} {l = l} no-more o tips here a =
+      lead-none (record { servers = refl; sent = refl; others = λ _ _. refl; responses = l; seen = z; here = here })
+  hears {w = w} i {z = before} {l = l} {b = b} (another {j = j} {js = js} pos jn out df) o tips here a =
       let o′ = own-put out o in
-      let e = hear-event w (suc i) j js here (a .0) (hear-client l j js pos (o .blank j (mem-head j j js refl)) o′ (tips .1)) in
-      let hd : Heard w (suc i) (Place t js (put l j (Of (pair k t))) d) (next n wins w (takes (suc i))) = heard-by w (suc i) _
+      let e = hear-event w (suc i) j js here (a .0) (hear-client before l j js pos (o .blank j (mem-head j j js refl)) o′ (tips .1)) in
+      let hd : Heard w (suc i) (Place t (later before t) js (put l j (Of (pair k t))) d) (next n wins w (takes (suc i))) = heard-by w (suc i) _
       (ap (λ (c : ClientPlace). c .living) here) e in
       lead-cons (rw e)
       (lead-map (hears (suc i) df o′ (tips .1) (hd .clients .here) (answers-later k t w _ (suc i) js (λ x m lt. hd .waits x m (λ q. omega arith)) (a .1)))
@@ -230,18 +234,19 @@ module _ (n : ℕ) (wins : Quorum) (k : ℕ) (t : Timestamp) (d : List ℕ) wher
         sent = z .sent ∙ hd .sent;
         others = λ x ne. z .others x ne ∙ hd .clients .there x ne;
         responses = z .responses;
+        seen = z .seen;
         here = z .here;
       }))
 
 -- the next timestamp of client k
 abbrev coming : System → ℕ → Timestamp
-coming w k = newer (clientAt w (clientNo k) .state .timestamp)
+coming w k = taken (clientAt w (clientNo k) .state)
 
 -- the client lives, is in the remainder section, and has a timestamp left
 pub record Free (c : ClientPlace) : Type 0 where
   pub living : c .living ≡ true
   pub rests : isRemainder (c .state .section) ≡ true
-  pub timestamps : c .state .timestamp .0 ≤ lastTry
+  pub timestamps : latest (c .state) .0 ≤ lastTry
 
 -- From w to u client k has entered by the servers js.
 pub record Entered (n k : ℕ) (js : List ℕ) (w u : System) : Type 0 where
@@ -262,7 +267,11 @@ module _ (n : ℕ) (wins : Quorum) where
     servers : u .servers ≡ w .servers
     sent : u .sent ≡ w .sent + n
     clients : Changes (at noClient (w .clients)) (at noClient (u .clients)) k
-        (record { living = true; state = record { section = Trying; timestamp = coming w k; responses = replicate n Nobody }; downs = downFrom 1 (w .servers) })
+        (record {
+          living = true;
+          state = record { section = Trying; timestamp = coming w k; seen = clientAt w (clientNo k) .state .seen; responses = replicate n Nobody };
+          downs = downFrom 1 (w .servers);
+        })
     asked : (j : ℕ) → 0 < j → j ≤ n → Pends u (w .sent + j) (REQUEST (clientNo k) (serverNo j) (coming w k))
 
   try-event : (w : System) (k : ℕ) → Free (clientAt w (clientNo k)) → event n wins w (Try (clientNo k)) ≡ stepped (tried n w (clientNo k))
@@ -286,7 +295,7 @@ module _ (n : ℕ) (wins : Quorum) where
         Leads n wins x (map takes (span (w .sent + n) (length js))) (Entered n k js w)
     answered z no-more pos tips = absurd (omega arith)
     answered z (another {j = j} {js = js} p q out df) pos tips =
-        lead-map (hears n wins k (coming w k) (downFrom 1 (w .servers)) (w .sent + n) (another p q out df)
+        lead-map (hears n wins k (coming w k) (downFrom 1 (w .servers)) (w .sent + n) {z = clientAt w (clientNo k) .state .seen} (another p q out df)
         (record {
           fills = map-replicate filled n Nobody;
           own = map-replicate (isRequest (pair k (coming w k))) n Nobody;

@@ -20,7 +20,7 @@ use Rattle.wire.specs.declared.Message.the-variants.{Request as REQUEST, Releas
 use Rattle.server_votes.specs.declared.Tag.{Tag}
 use Rattle.server_votes.specs.declared.Tag.the-variants.{Request as Asks, Yield as Yields, Release as Releases, Inquiry as Inquires}
 use Rattle.server_votes.specs.Figure1.{receive, suspect, check}
-use Rattle.client_responses.specs.Figure1.{State as ClientState, Quorum, next as newer, tries, exits, isRemainder, isCritical}
+use Rattle.client_responses.specs.Figure1.{State as ClientState, Quorum, taken, tries, exits, isRemainder, isCritical, request}
 use Rattle.system.specs.declared.Event.{Event}
 use Rattle.system.specs.Numbered.{at, put, has, clientNo, serverNo}
 use Rattle.system.specs.Transit.{pending, replaced, gone}
@@ -33,7 +33,7 @@ use Rattle.system.proofs.Branch.{differ}
 use Rattle.server_votes.proofs.Tagged.{message}
 use Rattle.system.proofs.Tokens.{worth, token, empty}
 use Rattle.system.proofs.ServerSteps.{Holds, Spares, fair-stay, fair-receive, fair-suspect, fair-check}
-use Rattle.system.proofs.ClientSteps.{request, next-greater, InTime, Fine, Calm, by-all, requests-none, shows-none, mine-none, calm-respond, calm-checked}
+use Rattle.system.proofs.ClientSteps.{next-greater, taken-greater, InTime, Fine, Calm, by-all, requests-none, shows-none, mine-none, calm-respond, calm-checked}
 use Rattle.system.proofs.TransitLaws.{posted, unchanged, stills-gone, stills-keeping, delivery-delivered, delivery-dropped, pending-all}
 use Rattle.system.proofs.PlaceLaws.{Changes, put-flagged, put-numbered, flagged-in, counts-down, at-replicate, worst-at}
 use Rattle.system.proofs.Sound.{id, last, Old, Past, Runs, Sound, fresh, sound-client, sound-server, sound-calm, sound-mail, sound-down}
@@ -108,8 +108,8 @@ module _ (n : ℕ) (wins : Quorum) where
     unfolding tries exits
     good refuses = tt
     good (begins {k = k} lives _ _) =
-        let t : Timestamp = newer (clientAt w k .state .timestamp) in
-        let gt = next-greater (clientAt w k .state .timestamp) in
+        let t : Timestamp = taken (clientAt w k .state) in
+        let gt = taken-greater (clientAt w k .state) in
         let r : Request = record { client = k; timestamp = t } in
         record {
           sound = sound-client n wins (new-client (k .0) _ lives) (s .sound) (posted (w .sent) unchanged)

@@ -16,7 +16,7 @@ use Rattle.wire.specs.Step.{Step, refused, stepped}
 use Rattle.wire.specs.declared.Message.{Message}
 use Rattle.wire.specs.declared.Message.the-variants.{Request as REQUEST, Yield as YIELD, Release as RELEASE, Inquiry as INQUIRY, Response as RESPONSE, Check as CHECK}
 use Rattle.server_votes.specs.Figure1.{State as ServerState}
-use Rattle.client_responses.specs.Figure1.{State as ClientState, next as newer, Quorum, tries, exits, isRemainder}
+use Rattle.client_responses.specs.Figure1.{State as ClientState, next as newer, taken, Quorum, tries, exits, isRemainder, request}
 use Rattle.system.specs.declared.Event.{Event}
 use Rattle.system.specs.declared.Event.the-variants.{Try, Exit, Fall, Down, Up, Take, Drop, Miss, Check}
 use Rattle.system.specs.Numbered.{at, member, clientNo, serverNo}
@@ -28,7 +28,7 @@ use Rattle.system.proofs.Effects.{Effect, refuses, begins, leaves, dies
 use Rattle.ids.proofs.Choice.{clash}
 use Rattle.system.proofs.Tokens.{All, empty, more, all-map}
 use Rattle.system.proofs.ServerSteps.{Named, Holds, From, fair-receive, fair-suspect, fair-check}
-use Rattle.system.proofs.ClientSteps.{request, next-greater, shows, By, Calm, by-all, shows-none, calm-respond, calm-checked}
+use Rattle.system.proofs.ClientSteps.{next-greater, shows, By, Calm, by-all, shows-none, calm-respond, calm-checked}
 use Rattle.system.proofs.TransitLaws.{Posted, Delivery, posted, unchanged, stills-gone, stills-keeping, delivery-delivered, delivery-dropped, pending-all, again-all}
 use Rattle.system.proofs.PlaceLaws.{each, put-flagged, put-numbered, counts-down}
 use Rattle.system.proofs.Sound.{id, last, Past}
@@ -148,7 +148,7 @@ module _ (n : ℕ) (wins : Quorum) (d : List ℕ) where
     unfolding tries exits
     silent inv a refuses = tt
     silent inv a (begins {k = k} lives _ _) =
-        let t : Timestamp = newer (clientAt w k .state .timestamp) in
+        let t : Timestamp = taken (clientAt w k .state) in
         silent-client k _ _ lives unchanged (all-map (by-unsaid d k (t .0)) (by-all (λ j. REQUEST k j t) (λ j. (refl, omega arith)) n))
         (λ j y ep. shows-none (record { client = k; timestamp = t }) n j)
     silent inv a (leaves {k = k} lives _) =

@@ -21,7 +21,7 @@ use Rattle.wire.specs.declared.Message.{Message}
 use Rattle.wire.specs.declared.Message.the-variants.{Request as REQUEST, Yield as YIELD, Release as RELEASE, Inquiry as INQUIRY, Response as RESPONSE, Check as CHECK}
 use Rattle.server_votes.specs.declared.Tag.the-variants.{Request as Asks, Yield as Yields, Release as Releases, Inquiry as Inquires}
 use Rattle.server_votes.specs.Figure1.{State as ServerState, idle}
-use Rattle.client_responses.specs.Figure1.{State as ClientState, Quorum}
+use Rattle.client_responses.specs.Figure1.{State as ClientState, Quorum, request}
 use Rattle.system.specs.Numbered.{at, member, added}
 use Rattle.system.specs.Transit.{InTransit, again}
 use Rattle.system.specs.Places.{ClientPlace, ServerPlace, inEpoch}
@@ -29,7 +29,7 @@ use Rattle.ids.proofs.Choice.{clash}
 use Rattle.system.proofs.Branch.{bit, differ, if-zero}
 use Rattle.system.proofs.Tokens.{worth, token, serverOf, sum, All, empty, more, all-map}
 use Rattle.system.proofs.ServerSteps.{Named, Holds, From, Fair}
-use Rattle.system.proofs.ClientSteps.{request, shows, InTime, By, Fine, Calm, by-other}
+use Rattle.system.proofs.ClientSteps.{shows, InTime, By, Fine, Calm, by-other}
 use Rattle.system.proofs.TransitLaws.{weight, Posted, Delivery, again-weight, again-all}
 use Rattle.system.proofs.PlaceLaws.{Changes, each, CountsDown, add-same, add-more, lacks}
 

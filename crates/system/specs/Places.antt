@@ -9,7 +9,6 @@ use Rattle.ids.specs.declared.ServerId.{ServerId}
 use Rattle.server_votes.specs.Figure1 as votes
 use Rattle.client_responses.specs.Figure1 as client
 use Rattle.client_responses.specs.Figure1.{isRemainder, isCritical}
-use Rattle.client_responses.specs.declared.Section.the-variants.{Remainder}
 use Rattle.system.specs.Numbered.{at, added}
 use Rattle.system.specs.Transit.{InTransit}
 
@@ -34,7 +33,7 @@ pub record System : Type 0 where
 
 -- what stands at a number without a place: it does not live, it is not up
 abbrev pub noClient : ClientPlace
-noClient = record { living = false; state = record { section = Remainder; timestamp = record { 0 = 0 }; responses = [] }; downs = [] }
+noClient = record { living = false; state = client.fresh 0; downs = [] }
 
 abbrev pub noServer : ServerPlace
 noServer = record { up = false; state = votes.idle }

@@ -30,9 +30,9 @@ use Rattle.server_votes.specs.declared.Tag.the-variants.{Request as Asks, Yield
 use Rattle.server_votes.specs.Figure1 as votes
 use Rattle.server.specs.Record as server
 use Rattle.server.proofs.KeepsValid.{Good, receive-good, suspect-good, check-good}
-use Rattle.client_responses.specs.Figure1.{State, fresh, enough, lastTry, mayTry, isCritical, tries, exits, responds, checked}
+use Rattle.client_responses.specs.Figure1.{State, fresh, latest, enough, lastTry, mayTry, isCritical, tries, exits, responds, checked}
 use Rattle.client.specs.Record as client
-use Rattle.client.proofs.KeepsValid.{Fits, InRange, remainder-fits, tries-fits, exits-fits, responds-fits, checked-state}
+use Rattle.client.proofs.KeepsValid.{Fits, InRange, remainder-fits, tries-fits, exits-fits, responds-fits, saw-fits, checked-state}
 use Rattle.client.proofs.ValidLaws.{sizes-range}
 use Rattle.sends.proofs.ClientSends as of-client
 use Rattle.sends.proofs.ServerSends as of-server
@@ -114,7 +114,7 @@ module _ (n m clients : ℕ) (k : ClientId) (s : State) (F : Fits n m k s) (last
   tries-there : mayTry s ≡ true → every (there n clients) (tries n k s .sent) ≡ true
   unfolding fieldsOf
   tries-there h =
-      every-both format.valid (between n clients) (tries n k s .sent) (of-client.tries-valid n m k s F (leb-true (s .timestamp .0) lastTry h))
+      every-both format.valid (between n clients) (tries n k s .sent) (of-client.tries-valid n m k s F (leb-true (latest s .0) lastTry h))
       (of-client.tries-passes (between n clients) n k s (λ j a b. parties j b))
 
   exits-there : isCritical (s .section) ≡ true → every (there n clients) (exits n k s .sent) ≡ true
@@ -274,7 +274,7 @@ module _ (n m clients : ℕ) (w : System) (K : Kept n m clients w) where
     goes (begins {k = k} lives rest may) =
         let F = its-fits k lives in
         client-keeps k (w .transit) _ (tries n k (clientAt w k .state)) lives unchanged
-        (tries-fits n m k (clientAt w k .state) (F .ranges) (leb-true (clientAt w k .state .timestamp .0) lastTry may))
+        (tries-fits n m k (clientAt w k .state) (F .ranges) (leb-true (latest (clientAt w k .state) .0) lastTry may))
         (tries-there n m clients k (clientAt w k .state) F (has-client k lives .1) may)
     goes (leaves {k = k} lives inside) =
         let F = its-fits k lives in
@@ -319,7 +319,7 @@ module _ (n m clients : ℕ) (w : System) (K : Kept n m clients w) where
     goes (clientChecked {i = i} {k = k} {j = j} {t = t} e lives) =
         let F = its-fits k lives in
         client-keeps k _ _ (checked k j t (clientAt w k .state)) lives (delivery-dropped stills-gone (i .0))
-        (rw (checked-state k j t (clientAt w k .state)) F)
+        (rw (checked-state k j t (clientAt w k .state)) (saw-fits n m k t (clientAt w k .state) F))
         (checked-there n m clients k (clientAt w k .state) F (has-client k lives .1) j t (arrived (i .0) (CHECK k j t) e))
     goes (loses {i = i}) =
         record {
@@ -366,7 +366,7 @@ module _ (n m clients : ℕ) (z : client.validSizes n m ≡ true) where
       let R : InRange n m (clientNo (suc k)) = record
       { some = c; few = d; threshold = e; reached = f; client = rw (le-leb 1 (suc k) a, le-leb (suc k) maxClient (omega arith)) } in
       rw (getD-replicate clients k (record { living = true; state = fresh n; downs = [] }) noClient (omega arith))
-      (remainder-fits n m (clientNo (suc k)) R (record { 0 = 0 }))
+      (remainder-fits n m (clientNo (suc k)) R (record { 0 = 0 }) (record { 0 = 0 }))
 
   kept-start : clients ≤ maxClient → Kept n m clients (start n (enough m) clients)
   unfolding start

@@ -43,9 +43,9 @@ votes o l = record { owner = o; queue = l }
 abbrev pub tells : ℕ → Owner → Message
 tells k o = RESPONSE (client k) (server 1) o
 
--- client 5 tries with timestamp 3 and has these responses
+-- client 5 tries with timestamp 3, the largest that it has seen too, and has these responses
 abbrev pub trying : List Owner → ClientState
-trying l = record { section = Trying; timestamp = record { 0 = 3 }; responses = l }
+trying l = record { section = Trying; timestamp = record { 0 = 3 }; seen = record { 0 = 3 }; responses = l }
 
 abbrev pub ownFromTwo : ClientState
 ownFromTwo = trying (Of (pair 5 3) ∷ Of (pair 5 3) ∷ Nobody ∷ Nobody ∷ [])

@@ -2,12 +2,13 @@
 -- record is says every word.
 use Prim.Native.Nat.{ℕ, zero, suc, _≤_}
 use native.Mathlib.Omega.{arith}
-use mathlib.Core.Path.{_≡_, refl}
+use mathlib.Core.Path.{_≡_, refl, sym, ap, _∙_}
 use mathlib.Core.Bool.{true}
 use mathlib.Core.List.{List, [], _∷_}
 use mathlib.Core.Option.{some}
 use lib.Dec.{leb}
 use lib.ListN.{length, getD, drop}
+use lib.Seq.{drop-cons}
 use borrow.Author.Tests.{eq-eqb}
 use Rattle.ids.specs.Limits.{within, maxServers, validOwner, maxShort}
 use Rattle.ids.specs.declared.Owner.{Owner}
@@ -24,7 +25,7 @@ use Rattle.client.specs.declared.Client.{Client}
 use Rattle.client.proofs.ValidLaws.{valid-known}
 use Rattle.client_responses.specs.declared.Section.{Section}
 use Rattle.client_responses.specs.declared.Section.the-variants.{Remainder, Trying, Critical}
-use Rattle.words.specs.Records.{recordHead, recordSize, fitsHead, holdsServerOf, holdsClientOf, serverHeadWords, serverWords, serverHeadFrom, serverFrom, serverInOf, clientHeadWords, clientWords, clientHeadFrom, clientFrom, clientInOf, sectionOf, sectionWord}
+use Rattle.words.specs.Records.{serverHead, clientHead, serverSizeOf, clientSizeOf, fitsHead, holdsServerOf, holdsClientOf, serverHeadWords, serverWords, serverHeadFrom, serverFrom, serverInOf, clientHeadWords, clientWords, clientHeadFrom, clientFrom, clientInOf, sectionOf, sectionWord}
 use Rattle.words.proofs.RecordsLaws.{head-fits, server-held, client-held, client-section-small}
 
 owner-small : (o : Owner) → validOwner o ≡ true → ownerClient o ≤ maxShort
@@ -45,8 +46,8 @@ module _ (s : Server) (v : server.valid s ≡ true) where
   pub server-read-back : (row : ℕ) → length (s .row) ≡ row → serverInOf row (serverWords s) ≡ some s
   unfolding holdsServerOf serverHeadFrom serverHeadWords serverWords
   server-read-back row long =
-      let size : length (serverWords s) ≡ recordSize row = omega (arith, long) in
-      rw (eq-eqb (length (serverWords s)) (recordSize row) size, server-head-fits, owner-again (s .head .votes .owner) (view-good maxServers s v .1 .owner))
+      let size : length (serverWords s) ≡ serverSizeOf row = omega (arith, long) in
+      rw (eq-eqb (length (serverWords s)) (serverSizeOf row) size, server-head-fits, owner-again (s .head .votes .owner) (view-good maxServers s v .1 .owner))
 
 -- a client's record
 sections : (s : Section) → sectionOf (sectionWord s) ≡ s
@@ -69,12 +70,12 @@ module _ (c : Client) (v : client.valid c ≡ true) where
   pub client-read-back : (row : ℕ) → length (c .row) ≡ row → clientInOf row (clientWords c) ≡ some c
   unfolding holdsClientOf clientHeadFrom clientHeadWords clientWords
   client-read-back row long =
-      let size : length (clientWords c) ≡ recordSize row = omega (arith, long) in
-      rw (eq-eqb (length (clientWords c)) (recordSize row) size, section-small (c .head .section), client-head-fits, sections (c .head .section))
+      let size : length (clientWords c) ≡ clientSizeOf row = omega (arith, long) in
+      rw (eq-eqb (length (clientWords c)) (clientSizeOf row) size, section-small (c .head .section), client-head-fits, sections (c .head .section))
 
--- words that begin with a head are its five words and the rest
-first-five : (ws : List ℕ) → recordHead ≤ length ws
-    → getD ws 0 0 ∷ (getD ws 1 0 ∷ (getD ws 2 0 ∷ (getD ws 3 0 ∷ (getD ws 4 0 ∷ drop recordHead ws)))) ≡ ws
+-- words that begin with a head are its words and the rest
+first-five : (ws : List ℕ) → serverHead ≤ length ws
+    → getD ws 0 0 ∷ (getD ws 1 0 ∷ (getD ws 2 0 ∷ (getD ws 3 0 ∷ (getD ws 4 0 ∷ drop serverHead ws)))) ≡ ws
 first-five (a ∷ (b ∷ (c ∷ (d ∷ (e ∷ ws))))) h = refl
 first-five (a ∷ (b ∷ (c ∷ (d ∷ [])))) h = absurd (omega arith)
 first-five (a ∷ (b ∷ (c ∷ []))) h = absurd (omega arith)
@@ -82,11 +83,18 @@ first-five (a ∷ (b ∷ [])) h = absurd (omega arith)
 first-five (a ∷ []) h = absurd (omega arith)
 first-five [] h = absurd (omega arith)
 
+first-six : (ws : List ℕ) → clientHead ≤ length ws
+    → getD ws 0 0 ∷ (getD ws 1 0 ∷ (getD ws 2 0 ∷ (getD ws 3 0 ∷ (getD ws 4 0 ∷ (getD ws 5 0 ∷ drop clientHead ws))))) ≡ ws
+first-six ws h = ap (λ (l : List ℕ). getD ws 0 0 ∷ (getD ws 1 0 ∷ (getD ws 2 0 ∷ (getD ws 3 0 ∷ (getD ws 4 0 ∷ l))))) (next ws h) ∙ first-five ws (omega (arith, h))
+  where
+    next : (ws : List ℕ) → clientHead ≤ length ws → getD ws 5 0 ∷ drop clientHead ws ≡ drop serverHead ws
+    next ws h = sym (drop-cons ws serverHead 0 h)
+
 pub server-words-again : (row : ℕ) (ws : List ℕ) → holdsServerOf row ws ≡ true → serverWords (serverFrom ws) ≡ ws
 unfolding serverHeadFrom serverHeadWords serverWords
 server-words-again row ws e =
     let (c, t) = owner-numbers (getD ws 2 0) (getD ws 3 0) _ refl in
-    rw (c, t) (first-five ws (server-held row ws e .head .long))
+    rw (c, t) (first-five ws (server-held row ws e .headed .long))
 
 section-again : (x : ℕ) → x ≤ 2 → sectionWord (sectionOf x) ≡ x
 section-again zero h = refl
@@ -97,4 +105,4 @@ section-again (suc (suc (suc x))) h = absurd (omega arith)
 pub client-words-again : (row : ℕ) (ws : List ℕ) → holdsClientOf row ws ≡ true → clientWords (clientFrom ws) ≡ ws
 unfolding clientHeadFrom clientHeadWords clientWords
 client-words-again row ws e =
-    rw (section-again (getD ws 3 0) (client-section-small row ws e)) (first-five ws (client-held row ws e .head .long))
+    rw (section-again (getD ws 3 0) (client-section-small row ws e)) (first-six ws (client-held row ws e .headed .long))

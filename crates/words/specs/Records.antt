@@ -1,4 +1,4 @@
--- How a record crosses to C: 32-bit words in a fixed order, 0 for none. Five numbers, then the row of its places as it stands.
+-- How a record crosses to C: 32-bit words in a fixed order, 0 for none. Some numbers, its head, then the row of its places as it stands.
 use Prim.Native.Nat.{ℕ, _+_, _≤_}
 use mathlib.Core.Path.{_≡_}
 use mathlib.Core.Bool.{Bool, true, _&&_}
@@ -22,19 +22,25 @@ use Rattle.client_responses.specs.declared.Section.the-variants.{Remainder, Try
 abbrev pub maxWord : ℕ
 maxWord = 4294967295
 
--- the numbers before the places of either record, and the words of a record with a row of so many words
-abbrev pub recordHead : ℕ
-recordHead = 5
+-- the numbers before the places of either record, and the words of one with a row of so many words
+abbrev pub serverHead : ℕ
+serverHead = 5
 
-abbrev pub recordSize : ℕ → ℕ
-recordSize row = recordHead + row
+abbrev pub clientHead : ℕ
+clientHead = 6
+
+abbrev pub serverSizeOf : ℕ → ℕ
+serverSizeOf row = serverHead + row
+
+abbrev pub clientSizeOf : ℕ → ℕ
+clientSizeOf row = clientHead + row
 
 -- the words of the records that a C host keeps, which have the rows of those by value
 abbrev pub serverSize : ℕ
-serverSize = recordSize server.rowWords
+serverSize = serverSizeOf server.rowWords
 
 abbrev pub clientSize : ℕ
-clientSize = recordSize client.rowWords
+clientSize = clientSizeOf client.rowWords
 
 -- a server: n, its number, the owner's client and timestamp, the queue's length, its places
 unfoldable pub serverHeadWords : ServerHead → List ℕ
@@ -44,7 +50,7 @@ serverHeadWords h =
 unfoldable pub serverWords : Server → List ℕ
 serverWords s = serverHeadWords (s .head) ++ s .row
 
--- a client: n, m, its number, section, timestamp, a place for each server
+-- a client: n, m, its number, section, timestamp, the largest timestamp seen, a place for each server
 abbrev pub sectionWord : Section → ℕ
 sectionWord Remainder = 0
 sectionWord Trying = 1
@@ -54,7 +60,7 @@ abbrev pub sectionOf : ℕ → Section
 sectionOf w = if eqb w 0 then Remainder else if eqb w 1 then Trying else Critical
 
 unfoldable pub clientHeadWords : ClientHead → List ℕ
-clientHeadWords h = h .n ∷ h .m ∷ h .id .0 ∷ sectionWord (h .section) ∷ h .timestamp .0 ∷ []
+clientHeadWords h = h .n ∷ h .m ∷ h .id .0 ∷ sectionWord (h .section) ∷ h .timestamp .0 ∷ h .seen .0 ∷ []
 
 unfoldable pub clientWords : Client → List ℕ
 clientWords c = clientHeadWords (c .head) ++ c .row
@@ -69,10 +75,10 @@ headFits ws = fitsHead (getD ws 0 0) (getD ws 1 0) (getD ws 2 0)
 
 -- words that hold a record with a row of so many words
 unfoldable pub holdsServerOf : ℕ → List ℕ → Bool
-holdsServerOf row ws = eqb (length ws) (recordSize row) && headFits ws
+holdsServerOf row ws = eqb (length ws) (serverSizeOf row) && headFits ws
 
 unfoldable pub holdsClientOf : ℕ → List ℕ → Bool
-holdsClientOf row ws = eqb (length ws) (recordSize row) && (leb (getD ws 3 0) 2 && headFits ws)
+holdsClientOf row ws = eqb (length ws) (clientSizeOf row) && (leb (getD ws 3 0) 2 && headFits ws)
 
 abbrev pub holdsServer : List ℕ → Bool
 holdsServer = holdsServerOf server.rowWords
@@ -80,9 +86,9 @@ holdsServer = holdsServerOf server.rowWords
 abbrev pub holdsClient : List ℕ → Bool
 holdsClient = holdsClientOf client.rowWords
 
--- words from which a head can be read
-pub record Headed (ws : List ℕ) : Type 0 where
-  pub long : recordHead ≤ length ws
+-- words from which a head of so many can be read
+pub record Headed (head : ℕ) (ws : List ℕ) : Type 0 where
+  pub long : head ≤ length ws
   pub small : headFits ws ≡ true
 
 -- the record that such words are
@@ -95,7 +101,7 @@ serverHeadFrom ws =
     }
 
 abbrev pub serverFrom : List ℕ → Server
-serverFrom ws = server.serverOf (serverHeadFrom ws) (drop recordHead ws)
+serverFrom ws = server.serverOf (serverHeadFrom ws) (drop serverHead ws)
 
 unfoldable pub clientHeadFrom : List ℕ → ClientHead
 clientHeadFrom ws =
@@ -105,10 +111,11 @@ clientHeadFrom ws =
       id = record { 0 = getD ws 2 0 };
       section = sectionOf (getD ws 3 0);
       timestamp = record { 0 = getD ws 4 0 };
+      seen = record { 0 = getD ws 5 0 };
     }
 
 abbrev pub clientFrom : List ℕ → Client
-clientFrom ws = client.clientOf (clientHeadFrom ws) (drop recordHead ws)
+clientFrom ws = client.clientOf (clientHeadFrom ws) (drop clientHead ws)
 
 -- the record with a row of so many words that these words are, if they are one
 abbrev pub serverInOf : ℕ → List ℕ → Option Server

@@ -1,14 +1,14 @@
 // How messages and records cross to C: as 32-bit words. For the C interface, saved records and the simulation, which test lengths and room first.
 ghost use mathlib.Core.Path.{_≡_};
 ghost use mathlib.Core.List.{[], _∷_};
-ghost use Prim.Native.Nat.{_≤_};
+ghost use Prim.Native.Nat.{_+_, _≤_};
 ghost use lib.Dec.{eqb};
 ghost use lib.ListN.{length};
 ghost use lib.Seq.{sets};
 ghost use Rattle.ids.specs.Limits.{maxShort};
 ghost use Rattle.wire.specs.Format.{ownerClient, ownerTimestamp};
 ghost use Rattle.words.specs.Messages.{fits, crossing, crossedSays, fiveSays, messageIn, messageOr, noMessage};
-ghost use Rattle.words.specs.Records.{recordHead, maxWord, recordSize, fitsHead, Headed, sectionOf, sectionWord, holdsServerOf, holdsServer, serverHeadFrom, serverHeadWords, holdsClientOf, holdsClient, clientHeadFrom, clientHeadWords};
+ghost use Rattle.words.specs.Records.{serverHead, clientHead, maxWord, fitsHead, Headed, sectionOf, sectionWord, holdsServerOf, holdsServer, serverHeadFrom, serverHeadWords, holdsClientOf, holdsClient, clientHeadFrom, clientHeadWords};
 use client_responses::Section;
 use ids::ClientId;
 use ids::MAX_SHORT;
@@ -20,11 +20,13 @@ use wire::Fields;
 use wire::Message;
 
 // The numbers before the places of either record, and the words of a record.
-pub const HEAD_WORDS: usize = 5;
+pub const SERVER_HEAD: usize = 5;
 
-pub const SERVER_WORDS: usize = HEAD_WORDS + server::ROW_WORDS;
+pub const CLIENT_HEAD: usize = 6;
 
-pub const CLIENT_WORDS: usize = HEAD_WORDS + client::ROW_WORDS;
+pub const SERVER_WORDS: usize = SERVER_HEAD + server::ROW_WORDS;
+
+pub const CLIENT_WORDS: usize = CLIENT_HEAD + client::ROW_WORDS;
 
 // What five words hold.
 pub enum Crossed {
@@ -118,20 +120,20 @@ pub fn fits_head(a: u32, b: u32, c: u32) -> bool
 }
 
 // Whether the words are a head and a row of so many words.
-fn has_row(words: &[u32], row: usize) -> bool
-    ensures { λ r. ⌜ r ≡ eqb (length (now (words .entry))) (recordSize row) ⌝ }
+fn has_row(words: &[u32], head: usize, row: usize) -> bool
+    ensures { λ r. ⌜ r ≡ eqb (length (now (words .entry))) (head + row) ⌝ }
 {
-    if words.len() < HEAD_WORDS {
+    if words.len() < head {
         return false;
     }
-    words.len() - HEAD_WORDS == row
+    words.len() - head == row
 }
 
 // Whether the words are a server's record with a row of so many words, no number before the places too large for its field.
 pub fn holds_server_of(words: &[u32], row: usize) -> bool
     ensures { λ r. ⌜ r ≡ holdsServerOf row (now (words .entry)) ⌝ }
 {
-    if !has_row(words, row) {
+    if !has_row(words, SERVER_HEAD, row) {
         return false;
     }
     fits_head(words[0], words[1], words[2])
@@ -141,7 +143,7 @@ pub fn holds_server_of(words: &[u32], row: usize) -> bool
 pub fn holds_client_of(words: &[u32], row: usize) -> bool
     ensures { λ r. ⌜ r ≡ holdsClientOf row (now (words .entry)) ⌝ }
 {
-    if !has_row(words, row) {
+    if !has_row(words, CLIENT_HEAD, row) {
         return false;
     }
     if 2 < words[3] {
@@ -165,7 +167,7 @@ pub fn holds_client(words: &[u32]) -> bool
 
 // The head of the server's record whose first five words these are.
 pub fn server_head(words: &[u32]) -> server::Head
-    requires { ⌜ Headed (now words) ⌝ }
+    requires { ⌜ Headed serverHead (now words) ⌝ }
     ensures { λ h. ⌜ h ≡ serverHeadFrom (now (words .entry)) ⌝ }
 {
     let owner = wire::owner_of(ClientId(words[2] as u16), Timestamp(words[3]));
@@ -198,13 +200,14 @@ fn section_word(s: Section) -> u32
     }
 }
 
-// The head of the client's record whose first five words these are.
+// The head of the client's record whose first six words these are.
 pub fn client_head(words: &[u32]) -> client::Head
-    requires { ⌜ Headed (now words) ⌝ }
+    requires { ⌜ Headed clientHead (now words) ⌝ }
     ensures { λ h. ⌜ h ≡ clientHeadFrom (now (words .entry)) ⌝ }
 {
     let section = section_of(words[3]);
     let timestamp = Timestamp(words[4]);
+    let seen = Timestamp(words[5]);
     let id = ClientId(words[2] as u16);
     let m = words[1] as u16;
     let n = words[0] as u16;
@@ -214,11 +217,12 @@ pub fn client_head(words: &[u32]) -> client::Head
         id,
         section,
         timestamp,
+        seen,
     }
 }
 
 fn put_five(words: &mut [u32], a: u32, b: u32, c: u32, d: u32, e: u32)
-    requires { ⌜ recordHead ≤ length (now words) ⌝ }
+    requires { ⌜ 5 ≤ length (now words) ⌝ }
     ensures { λ _. ⌜ now (words .exit) ≡ sets (now (words .entry)) 0 (a ∷ b ∷ c ∷ d ∷ e ∷ []) ⌝ }
 {
     words[0] = a;
@@ -248,7 +252,7 @@ fn owner_timestamp(o: Owner) -> u32
 
 // Writes the head of a server's record in the first five words.
 pub fn put_server_head(words: &mut [u32], h: server::Head)
-    requires { ⌜ (recordHead ≤ length (now words)) × (h .votes .len ≤ maxWord) ⌝ }
+    requires { ⌜ (serverHead ≤ length (now words)) × (h .votes .len ≤ maxWord) ⌝ }
     ensures { λ _. ⌜ now (words .exit) ≡ sets (now (words .entry)) 0 (serverHeadWords h) ⌝ }
 {
     let v = h.votes;
@@ -265,9 +269,9 @@ pub fn put_server_head(words: &mut [u32], h: server::Head)
     );
 }
 
-// Writes the head of a client's record in the first five words.
+// Writes the head of a client's record in the first six words.
 pub fn put_client_head(words: &mut [u32], h: client::Head)
-    requires { ⌜ recordHead ≤ length (now words) ⌝ }
+    requires { ⌜ clientHead ≤ length (now words) ⌝ }
     ensures { λ _. ⌜ now (words .exit) ≡ sets (now (words .entry)) 0 (clientHeadWords h) ⌝ }
 {
     let section = h.section;
@@ -279,4 +283,5 @@ pub fn put_client_head(words: &mut [u32], h: client::Head)
         section_word(section),
         h.timestamp.0,
     );
+    words[5] = h.seen.0;
 }

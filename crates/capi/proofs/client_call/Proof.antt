@@ -37,7 +37,7 @@ module _ (c : tie.After-client-step) where
       (now (e .args .out)) (now (e .args .sent)) _ _ _ (c .client-step .ensures)
 
 client-head-requires : tie.Need-client-head-requires
-client-head-requires c κs = client-held _ _ (is-client _ _ (c .before .before .holds-client .ensures) (c .before .if1 .left)) .head
+client-head-requires c κs = client-held _ _ (is-client _ _ (c .before .before .holds-client .ensures) (c .before .if1 .left)) .headed
 
 client-finish-requires : tie.Need-client-finish-requires
 client-finish-requires c κs =

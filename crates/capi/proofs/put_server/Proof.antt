@@ -1,4 +1,4 @@
--- `capi::put_server` meets its contract: five words, and the row behind them.
+-- `capi::put_server` meets its contract: the head, and the row behind it.
 use Rattle.words.proofs.RecordsLaws.{server-stored}
 use borrow.Author.Needs.{needs}
 use Rattle.capi.proofs.put_server.Statement.{statement}

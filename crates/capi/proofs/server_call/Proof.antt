@@ -41,7 +41,7 @@ module _ (c : tie.After-server-step) where
       (copied .copy .ensures) (entry .args .call) _ _ (c .server-step .ensures)
 
 server-head-requires : tie.Need-server-head-requires
-server-head-requires c κs = server-held _ _ (is-server _ _ (c .before .before .holds-server .ensures) (c .before .if1 .left)) .head
+server-head-requires c κs = server-held _ _ (is-server _ _ (c .before .before .holds-server .ensures) (c .before .if1 .left)) .headed
 
 part-copy-end : tie.Need-part-copy-end
 part-copy-end c = omega (arith, long (c .before .before .before))

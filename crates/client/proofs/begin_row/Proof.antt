@@ -1,5 +1,5 @@
 -- `client::begin_row` meets its contract: each return is one case of the outcome, by the tests in their order.
-use Rattle.client.proofs.StepLaws.{answers-refused, begin-invalid, begin-elsewhere, begin-spent, begin-tries, tested-padded}
+use Rattle.client.proofs.StepLaws.{answers-refused, begin-invalid, begin-elsewhere, begin-spent, begin-tries, tested-padded, left-to-try}
 use borrow.Author.Needs.{needs}
 use Rattle.client.proofs.begin_row.Statement.{statement}
 use Rattle.client.proofs.begin_row.Tie as tie
@@ -13,9 +13,9 @@ returns-4 : tie.Need-returns-4
 returns-4 c =
     let a = c .before .before .before .before in
     let t = a .before .before .before in
-    let s = t .before .before in
+    let s = t .before .before .before in
     let v = tested s in
-    rw (begin-tries _ _ _ (v .before .valid-row .ensures) _ (v .if1 .left) (s .before .is-remainder .ensures) (s .if2 .left) (t .if3 .left))
+    rw (begin-tries _ _ _ (v .before .valid-row .ensures) _ (v .if1 .left) (s .before .is-remainder .ensures) _ (t .before .before .latest .ensures) (s .if2 .left) (t .if3 .left))
     (a .attempt .ensures)
 
 pub begin-row-spec : {M : Type 1} → statement M
@@ -31,9 +31,10 @@ begin-row-spec =
     (λ c. search needs)
     (λ c. search (answers-refused, begin-elsewhere))
     (λ c κs. search needs)
+    (λ c κs. search needs)
     (λ c. search needs)
     (λ c. search (answers-refused, begin-spent))
-    (λ c κs. search tested-padded)
+    (λ c κs. search (tested-padded, left-to-try))
     (λ c. search needs)
     (λ c. search needs)
     returns-4)

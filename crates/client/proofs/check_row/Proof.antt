@@ -1,6 +1,5 @@
--- `client::check_row` meets its contract: the current timestamp gets no message, any other RELEASE.
-use Rattle.client_responses.proofs.SendLaws.{release-plain}
-use Rattle.client.proofs.StepLaws.{check-same, check-short, check-done}
+-- `client::check_row` meets its contract: the step of the head that has seen the timestamp, settled.
+use Rattle.client.proofs.StepLaws.{still-valid, checked-by}
 use borrow.Author.Needs.{needs}
 use Rattle.client.proofs.check_row.Statement.{statement}
 use Rattle.client.proofs.check_row.Tie as tie
@@ -10,10 +9,7 @@ check-row-spec =
     tie.close
     (tie.spec
     (λ c κs. search needs)
-    (λ c. search check-same)
-    (λ c κs. search needs)
-    (λ c. search check-short)
-    (λ c κs. search release-plain)
+    (λ c κs. search still-valid)
     (λ c κs. search needs)
     (λ c. search needs)
-    (λ c. search check-done))
+    (λ c. search checked-by))

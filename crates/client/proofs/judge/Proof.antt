@@ -1,4 +1,5 @@
 -- `client::judge` meets its contract: the counts are the quorum's verdicts.
+use denote.Ref.{now}
 use Rattle.client.proofs.ValidLaws.{padded-words}
 use Rattle.client.proofs.StepLaws.{verdicts}
 use borrow.Author.Needs.{needs}
@@ -10,7 +11,8 @@ returns c =
     let d = c .before .before .before .before in
     let o = d .before .before .before in
     let q = o .before .before in
-    rw (verdicts _ _ _ _ _ _ _ (q .before .filled-count .ensures) (q .request-of .ensures) (o .own-count .ensures)) (d .decide .ensures)
+    let s = q .before .before .before .before .before .before .before in
+    rw (verdicts (s .args .h) (now (s .args .row)) _ _ _ (q .before .filled-count .ensures) (q .request-of .ensures) (o .own-count .ensures)) (d .decide .ensures)
 
 pub judge-spec : {M : Type 1} → statement M
 judge-spec =

@@ -1,6 +1,6 @@
 -- `saved::take_client` meets its contract: the first words are lent, and come back as the record of today.
 use borrow.Author.Needs.{needs}
-use Rattle.saved.proofs.FormLaws.{clients, room, taken}
+use Rattle.saved.proofs.Ordered.{now-put, today-now, earlier-head, earlier-room, earlier-now}
 use Rattle.saved.proofs.take_client.Statement.{statement}
 use Rattle.saved.proofs.take_client.Tie as tie
 
@@ -11,6 +11,15 @@ take-client-spec =
     (λ c. search needs)
     (λ c. search needs)
     (λ c. search needs)
-    (λ c κs. search (room clients))
+    (λ c κs. search needs)
     (λ c. search needs)
-    (λ c. search (taken clients)))
+    (λ c. search (now-put, today-now))
+    (λ c. search needs)
+    (λ c κs. search (earlier-head, earlier-room))
+    (λ c. search needs)
+    (λ c. search needs)
+    (λ c. search needs)
+    (λ c. search needs)
+    (λ c κs. search needs)
+    (λ c. search needs)
+    (λ c. search (now-put, earlier-now)))

@@ -11,5 +11,5 @@ client-head-spec =
     (λ c. search needs)
     (λ c. search needs)
     (λ c. search needs)
-    (λ c κs. client-held _ _ (c .before .before .pre .1) .head)
+    (λ c κs. client-held _ _ (c .before .before .pre .1) .headed)
     (λ c. search needs))

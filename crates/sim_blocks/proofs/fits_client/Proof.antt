@@ -6,7 +6,7 @@ use mathlib.Core.List.{List}
 use Prim.Native.Nat.{ℕ, _-_}
 use lib.ListN.{length, take, drop}
 use Rattle.client.specs.Record.{clientOf}
-use Rattle.words.specs.Records.{recordHead, clientFrom}
+use Rattle.words.specs.Records.{clientHead, clientFrom}
 use Rattle.sim_blocks.specs.Blocks.{clientRecordSize, responseWords}
 use Rattle.words.proofs.RecordsLaws.{client-held, client-row}
 use Rattle.sim_blocks.proofs.TestLaws.{client-lent, client-broken, servers-differ, servers-few, threshold-differs, number-differs, named-decides}
@@ -30,7 +30,7 @@ module _ (c : tie.After-valid-row) where
   abbrev entry : tie.Start
   entry = head .before .before
 
-  its : clientOf (head .client-head .result) (take (clientRecordSize - recordHead) (drop recordHead (words entry))) ≡ clientFrom (words entry)
+  its : clientOf (head .client-head .result) (take (clientRecordSize - clientHead) (drop clientHead (words entry))) ≡ clientFrom (words entry)
   its = client-lent (words entry) _ (entry .pre) (head .client-head .ensures)
 
 returns : tie.Need-returns
@@ -87,7 +87,7 @@ pub fits-client-spec : {M : Type 1} → statement M
 fits-client-spec =
     tie.close
     (tie.spec
-    (λ c κs. client-held _ _ (c .before .pre) .head)
+    (λ c κs. client-held _ _ (c .before .pre) .headed)
     (λ c. search needs)
     (λ c. search needs)
     (λ c. omega (arith, long (c .before .before)))

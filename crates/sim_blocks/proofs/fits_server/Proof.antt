@@ -6,7 +6,7 @@ use mathlib.Core.List.{List}
 use Prim.Native.Nat.{ℕ, _+_, _-_, _*_, _≤_}
 use lib.ListN.{length, getD, take, drop}
 use Rattle.server.specs.Record.{serverOf}
-use Rattle.words.specs.Records.{recordHead, serverFrom}
+use Rattle.words.specs.Records.{serverHead, serverFrom}
 use Rattle.sim_blocks.specs.Blocks.{serverRecordSize, queueWords}
 use Rattle.words.proofs.RecordsLaws.{server-held}
 use Rattle.sim_blocks.proofs.TestLaws.{server-lent, server-broken, server-count-differs, server-number-differs, owner-unknown, queue-decides, length-fits}
@@ -30,7 +30,7 @@ module _ (c : tie.After-valid-row) where
   abbrev entry : tie.Start
   entry = head .before .before
 
-  its : serverOf (head .server-head .result) (take (serverRecordSize - recordHead) (drop recordHead (words entry))) ≡ serverFrom (words entry)
+  its : serverOf (head .server-head .result) (take (serverRecordSize - serverHead) (drop serverHead (words entry))) ≡ serverFrom (words entry)
   its = server-lent (words entry) _ (entry .pre) (head .server-head .ensures)
 
 -- it is valid
@@ -38,7 +38,7 @@ module _ (c : tie.Else1) where
   abbrev tested : tie.After-valid-row
   tested = c .before
 
-  queue-inside : recordHead + 2 * getD (words (entry tested)) 4 0 ≤ length (words (entry tested))
+  queue-inside : serverHead + 2 * getD (words (entry tested)) 4 0 ≤ length (words (entry tested))
   queue-inside =
       let a = entry tested .args in
       length-fits (a .n) (a .clients) (a .j) _ _ (its tested) _ (tested .valid-row .ensures) (c .if1 .left) (entry tested .pre)
@@ -92,7 +92,7 @@ pub fits-server-spec : {M : Type 1} → statement M
 fits-server-spec =
     tie.close
     (tie.spec
-    (λ c κs. server-held _ _ (c .before .pre) .head)
+    (λ c κs. server-held _ _ (c .before .pre) .headed)
     (λ c. search needs)
     (λ c. search needs)
     (λ c. omega (arith, long (c .before .before)))

@@ -7,10 +7,10 @@ use Rattle.sim_blocks.proofs.requests_named.Statement.{statement}
 use Rattle.sim_blocks.proofs.requests_named.Tie as tie
 
 abbrev Inv-loop : tie.InvT-loop
-Inv-loop words count clients i₀ i = Naming words count clients i
+Inv-loop words head count clients i₀ i = Naming words head count clients i
 
 abbrev μ-loop : tie.MeasureT-loop
-μ-loop words count clients i₀ i = count - i
+μ-loop words head count clients i₀ i = count - i
 
 pub requests-named-spec : {M : Type 1} → statement M
 requests-named-spec =

@@ -11,5 +11,5 @@ server-head-spec =
     (λ c. search needs)
     (λ c. search needs)
     (λ c. search needs)
-    (λ c κs. server-held _ _ (c .before .before .pre .1) .head)
+    (λ c κs. server-held _ _ (c .before .before .pre .1) .headed)
     (λ c. search needs))

@@ -6,14 +6,14 @@ use Rattle.words.proofs.RecordsLaws.{headed-small, client-headed}
 use Rattle.words.proofs.client_head.Statement.{statement}
 use Rattle.words.proofs.client_head.Tie as tie
 
-cast-t11 : tie.Need-cast-t11
-cast-t11 c = let e = c .before .before .before .before .before in omega (arith, headed-small (now (e .args .words)) (e .pre))
+cast-id : tie.Need-cast-t13
+cast-id c = let e = c .before .before .before .before .before .before in omega (arith, headed-small (now (e .args .words)) (e .pre))
 
 cast-m : tie.Need-cast-m
-cast-m c = let e = c .before .before .before .before .before .before in omega (arith, headed-small (now (e .args .words)) (e .pre))
+cast-m c = let e = c .before .before .before .before .before .before .before in omega (arith, headed-small (now (e .args .words)) (e .pre))
 
 cast-n : tie.Need-cast-n
-cast-n c = let e = c .before .before .before .before .before .before .before in omega (arith, headed-small (now (e .args .words)) (e .pre))
+cast-n c = let e = c .before .before .before .before .before .before .before .before in omega (arith, headed-small (now (e .args .words)) (e .pre))
 
 pub client-head-spec : {M : Type 1} → statement M
 client-head-spec =
@@ -23,7 +23,8 @@ client-head-spec =
     (λ c κs. search needs)
     (λ c. search needs)
     (λ c. search needs)
-    cast-t11
+    (λ c. search needs)
+    cast-id
     (λ c. search needs)
     cast-m
     (λ c. search needs)

@@ -1,4 +1,4 @@
--- `words::put_client_head` meets its contract: five words, the section's as its function says.
+-- `words::put_client_head` meets its contract: six words, the section's as its function says.
 use borrow.Author.Needs.{needs}
 use Rattle.words.proofs.RecordsLaws.{client-head-put}
 use Rattle.words.proofs.put_client_head.Statement.{statement}
@@ -13,5 +13,6 @@ put-client-head-spec =
     (λ c. search needs)
     (λ c κs. search needs)
     (λ c κs. search needs)
+    (λ c. search needs)
     (λ c. search needs)
     (λ c. search client-head-put))
