@@ -1,2 +1,3 @@
 pub mod Hold
 pub mod Play
+pub mod Clock
