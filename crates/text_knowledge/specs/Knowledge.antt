@@ -3,8 +3,8 @@
 --   keeper 1 owner 1,1 line 2,1     the owner and those who wait, each a kiosk and its ticket
 --   keeper 2 free                   no owner
 --   keeper 3 down
---   kiosk 1 holding ticket 1 keepers 1 2     the section, the last ticket, and the keepers whose answer is this kiosk's own
---   kiosk 2 remainder ticket 0
+--   kiosk 1 holding ticket 41 seen 41 keepers 1 2     the section, the last ticket, the largest one seen, and the keepers whose answer is its own
+--   kiosk 2 remainder ticket 0 seen 0
 --   kiosk 3 fallen
 use Prim.Native.Nat.{ℕ, zero, suc}
 use mathlib.Core.List.{List, [], _∷_, _++_}
@@ -63,7 +63,7 @@ supportersText Critical l = text " keepers" ∷ l
 -- client k of a state
 unfoldable pub stateText : ClientId → client.State → List (List ℕ)
 stateText k c =
-    sectionText (c .section) ∷ decimal (c .timestamp .0)
+    sectionText (c .section) ∷ decimal (c .timestamp .0) ∷ text " seen " ∷ decimal (c .seen .0)
     ∷ supportersText (c .section) (supportText (record { client = k; timestamp = c .timestamp }) (serverNo 1) (c .responses))
 
 unfoldable pub clientText : ClientId → ClientPlace → List (List ℕ)

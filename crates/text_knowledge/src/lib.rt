@@ -199,8 +199,10 @@ fn put_state(out: &mut [u8], at: usize, k: ClientId, h: Head, row: &[u32]) -> us
     let timestamp = h.timestamp;
     let r = Request { client, timestamp };
     let section = h.section;
+    let seen = h.seen;
     let p = put_section(out, at, section, timestamp);
-    put_supporters_of(out, p, section, r, row, h.n)
+    let q = text_sheet::put_with(out, p, b" seen ", seen.0);
+    put_supporters_of(out, q, section, r, row, h.n)
 }
 
 // What a client that lives, or has fallen, knows.
