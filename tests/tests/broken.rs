@@ -210,8 +210,13 @@ fn kiosk_word(place: usize, word: usize) -> usize {
     client_at(place) + 1 + word
 }
 
+/// The largest ticket seen, behind the kiosk's own.
+fn seen_at(place: usize) -> usize {
+    kiosk_word(place, 5)
+}
+
 fn answer_at(place: usize, keeper: usize) -> usize {
-    kiosk_word(place, 5 + 2 * keeper)
+    kiosk_word(place, 6 + 2 * keeper)
 }
 
 fn keeper_word(place: usize, word: usize) -> usize {
@@ -449,7 +454,8 @@ const KIOSK_BREAKS: &[(&str, &[Rule], Break)] = &[
         Some([set(flags_at(k) + s.n as usize, &[1, LAST]), set(client_at(k + 1) - 1, &[1])].concat())
     }),
     ("a word behind the kiosks", &[Rule::Blank], |s| {
-        (s.kiosks < 16).then(|| [client_at(s.kiosks as usize), server_at(0) - 1].iter().flat_map(|&at| set(at, &[1])).collect())
+        let first = s.kiosks as usize;
+        (first < 16).then(|| [client_at(first), seen_at(first), server_at(0) - 1].iter().flat_map(|&at| set(at, &[1])).collect())
     }),
 ];
 
@@ -874,6 +880,7 @@ const EDGES: &[(&str, Break)] = &[
         let k = s.kiosk(|c| c.record.section == TRYING && !c.record.answers.contains(&Some(c.record.pair())))?;
         Some(set(kiosk_word(k, 4), &[1, LAST - 1]))
     }),
+    ("anything seen, in any section", |s| { let k = s.kiosk(|_| true)?; Some(set(seen_at(k), &[0, 1, LAST - 2, LAST - 1, LAST])) }),
     ("the last ticket while holding", |s| {
         let k = s.kiosk(in_section(HOLDING))?;
         let filled = (0..s.n as usize).filter(|&j| s.gallery.clients[k].record.answers[j].is_some());
@@ -957,7 +964,7 @@ fn any_place(words: &[u32], r: &mut Random) -> usize {
     match r.below(13) {
         0 => r.below(WORDS as u64) as usize,
         1 | 2 => r.below(7) as usize,
-        3..=5 => client_at(r.below(kiosks) as usize) + within(CLIENT, 6 + 2 * n, r),
+        3..=5 => client_at(r.below(kiosks) as usize) + within(CLIENT, 7 + 2 * n, r),
         6 => flags_at(r.below(kiosks) as usize) + r.below(n) as usize,
         7..=9 => server_at(r.below(n) as usize) + within(SERVER, 12, r),
         10 | 11 => slot_at(r.below(kept.max(1)) as usize) + r.below(SLOT as u64) as usize,

@@ -31,7 +31,7 @@ fn the_table_says_why_each_script_is_there() {
     assert_eq!((named, rows.len()), (names("script"), names("script").len()));
 }
 
-/// Refusal 11 would take 2,147,483,647 tries and exits of one kiosk, more than a script has lines.
+/// The largest ticket of all grows by one at a try or an exit at most: refusal 11 would take more of them than a script has lines.
 #[test]
 fn the_scripts_meet_every_refusal_that_a_script_can() {
     let (mut first, mut event) = (BTreeSet::new(), BTreeSet::new());
