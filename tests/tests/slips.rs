@@ -71,11 +71,12 @@ fn told(gallery: &Gallery) -> String {
         let kiosk = &client.record;
         let own = |j: &usize| kiosk.answers[*j] == Some(kiosk.pair());
         let keepers: String = (0..kiosk.answers.len()).filter(own).map(|j| format!(" {}", j + 1)).collect();
+        let tickets = format!("ticket {} seen {}", kiosk.ticket, kiosk.seen.expect("a gallery's kiosk has a clock"));
         out += &match kiosk.section {
             _ if !client.living => format!("kiosk {k} fallen\n"),
-            REMAINDER => format!("kiosk {k} remainder ticket {}\n", kiosk.ticket),
-            HOLDING => format!("kiosk {k} holding ticket {} keepers{keepers}\n", kiosk.ticket),
-            _ => format!("kiosk {k} trying ticket {} keepers{keepers}\n", kiosk.ticket),
+            REMAINDER => format!("kiosk {k} remainder {tickets}\n"),
+            HOLDING => format!("kiosk {k} holding {tickets} keepers{keepers}\n"),
+            _ => format!("kiosk {k} trying {tickets} keepers{keepers}\n"),
         };
     }
     out
@@ -278,6 +279,7 @@ fn whole_outputs() {
         ("two_holders", Mode::Each, "two_holders.expected"),
         ("yield_round", Mode::Last, "yield_round.expected"),
         ("fallen_owner", Mode::Last, "fallen_owner.expected"),
+        ("newcomer", Mode::Last, "newcomer.expected"),
         ("two_holders", Mode::Mail, "two_holders.mail"),
         ("redelivery", Mode::Mail, "redelivery.mail"),
         ("two_holders", Mode::Boxes, "two_holders.boxes"),
