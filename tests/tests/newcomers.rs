@@ -80,8 +80,8 @@ fn passes_at_its_first_try_only() {
     assert_eq!((ticket_in(&end, 2, HOLDING), ticket_in(&end, LATE, TRYING)), (Some(7), Some(8)));
 }
 
-/// One script under both rules: as many messages are sent at each event, but who is asked to leave and is not in is refused: kiosk 3
-/// where it has not passed kiosk 2, and the other way round.
+/// One script under both rules, whose messages have the same numbers; but who is asked to leave and is not in is refused: kiosk 3 where
+/// it has not passed kiosk 2, and the other way round.
 #[test]
 fn one_script_under_both_rules() {
     let (old, new) = (play(WIDE), play(NEW));
@@ -91,7 +91,20 @@ fn one_script_under_both_rules() {
     assert_eq!(differs, other_way_round);
     let ([.., kiosks], events) = script();
     assert_eq!((events.len(), old.len(), kiosks), (58, 58, 3));
-    assert!(old.iter().chain(&new).all(|(gallery, _)| gallery.holders() <= 1));
+    assert!(old.iter().zip(&new).all(|((a, _), (b, _))| a.holders() <= 1 && b.holders() <= 1));
+    // Behind the pairs of exits as many messages were sent.
+    assert!((1..).zip(old.iter().zip(&new)).all(|(row, (a, b))| a.0.last == b.0.last || [42, 46].contains(&row)));
+}
+
+/// Who stands in the keeper's line where the lesson says so: kiosk and ticket.
+#[test]
+fn the_line_behind_each_try_of_the_late_kiosk() {
+    let line = |players, row: usize| -> Vec<(u32, u32)> {
+        let run = play(players);
+        run[row - 1].0.servers[0].record.line.iter().map(|pair| (pair.kiosk, pair.ticket)).collect()
+    };
+    assert_eq!([22, 38, 55].map(|row| line(NEW, row)), [[(3, 1), (2, 3)], [(2, 5), (3, 6)], [(2, 7), (3, 8)]]);
+    assert_eq!([22, 38, 55].map(|row| line(WIDE, row)), [[(3, 1), (2, 3)], [(3, 3), (2, 5)], [(3, 5), (2, 7)]]);
 }
 
 /// The library's kiosks, event by event: what the lesson says of their tickets, and of what the late one has seen.
