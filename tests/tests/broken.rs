@@ -118,10 +118,15 @@ fn drop_taken(gallery: &mut Gallery) {
     taken.into_iter().for_each(|number| give(gallery, Kind::Drop, number));
 }
 
-/// Kiosk 1 holds the wall, all others wait in the lines of all keepers, and their answers are under way. Then some are read,
-/// some keepers go down, some kiosks fall, and checks fill the last places.
+/// Kiosk 1 has had some turns and holds the wall, all others wait in the lines of all keepers, and their answers are under way. Then
+/// some are read, some keepers go down, some kiosks fall, and checks fill the last places.
 fn crowded(n: u32, m: u32, kiosks: u32, r: &mut Random) -> Gallery {
     let mut gallery = Gallery::new(Setting { n, m, f: 0 }, kiosks, GALLERY).expect("in range");
+    for kind in [Kind::Try, Kind::Exit].repeat(r.below(4) as usize) {
+        give(&mut gallery, kind, 1);
+        while take_first(&mut gallery, |_| true) {}
+        drop_taken(&mut gallery);
+    }
     for kiosk in 1..=kiosks.into() {
         give(&mut gallery, Kind::Try, kiosk);
         while take_first(&mut gallery, |kept| kept.message.kind < RESPONSE || kiosk == 1) {
@@ -198,6 +203,9 @@ fn the_galleries_have_what_can_be_damaged() {
     kiosk(|c| !c.living && c.record.section == TRYING);
     kiosk(|c| !c.living && c.record.section == HOLDING);
     kiosk(|c| c.epoch.as_ref().is_some_and(|down| down.len() > 1));
+    kiosk(|c| c.record.seen == Some(0) && c.record.ticket > 0);
+    kiosk(|c| c.record.seen > Some(1) && c.record.seen < Some(c.record.ticket));
+    kiosk(|c| c.record.seen > Some(c.record.ticket));
 }
 
 // Each rule broken by itself --------------------------------------------------------------------------------------------------

@@ -268,6 +268,30 @@ fn the_scripts_meet_every_form_of_mail() {
     assert_eq!(forms, expected);
 }
 
+/// Below its ticket, equal to it, or above it: what a kiosk has seen, in each section. Who holds has been told its own ticket.
+#[test]
+fn the_scripts_meet_every_form_of_what_is_seen() {
+    let mut forms = BTreeSet::new();
+    for (_, script, _) in scripts() {
+        for line in slips(&script, Mode::Each).lines() {
+            if let ["kiosk", _, section, "ticket", ticket, "seen", seen, ..] = line.split(' ').collect::<Vec<_>>()[..] {
+                let [ticket, seen] = [ticket, seen].map(|word| word.parse::<u32>().expect("a number"));
+                forms.insert(format!("{section} {:?}", seen.cmp(&ticket)));
+            }
+        }
+    }
+    let expected = [
+        "holding Equal",
+        "holding Greater",
+        "remainder Equal",
+        "remainder Greater",
+        "remainder Less",
+        "trying Equal",
+        "trying Less",
+    ];
+    assert_eq!(forms, expected.map(String::from).into());
+}
+
 fn written(file: &str) -> String {
     let path = Path::new(env!("CARGO_MANIFEST_DIR")).join("slips").join(file);
     std::fs::read_to_string(&path).unwrap_or_else(|e| panic!("{}: {e}", path.display()))
