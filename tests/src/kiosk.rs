@@ -67,10 +67,14 @@ impl Kiosk {
 
     /// The answers stand in front, and the places past keeper n are empty.
     pub fn put(&self, words: &mut [u32]) {
-        let mut head = vec![self.n, self.m, self.id, self.section, self.ticket];
-        head.extend(self.seen);
-        let (front, places) = words.split_at_mut(head.len());
-        front.copy_from_slice(&head);
+        words[..5].copy_from_slice(&[self.n, self.m, self.id, self.section, self.ticket]);
+        let places = match self.seen {
+            Some(seen) => {
+                words[5] = seen;
+                &mut words[6..]
+            }
+            None => &mut words[5..],
+        };
         let (answers, past) = places.split_at_mut(2 * self.answers.len());
         for (place, &p) in answers.chunks_mut(2).zip(&self.answers) {
             place.copy_from_slice(&words_of(p));

@@ -400,15 +400,15 @@ fn what_finds_no_place_is_not_seen() {
     assert_eq!((both.slip(2), both.gallery.kept.len()), ([TRYING, 1, 3], 512));
 }
 
-/// 19 by the numbers: none is left for the RELEASE that a CHECK asks for. What sends nothing needs none, and is seen.
+/// 19 by the numbers: none is left for the RELEASE that a CHECK of ticket 9 asks for. One of the kiosk's own ticket sends nothing, needs
+/// none, and is seen.
 #[test]
 fn what_finds_no_number_is_not_seen() {
-    // Kiosk 1 exits with the check of ticket 1 on its way, message 3: its answer would be a RELEASE.
+    // Kiosk 1 exits, and has ticket 2, with a check on its way, message 3.
     let events = [(Kind::Try, 1), (Kind::Take, 1), (Kind::Take, 2), (Kind::Check, 1), (Kind::Exit, 1)];
     let mut both = Both::new(1, 1, 1).after(&events);
     both.words[5] = LAST;
     both.gallery.last = LAST.into();
-    // The check says ticket 9 now, and the answer that was taken is there again, of another kiosk's ticket.
     let checked = both.gallery.kept.iter().position(|kept| kept.message.kind == CHECK).expect("a check");
     both.gallery.kept[checked].message.ticket = 9;
     both.words[slot_at(checked) + 5] = 9;
