@@ -38,7 +38,7 @@ const REFUSED_SETTING = /^no (\d+)$/;
 const ANSWER = /^(\d+) (?:ok (\d+) (\d+)|no (\d+))$/;
 const END = /^end (\d+) (\d+) (\d+)$/;
 const KEEPER = /^keeper (\d+) (?:(down|free)|owner (\d+),(\d+)(?: line((?: \d+,\d+)+))?)$/;
-const KIOSK = /^kiosk (\d+) (?:(fallen)|(remainder|trying|holding) ticket (\d+)(?: keepers((?: \d+)*))?)$/;
+const KIOSK = /^kiosk (\d+) (?:(fallen)|(remainder|trying|holding) ticket (\d+) seen (\d+)(?: keepers((?: \d+)*))?)$/;
 const MAIL = /^mail (\d+) ([A-Z]+) (kiosk|keeper) (\d+) (kiosk|keeper) (\d+) (?:ticket (\d+)|owner (\d+),(\d+)|(free)) (waiting|taken)$/;
 const GONE = /^gone (\d+)$/;
 const EVENT = /^(try|exit|fall|down|up|take|drop|miss|check) (\d+)$/;
@@ -51,9 +51,9 @@ function keeperOf(m) {
 }
 
 function kioskOf(m) {
-    if (m[2]) return { number: Number(m[1]), living: false, section: "fallen", ticket: null, keepers: [] };
-    const keepers = (m[5] || "").split(" ").filter(Boolean).map(Number);
-    return { number: Number(m[1]), living: true, section: m[3], ticket: Number(m[4]), keepers };
+    if (m[2]) return { number: Number(m[1]), living: false, section: "fallen", ticket: null, seen: null, keepers: [] };
+    const keepers = (m[6] || "").split(" ").filter(Boolean).map(Number);
+    return { number: Number(m[1]), living: true, section: m[3], ticket: Number(m[4]), seen: Number(m[5]), keepers };
 }
 
 function messageOf(m, row) {
@@ -72,7 +72,7 @@ function messageOf(m, row) {
 
 const range = (from, to) => Array.from({ length: Math.max(0, to - from + 1) }, (_, i) => from + i);
 
-// Before the first event: all keepers up and free, all kiosks living, in remainder, with ticket 0.
+// Before the first event: all keepers up and free, all kiosks living, in remainder, with ticket 0, and no ticket seen.
 function startOf(setting, line) {
     return {
         row: 0,
@@ -84,7 +84,7 @@ function startOf(setting, line) {
         sent: 0,
         holders: 0,
         keepers: range(1, setting.n).map((number) => ({ number, up: true, owner: null, line: [] })),
-        kiosks: range(1, setting.kiosks).map((number) => ({ number, living: true, section: "remainder", ticket: 0, keepers: [] })),
+        kiosks: range(1, setting.kiosks).map((number) => ({ number, living: true, section: "remainder", ticket: 0, seen: 0, keepers: [] })),
     };
 }
 
@@ -182,7 +182,7 @@ function tell(run, s) {
     };
     const kiosk = (k) => {
         const keepers = k.section === "remainder" ? "" : [" keepers", ...k.keepers].join(" ");
-        return `kiosk ${k.number} ` + (k.living ? `${k.section} ticket ${k.ticket}${keepers}` : "fallen");
+        return `kiosk ${k.number} ` + (k.living ? `${k.section} ticket ${k.ticket} seen ${k.seen}${keepers}` : "fallen");
     };
     const mail = (m) => {
         const says = m.kind !== "RESPONSE" ? `ticket ${m.ticket}` : m.owner ? `owner ${pair(m.owner)}` : "free";
@@ -577,7 +577,7 @@ function svgOf(run, s) {
 const REFUSALS = {
     7: "a number is out of range",
     10: "the kiosk is in the wrong section for this",
-    11: "the kiosk's tickets are spent",
+    11: "no ticket is left above the kiosk's last and all that it has seen",
     15: "the keeper has no owner",
     16: "this is no line of a script",
     17: "there is no such kiosk, keeper or waiting message",
@@ -593,6 +593,9 @@ function answerText(step) {
     const sent = step.sent === 0 ? "nothing is sent" : step.sent === 1 ? "1 message is sent" : `${step.sent} messages are sent`;
     return `Accepted: ${sent}.`;
 }
+
+// A kiosk's ticket, and the largest that it has seen, as its slip shows them.
+const ticketTexts = (kiosk) => (kiosk.living ? [String(kiosk.ticket), `seen ${kiosk.seen}`] : ["", ""]);
 
 const holdingAt = (step) => step.kiosks.filter((kiosk) => kiosk.section === "holding").map((kiosk) => kiosk.number);
 
@@ -612,5 +615,5 @@ function mailText(m) {
 }
 
 if (typeof module !== "undefined") {
-    module.exports = { linesOf, readRun, tell, mismatches, arrows, svgOf, xOf, sheetFor, partiesOf };
+    module.exports = { ticketTexts, linesOf, readRun, tell, mismatches, arrows, svgOf, xOf, sheetFor, partiesOf };
 }

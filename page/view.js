@@ -137,12 +137,13 @@
             );
             const not = missing.length ? ["not ", ...missing] : [];
             const none = counted.length + not.length === 0 && kiosk.section === "trying" ? ["none"] : [];
+            const [ticket, seen] = ticketTexts(kiosk);
             return element(
                 "tr",
                 { class: kiosk.section },
                 element("th", { scope: "row" }, String(kiosk.number)),
                 element("td", { class: "section" }, kiosk.section),
-                element("td", { class: "ticket" }, kiosk.living ? String(kiosk.ticket) : ""),
+                element("td", { class: "ticket" }, `${ticket} `, element("span", { class: "seen" }, seen)),
                 element("td", {}, ...counted, ...not, ...none),
             );
         };

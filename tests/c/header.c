@@ -1,6 +1,6 @@
 /* Shows that include/sigma.h is right: both examples of document 01, one client's way into its critical section
- * and out of it, a server in a struct, its queue filled, saved records taken over, a round of yields in one packet, the unsafe run
- * in a simulation, and the example of a script, through the functions as it declares them. */
+ * and out of it, a server in a struct, its queue filled, a client's timestamps, saved records taken over, a round of yields in one
+ * packet, the unsafe run in a simulation, and the example of a script, through the functions as it declares them. */
 #include "sigma.h"
 
 #include <assert.h>
@@ -39,7 +39,7 @@ static void enter_and_leave(void)
 {
     uint32_t client[SIGMA_CLIENT_WORDS], server[SIGMA_SERVER_WORDS], sent[SIGMA_SENT_WORDS], words[SIGMA_READ_WORDS];
     uint8_t out[28];
-    expect(sigma_client_new(1, 1, 5, client, SIGMA_CLIENT_WORDS - 1) == 7, "514 words lent");
+    expect(sigma_client_new(1, 1, 5, client, SIGMA_CLIENT_WORDS - 1) == 7, "515 words lent");
     expect(sigma_client_new(1, 1, 5, client, SIGMA_CLIENT_WORDS) == 0, "a new client");
     expect(sigma_server_new(1, 2, server, SIGMA_SERVER_WORDS) == 7, "server 2 of 1");
     expect(sigma_server_new(1, 1, server, SIGMA_SERVER_WORDS) == 0, "a new server");
@@ -71,8 +71,9 @@ static void enter_and_leave(void)
     expect(sigma_server_check(server, SIGMA_SERVER_WORDS, out, sizeof out, sent, SIGMA_SENT_WORDS) == 21, "broken");
 }
 
-/* Five words, then two for each of 32 places of a queue and for the responses of 255 servers. */
-static_assert(SIGMA_QUEUE_PLACES == 32 && SIGMA_SERVER_WORDS == 69 && SIGMA_CLIENT_WORDS == 515, "the records' words");
+/* Five words, then two for each of 32 places of a queue; six words, then two for the response of each of 255 servers. */
+static_assert(SIGMA_QUEUE_PLACES == 32 && SIGMA_SERVER_WORDS == 69 && SIGMA_CLIENT_WORDS == 516, "the records' words");
+static_assert(SIGMA_SIMULATION_WORDS == 7440 && SIGMA_SCRIPT_WORDS == 7486, "a simulation's, and with it a script's");
 
 /* The struct is the record's words and the two counts, in this order and with nothing between them. */
 static_assert(sizeof(struct sigma_host) == 71 * sizeof(uint32_t), "71 words");
@@ -157,8 +158,34 @@ static void a_full_queue(void)
     expect(both_take(SIGMA_REQUEST, 33, 7, sizeof host_out) == 0 && host.queue[0].client == 33, "and another comes");
 }
 
-/* Records saved before there were so many places: a server's with 16, a client's with 31. */
-enum { SAVED_SERVER_WORDS = 37, SAVED_CLIENT_WORDS = 67 };
+/* Document 02's worked case of a client's timestamps: last 3, seen 40, begin takes 41, exit 42. What it has seen is word 5. */
+static void clock_of_a_client(void)
+{
+    uint32_t client[SIGMA_CLIENT_WORDS], sent[SIGMA_SENT_WORDS], words[SIGMA_READ_WORDS];
+    uint32_t check[SIGMA_MESSAGE_WORDS] = {SIGMA_CHECK, 5, 1, 40, 0}, response[SIGMA_MESSAGE_WORDS] = {SIGMA_RESPONSE, 5, 1, 41, 5};
+    uint8_t out[12];
+    expect(sigma_client_new(1, 1, 5, client, SIGMA_CLIENT_WORDS) == 0 && client[5] == 0, "a new client has seen nothing");
+    client[4] = 3;
+    expect(sigma_client_message(client, SIGMA_CLIENT_WORDS, check, SIGMA_MESSAGE_WORDS, out, 11, sent, SIGMA_SENT_WORDS) == 6 &&
+           client[5] == 0, "refused, and not seen");
+    expect(sigma_client_message(client, SIGMA_CLIENT_WORDS, check, SIGMA_MESSAGE_WORDS, out, 12, sent, SIGMA_SENT_WORDS) == 0 &&
+           client[4] == 3 && client[5] == 40, "a CHECK is seen");
+    expect(sigma_client_begin(client, SIGMA_CLIENT_WORDS, out, 12, sent, SIGMA_SENT_WORDS) == 0 && client[4] == 41, "begin takes 41");
+    expect(sigma_read(out, sent[1], words, SIGMA_READ_WORDS) == 0 && words[3] == 41, "and asks with it");
+    expect(sigma_client_message(client, SIGMA_CLIENT_WORDS, response, SIGMA_MESSAGE_WORDS, out, 0, sent, SIGMA_SENT_WORDS) == 0 &&
+           client[3] == SIGMA_CRITICAL && client[5] == 41, "its own timestamp is seen too");
+    client[5] = 50;
+    expect(sigma_client_exit(client, SIGMA_CLIENT_WORDS, out, 12, sent, SIGMA_SENT_WORDS) == 0 && client[4] == 42, "exit takes 42");
+    expect(sigma_client_begin(client, SIGMA_CLIENT_WORDS, out, 12, sent, SIGMA_SENT_WORDS) == 0 && client[4] == 51, "begin takes 51");
+    client[3] = SIGMA_REMAINDER;
+    client[5] = 4294967294u;
+    expect(sigma_client_begin(client, SIGMA_CLIENT_WORDS, out, 0, sent, SIGMA_SENT_WORDS) == 11, "none left above what was seen");
+    client[5] = 4294967293u;
+    expect(sigma_client_begin(client, SIGMA_CLIENT_WORDS, out, 12, sent, SIGMA_SENT_WORDS) == 0 && client[4] == 4294967294u, "one left");
+}
+
+/* Records saved before there were so many places: a server's with 16, a client's with 31; and a client's before it noted what it saw. */
+enum { SAVED_SERVER_WORDS = 37, SAVED_CLIENT_WORDS = 67, UNSEEING_CLIENT_WORDS = 515 };
 
 static int all(const uint32_t *words, size_t length, uint32_t word)
 {
@@ -201,23 +228,28 @@ static void saved_client(void)
 {
     /* Client 5 with 31 servers and threshold 2: server 31 has answered for it. */
     uint32_t saved[SAVED_CLIENT_WORDS] = {31, 2, 5, SIGMA_TRYING, 3}, before[SAVED_CLIENT_WORDS], taken[SIGMA_CLIENT_WORDS + 1];
-    uint32_t again[SIGMA_CLIENT_WORDS];
+    uint32_t again[SIGMA_CLIENT_WORDS], unseeing[UNSEEING_CLIENT_WORDS] = {0};
     saved[65] = 5;
     saved[66] = 3;
     memcpy(before, saved, sizeof saved);
     memset(taken, 0x77, sizeof taken);
     expect(sigma_client_exit(saved, SAVED_CLIENT_WORDS, host_out, sizeof host_out, counts, SIGMA_SENT_WORDS) == 21, "no step takes it");
     expect(sigma_client_upgrade(saved, SAVED_SERVER_WORDS, taken, SIGMA_CLIENT_WORDS) == 21, "37 words");
-    expect(sigma_client_upgrade(saved, SAVED_CLIENT_WORDS, taken, SIGMA_CLIENT_WORDS - 1) == 6, "514 words lent");
+    expect(sigma_client_upgrade(saved, SAVED_CLIENT_WORDS, taken, SIGMA_CLIENT_WORDS - 1) == 6, "515 words lent");
     saved[0] = 32;
     expect(sigma_client_upgrade(saved, SAVED_CLIENT_WORDS, taken, 0) == 21, "n 32, which 67 words could not say");
     saved[0] = 31;
     expect(all(taken, SIGMA_CLIENT_WORDS + 1, 0x77777777), "refused, all is as it was");
     expect(sigma_client_upgrade(saved, SAVED_CLIENT_WORDS, taken, SIGMA_CLIENT_WORDS + 1) == 0, "taken over");
-    expect(memcmp(taken, saved, sizeof saved) == 0 && all(taken + SAVED_CLIENT_WORDS, 448, 0), "the responses in front, all else empty");
+    expect(memcmp(taken, saved, 5 * sizeof *saved) == 0 && taken[5] == 0, "the same client, which has seen nothing");
+    expect(memcmp(taken + 6, saved + 5, 62 * sizeof *saved) == 0 && all(taken + 68, 448, 0), "the responses in front, all else empty");
     expect(taken[SIGMA_CLIENT_WORDS] == 0x77777777 && memcmp(saved, before, sizeof saved) == 0, "nothing else is written");
+    memcpy(unseeing, saved, sizeof saved);
+    expect(sigma_client_upgrade(unseeing, UNSEEING_CLIENT_WORDS, again, SIGMA_CLIENT_WORDS) == 0, "the form between");
+    expect(memcmp(again, taken, sizeof again) == 0, "becomes the same");
+    taken[5] = 40;
     expect(sigma_client_upgrade(taken, SIGMA_CLIENT_WORDS, again, SIGMA_CLIENT_WORDS) == 0, "the present form");
-    expect(memcmp(again, taken, sizeof again) == 0, "is copied");
+    expect(memcmp(again, taken, sizeof again) == 0, "is copied, with what was seen");
     {
         uint32_t response[SIGMA_MESSAGE_WORDS] = {SIGMA_RESPONSE, 5, 1, 3, 5};
         expect(sigma_client_message(taken, SIGMA_CLIENT_WORDS, response, SIGMA_MESSAGE_WORDS, host_out, 0, counts,
@@ -374,6 +406,7 @@ int main(void)
     enter_and_leave();
     in_a_struct();
     a_full_queue();
+    clock_of_a_client();
     saved_server();
     saved_client();
     packets();

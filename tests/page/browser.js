@@ -93,6 +93,18 @@ async function places(browser) {
     }
 }
 
+// The course's fourth lesson: kiosk 3 has ticket 1 when it is told of ticket 5, and takes 6 at its next try.
+async function newcomer(browser) {
+    put("newcomer", scripts().find((script) => script.name === "newcomer.script").bytes);
+    for (const [place, slip] of [["#21", "3 trying 1 seen 0 none"], ["#26", "3 holding 1 seen 5 1"], ["#37", "3 trying 6 seen 5 none"]]) {
+        const page = await browser.open(address("newcomer", place), PROJECTOR);
+        assert.equal((await page.read(listed("kiosks")))[2], slip);
+        if (place === "#37") await page.picture(path.join(OUT, "newcomer.png"));
+        quiet(page, `newcomer ${place}`);
+        await page.close();
+    }
+}
+
 async function saves(browser) {
     const page = await browser.open(address("two_holders"), PROJECTOR);
     await browser.send("Browser.setDownloadBehavior", { behavior: "allow", downloadPath: OUT });
@@ -211,7 +223,7 @@ async function main() {
     put("two_holders", scripts().find((script) => script.name === "two_holders.script").bytes);
     const browser = new Browser(name);
     try {
-        for (const part of [steps, places, saves, sizes, reachable, all, hostile, fluid]) {
+        for (const part of [steps, places, newcomer, saves, sizes, reachable, all, hostile, fluid]) {
             await part(browser);
             console.log(`page: ${part.name} ok`);
         }

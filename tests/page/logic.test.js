@@ -62,12 +62,40 @@ test("setting, answers, holders, slips and mail are the text's", () => {
     }
 });
 
-// A party's slip among a step's lines: { owner: [kiosk, ticket] or null, down } or { ticket, counts }.
+// A party's slip among a step's lines: { owner: [kiosk, ticket] or null, down } or { ticket, seen, counts }.
 function slipOf(lines, party, number) {
     const words = lines.find((line) => line.startsWith(`${party} ${number} `)).split(" ");
-    if (party === "kiosk") return { ticket: words[4], counts: words.slice(6) };
+    if (party === "kiosk") return { ticket: words[4], seen: words[6], counts: words.slice(8) };
     return { owner: words[2] === "owner" ? words[3].split(",") : null, down: words[2] === "down" };
 }
+
+// The ticket of each answer and check that a kiosk takes at this step, by the mail one step before: "12 RESPONSE keeper 1 kiosk 2 owner 1,3".
+function lookedAt(text, lines, s, number) {
+    if (s < 2 || !/ ok /.test(text.steps[s - 1].answer) || !lines[s].startsWith("take ")) return [];
+    const mail = text.steps[s - 2].lines.find((line) => line.startsWith(`mail ${lines[s].slice(5)} `)).split(" ");
+    if (mail[5] !== "kiosk" || mail[6] !== String(number)) return [];
+    return [mail[7] === "free" ? 0 : Number(mail[8].split(",").pop())];
+}
+
+test("each kiosk's slip shows its ticket and the largest that it was told", () => {
+    let above = 0;
+    for (const { name, bytes, text, run } of played) {
+        const lines = bytes.toString("latin1").split("\n");
+        for (const { number } of run.steps[0].kiosks) {
+            assert.deepEqual(logic.ticketTexts(run.steps[0].kiosks[number - 1]), ["0", "seen 0"], name);
+            let most = 0;
+            text.steps.forEach((step, i) => {
+                most = Math.max(most, ...lookedAt(text, lines, i + 1, number));
+                const fallen = step.lines.includes(`kiosk ${number} fallen`);
+                const { ticket } = slipOf(step.lines, "kiosk", number);
+                const shown = logic.ticketTexts(run.steps[i + 1].kiosks[number - 1]);
+                assert.deepEqual(shown, fallen ? ["", ""] : [ticket, `seen ${most}`], `${name} ${i + 1}`);
+                if (!fallen && most > Number(ticket)) above += 1;
+            });
+        }
+    }
+    assert.ok(above > 100, String(above));
+});
 
 // Each pair "kiosk keeper" at which the two slips say different tickets.
 function differing(lines, { n, kiosks }) {
@@ -287,6 +315,7 @@ test("a text without its end is an error, and film takes no argument", () => {
     const { text, bytes } = film(Buffer.from("setting 1 1 0 1\ntry 1\n"));
     assert.throws(() => logic.readRun(text.split("end ")[0], bytes), /no end/);
     assert.throws(() => logic.readRun(text.replace("kiosk 1", "kisok 1"), bytes), /no line of the slips/);
+    assert.throws(() => logic.readRun(text.replace(" seen 0", ""), bytes), /no line of the slips/);
     const refused = spawnSync(path.join(ROOT, "bin", "film"), ["x"], { input: "" });
     assert.deepEqual([refused.status, refused.stdout.length], [2, 0]);
 });

@@ -1,8 +1,8 @@
 //! Scripts that no person wrote: random ones, valid and malformed, and the long ones of the benchmark.
 
 use crate::gallery::{Event, Gallery, Kind, GALLERY, KIOSKS};
-use crate::kiosk::HOLDING;
-use crate::model::{Message, RESPONSE};
+use crate::kiosk::{HOLDING, REMAINDER};
+use crate::model::{Message, INQUIRY, RESPONSE};
 use crate::random::Random;
 use crate::script::line_of;
 use crate::setting::Setting;
@@ -28,6 +28,39 @@ pub fn any_event(gallery: &Gallery, r: &mut Random) -> Event {
         _ => r.below(gallery.servers.len() as u64 + 2),
     };
     Event { kind, number }
+}
+
+/// The next event of a calm course: mostly what waits for a party that is there is taken, who holds leaves and who wants nothing tries,
+/// the first kiosk most often: it has turn upon turn, and the others see its tickets. An INQUIRY is left where it is, for a kiosk that
+/// waits sends one after the other.
+fn calm_event(gallery: &Gallery, r: &mut Random) -> Event {
+    let in_section = |section: u32| -> Vec<u64> {
+        let clients = gallery.clients.iter().filter(|client| client.living && client.record.section == section);
+        clients.map(|client| client.record.id.into()).collect()
+    };
+    let there = |message: &Message| match message.kind {
+        INQUIRY => false,
+        RESPONSE.. => gallery.clients[message.kiosk as usize - 1].living,
+        _ => gallery.servers[message.keeper as usize - 1].up,
+    };
+    let waiting: Vec<u64> =
+        gallery.kept.iter().filter(|kept| !kept.taken && there(&kept.message)).map(|kept| kept.number).collect();
+    let (idle, holders) = (in_section(REMAINDER), in_section(HOLDING));
+    let first = r.below(3) > 0;
+    match r.below(60) {
+        0 => any_event(gallery, r),
+        1..=30 if !waiting.is_empty() => Event { kind: Kind::Take, number: r.one_of(&waiting) },
+        ..=45 if !holders.is_empty() => Event { kind: Kind::Exit, number: r.one_of(&holders) },
+        _ if !idle.is_empty() => Event { kind: Kind::Try, number: if first { idle[0] } else { r.one_of(&idle) } },
+        _ if !waiting.is_empty() => Event { kind: Kind::Take, number: r.one_of(&waiting) },
+        _ => any_event(gallery, r),
+    }
+}
+
+/// A small setting, in which turns are short, with two kiosks at least.
+fn calm_setting(r: &mut Random) -> (Setting, u32) {
+    let n = 1 + r.below(3) as u32;
+    (Setting { n, m: n - n / 3, f: 0 }, 2 + r.below(3) as u32)
 }
 
 /// A line that something happened to: most often it is a bad one then.
@@ -70,10 +103,11 @@ pub fn any_setting(r: &mut Random) -> (Setting, u32) {
     (setting, 1 + r.below(kiosks) as u32)
 }
 
-/// A random script of up to 300 lines. Of every hundred lines `damage` are damaged.
+/// A random script of up to 300 lines, of which one in four is calm. Of every hundred lines `damage` are damaged.
 pub fn any_script(r: &mut Random) -> Vec<u8> {
     let damage = r.one_of(&[0, 0, 0, 10, 30]);
-    let (setting, kiosks) = any_setting(r);
+    let calm = r.below(4) == 0;
+    let (setting, kiosks) = if calm { calm_setting(r) } else { any_setting(r) };
     let Setting { n, m, f } = setting;
     let mut script = vec![];
     let too_many = [32, 33, 255, 256].map(|n| format!("setting {n} {m} {f} {kiosks}"));
@@ -82,8 +116,9 @@ pub fn any_script(r: &mut Random) -> Vec<u8> {
     let first = if r.below(20) == 0 { wrong[r.below(6) as usize].clone() } else { format!("setting {n} {m} {f} {kiosks}") };
     push_line(&mut script, &first, damage / 3, r);
     let mut gallery = Gallery::new(setting, kiosks, GALLERY).expect("in range");
-    for _ in 0..r.below(300) {
-        let event = any_event(&gallery, r);
+    let least = if calm { 150 } else { 0 };
+    for _ in 0..least + r.below(300 - least) {
+        let event = if calm { calm_event(&gallery, r) } else { any_event(&gallery, r) };
         // A refused event changes nothing.
         let _ = gallery.event(event);
         push_line(&mut script, &line_of(event), damage, r);

@@ -93,14 +93,14 @@ fn pairs_unmet(pairs: &[(u32, u32)]) -> Vec<Rule> {
 }
 
 /// The kiosk's record by itself, with as many words as these players' have. Where its numbers are out of range, nothing else can be
-/// said of it.
+/// said of it. The largest ticket seen, a word of its own where these players have a clock, breaks no rule.
 pub fn kiosk_unmet(players: Players, record: &[u32]) -> Vec<Rule> {
     let [n, m, id, section, ticket] = std::array::from_fn(|i| record[i]);
     let settled = (1..=players.keepers).contains(&n) && (1..=n).contains(&m);
     if !settled || !(1..=65_535).contains(&id) || ![REMAINDER, TRYING, HOLDING].contains(&section) {
         return vec![Rule::Number];
     }
-    let answers = pairs(&record[5..]);
+    let answers = pairs(&record[players.kiosk_head()..]);
     let (answers, past) = answers.split_at(n as usize);
     let wrong = pairs_unmet(answers);
     if !wrong.is_empty() {
@@ -176,7 +176,8 @@ impl Parties {
         let mut wrong = kiosk_unmet(FORM, record);
         if readable(&wrong) {
             let place = [self.n, self.m, number];
-            let named = self.have(&pairs(&record[5..5 + 2 * self.n as usize]));
+            let answers = &record[FORM.kiosk_head()..];
+            let named = self.have(&pairs(&answers[..2 * self.n as usize]));
             wrong.extend(unmet([(Rule::Differs, record[..3] == place), (Rule::Names, named)]));
         }
         let (noted, past) = flags.split_at(self.n as usize);

@@ -5,7 +5,7 @@ use crate::fault::Fault;
 use crate::keeper::Keeper;
 use crate::kiosk::{Kiosk, HOLDING};
 use crate::model::{Message, RESPONSE};
-use crate::players::NEW;
+use crate::players::{Players, NEW};
 use crate::setting::Setting;
 use std::collections::BTreeSet;
 
@@ -96,10 +96,15 @@ fn place(number: u64, count: usize) -> Result<usize, u32> {
 impl Gallery {
     /// All kiosks live, in remainder, and have never tried; all keepers are up and have no owner.
     pub fn new(setting: Setting, kiosks: u32, limits: Limits) -> Result<Gallery, u32> {
+        Gallery::of(NEW, setting, kiosks, limits)
+    }
+
+    /// The same with kiosks of these players, which may be without a clock.
+    pub fn of(players: Players, setting: Setting, kiosks: u32, limits: Limits) -> Result<Gallery, u32> {
         if !(1..=KIOSKS).contains(&kiosks) || setting.n > limits.keepers {
             return Err(7);
         }
-        let client = |k| Ok(Client { living: true, record: Kiosk::new(NEW, setting.n, setting.m, k)?, epoch: None });
+        let client = |k| Ok(Client { living: true, record: Kiosk::new(players, setting.n, setting.m, k)?, epoch: None });
         let server = |j| Ok(Server { up: true, record: Keeper::new(NEW, setting.n, j)? });
         Ok(Gallery {
             setting,

@@ -4,7 +4,7 @@ use crate::both::Event;
 use crate::keeper::Keeper;
 use crate::kiosk::{Kiosk, HOLDING, REMAINDER};
 use crate::model::{CHECK, INQUIRY, RELEASE, REQUEST, RESPONSE, YIELD};
-use crate::players::{NEW, OLD};
+use crate::players::{NEW, OLD, WIDE};
 use crate::random::Random;
 
 /// The words of a message, and which call it is for: 0 is the message's own.
@@ -55,7 +55,8 @@ impl Crowd {
     }
 }
 
-/// The next event of a kiosk's history. `favour` of 10 answers name this kiosk with its ticket.
+/// The next event of a kiosk's history. `favour` of 10 answers name this kiosk with its ticket. Tickets are near the kiosk's own, and
+/// now and then near the largest that it has seen, or far above both.
 pub fn kiosk_event(r: &mut Random, kiosk: &Kiosk, favour: u64) -> Drawn {
     let call = match (kiosk.section, r.below(12)) {
         (_, 0) => 1 + r.below(2) as usize,
@@ -69,8 +70,9 @@ pub fn kiosk_event(r: &mut Random, kiosk: &Kiosk, favour: u64) -> Drawn {
     let empty = (any..any + n).map(|j| j % n).find(|&j| kiosk.answers[j].is_none());
     let keeper = 1 + if r.below(3) == 0 { any } else { empty.unwrap_or(any) } as u32;
     let other = r.one_of(&[kiosk.id, 1, 2, 300, 65_535, kiosk.id ^ 1]).max(1);
-    let near = kiosk.ticket.saturating_add(2).saturating_sub(r.below(6) as u32);
-    let ticket = r.one_of(&[kiosk.ticket, near]).max(1);
+    let from = if r.below(8) == 0 { kiosk.seen.unwrap_or(0) } else { kiosk.ticket };
+    let near = from.saturating_add(2).saturating_sub(r.below(6) as u32);
+    let ticket = if r.below(100) == 0 { far_ticket(r, kiosk.ticket) } else { r.one_of(&[kiosk.ticket, near]) }.max(1);
     let message = if r.below(8) == 0 {
         [CHECK, kiosk.id, keeper, ticket, 0]
     } else if r.below(10) < favour && kiosk.ticket > 0 {
@@ -88,6 +90,22 @@ pub fn first_ticket(r: &mut Random) -> u32 {
     r.one_of(&[0, 0, 1, 65_535, u32::MAX - 12, u32::MAX - 3, u32::MAX - 2, u32::MAX - 1, u32::MAX])
 }
 
+/// What a kiosk may have seen before: any number is valid in any section.
+pub fn first_seen(r: &mut Random, ticket: u32) -> u32 {
+    let any = first_ticket(r);
+    r.one_of(&[0, 0, ticket.saturating_sub(1), ticket, ticket.saturating_add(1), ticket.saturating_add(40), any])
+}
+
+/// Mostly some way above this one; seldom one of those behind which there are no tickets left.
+fn far_ticket(r: &mut Random, ticket: u32) -> u32 {
+    let above = ticket.saturating_add(10 + r.below(1000) as u32);
+    if r.below(8) == 0 {
+        u32::MAX - r.below(4) as u32
+    } else {
+        above
+    }
+}
+
 /// A word to put in the place of a good one: at the limits of both generations and around them.
 pub fn damage(r: &mut Random, word: u32) -> u32 {
     let any = r.next() as u32;
@@ -103,7 +121,8 @@ pub fn damage(r: &mut Random, word: u32) -> u32 {
 
 /// The lengths of all records, and those around them.
 fn other_length(r: &mut Random) -> usize {
-    let records = [OLD.keeper_words(), OLD.kiosk_words(), NEW.keeper_words(), NEW.kiosk_words()];
+    let kiosks = [OLD, WIDE, NEW].map(|players| players.kiosk_words());
+    let records = [&kiosks[..], &[OLD.keeper_words(), NEW.keeper_words()]].concat();
     let near = r.one_of(&records) + 1 - r.below(3) as usize;
     let any = r.below(530) as usize;
     r.one_of(&[0, 1, near, near, near, any])
@@ -112,23 +131,25 @@ fn other_length(r: &mut Random) -> usize {
 /// Damages a few words, mostly near the front; swaps two places; puts another pair in a place, or in words 2 and 3, a
 /// keeper's owner; or makes it too short or too long.
 pub fn damage_record(r: &mut Random, record: &mut Vec<u32>) {
-    let places = (record.len() as u64 - 5) / 2;
+    // Two words to a place: only a kiosk's record that says what was seen has six words in front of them.
+    let head = if record.len() % 2 == 0 { NEW.kiosk_head() } else { WIDE.kiosk_head() };
+    let places = (record.len() - head) as u64 / 2;
     match r.below(8) {
         0 => record.resize(other_length(r), 0),
         1 | 2 => {
-            let (a, b) = (5 + 2 * r.below(places) as usize, 5 + 2 * r.below(places.min(4)) as usize);
+            let (a, b) = (head + 2 * r.below(places) as usize, head + 2 * r.below(places.min(4)) as usize);
             record.swap(a, b);
             record.swap(a + 1, b + 1);
         }
         3 => {
-            let at = if r.below(3) == 0 { 2 } else { 5 + 2 * r.below(places) as usize };
+            let at = if r.below(3) == 0 { 2 } else { head + 2 * r.below(places) as usize };
             let any = 1 + r.below(40) as u32;
             let other = r.one_of(&[[0, 0], [record[2], record[4]], [record[2], record[3]], [any, 3]]);
             record[at..at + 2].copy_from_slice(&other);
         }
         _ => {
             for _ in 0..=r.below(2) {
-                let within = r.one_of(&[5, 5, 12, record.len() as u64]);
+                let within = r.one_of(&[5, 6, 12, record.len() as u64]);
                 let at = r.below(within) as usize;
                 record[at] = damage(r, record[at]);
             }

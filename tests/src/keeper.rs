@@ -2,7 +2,7 @@
 
 use crate::fault::Fault;
 use crate::model::{Message, CHECK, INQUIRY, RELEASE, REQUEST, RESPONSE, YIELD};
-use crate::players::{saved_by, Players, NEW};
+use crate::players::{Players, NEW};
 use crate::records::{hand_over, number_of, pair, place, places, words_of, Pair};
 
 /// n, the keeper's number, owner, the owner's ticket, the line's length, then kiosk and ticket of each place.
@@ -213,7 +213,7 @@ pub fn check(record: &mut [u32], out: &mut [u8], sent: &mut [u32]) -> u32 {
 
 /// "A saved record, unless broken (21), is taken over with its line .. in front, the other places empty." Then 6 without room.
 pub fn upgrade(saved: &[u32], record: &mut [u32]) -> u32 {
-    let keeper = saved_by(saved, Players::keeper_words).and_then(|players| Keeper::read(players, saved));
+    let keeper = NEW.saved_by(saved, Players::keeper_words).and_then(|players| Keeper::read(players, saved));
     number_of(keeper.and_then(|keeper| {
         keeper.put(record.get_mut(..WORDS).ok_or(6u32)?);
         Ok(())

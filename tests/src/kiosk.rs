@@ -1,11 +1,11 @@
-//! The kiosk: document 01, 'The kiosk', and Figure 1, lines 1 to 25; and its saved record, document 02, L3.
+//! The kiosk: document 01, 'The kiosk', and Figure 1, lines 1 to 25; its tickets, document 02, L4; and its saved record, L3 and L4.
 
 use crate::fault::Fault;
 use crate::model::{Message, CHECK, INQUIRY, RELEASE, REQUEST, RESPONSE, YIELD};
-use crate::players::{saved_by, Players, NEW};
-use crate::records::{hand_over, number_of, pair, place, places, words_of, Pair};
+use crate::players::{Players, NEW};
+use crate::records::{self, hand_over, number_of, pair, place, words_of, Pair};
 
-/// n, m, the kiosk's number, section, ticket, then kiosk and ticket of the answer in each keeper's place.
+/// n, m, the kiosk's number, section, ticket, the largest ticket seen, then kiosk and ticket of the answer in each keeper's place.
 pub const WORDS: usize = NEW.kiosk_words();
 
 pub const REMAINDER: u32 = 0;
@@ -19,6 +19,8 @@ pub struct Kiosk {
     pub id: u32,
     pub section: u32,
     pub ticket: u32,
+    /// "the largest ticket it has seen in any accepted RESPONSE or CHECK", 0 at the start; of players without a clock, nothing.
+    pub seen: Option<u32>,
     /// The places of keepers 1 to n.
     pub answers: Vec<Option<Pair>>,
 }
@@ -30,20 +32,23 @@ fn empty(n: u32) -> Vec<Option<Pair>> {
 impl Kiosk {
     pub fn new(players: Players, n: u32, m: u32, id: u32) -> Result<Kiosk, u32> {
         if (1..=players.keepers).contains(&n) && (1..=n).contains(&m) && (1..=65_535).contains(&id) {
-            Ok(Kiosk { n, m, id, section: REMAINDER, ticket: 0, answers: empty(n) })
+            let seen = players.clock.then_some(0);
+            Ok(Kiosk { n, m, id, section: REMAINDER, ticket: 0, seen, answers: empty(n) })
         } else {
             Err(7)
         }
     }
 
-    /// The record in these words, or 21 if they are broken.
+    /// The record in these words, or 21 if they are broken. What was seen may be any word.
     pub fn read(players: Players, words: &[u32]) -> Result<Kiosk, u32> {
         if words.len() != players.kiosk_words() {
             return Err(21);
         }
         let new = Kiosk::new(players, words[0], words[1], words[2]).map_err(|_| 21u32)?;
-        let (answers, past) = words[5..].split_at(2 * new.n as usize);
-        let kiosk = Kiosk { section: words[3], ticket: words[4], answers: places(answers)?, ..new };
+        let (head, places) = words.split_at(players.kiosk_head());
+        let (answers, past) = places.split_at(2 * new.n as usize);
+        let kiosk =
+            Kiosk { section: head[3], ticket: head[4], seen: head.get(5).copied(), answers: records::places(answers)?, ..new };
         let past = past.iter().any(|&word| word != 0);
         let old = kiosk.answers.iter().flatten().any(|p| p.kiosk == kiosk.id && p.ticket != kiosk.ticket);
         let ticket = (1..u32::MAX).contains(&kiosk.ticket);
@@ -63,7 +68,14 @@ impl Kiosk {
     /// The answers stand in front, and the places past keeper n are empty.
     pub fn put(&self, words: &mut [u32]) {
         words[..5].copy_from_slice(&[self.n, self.m, self.id, self.section, self.ticket]);
-        let (answers, past) = words[5..].split_at_mut(2 * self.answers.len());
+        let places = match self.seen {
+            Some(seen) => {
+                words[5] = seen;
+                &mut words[6..]
+            }
+            None => &mut words[5..],
+        };
+        let (answers, past) = places.split_at_mut(2 * self.answers.len());
         for (place, &p) in answers.chunks_mut(2).zip(&self.answers) {
             place.copy_from_slice(&words_of(p));
         }
@@ -97,20 +109,22 @@ impl Kiosk {
         (1..=self.n).map(|keeper| self.to(kind, keeper, ticket)).collect()
     }
 
-    /// The document's try.
+    /// The document's try: "one more than the larger of the kiosk's last ticket and the largest ticket it has seen".
     pub fn try_wall(&mut self) -> Result<Vec<Message>, u32> {
         if self.section != REMAINDER {
             return Err(10);
         }
-        if self.ticket > 4_294_967_293 {
+        let larger = self.ticket.max(self.seen.unwrap_or(0));
+        if larger > 4_294_967_293 {
             return Err(11);
         }
-        self.ticket += 1;
+        self.ticket = larger + 1;
         self.answers = empty(self.n);
         self.section = TRYING;
         Ok(self.to_all(REQUEST, self.ticket))
     }
 
+    /// "the exit still takes last plus one", whatever was seen.
     pub fn exit(&mut self) -> Result<Vec<Message>, u32> {
         if self.section != HOLDING {
             return Err(10);
@@ -130,6 +144,8 @@ impl Kiosk {
         if ![RESPONSE, CHECK].contains(&m.kind) || m.kiosk != self.id || m.keeper > self.n {
             return Err(12);
         }
+        // In any section, and whatever becomes of it.
+        self.seen = self.seen.map(|seen| seen.max(m.ticket));
         if m.kind == CHECK {
             let over = m.ticket != self.ticket;
             return Ok(over.then(|| self.to(RELEASE, m.keeper, m.ticket)).into_iter().collect());
@@ -208,6 +224,14 @@ impl Players {
         self.kiosk_step(record, out, sent, Kiosk::exit)
     }
 
+    pub fn kiosk_upgrade(self, saved: &[u32], record: &mut [u32]) -> u32 {
+        let kiosk = self.saved_by(saved, Players::kiosk_words).and_then(|players| Kiosk::read(players, saved));
+        number_of(kiosk.and_then(|kiosk| {
+            kiosk.taken_over(self).put(record.get_mut(..self.kiosk_words()).ok_or(6u32)?);
+            Ok(())
+        }))
+    }
+
     pub fn kiosk_takes(self, record: &mut [u32], message: &[u32], out: &mut [u8], sent: &mut [u32]) -> u32 {
         self.kiosk_step(record, out, sent, |kiosk| kiosk.message(&self.message_of(message)?))
     }
@@ -229,11 +253,14 @@ pub fn message(record: &mut [u32], message: &[u32], out: &mut [u8], sent: &mut [
     NEW.kiosk_takes(record, message, out, sent)
 }
 
+impl Kiosk {
+    /// The kiosk as these players have it: its answers in front; what has seen nothing before has seen 0.
+    pub fn taken_over(self, players: Players) -> Kiosk {
+        Kiosk { seen: players.clock.then_some(self.seen.unwrap_or(0)), ..self }
+    }
+}
+
 /// "A saved record, unless broken (21), is taken over with its .. answers in front, the other places empty." Then 6 without room.
 pub fn upgrade(saved: &[u32], record: &mut [u32]) -> u32 {
-    let kiosk = saved_by(saved, Players::kiosk_words).and_then(|players| Kiosk::read(players, saved));
-    number_of(kiosk.and_then(|kiosk| {
-        kiosk.put(record.get_mut(..WORDS).ok_or(6u32)?);
-        Ok(())
-    }))
+    NEW.kiosk_upgrade(saved, record)
 }

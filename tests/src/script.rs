@@ -2,6 +2,7 @@
 
 use crate::fault::Fault;
 use crate::gallery::{Event, Gallery, Kind, GALLERY};
+use crate::players::{Players, NEW};
 use crate::setting::Setting;
 
 /// Bytes of a line before its newline.
@@ -67,11 +68,11 @@ pub fn line_of(event: Event) -> String {
 /// What is added behind an event's line, and behind the last one.
 type Shown<'a> = &'a dyn Fn(&Gallery) -> String;
 
-/// The program's output, or the refusal of the first line.
-fn output(script: &[u8], fault: Fault, each: Shown, last: Shown) -> Result<String, u32> {
+/// The program's output with kiosks of these players, or the refusal of the first line.
+fn output(script: &[u8], players: Players, fault: Fault, each: Shown, last: Shown) -> Result<String, u32> {
     let mut lines = lines(script);
     let [n, m, f, kiosks] = first(lines.next().ok_or(16u32)?)?;
-    let mut gallery = Gallery::new(Setting::new(n, m, f)?, kiosks, GALLERY)?.with(fault);
+    let mut gallery = Gallery::of(players, Setting::new(n, m, f)?, kiosks, GALLERY)?.with(fault);
     let mut out = format!("gallery {n} {m} {f} {kiosks}\n");
     let mut any = false;
     for (line, number) in lines.take(EVENTS).zip(1..) {
@@ -89,18 +90,28 @@ fn output(script: &[u8], fault: Fault, each: Shown, last: Shown) -> Result<Strin
     Ok(out)
 }
 
+fn printed(output: Result<String, u32>) -> Vec<u8> {
+    output.unwrap_or_else(|refusal| format!("no {refusal}\n")).into_bytes()
+}
+
 pub fn run(script: &[u8]) -> Vec<u8> {
     run_with(script, Fault::None)
 }
 
 pub fn run_with(script: &[u8], fault: Fault) -> Vec<u8> {
     let nothing = |_: &Gallery| String::new();
-    output(script, fault, &nothing, &nothing).unwrap_or_else(|refusal| format!("no {refusal}\n")).into_bytes()
+    printed(output(script, NEW, fault, &nothing, &nothing))
+}
+
+/// As the program of these players' time printed it.
+pub fn run_by(players: Players, script: &[u8]) -> Vec<u8> {
+    let nothing = |_: &Gallery| String::new();
+    printed(output(script, players, Fault::None, &nothing, &nothing))
 }
 
 /// The same, with what is told of the gallery behind each event's line, or behind the last one only.
 pub fn run_telling(script: &[u8], told: &dyn Fn(&Gallery) -> String, only_last: bool) -> Vec<u8> {
     let nothing = |_: &Gallery| String::new();
     let (each, last): (Shown, Shown) = if only_last { (&nothing, told) } else { (told, &nothing) };
-    output(script, Fault::None, each, last).unwrap_or_else(|refusal| format!("no {refusal}\n")).into_bytes()
+    printed(output(script, NEW, Fault::None, each, last))
 }

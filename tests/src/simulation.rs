@@ -10,8 +10,8 @@ use crate::script::line_of;
 use crate::setting::Setting;
 use crate::{index, library};
 
-/// How records stand in these words: with places for a gallery's keepers and kiosks, as before document 02, L3.
-pub const FORM: Players = OLD;
+/// How records stand in these words: with places for a gallery's keepers and kiosks, as before document 02, L3, and a kiosk's clock.
+pub const FORM: Players = Players { clock: true, ..OLD };
 /// n, m, f, the kiosks, the messages kept, the last message's number, the most keepers down within an epoch.
 pub const HEAD: usize = 7;
 /// 1 for a kiosk that lives, its record, and for each keeper 1 if it was ever down in the epoch.

@@ -118,10 +118,15 @@ fn drop_taken(gallery: &mut Gallery) {
     taken.into_iter().for_each(|number| give(gallery, Kind::Drop, number));
 }
 
-/// Kiosk 1 holds the wall, all others wait in the lines of all keepers, and their answers are under way. Then some are read,
-/// some keepers go down, some kiosks fall, and checks fill the last places.
+/// Kiosk 1 has had some turns and holds the wall, all others wait in the lines of all keepers, and their answers are under way. Then
+/// some are read, some keepers go down, some kiosks fall, and checks fill the last places.
 fn crowded(n: u32, m: u32, kiosks: u32, r: &mut Random) -> Gallery {
     let mut gallery = Gallery::new(Setting { n, m, f: 0 }, kiosks, GALLERY).expect("in range");
+    for kind in [Kind::Try, Kind::Exit].repeat(r.below(4) as usize) {
+        give(&mut gallery, kind, 1);
+        while take_first(&mut gallery, |_| true) {}
+        drop_taken(&mut gallery);
+    }
     for kiosk in 1..=kiosks.into() {
         give(&mut gallery, Kind::Try, kiosk);
         while take_first(&mut gallery, |kept| kept.message.kind < RESPONSE || kiosk == 1) {
@@ -198,6 +203,9 @@ fn the_galleries_have_what_can_be_damaged() {
     kiosk(|c| !c.living && c.record.section == TRYING);
     kiosk(|c| !c.living && c.record.section == HOLDING);
     kiosk(|c| c.epoch.as_ref().is_some_and(|down| down.len() > 1));
+    kiosk(|c| c.record.seen == Some(0) && c.record.ticket > 0);
+    kiosk(|c| c.record.seen > Some(1) && c.record.seen < Some(c.record.ticket));
+    kiosk(|c| c.record.seen > Some(c.record.ticket));
 }
 
 // Each rule broken by itself --------------------------------------------------------------------------------------------------
@@ -210,8 +218,13 @@ fn kiosk_word(place: usize, word: usize) -> usize {
     client_at(place) + 1 + word
 }
 
+/// The largest ticket seen, behind the kiosk's own.
+fn seen_at(place: usize) -> usize {
+    kiosk_word(place, 5)
+}
+
 fn answer_at(place: usize, keeper: usize) -> usize {
-    kiosk_word(place, 5 + 2 * keeper)
+    kiosk_word(place, 6 + 2 * keeper)
 }
 
 fn keeper_word(place: usize, word: usize) -> usize {
@@ -449,7 +462,8 @@ const KIOSK_BREAKS: &[(&str, &[Rule], Break)] = &[
         Some([set(flags_at(k) + s.n as usize, &[1, LAST]), set(client_at(k + 1) - 1, &[1])].concat())
     }),
     ("a word behind the kiosks", &[Rule::Blank], |s| {
-        (s.kiosks < 16).then(|| [client_at(s.kiosks as usize), server_at(0) - 1].iter().flat_map(|&at| set(at, &[1])).collect())
+        let first = s.kiosks as usize;
+        (first < 16).then(|| [client_at(first), seen_at(first), server_at(0) - 1].iter().flat_map(|&at| set(at, &[1])).collect())
     }),
 ];
 
@@ -874,6 +888,7 @@ const EDGES: &[(&str, Break)] = &[
         let k = s.kiosk(|c| c.record.section == TRYING && !c.record.answers.contains(&Some(c.record.pair())))?;
         Some(set(kiosk_word(k, 4), &[1, LAST - 1]))
     }),
+    ("anything seen, in any section", |s| { let k = s.kiosk(|_| true)?; Some(set(seen_at(k), &[0, 1, LAST - 2, LAST - 1, LAST])) }),
     ("the last ticket while holding", |s| {
         let k = s.kiosk(in_section(HOLDING))?;
         let filled = (0..s.n as usize).filter(|&j| s.gallery.clients[k].record.answers[j].is_some());
@@ -957,7 +972,7 @@ fn any_place(words: &[u32], r: &mut Random) -> usize {
     match r.below(13) {
         0 => r.below(WORDS as u64) as usize,
         1 | 2 => r.below(7) as usize,
-        3..=5 => client_at(r.below(kiosks) as usize) + within(CLIENT, 6 + 2 * n, r),
+        3..=5 => client_at(r.below(kiosks) as usize) + within(CLIENT, 7 + 2 * n, r),
         6 => flags_at(r.below(kiosks) as usize) + r.below(n) as usize,
         7..=9 => server_at(r.below(n) as usize) + within(SERVER, 12, r),
         10 | 11 => slot_at(r.below(kept.max(1)) as usize) + r.below(SLOT as u64) as usize,

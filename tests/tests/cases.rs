@@ -1,5 +1,5 @@
 //! The cases of document 01 about kiosk and keeper, at document 02's limits. Records and messages are written out from their
-//! text; library and model must both give them.
+//! text; library and model must both give them. The tickets that a kiosk has seen have cases of their own, in clock.rs.
 
 use sigma_tests::both::{compare, Event, Outcome, ROOM};
 use sigma_tests::model::{CHECK, INQUIRY, RELEASE, REQUEST, RESPONSE, YIELD};
@@ -11,9 +11,11 @@ const TRYING: u32 = 1;
 const HOLDING: u32 = 2;
 const LAST: u32 = 4_294_967_295;
 
-/// The words of the two records: five, then two for each of 32 places of a line, and of 255 answers.
+/// The words of the two records: five, then two for each of 32 places of a line; six, then two for each of 255 answers.
 const KEEPER: usize = 69;
-const KIOSK: usize = 515;
+const KIOSK: usize = 516;
+/// Where a kiosk's record has the largest ticket seen.
+const SEEN: usize = 5;
 
 /// Keeper 1 of 4.
 fn keeper(owner: [u32; 2], line: &[[u32; 2]]) -> [u32; KEEPER] {
@@ -23,11 +25,11 @@ fn keeper(owner: [u32; 2], line: &[[u32; 2]]) -> [u32; KEEPER] {
     words
 }
 
-/// Kiosk 5 with n 4 and m 3, and the answers of its four keepers.
+/// Kiosk 5 with n 4 and m 3, and the answers of its four keepers. It has seen nothing.
 fn kiosk(section: u32, ticket: u32, answers: [[u32; 2]; 4]) -> [u32; KIOSK] {
     let mut words = [0; KIOSK];
     words[..5].copy_from_slice(&[4, 3, 5, section, ticket]);
-    words[5..13].copy_from_slice(answers.as_flattened());
+    words[6..14].copy_from_slice(answers.as_flattened());
     words
 }
 
@@ -54,7 +56,16 @@ fn to(kind: u32, keeper: u32, ticket: u32) -> [u32; 5] {
     [kind, 5, keeper, ticket, 0]
 }
 
+/// The record behind an event: what a kiosk takes it has seen.
+fn seen<const W: usize>(before: &[u32; W], event: Event, after: [u32; W]) -> [u32; W] {
+    match event {
+        Event::KioskTakes(message) => with(after, &[(SEEN, before[SEEN].max(message[3]))]),
+        _ => after,
+    }
+}
+
 fn accepted<const W: usize>(before: [u32; W], event: Event, after: [u32; W], messages: &[[u32; 5]]) {
+    let after = seen(&before, event, after);
     let outcome = compare(event, &before, ROOM, 2, 0x77);
     assert_eq!(outcome.number, 0, "{event:?} on {before:?}");
     assert_eq!(outcome.record(), after, "{event:?}");
@@ -143,7 +154,7 @@ fn new_records() {
         assert_eq!(library::server_new(4, 1, &mut words[..length]), 7);
         assert_eq!(keeper::new(4, 1, &mut words[..length]), 7);
     }
-    for length in [0, 67, KIOSK - 1] {
+    for length in [0, 67, 514, KIOSK - 1] {
         assert_eq!(library::client_new(4, 3, 5, &mut words[..length]), 7);
         assert_eq!(kiosk::new(4, 3, 5, &mut words[..length]), 7);
     }
@@ -333,7 +344,7 @@ fn after_a_round() {
         let outcome = compare(Event::KioskTakes(&message), &record, ROOM, 2, 0);
         record.copy_from_slice(outcome.record());
     }
-    assert_eq!(record, kiosk(TRYING, 3, [NONE, NONE, own, own]));
+    assert_eq!(record, with(kiosk(TRYING, 3, [NONE, NONE, own, own]), &[(SEEN, 3)]));
     accepted(record, Event::KioskTakes(&answer(1, own)), kiosk(HOLDING, 3, [own, NONE, own, own]), &[]);
 }
 
@@ -343,7 +354,7 @@ fn after_a_round() {
 fn every_keeper_there_is() {
     let largest = |section, ticket, answers: &[[u32; 2]]| {
         let mut words = with([0; KIOSK], &[(0, 255), (1, 255), (2, 5), (3, section), (4, ticket)]);
-        words[5..5 + 2 * answers.len()].copy_from_slice(answers.as_flattened());
+        words[6..6 + 2 * answers.len()].copy_from_slice(answers.as_flattened());
         words
     };
     let all = |kind| (1..=255).map(|keeper| to(kind, keeper, 3)).collect::<Vec<_>>();
@@ -510,28 +521,28 @@ fn broken_kiosks() {
         with(remainder, &[(2, 65_536 + 5)]),
         with(remainder, &[(3, 3)]),
         with(remainder, &[(3, LAST)]),
-        with(trying, &[(7, 65_536)]),
-        with(trying, &[(7, 0)]),
+        with(trying, &[(8, 65_536)]),
         with(trying, &[(8, 0)]),
+        with(trying, &[(9, 0)]),
         // a place past keeper n
-        with(trying, &[(7, 0), (8, 0), (13, 9), (14, 1)]),
-        with(trying, &[(7, 0), (8, 0), (65, 9), (66, 1)]),
-        with(trying, &[(7, 0), (8, 0), (67, 9), (68, 1)]),
-        with(trying, &[(7, 0), (8, 0), (513, 9), (514, 1)]),
+        with(trying, &[(8, 0), (9, 0), (14, 9), (15, 1)]),
+        with(trying, &[(8, 0), (9, 0), (66, 9), (67, 1)]),
+        with(trying, &[(8, 0), (9, 0), (68, 9), (69, 1)]),
+        with(trying, &[(8, 0), (9, 0), (514, 9), (515, 1)]),
         // trying with m places filled, or more
-        with(trying, &[(9, 9), (10, 1)]),
-        with(trying, &[(9, 9), (10, 1), (11, 9), (12, 1)]),
+        with(trying, &[(10, 9), (11, 1)]),
+        with(trying, &[(10, 9), (11, 1), (12, 9), (13, 1)]),
         with(holding, &[(3, TRYING)]),
         // holding with other than m places filled, or one not its own
-        with(holding, &[(9, 0), (10, 0)]),
-        with(holding, &[(11, 5), (12, 3)]),
-        with(holding, &[(9, 9)]),
+        with(holding, &[(10, 0), (11, 0)]),
+        with(holding, &[(12, 5), (13, 3)]),
+        with(holding, &[(10, 9)]),
         // a place filled in remainder
-        with(remainder, &[(5, 9), (6, 1)]),
+        with(remainder, &[(6, 9), (7, 1)]),
         with(holding, &[(3, REMAINDER)]),
         // an own answer with another ticket
-        with(trying, &[(6, 2)]),
-        with(holding, &[(6, 4)]),
+        with(trying, &[(7, 2)]),
+        with(holding, &[(7, 4)]),
         with(holding, &[(4, 4)]),
         // trying or holding with ticket 0 or the last
         kiosk(TRYING, 0, NO_ANSWERS),
@@ -539,7 +550,8 @@ fn broken_kiosks() {
         kiosk(HOLDING, LAST, [[5, LAST], [5, LAST], [5, LAST], NONE]),
     ];
     let check = to(CHECK, 1, 3);
-    for record in broken {
+    // Whatever the kiosk has seen.
+    for record in [0, 3, LAST].into_iter().flat_map(|seen| broken.map(|record| with(record, &[(SEEN, seen)]))) {
         for event in [Event::Try, Event::Exit, Event::KioskTakes(&check), Event::KioskTakes(&[])] {
             refused(&record, event, 0, 0, 21);
         }
@@ -550,6 +562,7 @@ fn broken_kiosks() {
     for event in [Event::Try, Event::Exit, Event::KioskTakes(&check)] {
         refused(&remainder[..KIOSK - 1], event, ROOM, 2, 21);
         refused(&remainder[..67], event, ROOM, 2, 21);
+        refused(&remainder[..515], event, ROOM, 2, 21);
         refused(&[remainder.as_slice(), &[0]].concat(), event, ROOM, 2, 21);
         refused(&[], event, ROOM, 2, 21);
     }

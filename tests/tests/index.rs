@@ -57,7 +57,7 @@ impl Both {
 #[test]
 fn how_many_words() {
     assert_eq!((RECEIVERS, index::NUMBERS, index::MARKS, index::WORDS), (47, 47, 559, 1071));
-    assert_eq!((INDEX, WORDS, 4 * WORDS, STATE + WORDS), (6353, 7424, 29_696, 7470));
+    assert_eq!((INDEX, WORDS, 4 * WORDS, STATE + WORDS), (6369, 7440, 29_760, 7486));
 }
 
 #[test]

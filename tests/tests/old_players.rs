@@ -1,13 +1,13 @@
-//! Old players beside new ones, document 02, L3: a message with keeper 32 to 255 is refused 5 by the model at document 01's limits
-//! wherever the model at the new ones accepts it, and nothing else tells the two apart but a full line of 16. The
-//! library agrees with the new one.
+//! Old players beside new ones, document 02, L3 and L4: a message with keeper 32 to 255 is refused 5 by the model at document 01's
+//! limits wherever the model at the new ones accepts it, and nothing else tells the two apart but a full line of 16, and the ticket
+//! of a try where a kiosk has seen a larger one than its last. The library agrees with the new one.
 
-use sigma_tests::both::{compare, played, Event};
-use sigma_tests::histories::{damage, first_ticket, kiosk_event, to_keeper, to_kiosk, Crowd};
+use sigma_tests::both::{compare, played, Event, ROOM};
+use sigma_tests::histories::{damage, first_seen, first_ticket, kiosk_event, to_keeper, to_kiosk, Crowd};
 use sigma_tests::keeper::Keeper;
-use sigma_tests::kiosk::Kiosk;
-use sigma_tests::model::{CHECK, RESPONSE};
-use sigma_tests::players::{NEW, OLD};
+use sigma_tests::kiosk::{Kiosk, REMAINDER, TRYING};
+use sigma_tests::model::{CHECK, REQUEST, RESPONSE};
+use sigma_tests::players::{Players, NEW, OLD, WIDE};
 use sigma_tests::random::Random;
 use sigma_tests::samples::{bytes_of, random_message};
 use sigma_tests::{keeper, kiosk, library};
@@ -174,27 +174,45 @@ fn packets_with_an_added_keeper() {
     }
 }
 
-/// The event by old players on their record, and by the library and the new ones on the same record, taken over. What the old ones
-/// accept the new ones do alike; a message to an added keeper is 5 to the old ones, and 12 or 13 to the new ones, or 5 for its
-/// other numbers. Only a full line of 16 tells them apart otherwise. Both answers.
-fn step(event: Event, old: &mut [u32], upgrade: fn(&[u32], &mut [u32]) -> u32) -> (u32, u32) {
+/// An old record as new players have it; a kiosk has seen this since.
+fn taken(old: &[u32], seen: u32) -> Vec<u32> {
+    let keeper = old.len() == OLD.keeper_words();
+    let mut record = vec![0; if keeper { NEW.keeper_words() } else { NEW.kiosk_words() }];
+    assert_eq!(if keeper { keeper::upgrade } else { kiosk::upgrade }(old, &mut record), 0);
+    if !keeper {
+        record[5] = seen;
+    }
+    record
+}
+
+/// The event by old players on their record, and by the library and the new ones on the same record, taken over, with this seen since.
+/// What the old ones accept the new ones do alike; a message to an added keeper is 5 to the old ones, and 12 or 13 to the new ones, or
+/// 5 for its other numbers. Only a full line of 16, and a try below what was seen, tells them apart otherwise. Both answers.
+fn step(players: Players, event: Event, old: &mut [u32], seen: u32) -> (u32, u32) {
     let before = old.to_vec();
-    let mut record = vec![0; if old.len() == OLD.keeper_words() { NEW.keeper_words() } else { NEW.kiosk_words() }];
-    assert_eq!(upgrade(old, &mut record), 0);
-    let (outcome, answer) = (compare(event, &record, 12 * 31 + 2, 2, 0x3C), played(OLD, event, old));
+    let (outcome, answer) = (compare(event, &taken(old, seen), ROOM, 2, 0x3C), played(players, event, old));
     let answers = (answer.as_ref().err().copied().unwrap_or(0), outcome.number);
-    let message = match event {
-        Event::KeeperTakes(message) | Event::KioskTakes(message) => message,
-        _ => &[],
+    let (message, looked_at) = match event {
+        Event::KeeperTakes(message) => (message, 0),
+        Event::KioskTakes(message) => (message, if outcome.number == 0 { message[3] } else { 0 }),
+        _ => (&[][..], 0),
     };
-    if message.get(2).is_some_and(|keeper| ADDED.contains(keeper)) {
+    let added = |keeper: &u32| ADDED.contains(keeper) && players == OLD;
+    if message.get(2).is_some_and(added) {
         assert!(answers.0 == 5 && [5, 12, 13].contains(&answers.1), "{event:?} on {before:?}: {answers:?}");
+    } else if matches!(event, Event::Try) && before[3] == REMAINDER && seen > before[4] {
+        assert_eq!(outcome.number, if seen > 4_294_967_293 { 11 } else { 0 }, "{before:?}, seen {seen}");
+        if let (Ok(messages), 0) = (answer, outcome.number) {
+            let readdressed = |m: [u32; 5]| [m[0], m[1], m[2], seen + 1, m[4]];
+            assert_eq!(outcome.messages(), messages.into_iter().map(readdressed).collect::<Vec<_>>(), "{before:?}, seen {seen}");
+            old[4] = seen + 1;
+            assert_eq!(outcome.record(), taken(old, seen), "{before:?}, seen {seen}");
+        }
     } else if answers.0 != answers.1 {
         assert_eq!((answers, before[4]), ((14, 0), 16), "{event:?} on {before:?}");
     } else if let Ok(messages) = answer {
         assert_eq!(outcome.messages(), messages, "{event:?} on {before:?}");
-        assert_eq!(upgrade(old, &mut record), 0);
-        assert_eq!(outcome.record(), record, "{event:?} on {before:?}");
+        assert_eq!(outcome.record(), taken(old, seen.max(looked_at)), "{event:?} on {before:?}");
     }
     answers
 }
@@ -227,8 +245,8 @@ fn steps_of_old_keepers() {
         for _ in 0..150 {
             let (message, call) = crowd.event(&mut r, &Keeper::read(OLD, &record).expect("valid"));
             let changed = readdressed(&message, &mut r);
-            *met.entry(step(Event::KeeperTakes(&changed), &mut record.clone(), keeper::upgrade)).or_default() += 1;
-            *met.entry(step(to_keeper(call, &message), &mut record, keeper::upgrade)).or_default() += 1;
+            *met.entry(step(OLD, Event::KeeperTakes(&changed), &mut record.clone(), 0)).or_default() += 1;
+            *met.entry(step(OLD, to_keeper(call, &message), &mut record, 0)).or_default() += 1;
         }
     }
     println!("{met:?}");
@@ -236,26 +254,65 @@ fn steps_of_old_keepers() {
     assert!(met.keys().eq(&answers) && met.values().all(|&times| times > 500), "{met:?}");
 }
 
-#[test]
-fn steps_of_old_kiosks() {
-    let (mut r, mut met) = (Random::new(33), Met::new());
+/// A kiosk without a clock, of either limits: beside each event the new one has seen something else.
+fn steps_of_kiosks(players: Players, seed: u64, answers: &[(u32, u32)]) {
+    let (mut r, mut met) = (Random::new(seed), Met::new());
     for _ in 0..1_000 {
-        let any = 1 + r.below(31) as u32;
+        let any = 1 + r.below(players.keepers.into()) as u32;
         let n = r.one_of(&[3, 31, any]);
-        let mut record = vec![0; OLD.kiosk_words()];
-        assert_eq!(OLD.kiosk_new(n, n - n / 3, r.one_of(&[1, 5, 65_535]), &mut record), 0);
+        let mut record = vec![0; players.kiosk_words()];
+        assert_eq!(players.kiosk_new(n, n - n / 3, r.one_of(&[1, 5, 65_535]), &mut record), 0);
         record[4] = first_ticket(&mut r);
         let favour = r.one_of(&[0, 5, 10]);
         for _ in 0..150 {
-            let (message, call) = kiosk_event(&mut r, &Kiosk::read(OLD, &record).expect("valid"), favour);
-            let changed = readdressed(&message, &mut r);
-            *met.entry(step(Event::KioskTakes(&changed), &mut record.clone(), kiosk::upgrade)).or_default() += 1;
-            *met.entry(step(to_kiosk(call, &message), &mut record, kiosk::upgrade)).or_default() += 1;
+            let (message, call) = kiosk_event(&mut r, &Kiosk::read(players, &record).expect("valid"), favour);
+            let (changed, seen) = (readdressed(&message, &mut r), first_seen(&mut r, record[4]));
+            *met.entry(step(players, Event::KioskTakes(&changed), &mut record.clone(), seen)).or_default() += 1;
+            *met.entry(step(players, to_kiosk(call, &message), &mut record, seen)).or_default() += 1;
         }
     }
     println!("{met:?}");
-    let answers = [(0, 0), (5, 5), (5, 12), (10, 10), (11, 11), (12, 12)];
-    assert!(met.keys().eq(&answers) && met.values().all(|&times| times > 500), "{met:?}");
+    assert!(met.keys().eq(answers) && met.values().all(|&times| times > 100), "{met:?}");
+}
+
+/// Where the new one has no tickets left above what it has seen, the old one goes on trying: (0, 11).
+#[test]
+fn steps_of_old_kiosks() {
+    steps_of_kiosks(OLD, 33, &[(0, 0), (0, 11), (5, 5), (5, 12), (10, 10), (11, 11), (12, 12)]);
+}
+
+/// To those of L3 no keeper up to 255 is out of range, and the clock alone tells them from the new ones.
+#[test]
+fn steps_of_kiosks_without_a_clock() {
+    steps_of_kiosks(WIDE, 34, &[(0, 0), (0, 11), (5, 5), (10, 10), (11, 11), (12, 12)]);
+}
+
+/// A kiosk without a clock and the library's, side by side: the same answers to all that comes, and the same records but for what the
+/// new one notes; then the old one's next try takes 3, and the new one's 41.
+#[test]
+fn only_the_try_tells_them_apart() {
+    for (players, length) in [(OLD, 67), (WIDE, 515)] {
+        let mut old = vec![0; length];
+        old[..5].copy_from_slice(&[3, 2, 5, REMAINDER, 0]);
+        assert_eq!(step(players, Event::Try, &mut old, 0), (0, 0));
+        // Told of another, of itself twice, and checked: with ticket 1 it comes to hold, and leaves with ticket 2.
+        let comes = [
+            [RESPONSE, 5, 3, 40, 9],
+            [RESPONSE, 5, 3, 0, 0],
+            [RESPONSE, 5, 1, 1, 5],
+            [RESPONSE, 5, 2, 1, 5],
+            [CHECK, 5, 1, 7, 0],
+        ];
+        for (message, seen) in comes.iter().zip([0, 40, 40, 40, 40]) {
+            assert_eq!(step(players, Event::KioskTakes(message), &mut old, seen), (0, 0), "{message:?}");
+        }
+        assert_eq!(step(players, Event::Exit, &mut old, 40), (0, 0));
+        assert_eq!(old[3..5], [REMAINDER, 2]);
+        let (mut again, new) = (old.clone(), compare(Event::Try, &taken(&old, 40), ROOM, 2, 0));
+        let requests = |ticket| [1, 2, 3].map(|keeper| [REQUEST, 5, keeper, ticket, 0]).to_vec();
+        assert_eq!((played(players, Event::Try, &mut again), new.messages()), (Ok(requests(3)), requests(41)));
+        assert_eq!((&again[3..5], &new.record()[3..6]), (&[TRYING, 3][..], &[TRYING, 41, 40][..]));
+    }
 }
 
 /// Every added keeper in every kind, to a kiosk and to a keeper with all of 31; the new ones at n 31 too, where it was 5.
@@ -265,9 +322,9 @@ fn every_added_keeper_at_a_step() {
     assert_eq!((OLD.keeper_new(31, 31, &mut keeper), OLD.kiosk_new(31, 21, 5, &mut kiosk)), (0, 0));
     assert!(played(OLD, Event::Try, &mut kiosk).is_ok());
     for message in ADDED.flat_map(messages) {
-        assert_eq!(step(Event::KeeperTakes(&message), &mut keeper, keeper::upgrade), (5, 13), "{message:?}");
-        assert_eq!(step(Event::KioskTakes(&message), &mut kiosk, kiosk::upgrade), (5, 12), "{message:?}");
+        assert_eq!(step(OLD, Event::KeeperTakes(&message), &mut keeper, 0), (5, 13), "{message:?}");
+        assert_eq!(step(OLD, Event::KioskTakes(&message), &mut kiosk, 0), (5, 12), "{message:?}");
     }
-    assert_eq!(step(Event::KioskTakes(&[CHECK, 5, 31, 9, 0]), &mut kiosk, kiosk::upgrade), (0, 0));
-    assert_eq!(step(Event::KioskTakes(&[CHECK, 5, 256, 9, 0]), &mut kiosk, kiosk::upgrade), (5, 5));
+    assert_eq!(step(OLD, Event::KioskTakes(&[CHECK, 5, 31, 9, 0]), &mut kiosk, 0), (0, 0));
+    assert_eq!(step(OLD, Event::KioskTakes(&[CHECK, 5, 256, 9, 0]), &mut kiosk, 0), (5, 5));
 }

@@ -156,7 +156,7 @@ fn examples_by_hand() {
 /// What the largest kiosk sends at a try: 255 messages of 12 bytes.
 #[test]
 fn a_round_to_every_keeper() {
-    let (mut record, mut out, mut sent) = ([0; 515], [0; 12 * 255], [0; 2]);
+    let (mut record, mut out, mut sent) = ([0; 516], [0; 12 * 255], [0; 2]);
     assert_eq!(library::client_new(255, 170, 5, &mut record), 0);
     assert_eq!(library::client_begin(&mut record, &mut out, &mut sent), 0);
     assert_eq!(sent, [255, 3060]);

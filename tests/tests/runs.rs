@@ -6,7 +6,7 @@ use sigma_tests::gallery::{Event, Gallery, Kind, RUN};
 use sigma_tests::keeper::Keeper;
 use sigma_tests::kiosk::{Kiosk, HOLDING, REMAINDER};
 use sigma_tests::model::INQUIRY;
-use sigma_tests::players::NEW;
+use sigma_tests::players::{NEW, WIDE};
 use sigma_tests::random::Random;
 use sigma_tests::setting::Setting;
 use std::collections::{BTreeMap, BTreeSet};
@@ -97,12 +97,26 @@ fn draw(gallery: &Gallery, bias: &Bias, r: &mut Random) -> Option<Event> {
     }
 }
 
-/// What a search met: accepted events, times that a kiosk came to the wall, accepted events of each kind.
+/// What a search met: accepted events, times that a kiosk came to the wall, and that one without a clock did, tries above what was seen
+/// and not above the last ticket alone, accepted events of each kind.
 #[derive(Default)]
 struct Met {
     steps: u64,
     entries: u64,
+    old_entries: u64,
+    jumps: u64,
     kinds: BTreeMap<Kind, u64>,
+}
+
+/// The kiosks without a clock that hold.
+fn old_holders(gallery: &Gallery) -> usize {
+    let holds = |record: &Kiosk| record.seen.is_none() && record.section == HOLDING;
+    gallery.clients.iter().filter(|c| c.living && holds(&c.record)).count()
+}
+
+/// The sum of all kiosks' tickets: only a try takes it further than the next.
+fn tickets(gallery: &Gallery) -> u64 {
+    gallery.clients.iter().map(|c| u64::from(c.record.ticket)).sum()
 }
 
 /// One gallery's run; true as soon as two living kiosks hold.
@@ -110,13 +124,15 @@ fn run(gallery: &mut Gallery, r: &mut Random, met: &mut Met) -> bool {
     let bias = Bias::draw(r);
     for _ in 0..LENGTH {
         let Some(event) = draw(gallery, &bias, r) else { continue };
-        let before = gallery.holders();
+        let (before, old, sum) = (gallery.holders(), old_holders(gallery), tickets(gallery));
         if gallery.event(event).is_err() {
             continue;
         }
         met.steps += 1;
         *met.kinds.entry(event.kind).or_insert(0) += 1;
         met.entries += u64::from(gallery.holders() > before);
+        met.old_entries += u64::from(old_holders(gallery) > old);
+        met.jumps += u64::from(tickets(gallery) > sum + 1);
         if gallery.holders() > 1 {
             return true;
         }
@@ -125,15 +141,22 @@ fn run(gallery: &mut Gallery, r: &mut Random, met: &mut Met) -> bool {
 }
 
 fn valid(gallery: &Gallery) -> bool {
-    let clients = gallery.clients.iter().all(|c| Kiosk::read(NEW, &c.record.words(NEW)).as_ref() == Ok(&c.record));
+    let players = |record: &Kiosk| if record.seen.is_some() { NEW } else { WIDE };
+    let read = |record: &Kiosk| Kiosk::read(players(record), &record.words(players(record)));
+    let clients = gallery.clients.iter().all(|c| read(&c.record).as_ref() == Ok(&c.record));
     let servers = gallery.servers.iter().all(|s| Keeper::read(NEW, &s.record.words(NEW)).as_ref() == Ok(&s.record));
     clients && servers
 }
 
-/// A gallery with 2 to 4 kiosks, the setting taken in turn.
+/// A gallery with 2 to 4 kiosks, the setting taken in turn. In one of four, kiosks without a clock are among the others.
 fn gallery(settings: &[Setting], turn: usize, r: &mut Random) -> Gallery {
     let kiosks = 2 + r.below(3) as u32;
-    Gallery::new(settings[turn % settings.len()], kiosks, RUN).expect("in range")
+    let mut gallery = Gallery::new(settings[turn % settings.len()], kiosks, RUN).expect("in range");
+    if r.below(4) == 0 {
+        let old = 1 + r.below(kiosks.into()) as usize;
+        gallery.clients[..old].iter_mut().for_each(|client| client.record.seen = None);
+    }
+    gallery
 }
 
 /// The steps until two kiosks hold, with the gallery where they do, or nothing after `steps`.
@@ -167,7 +190,9 @@ fn no_two_holders(settings: &[Setting], steps: u64) {
     assert!(found.is_none(), "two holders after {} steps: {found:?}", met.steps);
     let speed = met.steps as f64 / start.elapsed().as_secs_f64() / 1e6;
     println!("{} steps, {speed:.1} million a second, {} entries, {:?}", met.steps, met.entries, met.kinds);
+    println!("{} entries without a clock, {} tries above what was seen", met.old_entries, met.jumps);
     assert!(met.entries > met.steps / 200, "only {} entries in {} steps", met.entries, met.steps);
+    assert!(met.old_entries > met.steps / 2000 && met.jumps > met.steps / 5000, "{} {}", met.old_entries, met.jumps);
     assert_eq!(met.kinds.len(), 9, "{:?}", met.kinds);
 }
 

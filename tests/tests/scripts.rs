@@ -3,7 +3,8 @@
 
 use sigma_tests::fault::Fault;
 use sigma_tests::files::{contents, names};
-use sigma_tests::script::{line_of, run, run_with};
+use sigma_tests::players::WIDE;
+use sigma_tests::script::{line_of, run, run_by, run_with};
 use sigma_tests::setting::Setting;
 use std::collections::BTreeSet;
 
@@ -31,7 +32,7 @@ fn the_table_says_why_each_script_is_there() {
     assert_eq!((named, rows.len()), (names("script"), names("script").len()));
 }
 
-/// Refusal 11 would take 2,147,483,647 tries and exits of one kiosk, more than a script has lines.
+/// The largest ticket of all grows by one at a try or an exit at most: refusal 11 would take more of them than a script has lines.
 #[test]
 fn the_scripts_meet_every_refusal_that_a_script_can() {
     let (mut first, mut event) = (BTreeSet::new(), BTreeSet::new());
@@ -46,6 +47,16 @@ fn the_scripts_meet_every_refusal_that_a_script_can() {
     }
     assert_eq!(first, ["16", "7"].map(String::from).into());
     assert_eq!(event, ["10", "15", "16", "17", "18", "19", "20"].map(String::from).into());
+}
+
+/// Kiosks without a clock print the same for every script but one: in no other does a kiosk try below what it has seen.
+#[test]
+fn the_clock_shows_in_one_script() {
+    let shows = |name: &String| {
+        let script = contents(&format!("{name}.script"));
+        run_by(WIDE, &script) != run(&script)
+    };
+    assert_eq!(names("script").into_iter().filter(shows).collect::<Vec<_>>(), ["newcomer"]);
 }
 
 /// A program with one of the faults that document 01 tells of prints something else for one of the scripts at least.

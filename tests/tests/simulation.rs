@@ -81,9 +81,14 @@ fn more_keepers_than_a_gallery_has() {
     }
 }
 
+/// The sum of all kiosks' tickets: an event takes it further than the next only by a try above what was seen.
+fn tickets(gallery: &Gallery) -> u64 {
+    gallery.clients.iter().map(|client| u64::from(client.record.ticket)).sum()
+}
+
 /// Each event line by the call, with room of 0 to 3 words for its answer; a line that asks for no event is left out. Counts the
-/// answers by their number.
-fn play(script: &[u8], met: &mut BTreeMap<u32, usize>) {
+/// answers by their number, and the tries above what was seen that are above the next ticket too.
+fn play(script: &[u8], met: &mut BTreeMap<u32, usize>, jumps: &mut usize) {
     let mut lines = lines(script);
     let Some(Ok([n, m, f, kiosks])) = lines.next().map(first) else {
         return;
@@ -96,7 +101,9 @@ fn play(script: &[u8], met: &mut BTreeMap<u32, usize>) {
     };
     for event in lines.filter_map(|line| event(line).ok()) {
         let (kind, number) = (event.kind as u32, u32::try_from(event.number).expect("a word"));
+        let before = tickets(&gallery);
         let expected = by_model(&mut gallery, event);
+        *jumps += usize::from(tickets(&gallery) > before + 1);
         for room in [0, 1] {
             // 6 is the last refusal.
             let refused = by_call(&mut words.clone(), kind, number, room);
@@ -112,23 +119,24 @@ fn play(script: &[u8], met: &mut BTreeMap<u32, usize>) {
 
 #[test]
 fn each_script_event_by_event() {
-    let mut met = BTreeMap::new();
+    let (mut met, mut jumps) = (BTreeMap::new(), 0);
     for (_, script, _) in scripts() {
-        play(&script, &mut met);
+        play(&script, &mut met, &mut jumps);
     }
-    println!("{met:?}");
+    println!("{met:?}, {jumps} jumps");
     assert_eq!(met.keys().copied().collect::<Vec<_>>(), [0, 10, 15, 17, 18, 19, 20], "{met:?}");
+    assert_eq!(jumps, 1, "the newcomer's, from 2 to 6");
 }
 
 #[test]
 fn random_scripts_event_by_event() {
-    let (mut r, mut met) = (Random::new(2006), BTreeMap::new());
+    let (mut r, mut met, mut jumps) = (Random::new(2099), BTreeMap::new(), 0);
     for _ in 0..600 {
-        play(&any_script(&mut r), &mut met);
+        play(&any_script(&mut r), &mut met, &mut jumps);
     }
-    println!("{met:?}");
+    println!("{met:?}, {jumps} jumps");
     assert_eq!(met.keys().copied().collect::<Vec<_>>(), [0, 10, 15, 17, 18, 19, 20], "{met:?}");
-    assert!(met.values().all(|&times| times >= 20), "{met:?}");
+    assert!(met.values().all(|&times| times >= 20) && jumps >= 20, "{met:?}, {jumps} jumps");
 }
 
 /// Behind a try, the takes of its requests and a fall, so that an event of every kind is accepted somewhere.

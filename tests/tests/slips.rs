@@ -71,11 +71,12 @@ fn told(gallery: &Gallery) -> String {
         let kiosk = &client.record;
         let own = |j: &usize| kiosk.answers[*j] == Some(kiosk.pair());
         let keepers: String = (0..kiosk.answers.len()).filter(own).map(|j| format!(" {}", j + 1)).collect();
+        let tickets = format!("ticket {} seen {}", kiosk.ticket, kiosk.seen.expect("a gallery's kiosk has a clock"));
         out += &match kiosk.section {
             _ if !client.living => format!("kiosk {k} fallen\n"),
-            REMAINDER => format!("kiosk {k} remainder ticket {}\n", kiosk.ticket),
-            HOLDING => format!("kiosk {k} holding ticket {} keepers{keepers}\n", kiosk.ticket),
-            _ => format!("kiosk {k} trying ticket {} keepers{keepers}\n", kiosk.ticket),
+            REMAINDER => format!("kiosk {k} remainder {tickets}\n"),
+            HOLDING => format!("kiosk {k} holding {tickets} keepers{keepers}\n"),
+            _ => format!("kiosk {k} trying {tickets} keepers{keepers}\n"),
         };
     }
     out
@@ -267,6 +268,30 @@ fn the_scripts_meet_every_form_of_mail() {
     assert_eq!(forms, expected);
 }
 
+/// Below its ticket, equal to it, or above it: what a kiosk has seen, in each section. Who holds has been told its own ticket.
+#[test]
+fn the_scripts_meet_every_form_of_what_is_seen() {
+    let mut forms = BTreeSet::new();
+    for (_, script, _) in scripts() {
+        for line in slips(&script, Mode::Each).lines() {
+            if let ["kiosk", _, section, "ticket", ticket, "seen", seen, ..] = line.split(' ').collect::<Vec<_>>()[..] {
+                let [ticket, seen] = [ticket, seen].map(|word| word.parse::<u32>().expect("a number"));
+                forms.insert(format!("{section} {:?}", seen.cmp(&ticket)));
+            }
+        }
+    }
+    let expected = [
+        "holding Equal",
+        "holding Greater",
+        "remainder Equal",
+        "remainder Greater",
+        "remainder Less",
+        "trying Equal",
+        "trying Less",
+    ];
+    assert_eq!(forms, expected.map(String::from).into());
+}
+
 fn written(file: &str) -> String {
     let path = Path::new(env!("CARGO_MANIFEST_DIR")).join("slips").join(file);
     std::fs::read_to_string(&path).unwrap_or_else(|e| panic!("{}: {e}", path.display()))
@@ -278,6 +303,7 @@ fn whole_outputs() {
         ("two_holders", Mode::Each, "two_holders.expected"),
         ("yield_round", Mode::Last, "yield_round.expected"),
         ("fallen_owner", Mode::Last, "fallen_owner.expected"),
+        ("newcomer", Mode::Last, "newcomer.expected"),
         ("two_holders", Mode::Mail, "two_holders.mail"),
         ("redelivery", Mode::Mail, "redelivery.mail"),
         ("two_holders", Mode::Boxes, "two_holders.boxes"),

@@ -3,7 +3,7 @@
 
 use sigma_tests::both::{compare, Event, Outcome};
 use sigma_tests::broken::{keeper_unmet, kiosk_unmet};
-use sigma_tests::histories::{damage, damage_record, first_ticket, kiosk_event, to_keeper, to_kiosk, Crowd};
+use sigma_tests::histories::{damage, damage_record, first_seen, first_ticket, kiosk_event, to_keeper, to_kiosk, Crowd};
 use sigma_tests::keeper::{self, Keeper};
 use sigma_tests::kiosk::{self, Kiosk, HOLDING, REMAINDER, TRYING};
 use sigma_tests::library;
@@ -221,6 +221,9 @@ fn a_million_kiosk_steps() {
     let mut rounds = Seen::new();
     let mut all_of_many = Seen::new();
     let mut damaged = Seen::new();
+    let mut tries = Seen::new();
+    let mut looked_at = Seen::new();
+    let mut unseen = Seen::new();
     let mut accepted = 0;
     let mut steps = 0;
     while accepted < 1_000_000 {
@@ -230,9 +233,10 @@ fn a_million_kiosk_steps() {
         let any = 1 + r.below(u64::from(n)) as u32;
         let m = r.one_of(&[n, n - n / 3, any, if n > 31 { n } else { any }]);
         let id = r.one_of(&[1, 2, 5, 300, 65_535]);
-        let mut record = vec![0; 515];
+        let mut record = vec![0; 516];
         assert_eq!(library::client_new(n, m, id, &mut record), 0);
         record[4] = first_ticket(&mut r);
+        record[5] = first_seen(&mut r, record[4]);
         let favour = r.one_of(&[0, 5, 9, 10, 10]);
         for _ in 0..250.max(3 * n) {
             let before = Kiosk::read(NEW, &record).expect("histories lead to valid records");
@@ -243,9 +247,13 @@ fn a_million_kiosk_steps() {
                 let spoilt = spoil(&mut r, &record, &message, 12 * n as usize);
                 let number = compare(to_kiosk(call, &spoilt.message), &spoilt.record, spoilt.room, spoilt.words, filler).number;
                 numbers.met(number);
-                let sound = spoilt.record.len() == 515 && kiosk_unmet(NEW, &spoilt.record).is_empty();
+                let sound = spoilt.record.len() == 516 && kiosk_unmet(NEW, &spoilt.record).is_empty();
                 assert_eq!(number == 21, !sound, "{:?}", spoilt.record);
                 damaged.met((spoilt.record != record, sound, number == 0));
+                let above = spoilt.message.get(3) > spoilt.record.get(5);
+                if call == 0 && number != 0 && above {
+                    unseen.met(number);
+                }
             }
             let outcome = compare(to_kiosk(call, &message), &record, 12 * n as usize + 2, 2, filler);
             if steps % 400 == 0 {
@@ -253,6 +261,12 @@ fn a_million_kiosk_steps() {
             }
             numbers.met(outcome.number);
             accepted += usize::from(outcome.number == 0);
+            let seen = before.seen.expect("a clock");
+            if call == 1 && before.section == REMAINDER {
+                tries.met((seen.cmp(&before.ticket), outcome.number));
+            } else if call == 0 {
+                looked_at.met((before.section, message[0], message[3].cmp(&seen)));
+            }
             if call > 0 {
                 calls.met((call, before.section, outcome.number));
             } else if message[0] == CHECK {
@@ -287,6 +301,12 @@ fn a_million_kiosk_steps() {
     checks.assert_many(3 * 3, 100);
     // Try: accepted, spent, twice another section. Exit: accepted, twice another section.
     calls.assert_many(4 + 3, 100);
+    // Accepted or spent with less seen than the last ticket, as much, and more.
+    tries.assert_many(3 * 2, 100);
+    // A RESPONSE and a CHECK in each section, of a ticket below the largest seen, of that one, and of one above it.
+    looked_at.assert_many(3 * 2 * 3, 100);
+    // Tickets above all seen in messages refused 5, 6, 12 and 21: `compare` has shown that the record stays.
+    unseen.assert_many(4, 1000);
     // With every threshold to 31, and with larger ones, the kiosk comes to hold the wall, and to rounds; also with that of 255.
     rounds.assert_many(2 * 32, 20);
     all_of_many.assert_many(2 * 2, 20);
@@ -335,7 +355,7 @@ fn every_small_keeper() {
 }
 
 /// Every record of kiosk 2 with ticket 2 and at most 3 keepers whose answers name kiosks 1 to 3 with tickets 1 to 3,
-/// broken or not, and every message that it could take.
+/// broken or not, which has seen nothing, its ticket or a later one, and every message that it could take.
 #[test]
 fn every_small_kiosk() {
     let owners: Vec<[u32; 2]> = (0..10).map(|i| if i == 9 { [0, 0] } else { [1 + i / 3, 1 + i % 3] }).collect();
@@ -347,11 +367,11 @@ fn every_small_kiosk() {
     let mut numbers = Seen::new();
     for (n, m) in [(1, 1), (2, 1), (2, 2), (3, 1), (3, 2), (3, 3)] {
         for section in REMAINDER..=HOLDING + 1 {
-            for code in 0..10usize.pow(n) {
-                let mut record = [0; 515];
-                record[..5].copy_from_slice(&[n, m, 2, section, 2]);
+            for (code, seen) in (0..10usize.pow(n)).flat_map(|code| [0, 2, 3].map(|seen| (code, seen))) {
+                let mut record = [0; 516];
+                record[..6].copy_from_slice(&[n, m, 2, section, 2, seen]);
                 for (i, digit) in [code % 10, code / 10 % 10, code / 100].iter().enumerate().take(n as usize) {
-                    record[5 + 2 * i..7 + 2 * i].copy_from_slice(&owners[9 - digit]);
+                    record[6 + 2 * i..8 + 2 * i].copy_from_slice(&owners[9 - digit]);
                 }
                 let broken = compare(Event::Try, &record, 40, 2, 0x3C).number == 21;
                 assert_eq!(broken, !kiosk_unmet(NEW, &record).is_empty());
@@ -382,7 +402,7 @@ fn new_records() {
                 seen.met(('s', a));
             }
             for m in numbers {
-                for length in [0, 1, 67, 514, 515, 516, 540] {
+                for length in [0, 1, 67, 514, 515, 516, 517, 540] {
                     let (mut ours, mut theirs) = ([0xA5A5_5A5A; 544], [0xA5A5_5A5A; 544]);
                     let a = library::client_new(n, m, id, &mut ours[2..2 + length]);
                     let b = kiosk::new(n, m, id, &mut theirs[2..2 + length]);

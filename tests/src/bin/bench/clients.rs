@@ -5,7 +5,7 @@ use crate::before::Before;
 use crate::{best, each, row};
 use sigma_tests::both::ROOM;
 use sigma_tests::model::RESPONSE;
-use sigma_tests::players::{NEW, OLD};
+use sigma_tests::players::GENERATIONS;
 use sigma_tests::{kiosk, library};
 
 /// n, m and how often a client comes and goes in a round.
@@ -51,24 +51,19 @@ fn visits(calls: &Calls, n: u32, m: u32, visits: usize) -> u64 {
 pub fn run() {
     let before = Before::open();
     let ours = Calls {
-        words: NEW.kiosk_words(),
+        words: kiosk::WORDS,
         new: &library::client_new,
         begin: &library::client_begin,
         message: &library::client_message,
         exit: &library::client_exit,
     };
-    let theirs = Calls {
-        words: NEW.kiosk_words(),
-        new: &kiosk::new,
-        begin: &kiosk::try_wall,
-        message: &kiosk::message,
-        exit: &kiosk::exit,
-    };
+    let theirs =
+        Calls { words: kiosk::WORDS, new: &kiosk::new, begin: &kiosk::try_wall, message: &kiosk::message, exit: &kiosk::exit };
     for (n, m, times) in COURSES {
         let (name, count) = (format!("client's call, n {n}, m {m}"), times * calls(m));
         let mut our_work = || visits(&ours, n, m, times);
         let mut their_work = || visits(&theirs, n, m, times);
-        let forms = [OLD.kiosk_words(), NEW.kiosk_words()];
+        let forms = GENERATIONS.map(|players| players.kiosk_words());
         match before.and_then(|before| Some((before, before.words(n, m, &forms)?))) {
             None => {
                 let [a, b] = best(&name, [&mut our_work, &mut their_work]);

@@ -7,6 +7,7 @@
 use crate::row;
 use sigma_tests::author::{long_script, restarts_script, MIXED, OFTEN, RESTARTS};
 use sigma_tests::files::program;
+use sigma_tests::players::WIDE;
 use sigma_tests::script;
 use std::fs::{self, File};
 use std::io::{stdin, stdout, Read, Write};
@@ -102,6 +103,8 @@ pub fn run() {
         }
     }
     let read = |path: &Path| fs::read(path).expect("an output");
+    // An earlier program's kiosks may be without a clock.
+    let without_a_clock = |c: &Course| script::run_by(WIDE, &read(&c.script));
     for _ in 0..ROUNDS {
         for c in &mut courses {
             for _ in 0..c.tries {
@@ -113,7 +116,8 @@ pub fn run() {
             }
             let output = read(&ours);
             assert!(output == read(&theirs), "both print the same");
-            assert!(before.is_none() || output == read(&old), "the earlier program prints the same");
+            let of_its_time = || output == read(&old) || without_a_clock(c) == read(&old);
+            assert!(before.is_none() || of_its_time(), "the earlier program prints the same, or what its time has it print");
         }
     }
 
