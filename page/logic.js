@@ -577,7 +577,7 @@ function svgOf(run, s) {
 const REFUSALS = {
     7: "a number is out of range",
     10: "the kiosk is in the wrong section for this",
-    11: "no ticket is left above the kiosk's last and all that it has seen",
+    11: "no two tickets are left, for a try and its exit, above the kiosk's last and all that it has seen",
     15: "the keeper has no owner",
     16: "this is no line of a script",
     17: "there is no such kiosk, keeper or waiting message",

@@ -32,6 +32,8 @@ struct Course {
     ours: Duration,
     theirs: Duration,
     before: Duration,
+    /// Whether the earlier program answers as this one: else the two do not the same work.
+    same: bool,
 }
 
 /// Whether this process is to play the model's part.
@@ -90,7 +92,7 @@ pub fn run() {
         fs::write(&path, script).expect("a file for the script");
         let tries = 1 + 2_000_000 / (200_000 + script.len());
         let [ours, theirs, before] = [Duration::MAX; 3];
-        courses.push(Course { name, script: path, events, tries, ours, theirs, before });
+        courses.push(Course { name, script: path, events, tries, ours, theirs, before, same: true });
     };
     course("an empty script".into(), 0, b"");
     for lines in LINES {
@@ -116,8 +118,11 @@ pub fn run() {
             }
             let output = read(&ours);
             assert!(output == read(&theirs), "both print the same");
-            let of_its_time = || output == read(&old) || without_a_clock(c) == read(&old);
-            assert!(before.is_none() || of_its_time(), "the earlier program prints the same, or what its time has it print");
+            c.same = before.is_none() || output == read(&old);
+            assert!(
+                c.same || without_a_clock(c) == read(&old),
+                "the earlier program prints the same, or what its time has it print"
+            );
         }
     }
 
@@ -134,7 +139,10 @@ pub fn run() {
         ms(last.theirs)
     );
     println!("an empty script takes it {:.2} ms; resident at most {} KiB", ms(start.ours), memory(&gallery, &last.script, &ours));
-    for c in courses.iter().filter(|_| before.is_some()) {
+    for c in courses.iter().filter(|c| before.is_some() && !c.same) {
+        println!("{}: not compared: the earlier program, whose kiosks have no clock, answers otherwise", c.name);
+    }
+    for c in courses.iter().filter(|c| before.is_some() && c.same) {
         let each = |t: Duration| t.as_nanos() as f64 / c.events as f64;
         let (old, new) = (each(c.before - start.before), each(c.ours - start.ours));
         println!("{}, before and after: {old:.1} ns, {new:.1} ns, ratio {:.2}", c.name, new / old);
