@@ -162,6 +162,7 @@ fn refuse(h: Head, e: Refusal) -> Turned
     Turned { head: h, answer }
 }
 
+// The larger of the two.
 fn later(a: Timestamp, b: Timestamp) -> Timestamp
     ensures { λ t. ⌜ t ≡ laterOf a b ⌝ }
 {

@@ -50,7 +50,7 @@ abbrev pub leavingBlind : Outcome responses.State → Outcome responses.State
 leavingBlind (refused e) = refused e
 leavingBlind (stepped p) = stepped (blindStep p)
 
--- a client from before L4, where there are at most so many servers, takes a message: 21, 5, 12, then Figure 1's lines alone
+-- a client from before L4 takes a message in range: 12, or Figure 1's lines alone
 unfoldable pub earlierReceived : Client → Message → Outcome responses.State
 earlierReceived c (Request k j t) = refused NotForClient
 earlierReceived c (Yield k j t) = refused NotForClient
@@ -62,6 +62,7 @@ earlierReceived c (Response k j o) =
 earlierReceived c (Check k j t) =
     if client.forClient (c .head) k j then stepped (responses.uponCheck k j t (blind (view c))) else refused NotForClient
 
+-- and any message, where there are at most so many servers: 21 and 5 come first. Between L3 and L4 these were as many as today.
 unfoldable pub clocklessTakes : ℕ → Client → Message → Outcome responses.State
 clocklessTakes limit c m =
     if not (validUpTo limit c) then refused InvalidRecord

@@ -1,5 +1,5 @@
 // Records that a host has saved, in each form that a record has had, taken over as records of today (document 02, L3 and L4): for the C interface.
-// The number of words tells the form (specs/Forms). What is known of players from before L3 has no code (specs/Players).
+// The number of words tells the form (specs/Forms). What is known of earlier players has no code (specs/Players).
 ghost use mathlib.Core.Path.{_≡_};
 ghost use mathlib.Core.Bool.{true};
 ghost use mathlib.Core.List.{_++_};
