@@ -5,3 +5,4 @@ pub mod ReturnLaws
 pub mod SaysLaws
 pub mod Joined
 pub mod ThresholdLaws
+pub mod ProposalLaws

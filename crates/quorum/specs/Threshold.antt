@@ -1,5 +1,5 @@
 -- The default threshold for n servers: two thirds of n, rounded up. Document 01 says usual threshold.
-use Prim.Native.Nat.{ℕ, _+_, _*_, _/_, _≤_, _<_}
+use Prim.Native.Nat.{ℕ, _+_, _-_, _*_, _/_, _≤_, _<_}
 use mathlib.Core.List.{[], _∷_}
 use Rattle.ids.specs.Choice.{if_then_else_}
 use Rattle.ids.specs.Limits.{within, maxServers}
@@ -23,3 +23,7 @@ defaultSays n = if within n maxServers then accepts ((2 * n + 2) / 3 ∷ []) els
 pub record TwoThirds (n t : ℕ) : Type 0 where
   pub enough : 2 * n ≤ 3 * t
   pub least : 3 * t < 2 * n + 3
+
+-- the most faults with which it is accepted: the largest f with 3 f below n
+abbrev pub mostFaults : ℕ → ℕ
+mostFaults n = (n - 1) / 3

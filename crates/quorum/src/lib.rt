@@ -10,7 +10,8 @@ ghost use Rattle.ids.specs.Limits.{maxServers};
 ghost use Rattle.quorum.specs.Check.{inRangeUpTo, inRange, margin as marginOf, judged, verdict, verdictSays, checkSays, Demand3};
 ghost use Rattle.quorum.specs.Run.{listedEvent, runEvent, askedSays, eventSays};
 ghost use Rattle.quorum.specs.Inner.{runLength, longestRun, firstEntry, restart as restartAt, secondEntry, eventAt};
-ghost use Rattle.quorum.specs.Threshold.{thresholdOf, thresholdSays, defaultSays};
+ghost use Rattle.quorum.specs.Threshold.{thresholdOf, thresholdSays, defaultSays, mostFaults};
+ghost use Rattle.quorum.specs.Proposal.{aboveHalf, Bears, proposalOf, Proposes, proposalSays, proposeSays};
 ghost use Rattle.system.specs.Numbered.{clientNo};
 use ids::ClientId;
 use ids::Refusal;
@@ -35,6 +36,13 @@ pub enum Asked {
 // The threshold that the commissioning screen proposes.
 pub enum Threshold {
     Default(u32),
+    OutOfRange,
+}
+
+// The thresholds that the commissioning screen proposes: all from the first to the second.
+pub enum Proposal {
+    Thresholds(u32, u32),
+    NoThreshold,
     OutOfRange,
 }
 
@@ -221,4 +229,47 @@ pub fn default_threshold(n: u32) -> Threshold
         return Threshold::OutOfRange;
     }
     Threshold::Default((2 * n + 2) / 3)
+}
+
+// The most faults with which the default threshold of n servers is accepted.
+pub fn most_faults(n: u32) -> u32
+    ensures { λ r. ⌜ (r ≡ mostFaults n) × Bears n r ⌝ }
+{
+    let mut left = n;
+    let mut f: u32 = 0;
+    while left > 3 {
+        left -= 3;
+        f += 1;
+    }
+    f
+}
+
+fn above_half(x: u32) -> u32
+    ensures { λ r. ⌜ r ≡ aboveHalf x ⌝ }
+{
+    let mut left = x;
+    let mut m: u32 = 1;
+    while left > 1 {
+        left -= 2;
+        m += 1;
+    }
+    m
+}
+
+// The thresholds with which n servers and f faults are accepted.
+pub fn propose(n: u32, f: u32) -> Proposal
+    ensures { λ r. ⌜ (r ≡ proposalOf n f) × Proposes n f r ⌝ }
+    ensures numbers { λ r. ⌜ proposalSays r ≡ proposeSays n f ⌝ }
+{
+    if !ids::within_limit(n, ids::MAX_SERVERS) {
+        return Proposal::OutOfRange;
+    }
+    if n < f {
+        return Proposal::OutOfRange;
+    }
+    let least = above_half(n + f);
+    if n < least + f {
+        return Proposal::NoThreshold;
+    }
+    Proposal::Thresholds(least, n - f)
 }
