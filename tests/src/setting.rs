@@ -45,13 +45,22 @@ impl Setting {
         2 * self.m as i32 - self.n as i32 - self.f as i32
     }
 
-    pub fn verdict(self) -> Verdict {
+    /// Accepted, or refused 8 or 9.
+    fn judged(self) -> Result<(), u32> {
         if self.margin() <= 0 {
-            Verdict::Unsafe(self.run().len() as u32)
+            Err(8)
         } else if self.m + self.f > self.n {
-            Verdict::Stalls
+            Err(9)
         } else {
-            Verdict::Accepted
+            Ok(())
+        }
+    }
+
+    pub fn verdict(self) -> Verdict {
+        match self.judged() {
+            Ok(()) => Verdict::Accepted,
+            Err(8) => Verdict::Unsafe(self.run().len() as u32),
+            Err(_) => Verdict::Stalls,
         }
     }
 
@@ -96,6 +105,18 @@ pub fn usual_threshold(n: u32) -> Result<u32, u32> {
     } else {
         Err(7)
     }
+}
+
+/// The losses with which the usual threshold is accepted, by the verdict on each of 0 to n.
+pub fn usual_losses(n: u32) -> Result<Vec<u32>, u32> {
+    let m = usual_threshold(n)?;
+    Ok((0..=n).filter(|&f| Setting { n, m, f }.judged().is_ok()).collect())
+}
+
+/// The thresholds with which n keepers and losses f are accepted, ascending, by the verdict on each of 1 to n.
+pub fn thresholds(n: u32, f: u32) -> Result<Vec<u32>, u32> {
+    Setting::new(n, n, f)?;
+    Ok((1..=n).filter(|&m| Setting { n, m, f }.judged().is_ok()).collect())
 }
 
 // The same over lent words, as the library offers it. Only the words of the answer are written; too few for it are

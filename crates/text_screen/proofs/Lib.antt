@@ -1,1 +1,2 @@
 mod ScreenLaws
+pub mod Samples

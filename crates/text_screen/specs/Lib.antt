@@ -1,1 +1,2 @@
 pub mod Screen
+pub mod Samples

@@ -16,13 +16,16 @@ use Rattle.system.specs.Limits.{systemServers}
 use Rattle.system.specs.declared.Setting.{Setting}
 use Rattle.quorum.specs.declared.Asked.{Asked}
 use Rattle.quorum.specs.declared.Asked.the-variants.{Event, Refused}
+use Rattle.quorum.specs.declared.Proposal.{Proposal}
+use Rattle.quorum.specs.declared.Proposal.the-variants.{Thresholds, NoThreshold, OutOfRange as NoProposal}
 use Rattle.quorum.specs.declared.Threshold.{Threshold}
 use Rattle.quorum.specs.declared.Threshold.the-variants.{Default, OutOfRange as Outside}
 use Rattle.quorum.specs.declared.Verdict.{Verdict}
 use Rattle.quorum.specs.declared.Verdict.the-variants.{Accepted, Unsafe, Stalls, OutOfRange}
 use Rattle.quorum.specs.Check.{inRange, margin, verdict}
 use Rattle.quorum.specs.Run.{runEvent}
-use Rattle.quorum.specs.Threshold.{thresholdOf}
+use Rattle.quorum.specs.Proposal.{proposalOf}
+use Rattle.quorum.specs.Threshold.{thresholdOf, mostFaults}
 
 -- a signed number
 abbrev pub signed : ℤ → List (List ℕ)
@@ -33,11 +36,14 @@ signed (negsuc a) = text "-" ∷ decimal (suc a) ∷ []
 abbrev pub refusedText : Refusal → List ℕ → List (List ℕ)
 refusedText e why = text "no " ∷ decimal (code e) ∷ why ∷ ends
 
+abbrev pub outOfRangeText : List (List ℕ)
+outOfRangeText = refusedText ParameterOutOfRange (text " out of range")
+
 unfoldable pub verdictText : Verdict → List (List ℕ)
 verdictText (Accepted x) = (text "ok" ++ (newline ∷ [])) ∷ []
 verdictText (Unsafe x events) = refusedText NotSafe (text " unsafe")
 verdictText (Stalls x) = refusedText Stalling (text " stalls")
-verdictText OutOfRange = refusedText ParameterOutOfRange (text " out of range")
+verdictText OutOfRange = outOfRangeText
 
 -- the margin of a setting in range
 unfoldable pub marginText : ℕ → ℕ → ℕ → List (List ℕ)
@@ -50,9 +56,10 @@ eventsText (Accepted x) = []
 eventsText (Stalls x) = []
 eventsText OutOfRange = []
 
-unfoldable pub thresholdText : Threshold → List (List ℕ)
-thresholdText (Default m) = text "usual threshold " ∷ decimal m ∷ ends
-thresholdText Outside = []
+-- the default threshold of n servers, and the faults up to which it is accepted
+unfoldable pub thresholdText : ℕ → Threshold → List (List ℕ)
+thresholdText n (Default m) = text "usual threshold " ∷ decimal m ∷ text " for f up to " ∷ decimal (mostFaults n) ∷ ends
+thresholdText n Outside = []
 
 -- a run of more servers than a simulation has can be read, not played
 unfoldable pub limitText : ℕ → List (List ℕ)
@@ -67,7 +74,16 @@ fitsText n OutOfRange = []
 -- all that is said of a setting
 abbrev pub report : ℕ → ℕ → ℕ → List (List ℕ)
 report n m f =
-    verdictText (verdict n m f) ++ marginText n m f ++ eventsText (verdict n m f) ++ fitsText n (verdict n m f) ++ thresholdText (thresholdOf n)
+    verdictText (verdict n m f) ++ marginText n m f ++ eventsText (verdict n m f) ++ fitsText n (verdict n m f) ++ thresholdText n (thresholdOf n)
+
+unfoldable pub thresholdsText : Proposal → List (List ℕ)
+thresholdsText (Thresholds a b) = text "thresholds " ∷ decimal a ∷ text " to " ∷ decimal b ∷ ends
+thresholdsText NoThreshold = (text "thresholds none" ++ (newline ∷ [])) ∷ []
+thresholdsText NoProposal = outOfRangeText
+
+-- all that is said of n servers and f faults
+abbrev pub proposal : ℕ → ℕ → List (List ℕ)
+proposal n f = thresholdsText (proposalOf n f) ++ thresholdText n (thresholdOf n)
 
 -- the script's first line: the setting with two clients
 abbrev pub opening : ℕ → ℕ → ℕ → Setting

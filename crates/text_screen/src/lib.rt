@@ -8,9 +8,10 @@ ghost use Rattle.script_lines.specs.Printed.{eventLine};
 ghost use Rattle.quorum.specs.Run.{runEvent};
 ghost use Rattle.script_lines.specs.Words.{newline, text};
 ghost use Rattle.text_sheet.specs.Sheet.{sheet as sheetOf, puts, ends};
-ghost use Rattle.text_screen.specs.Screen.{signed, marginText, refusedText, verdictText, eventsText, limitText, fitsText, thresholdText, report, openingText, askedText, scriptText};
+ghost use Rattle.text_screen.specs.Screen.{signed, marginText, refusedText, verdictText, eventsText, limitText, fitsText, thresholdText, report, thresholdsText, proposal, openingText, askedText, scriptText};
 use ids::Refusal;
 use quorum::Asked;
+use quorum::Proposal;
 use quorum::Threshold;
 use quorum::Verdict;
 use system::Event;
@@ -100,11 +101,27 @@ fn put_fits(out: &mut [u8], at: usize, n: u32, v: Verdict) -> usize
     }
 }
 
-fn put_threshold(out: &mut [u8], at: usize, t: Threshold) -> usize
-    ensures { λ r. ⌜ sheetOf (now (out .exit)) r ≡ puts (thresholdText t) (sheetOf (now (out .entry)) at) ⌝ }
+// Two numbers in one line, each behind a text.
+fn put_counts(out: &mut [u8], at: usize, first: &[u8], x: u32, second: &[u8], y: u32) -> usize
+    ensures { λ r. ⌜ sheetOf (now (out .exit)) r ≡ puts (now (first .entry) ∷ decimal x ∷ now (second .entry) ∷ decimal y ∷ ends) (sheetOf (now (out .entry)) at) ⌝ }
+{
+    let p = text_sheet::put_with(out, at, first, x);
+    put_count(out, p, second, y)
+}
+
+// The default threshold of n servers.
+fn put_threshold(out: &mut [u8], at: usize, n: u32, t: Threshold) -> usize
+    ensures { λ r. ⌜ sheetOf (now (out .exit)) r ≡ puts (thresholdText n t) (sheetOf (now (out .entry)) at) ⌝ }
 {
     match t {
-        Threshold::Default(m) => put_count(out, at, b"usual threshold ", m),
+        Threshold::Default(m) => put_counts(
+            out,
+            at,
+            b"usual threshold ",
+            m,
+            b" for f up to ",
+            quorum::most_faults(n),
+        ),
         Threshold::OutOfRange => at,
     }
 }
@@ -118,7 +135,30 @@ pub fn put_report(out: &mut [u8], n: u32, m: u32, f: u32) -> usize
     let q = put_margin(out, p, n, m, f);
     let t = put_events(out, q, v);
     let u = put_fits(out, t, n, v);
-    put_threshold(out, u, quorum::default_threshold(n))
+    put_threshold(out, u, n, quorum::default_threshold(n))
+}
+
+fn put_thresholds(out: &mut [u8], at: usize, p: Proposal) -> usize
+    ensures { λ r. ⌜ sheetOf (now (out .exit)) r ≡ puts (thresholdsText p) (sheetOf (now (out .entry)) at) ⌝ }
+{
+    match p {
+        Proposal::Thresholds(a, b) => put_counts(out, at, b"thresholds ", a, b" to ", b),
+        Proposal::NoThreshold => text_sheet::put(out, at, b"thresholds none\n"),
+        Proposal::OutOfRange => put_refused(
+            out,
+            at,
+            Refusal::ParameterOutOfRange,
+            b" out of range",
+        ),
+    }
+}
+
+// All that is said of so many servers and faults.
+pub fn put_proposal(out: &mut [u8], n: u32, f: u32) -> usize
+    ensures { λ r. ⌜ sheetOf (now (out .exit)) r ≡ puts (proposal n f) (sheetOf (now (out .entry)) 0) ⌝ }
+{
+    let p = put_thresholds(out, 0, quorum::propose(n, f));
+    put_threshold(out, p, n, quorum::default_threshold(n))
 }
 
 fn put_event(out: &mut [u8], at: usize, e: Event) -> usize

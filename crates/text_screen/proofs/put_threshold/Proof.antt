@@ -9,7 +9,8 @@ returns : tie.Need-returns
 unfolding thresholdText
 returns c =
     let d = c .before .before in
-    rw (d .before .before .before .before .t .given .1) (d .put-count .ensures)
+    let t = d .before .before .before .before .before .before in
+    rw (t .t .given .1, ← d .before .most-faults .ensures .0) (d .put-counts .ensures)
 
 pub put-threshold-spec : {M : Type 1} → statement M
 unfolding thresholdText puts
@@ -18,6 +19,8 @@ put-threshold-spec =
     (tie.spec
     (λ c. search needs)
     (λ c. search needs)
+    (λ c. search needs)
+    (λ c κs. search needs)
     (λ c κs. search needs)
     (λ c. search needs)
     (λ c. search needs)
