@@ -1,6 +1,7 @@
 //! A model of documents 01 and 02, written from the documents alone, and the proved library beside it.
 //! The model speaks the documents' words (kiosk, keeper, ticket), so that it can be held against the text.
 
+pub mod archive;
 pub mod author;
 pub mod both;
 pub mod broken;

@@ -1,5 +1,5 @@
-//! The client's calls of an earlier libcapi.a, where SIGMA_BEFORE_CAPI names one. It is made into a shared library and opened, so
-//! that its calls stand beside the present ones of the same names.
+//! The client's calls of an earlier library, where SIGMA_BEFORE_CAPI names its archive: a libsigma.a, or a libcapi.a from before all
+//! calls were in one. It is made into a shared library and opened, so that its calls stand beside the present ones of the same names.
 
 use std::ffi::{c_char, c_int, c_void, CString};
 use std::path::PathBuf;
