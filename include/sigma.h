@@ -4,10 +4,9 @@
  * nothing it was lent, but for 8 and 9 of sigma_setting. A slice is a pointer, then its length in elements: the pointer is aligned and not null
  * even where the length is 0, and a slice that a call may write overlaps no other.
  *
- * libcapi.a has the calls on messages and records, libcapi_host.a those on a server's record in a struct (sigma_host_*),
- * libcapi_quorum.a those on settings (sigma_setting, sigma_run_event and sigma_default_threshold), libcapi_simulation.a those on
- * a simulated system (sigma_simulation_*), libcapi_script.a those on scripts (sigma_script_*), libcapi_packet.a those on packets
- * (sigma_packet_*).
+ * `tools/library` makes target/libsigma.a, which has every call. The library keeps nothing between calls, allocates nothing and calls
+ * nothing but memory functions of libc. docs/HOSTS.md says what a host does around the calls: without it, two clients can be inside
+ * though every call returns 0.
  */
 #ifndef SIGMA_H
 #define SIGMA_H
@@ -19,16 +18,41 @@
 extern "C" {
 #endif
 
-/* A message is five words: kind, client, server, timestamp, owner (0 where the kind has none). */
+/* A message is five words: kind, client, server, timestamp, owner (0 where the kind has none). A client sends the first four kinds to
+ * a server, a server the last two to a client. */
 enum {
     SIGMA_REQUEST = 1,
     SIGMA_YIELD = 2,
     SIGMA_RELEASE = 3,
     SIGMA_INQUIRY = 4,
     SIGMA_RESPONSE = 5,
-    SIGMA_CHECK = 6,
+    SIGMA_CHECK = 6
+};
+
+/* The words' places. */
+enum {
+    SIGMA_MESSAGE_KIND = 0,
+    SIGMA_MESSAGE_CLIENT = 1,
+    SIGMA_MESSAGE_SERVER = 2,
+    SIGMA_MESSAGE_TIMESTAMP = 3,
+    SIGMA_MESSAGE_OWNER = 4,
     SIGMA_MESSAGE_WORDS = 5,
+    SIGMA_READ_BYTES = 5,      /* the sixth word that sigma_read writes: the bytes it took */
     SIGMA_READ_WORDS = 6
+};
+
+/* Numbers: a client is 1 to 65535, a server 1 to 255, a timestamp 1 to 4294967295. */
+enum {
+    SIGMA_CLIENT_ID_MAX = 65535,
+    SIGMA_SERVER_ID_MAX = 255
+};
+#define SIGMA_TIMESTAMP_MAX UINT32_MAX
+
+/* Bytes. */
+enum {
+    SIGMA_MESSAGE_MAX = 14,    /* the longest message, a RESPONSE; the others have 12 */
+    SIGMA_SERVER_OUT = 28,     /* the most that a server sends in a step */
+    SIGMA_CLIENT_OUT = 3060    /* the most that a client sends in a step: 12 for each of n servers, here of 255 */
 };
 
 /* Reads the message that `bytes` begins with, into the first six words: its five, and the bytes it took.
@@ -44,14 +68,14 @@ uint32_t sigma_write(const uint32_t *words, size_t words_len, uint8_t *out, size
  * another: all that a step sends, in one piece. Places are counted in the packet: the first message starts at 2, and the packet ends
  * at its total. What a step wrote is packed, and a packet read to its end, by
  *
- *     refusal = sigma_packet_pack(out, sent[1], packet, sizeof packet);
- *     for (at = SIGMA_PACKET_FIRST; refusal == 0; at += words[5]) {
+ *     refusal = sigma_packet_pack(out, sent[SIGMA_SENT_BYTES], packet, sizeof packet);
+ *     for (at = SIGMA_PACKET_FIRST; refusal == 0; at += words[SIGMA_READ_BYTES]) {
  *         refusal = sigma_packet_next(packet, sizeof packet, at, words, SIGMA_READ_WORDS);
- *         if (refusal != 0 || words[5] == 0) break;
+ *         if (refusal != 0 || words[SIGMA_READ_BYTES] == 0) break;
  *         deliver(words, packet + at);
  *     }
  *
- * where `deliver` takes a message's words and the part of the packet that it came from, words[5] bytes long. */
+ * where `deliver` takes a message's words and the part of the packet that it came from, words[SIGMA_READ_BYTES] bytes long. */
 enum {
     SIGMA_PACKET_FIRST = 2,    /* the place of the first message */
     SIGMA_PACKET_MAX = 65535   /* the largest total */
@@ -75,28 +99,47 @@ uint32_t sigma_packet_pack(const uint8_t *bytes, size_t bytes_len, uint8_t *out,
  *   server: n, its number, owner, owner's timestamp, queue length, then client and timestamp of 32 places
  *   client: n, m, its number, section, timestamp, the largest timestamp seen, then owner and timestamp of the responses of servers 1 to 255
  * The messages that a step sends stand one after another at the start of `out`, and the bytes behind them stay;
- * `sent` takes their number and their bytes. A server sends at most 28 bytes in a step, a client 12 times n. */
+ * `sent` takes their number and their bytes, in this order. A refused call leaves `sent` as it was, with what the last accepted one put
+ * there or with anything: look at it only where the call returned 0. */
+enum {
+    SIGMA_SERVER_WORDS = 69,
+    SIGMA_CLIENT_WORDS = 516,
+    SIGMA_QUEUE_PLACES = 32,
+    SIGMA_SENT_MESSAGES = 0,
+    SIGMA_SENT_BYTES = 1,
+    SIGMA_SENT_WORDS = 2
+};
+
+/* The places of a client's words; those of a server's have their names in struct sigma_host. A host reads the section, and writes none. */
+enum {
+    SIGMA_CLIENT_N = 0,
+    SIGMA_CLIENT_M = 1,
+    SIGMA_CLIENT_ID = 2,
+    SIGMA_CLIENT_SECTION = 3,
+    SIGMA_CLIENT_TIMESTAMP = 4,
+    SIGMA_CLIENT_SEEN = 5,
+    SIGMA_CLIENT_RESPONSES = 6 /* of server 1: the owner that it named, then the owner's timestamp; two words on, of server 2 .. */
+};
+
+/* The sections. */
 enum {
     SIGMA_REMAINDER = 0,
     SIGMA_TRYING = 1,
-    SIGMA_CRITICAL = 2,
-    SIGMA_SERVER_WORDS = 69,
-    SIGMA_CLIENT_WORDS = 516,
-    SIGMA_SENT_WORDS = 2,
-    SIGMA_QUEUE_PLACES = 32
+    SIGMA_CRITICAL = 2
 };
 
 /* Writes the record of server `id` of 1 to n, without an owner, in the first 69 words.
  * Refusal: 7 a number out of range, or fewer words lent. */
 uint32_t sigma_server_new(uint32_t n, uint32_t id, uint32_t *record, size_t record_len);
 
-/* The server takes a REQUEST, YIELD, RELEASE or INQUIRY.
+/* The server takes a REQUEST, YIELD, RELEASE or INQUIRY: five words, the first five of the six that sigma_read wrote.
  * Refusals: 21, 5 not five words, or a number out of range, 13 wrong kind or server, 14 queue full,
  * 6 fewer than two words in `sent`, or room short for all that is sent. */
 uint32_t sigma_server_message(uint32_t *record, size_t record_len, const uint32_t *message, size_t message_len,
                               uint8_t *out, size_t out_len, uint32_t *sent, size_t sent_len);
 
-/* The owner is suspected to have crashed, and removed. Refusals: 21, 15 no owner, 6 as above. */
+/* The owner has crashed for good, and is removed, whoever it is. The call cannot know whether it has: with an owner that lives, two
+ * clients can be inside. Refusals: 21, 15 no owner, 6 as above. */
 uint32_t sigma_server_suspect(uint32_t *record, size_t record_len, uint8_t *out, size_t out_len,
                               uint32_t *sent, size_t sent_len);
 
@@ -106,7 +149,8 @@ uint32_t sigma_server_check(uint32_t *record, size_t record_len, uint8_t *out, s
 
 /* A server's record as a struct, for a host that calls its numbers by name: the 69 words of the record, then what the last
  * accepted call sent. A new server is n and its number, and 0 everywhere else. The struct stays where the host put it;
- * an accepted call writes record and counts in it, and a refused call leaves all of it. */
+ * an accepted call writes record and counts in it. A refused call leaves all of it: the counts are then still those of the last
+ * accepted call, so look at them only where the call returned 0. */
 struct sigma_request {
     uint32_t client;
     uint32_t timestamp;
@@ -129,6 +173,7 @@ uint32_t sigma_host_suspect(struct sigma_host *host, uint8_t *out, size_t out_le
 uint32_t sigma_host_check(struct sigma_host *host, uint8_t *out, size_t out_len);
 
 /* Writes the record of client `id` with n servers and threshold m, which has never tried and has seen nothing, in the first 516 words.
+ * Whether m is safe is not asked here: sigma_setting says it.
  * Refusal: 7 a number out of range, or fewer words lent. */
 uint32_t sigma_client_new(uint32_t n, uint32_t m, uint32_t id, uint32_t *record, size_t record_len);
 
@@ -180,7 +225,8 @@ uint32_t sigma_setting(uint32_t n, uint32_t m, uint32_t f, uint32_t *words, size
  * Refusals: 7 out of range, 17 the run has no such event, or the setting is not refused 8, 6 fewer than two words. */
 uint32_t sigma_run_event(uint32_t n, uint32_t m, uint32_t f, uint32_t i, uint32_t *words, size_t words_len);
 
-/* The default threshold for n servers, two thirds of n rounded up, in the first word.
+/* The default threshold for n servers, two thirds of n rounded up, in the first word. It is accepted with f up to (n - 1) / 3, rounded down,
+ * and with no more: sigma_setting says it of each f.
  * Refusals: 7 n out of range, 6 no word lent. */
 uint32_t sigma_default_threshold(uint32_t n, uint32_t *words, size_t words_len);
 

@@ -1,6 +1,6 @@
-/* Shows that include/sigma.h is right: both examples of document 01, one client's way into its critical section
- * and out of it, a server in a struct, its queue filled, a client's timestamps, saved records taken over, a round of yields in one
- * packet, the unsafe run in a simulation, and the example of a script, through the functions as it declares them. */
+/* Shows that include/sigma.h is right: both examples of document 01, what each constant promises, one client's way into its critical
+ * section and out of it, a server in a struct, its queue filled, a client's timestamps, saved records taken over, a round of yields in
+ * one packet, the unsafe run in a simulation, and the example of a script, through the functions as it declares them. */
 #include "sigma.h"
 
 #include <assert.h>
@@ -17,6 +17,30 @@ static void expect(int ok, const char *what)
     }
 }
 
+static int all(const uint32_t *words, size_t length, uint32_t word)
+{
+    while (length > 0)
+        if (words[--length] != word)
+            return 0;
+    return 1;
+}
+
+/* The first message that a step sent is of this kind; its words. */
+static int first_is(uint32_t kind, const uint8_t *out, const uint32_t *sent, uint32_t *words)
+{
+    return sigma_read(out, sent[SIGMA_SENT_BYTES], words, SIGMA_READ_WORDS) == 0 && words[SIGMA_MESSAGE_KIND] == kind;
+}
+
+static int sent_are(const uint32_t *sent, uint32_t messages, uint32_t bytes)
+{
+    return sent[SIGMA_SENT_MESSAGES] == messages && sent[SIGMA_SENT_BYTES] == bytes;
+}
+
+static int client_is(const uint32_t *client, uint32_t section, uint32_t timestamp)
+{
+    return client[SIGMA_CLIENT_SECTION] == section && client[SIGMA_CLIENT_TIMESTAMP] == timestamp;
+}
+
 static void round_trip(const uint8_t *bytes, size_t length, const uint32_t *message)
 {
     uint32_t words[SIGMA_READ_WORDS] = {0};
@@ -24,7 +48,7 @@ static void round_trip(const uint8_t *bytes, size_t length, const uint32_t *mess
     memset(out, 0x77, sizeof out);
     expect(sigma_read(bytes, length, words, SIGMA_READ_WORDS) == 0, "read accepts");
     expect(memcmp(words, message, SIGMA_MESSAGE_WORDS * sizeof *message) == 0, "the five words");
-    expect(words[5] == length, "the bytes used");
+    expect(words[SIGMA_READ_BYTES] == length, "the bytes used");
     expect(sigma_write(message, SIGMA_MESSAGE_WORDS, out, sizeof out) == 0, "write accepts");
     expect(memcmp(out, bytes, length) == 0, "the bytes");
     expect(out[length] == 0x77, "the bytes behind stay");
@@ -34,11 +58,95 @@ static void round_trip(const uint8_t *bytes, size_t length, const uint32_t *mess
     expect(sigma_read(bytes, length, words, SIGMA_READ_WORDS - 1) == 6, "five words lent");
 }
 
+/* Each kind's bytes, the longest message, and the places of a message's words: the numbers are all different. */
+static void messages(void)
+{
+    uint32_t response[SIGMA_MESSAGE_WORDS], words[SIGMA_READ_WORDS], kind;
+    uint8_t out[SIGMA_MESSAGE_MAX];
+    for (kind = SIGMA_REQUEST; kind <= SIGMA_CHECK; kind++) {
+        uint32_t message[SIGMA_MESSAGE_WORDS] = {kind, 7, 4, 9, kind == SIGMA_RESPONSE ? 2u : 0u};
+        uint32_t bytes = kind == SIGMA_RESPONSE ? SIGMA_MESSAGE_MAX : 12;
+        expect(sigma_write(message, SIGMA_MESSAGE_WORDS, out, bytes - 1) == 6, "a byte too few");
+        expect(sigma_write(message, SIGMA_MESSAGE_WORDS, out, bytes) == 0, "just enough");
+        expect(sigma_read(out, bytes, words, SIGMA_READ_WORDS) == 0 && words[SIGMA_READ_BYTES] == bytes, "as many are read");
+    }
+    response[SIGMA_MESSAGE_KIND] = SIGMA_RESPONSE;
+    response[SIGMA_MESSAGE_CLIENT] = 7;
+    response[SIGMA_MESSAGE_SERVER] = 4;
+    response[SIGMA_MESSAGE_TIMESTAMP] = 9;
+    response[SIGMA_MESSAGE_OWNER] = 2;
+    expect(sigma_write(response, SIGMA_MESSAGE_WORDS, out, sizeof out) == 0, "a response");
+    expect(out[2] == 5 && out[4] == 7 && out[6] == 4 && out[8] == 9 && out[12] == 2, "each word in its place");
+}
+
+/* The largest client, server and timestamp are accepted, and one more is refused; one more than the largest timestamp is 0. */
+static void largest_numbers(void)
+{
+    uint32_t client[SIGMA_CLIENT_WORDS], server[SIGMA_SERVER_WORDS], id = SIGMA_CLIENT_ID_MAX, n = SIGMA_SERVER_ID_MAX;
+    uint32_t message[SIGMA_MESSAGE_WORDS] = {SIGMA_REQUEST, SIGMA_CLIENT_ID_MAX, SIGMA_SERVER_ID_MAX, SIGMA_TIMESTAMP_MAX, 0};
+    uint32_t response[SIGMA_MESSAGE_WORDS] = {SIGMA_RESPONSE, 5, 1, SIGMA_TIMESTAMP_MAX, SIGMA_CLIENT_ID_MAX};
+    uint32_t sent[SIGMA_SENT_WORDS];
+    uint8_t out[SIGMA_MESSAGE_MAX];
+    expect(sigma_client_new(n, n, id, client, SIGMA_CLIENT_WORDS) == 0, "the last client, with all servers");
+    expect(sigma_client_new(n, n, id + 1, client, SIGMA_CLIENT_WORDS) == 7, "a client too far");
+    expect(sigma_client_new(n + 1, n, id, client, SIGMA_CLIENT_WORDS) == 7, "a server too many");
+    expect(sigma_client_new(n, n + 1, id, client, SIGMA_CLIENT_WORDS) == 7, "a threshold above n");
+    expect(sigma_server_new(n + 1, n, server, SIGMA_SERVER_WORDS) == 7, "one server too many");
+    expect(sigma_server_new(n, n + 1, server, SIGMA_SERVER_WORDS) == 7, "a server too far");
+    expect(sigma_server_new(n, n, server, SIGMA_SERVER_WORDS) == 0, "the last server");
+    expect(sigma_server_message(server, SIGMA_SERVER_WORDS, message, SIGMA_MESSAGE_WORDS, out, sizeof out, sent, SIGMA_SENT_WORDS) == 0 &&
+           server[2] == SIGMA_CLIENT_ID_MAX && server[3] == SIGMA_TIMESTAMP_MAX, "the last of all requests");
+    expect(sigma_write(message, SIGMA_MESSAGE_WORDS, out, sizeof out) == 0, "which can be written");
+    message[SIGMA_MESSAGE_CLIENT]++;
+    expect(sigma_write(message, SIGMA_MESSAGE_WORDS, out, sizeof out) == 5, "from a client too far");
+    expect(sigma_server_message(server, SIGMA_SERVER_WORDS, message, SIGMA_MESSAGE_WORDS, out, sizeof out, sent, SIGMA_SENT_WORDS) == 5,
+           "which no server takes");
+    message[SIGMA_MESSAGE_CLIENT]--;
+    message[SIGMA_MESSAGE_SERVER]++;
+    expect(sigma_write(message, SIGMA_MESSAGE_WORDS, out, sizeof out) == 5, "to a server too far");
+    message[SIGMA_MESSAGE_SERVER]--;
+    message[SIGMA_MESSAGE_TIMESTAMP]++;
+    expect(message[SIGMA_MESSAGE_TIMESTAMP] == 0 && sigma_write(message, SIGMA_MESSAGE_WORDS, out, sizeof out) == 5, "no timestamp");
+    expect(sigma_write(response, SIGMA_MESSAGE_WORDS, out, sizeof out) == 0, "the last client owns");
+    response[SIGMA_MESSAGE_OWNER]++;
+    expect(sigma_write(response, SIGMA_MESSAGE_WORDS, out, sizeof out) == 5, "an owner too far");
+}
+
+/* A client of all servers tries and leaves with SIGMA_CLIENT_OUT bytes, and not with one less. Its words stand where they are named. */
+static void most_of_a_client(void)
+{
+    uint32_t client[SIGMA_CLIENT_WORDS], before[SIGMA_CLIENT_WORDS], sent[SIGMA_SENT_WORDS] = {7, 8}, words[SIGMA_READ_WORDS], j;
+    uint8_t out[SIGMA_CLIENT_OUT];
+    expect(sigma_client_new(SIGMA_SERVER_ID_MAX, 170, 9, client, SIGMA_CLIENT_WORDS) == 0, "255 servers, threshold 170");
+    expect(client[SIGMA_CLIENT_N] == 255 && client[SIGMA_CLIENT_M] == 170 && client[SIGMA_CLIENT_ID] == 9, "are in its words");
+    expect(client_is(client, SIGMA_REMAINDER, 0) && client[SIGMA_CLIENT_SEEN] == 0 &&
+           all(client + SIGMA_CLIENT_RESPONSES, 2 * SIGMA_SERVER_ID_MAX, 0), "it has never tried");
+    memcpy(before, client, sizeof client);
+    expect(sigma_client_begin(client, SIGMA_CLIENT_WORDS, out, sizeof out - 1, sent, SIGMA_SENT_WORDS) == 6, "a byte too few");
+    expect(memcmp(before, client, sizeof client) == 0 && sent_are(sent, 7, 8), "refused, all is as it was");
+    expect(sigma_client_begin(client, SIGMA_CLIENT_WORDS, out, sizeof out, sent, SIGMA_SENT_WORDS) == 0, "it tries");
+    expect(sent_are(sent, 255, SIGMA_CLIENT_OUT), "all bytes are used");
+    expect(sigma_read(out + sizeof out - 12, 12, words, SIGMA_READ_WORDS) == 0 && words[SIGMA_MESSAGE_SERVER] == 255, "the last message");
+    for (j = 255; j > 255 - 170; j--) {
+        uint32_t response[SIGMA_MESSAGE_WORDS] = {SIGMA_RESPONSE, 9, j, 1, 9}, *place = client + SIGMA_CLIENT_RESPONSES + 2 * (j - 1);
+        expect(all(place, 2, 0), "no response yet");
+        expect(sigma_client_message(client, SIGMA_CLIENT_WORDS, response, SIGMA_MESSAGE_WORDS, out, 0, sent, SIGMA_SENT_WORDS) == 0 &&
+               sent_are(sent, 0, 0) && place[0] == 9 && place[1] == 1, "owner, then timestamp");
+    }
+    expect(client_is(client, SIGMA_CRITICAL, 1) && client[SIGMA_CLIENT_SEEN] == 1, "it is in");
+    expect(sigma_client_exit(client, SIGMA_CLIENT_WORDS, out, sizeof out - 1, sent, SIGMA_SENT_WORDS) == 6, "a byte too few");
+    expect(client_is(client, SIGMA_CRITICAL, 1) && sent_are(sent, 0, 0), "refused, all is as it was");
+    expect(sigma_client_exit(client, SIGMA_CLIENT_WORDS, out, sizeof out, sent, SIGMA_SENT_WORDS) == 0, "it leaves");
+    expect(client_is(client, SIGMA_REMAINDER, 2) && sent_are(sent, 255, SIGMA_CLIENT_OUT), "all bytes are used");
+    expect(sigma_client_exit(client, SIGMA_CLIENT_WORDS, out, sizeof out, sent, SIGMA_SENT_WORDS) == 10, "it is out already");
+    expect(sent_are(sent, 255, SIGMA_CLIENT_OUT), "refused, the counts are the last accepted call's");
+}
+
 /* Client 5 and the only server. */
 static void enter_and_leave(void)
 {
     uint32_t client[SIGMA_CLIENT_WORDS], server[SIGMA_SERVER_WORDS], sent[SIGMA_SENT_WORDS], words[SIGMA_READ_WORDS];
-    uint8_t out[28];
+    uint8_t out[SIGMA_SERVER_OUT];
     expect(sigma_client_new(1, 1, 5, client, SIGMA_CLIENT_WORDS - 1) == 7, "515 words lent");
     expect(sigma_client_new(1, 1, 5, client, SIGMA_CLIENT_WORDS) == 0, "a new client");
     expect(sigma_server_new(1, 2, server, SIGMA_SERVER_WORDS) == 7, "server 2 of 1");
@@ -47,23 +155,23 @@ static void enter_and_leave(void)
 
     expect(sigma_client_begin(client, SIGMA_CLIENT_WORDS, out, 11, sent, SIGMA_SENT_WORDS) == 6, "room short");
     expect(sigma_client_begin(client, SIGMA_CLIENT_WORDS, out, 12, sent, SIGMA_SENT_WORDS) == 0, "begin");
-    expect(sent[0] == 1 && sent[1] == 12 && client[3] == SIGMA_TRYING && client[4] == 1, "one REQUEST");
-    expect(sigma_read(out, sent[1], words, SIGMA_READ_WORDS) == 0 && words[0] == SIGMA_REQUEST, "it can be read");
+    expect(sent_are(sent, 1, 12) && client_is(client, SIGMA_TRYING, 1), "one REQUEST");
+    expect(first_is(SIGMA_REQUEST, out, sent, words), "it can be read");
     expect(sigma_server_message(server, SIGMA_SERVER_WORDS, words, SIGMA_MESSAGE_WORDS, out, sizeof out, sent,
                                 SIGMA_SENT_WORDS) == 0, "the server takes it");
     expect(server[2] == 5 && server[3] == 1 && server[4] == 0, "client 5 is owner");
-    expect(sigma_read(out, sent[1], words, SIGMA_READ_WORDS) == 0 && words[0] == SIGMA_RESPONSE, "its answer");
+    expect(first_is(SIGMA_RESPONSE, out, sent, words), "its answer");
     expect(sigma_client_message(client, SIGMA_CLIENT_WORDS, words, SIGMA_MESSAGE_WORDS, out, 0, sent,
                                 SIGMA_SENT_WORDS) == 0, "the client takes it");
-    expect(sent[0] == 0 && sent[1] == 0 && client[3] == SIGMA_CRITICAL, "client 5 is in");
+    expect(sent_are(sent, 0, 0) && client_is(client, SIGMA_CRITICAL, 1), "client 5 is in");
 
     expect(sigma_client_exit(client, SIGMA_CLIENT_WORDS, out, sizeof out, sent, SIGMA_SENT_WORDS) == 0, "exit");
-    expect(client[3] == SIGMA_REMAINDER && client[4] == 2, "client 5 is out");
+    expect(client_is(client, SIGMA_REMAINDER, 2), "client 5 is out");
     expect(sigma_server_check(server, SIGMA_SERVER_WORDS, out, sizeof out, sent, SIGMA_SENT_WORDS) == 0, "check");
-    expect(sigma_read(out, sent[1], words, SIGMA_READ_WORDS) == 0 && words[0] == SIGMA_CHECK, "a CHECK");
+    expect(first_is(SIGMA_CHECK, out, sent, words), "a CHECK");
     expect(sigma_client_message(client, SIGMA_CLIENT_WORDS, words, SIGMA_MESSAGE_WORDS, out, sizeof out, sent,
                                 SIGMA_SENT_WORDS) == 0, "the client takes the CHECK");
-    expect(sigma_read(out, sent[1], words, SIGMA_READ_WORDS) == 0 && words[0] == SIGMA_RELEASE, "a RELEASE");
+    expect(first_is(SIGMA_RELEASE, out, sent, words), "a RELEASE");
     expect(sigma_server_message(server, SIGMA_SERVER_WORDS, words, SIGMA_MESSAGE_WORDS, out, sizeof out, sent,
                                 SIGMA_SENT_WORDS) == 0, "the server takes the RELEASE");
     expect(server[2] == 0 && server[3] == 0, "no owner");
@@ -73,6 +181,8 @@ static void enter_and_leave(void)
 
 /* Five words, then two for each of 32 places of a queue; six words, then two for the response of each of 255 servers. */
 static_assert(SIGMA_QUEUE_PLACES == 32 && SIGMA_SERVER_WORDS == 69 && SIGMA_CLIENT_WORDS == 516, "the records' words");
+static_assert(SIGMA_CLIENT_RESPONSES + 2 * SIGMA_SERVER_ID_MAX == SIGMA_CLIENT_WORDS, "the responses are the last");
+static_assert(SIGMA_MESSAGE_WORDS == 5 && SIGMA_READ_BYTES == SIGMA_MESSAGE_WORDS && SIGMA_READ_WORDS == 6, "a message's words");
 static_assert(SIGMA_SIMULATION_WORDS == 7440 && SIGMA_SCRIPT_WORDS == 7486, "a simulation's, and with it a script's");
 
 /* The struct is the record's words and the two counts, in this order and with nothing between them. */
@@ -90,12 +200,12 @@ static_assert(offsetof(struct sigma_host, bytes) == (SIGMA_SERVER_WORDS + 1) * s
 /* One server twice: in a struct, and as a record's words with the same calls. */
 static struct sigma_host host;
 static uint32_t record[SIGMA_SERVER_WORDS], counts[SIGMA_SENT_WORDS];
-static uint8_t host_out[28], record_out[28];
+static uint8_t host_out[SIGMA_SERVER_OUT], record_out[SIGMA_SERVER_OUT];
 
 static void same(const char *what)
 {
     expect(memcmp(&host, record, sizeof record) == 0, what);
-    expect(host.sent == counts[0] && host.bytes == counts[1], what);
+    expect(host.sent == counts[SIGMA_SENT_MESSAGES] && host.bytes == counts[SIGMA_SENT_BYTES], what);
     expect(memcmp(host_out, record_out, sizeof host_out) == 0, what);
 }
 
@@ -135,6 +245,29 @@ static void in_a_struct(void)
     expect(sigma_host_check(&host, host_out, sizeof host_out) == 21 && host.queue_length == SIGMA_QUEUE_PLACES + 1, "a broken struct");
 }
 
+/* The two steps that send two RESPONSEs, the most: an owner yields to another, or asks with a later timestamp while another waits. */
+static void most_of_a_server(void)
+{
+    struct sigma_host before;
+    memset(&host, 0, sizeof host);
+    memset(counts, 0, sizeof counts);
+    host.n = 3;
+    host.id = 1;
+    expect(sigma_server_new(3, 1, record, SIGMA_SERVER_WORDS) == 0, "a new server");
+    expect(both_take(SIGMA_REQUEST, 5, 3, sizeof host_out) == 0 && both_take(SIGMA_REQUEST, 2, 3, sizeof host_out) == 0, "client 2 waits");
+    before = host;
+    expect(both_take(SIGMA_YIELD, 5, 3, sizeof host_out - 1) == 6 && memcmp(&host, &before, sizeof host) == 0, "a byte too few");
+    expect(host.sent == 1 && host.bytes == 14, "the counts are the last accepted call's");
+    expect(both_take(SIGMA_YIELD, 5, 3, sizeof host_out) == 0 && host.owner == 2, "client 5 yields");
+    expect(host.sent == 2 && host.bytes == SIGMA_SERVER_OUT, "all bytes are used");
+    before = host;
+    expect(both_take(SIGMA_REQUEST, 2, 4, sizeof host_out - 1) == 6 && memcmp(&host, &before, sizeof host) == 0, "a byte too few");
+    expect(both_take(SIGMA_RESPONSE, 2, 4, sizeof host_out) == 5 && both_take(SIGMA_CHECK, 2, 4, sizeof host_out) == 13, "no such message");
+    expect(host.sent == 2 && host.bytes == SIGMA_SERVER_OUT, "the counts are the last accepted call's");
+    expect(both_take(SIGMA_REQUEST, 2, 4, sizeof host_out) == 0 && host.owner == 5 && host.queue[0].client == 2, "client 2 asks anew");
+    expect(host.sent == 2 && host.bytes == SIGMA_SERVER_OUT, "all bytes are used");
+}
+
 /* Client 100 owns; clients 1 to 32 take the queue's 32 places, the last come first. A 33rd is refused, and a yield goes through 33. */
 static void a_full_queue(void)
 {
@@ -151,49 +284,46 @@ static void a_full_queue(void)
     expect(host.queue[31].client == 1 && host.queue[31].timestamp == 39, "the highest last");
     expect(both_take(SIGMA_REQUEST, 33, 7, sizeof host_out) == 14 && host.queue_length == 32, "no place for a 33rd");
     expect(both_take(SIGMA_INQUIRY, 33, 7, sizeof host_out) == 0 && host.sent == 1, "which may ask");
-    expect(both_take(SIGMA_YIELD, 100, 50, sizeof host_out) == 0 && host.sent == 2 && host.bytes == 28, "the owner gives way");
+    expect(both_take(SIGMA_YIELD, 100, 50, sizeof host_out) == 0 && host.sent == 2 && host.bytes == SIGMA_SERVER_OUT,
+           "the owner gives way");
     expect(host.owner == 32 && host.owner_timestamp == 8 && host.queue_length == 32, "the first of 33 is owner, 32 wait");
     expect(host.queue[0].client == 31 && host.queue[31].client == 100 && host.queue[31].timestamp == 50, "the old owner last");
     expect(both_take(SIGMA_RELEASE, 31, 9, sizeof host_out) == 0 && host.queue_length == 31, "one goes");
     expect(both_take(SIGMA_REQUEST, 33, 7, sizeof host_out) == 0 && host.queue[0].client == 33, "and another comes");
 }
 
-/* Document 02's worked case of a client's timestamps: last 3, seen 40, begin takes 41, exit 42. What it has seen is word 5. */
+/* Document 02's worked case of a client's timestamps: last 3, seen 40, begin takes 41, exit 42. */
 static void clock_of_a_client(void)
 {
     uint32_t client[SIGMA_CLIENT_WORDS], sent[SIGMA_SENT_WORDS], words[SIGMA_READ_WORDS];
     uint32_t check[SIGMA_MESSAGE_WORDS] = {SIGMA_CHECK, 5, 1, 40, 0}, response[SIGMA_MESSAGE_WORDS] = {SIGMA_RESPONSE, 5, 1, 41, 5};
     uint8_t out[12];
-    expect(sigma_client_new(1, 1, 5, client, SIGMA_CLIENT_WORDS) == 0 && client[5] == 0, "a new client has seen nothing");
-    client[4] = 3;
+    expect(sigma_client_new(1, 1, 5, client, SIGMA_CLIENT_WORDS) == 0 && client[SIGMA_CLIENT_SEEN] == 0, "a new client has seen nothing");
+    client[SIGMA_CLIENT_TIMESTAMP] = 3;
     expect(sigma_client_message(client, SIGMA_CLIENT_WORDS, check, SIGMA_MESSAGE_WORDS, out, 11, sent, SIGMA_SENT_WORDS) == 6 &&
-           client[5] == 0, "refused, and not seen");
+           client[SIGMA_CLIENT_SEEN] == 0, "refused, and not seen");
     expect(sigma_client_message(client, SIGMA_CLIENT_WORDS, check, SIGMA_MESSAGE_WORDS, out, 12, sent, SIGMA_SENT_WORDS) == 0 &&
-           client[4] == 3 && client[5] == 40, "a CHECK is seen");
-    expect(sigma_client_begin(client, SIGMA_CLIENT_WORDS, out, 12, sent, SIGMA_SENT_WORDS) == 0 && client[4] == 41, "begin takes 41");
-    expect(sigma_read(out, sent[1], words, SIGMA_READ_WORDS) == 0 && words[3] == 41, "and asks with it");
+           client[SIGMA_CLIENT_TIMESTAMP] == 3 && client[SIGMA_CLIENT_SEEN] == 40, "a CHECK is seen");
+    expect(sigma_client_begin(client, SIGMA_CLIENT_WORDS, out, 12, sent, SIGMA_SENT_WORDS) == 0 && client_is(client, SIGMA_TRYING, 41),
+           "begin takes 41");
+    expect(first_is(SIGMA_REQUEST, out, sent, words) && words[SIGMA_MESSAGE_TIMESTAMP] == 41, "and asks with it");
     expect(sigma_client_message(client, SIGMA_CLIENT_WORDS, response, SIGMA_MESSAGE_WORDS, out, 0, sent, SIGMA_SENT_WORDS) == 0 &&
-           client[3] == SIGMA_CRITICAL && client[5] == 41, "its own timestamp is seen too");
-    client[5] = 50;
-    expect(sigma_client_exit(client, SIGMA_CLIENT_WORDS, out, 12, sent, SIGMA_SENT_WORDS) == 0 && client[4] == 42, "exit takes 42");
-    expect(sigma_client_begin(client, SIGMA_CLIENT_WORDS, out, 12, sent, SIGMA_SENT_WORDS) == 0 && client[4] == 51, "begin takes 51");
-    client[3] = SIGMA_REMAINDER;
-    client[5] = 4294967294u;
+           client_is(client, SIGMA_CRITICAL, 41) && client[SIGMA_CLIENT_SEEN] == 41, "its own timestamp is seen too");
+    client[SIGMA_CLIENT_SEEN] = 50;
+    expect(sigma_client_exit(client, SIGMA_CLIENT_WORDS, out, 12, sent, SIGMA_SENT_WORDS) == 0 && client_is(client, SIGMA_REMAINDER, 42),
+           "exit takes 42");
+    expect(sigma_client_begin(client, SIGMA_CLIENT_WORDS, out, 12, sent, SIGMA_SENT_WORDS) == 0 && client_is(client, SIGMA_TRYING, 51),
+           "begin takes 51");
+    client[SIGMA_CLIENT_SECTION] = SIGMA_REMAINDER;
+    client[SIGMA_CLIENT_SEEN] = SIGMA_TIMESTAMP_MAX - 1;
     expect(sigma_client_begin(client, SIGMA_CLIENT_WORDS, out, 0, sent, SIGMA_SENT_WORDS) == 11, "none left above what was seen");
-    client[5] = 4294967293u;
-    expect(sigma_client_begin(client, SIGMA_CLIENT_WORDS, out, 12, sent, SIGMA_SENT_WORDS) == 0 && client[4] == 4294967294u, "one left");
+    client[SIGMA_CLIENT_SEEN] = SIGMA_TIMESTAMP_MAX - 2;
+    expect(sigma_client_begin(client, SIGMA_CLIENT_WORDS, out, 12, sent, SIGMA_SENT_WORDS) == 0 &&
+           client_is(client, SIGMA_TRYING, SIGMA_TIMESTAMP_MAX - 1), "one left");
 }
 
 /* Records saved before there were so many places: a server's with 16, a client's with 31; and a client's before it noted what it saw. */
 enum { SAVED_SERVER_WORDS = 37, SAVED_CLIENT_WORDS = 67, UNSEEING_CLIENT_WORDS = 515 };
-
-static int all(const uint32_t *words, size_t length, uint32_t word)
-{
-    while (length > 0)
-        if (words[--length] != word)
-            return 0;
-    return 1;
-}
 
 static void saved_server(void)
 {
@@ -241,24 +371,25 @@ static void saved_client(void)
     saved[0] = 31;
     expect(all(taken, SIGMA_CLIENT_WORDS + 1, 0x77777777), "refused, all is as it was");
     expect(sigma_client_upgrade(saved, SAVED_CLIENT_WORDS, taken, SIGMA_CLIENT_WORDS + 1) == 0, "taken over");
-    expect(memcmp(taken, saved, 5 * sizeof *saved) == 0 && taken[5] == 0, "the same client, which has seen nothing");
-    expect(memcmp(taken + 6, saved + 5, 62 * sizeof *saved) == 0 && all(taken + 68, 448, 0), "the responses in front, all else empty");
+    expect(memcmp(taken, saved, 5 * sizeof *saved) == 0 && taken[SIGMA_CLIENT_SEEN] == 0, "the same client, which has seen nothing");
+    expect(memcmp(taken + SIGMA_CLIENT_RESPONSES, saved + 5, 62 * sizeof *saved) == 0 && all(taken + 68, 448, 0),
+           "the responses in front, all else empty");
     expect(taken[SIGMA_CLIENT_WORDS] == 0x77777777 && memcmp(saved, before, sizeof saved) == 0, "nothing else is written");
     memcpy(unseeing, saved, sizeof saved);
     expect(sigma_client_upgrade(unseeing, UNSEEING_CLIENT_WORDS, again, SIGMA_CLIENT_WORDS) == 0, "the form between");
     expect(memcmp(again, taken, sizeof again) == 0, "becomes the same");
-    taken[5] = 40;
+    taken[SIGMA_CLIENT_SEEN] = 40;
     expect(sigma_client_upgrade(taken, SIGMA_CLIENT_WORDS, again, SIGMA_CLIENT_WORDS) == 0, "the present form");
     expect(memcmp(again, taken, sizeof again) == 0, "is copied, with what was seen");
     {
         uint32_t response[SIGMA_MESSAGE_WORDS] = {SIGMA_RESPONSE, 5, 1, 3, 5};
         expect(sigma_client_message(taken, SIGMA_CLIENT_WORDS, response, SIGMA_MESSAGE_WORDS, host_out, 0, counts,
-                                    SIGMA_SENT_WORDS) == 0 && taken[3] == SIGMA_CRITICAL, "the second response brings it in");
+                                    SIGMA_SENT_WORDS) == 0 && client_is(taken, SIGMA_CRITICAL, 3), "the second response brings it in");
     }
 }
 
 /* Client 5 needs all of 255 servers. The last one's owner is client 2, whose request comes before client 5's, which so yields the 254 others. */
-enum { ROUND = 255 };
+enum { ROUND = SIGMA_SERVER_ID_MAX };
 
 static uint32_t delivered = 0;
 
@@ -266,8 +397,9 @@ static uint32_t delivered = 0;
 static void deliver(const uint32_t *words, const uint8_t *part)
 {
     uint32_t alone[SIGMA_READ_WORDS], kind = ++delivered < ROUND ? SIGMA_YIELD : SIGMA_INQUIRY;
-    expect(words[0] == kind && words[1] == 5 && words[2] == delivered && words[3] == 1 && words[4] == 0, "to the next server");
-    expect(sigma_read(part, words[5], alone, SIGMA_READ_WORDS) == 0 && memcmp(alone, words, sizeof alone) == 0, "its part");
+    expect(words[SIGMA_MESSAGE_KIND] == kind && words[SIGMA_MESSAGE_CLIENT] == 5 && words[SIGMA_MESSAGE_SERVER] == delivered &&
+           words[SIGMA_MESSAGE_TIMESTAMP] == 1 && words[SIGMA_MESSAGE_OWNER] == 0, "to the next server");
+    expect(sigma_read(part, words[SIGMA_READ_BYTES], alone, SIGMA_READ_WORDS) == 0 && memcmp(alone, words, sizeof alone) == 0, "its part");
 }
 
 /* The round's bytes as the step that yields wrote them. */
@@ -281,19 +413,19 @@ static void yield_round(uint8_t *out, size_t room, uint32_t *sent)
         expect(sigma_client_message(client, SIGMA_CLIENT_WORDS, response, SIGMA_MESSAGE_WORDS, out, room, sent,
                                     SIGMA_SENT_WORDS) == 0, "a server's response");
     }
-    expect(client[3] == SIGMA_TRYING && sent[0] == ROUND && sent[1] == 12 * ROUND, "a message to every server");
+    expect(client_is(client, SIGMA_TRYING, 1) && sent_are(sent, ROUND, SIGMA_CLIENT_OUT), "a message to every server");
 }
 
 static void packets(void)
 {
     uint32_t sent[SIGMA_SENT_WORDS], words[SIGMA_READ_WORDS] = {7, 7, 7, 7, 7, 7}, refusal;
-    uint8_t out[12 * ROUND], packet[SIGMA_PACKET_FIRST + sizeof out];
+    uint8_t out[SIGMA_CLIENT_OUT], packet[SIGMA_PACKET_FIRST + sizeof out];
     size_t at;
     yield_round(out, sizeof out, sent);
-    refusal = sigma_packet_pack(out, sent[1], packet, sizeof packet);
-    for (at = SIGMA_PACKET_FIRST; refusal == 0; at += words[5]) {
+    refusal = sigma_packet_pack(out, sent[SIGMA_SENT_BYTES], packet, sizeof packet);
+    for (at = SIGMA_PACKET_FIRST; refusal == 0; at += words[SIGMA_READ_BYTES]) {
         refusal = sigma_packet_next(packet, sizeof packet, at, words, SIGMA_READ_WORDS);
-        if (refusal != 0 || words[5] == 0) break;
+        if (refusal != 0 || words[SIGMA_READ_BYTES] == 0) break;
         deliver(words, packet + at);
     }
     expect(refusal == 0 && delivered == ROUND && at == sizeof packet, "all of the packet was read");
@@ -403,8 +535,12 @@ int main(void)
     round_trip(response, sizeof response, response_words);
     round_trip(to_the_last, sizeof to_the_last, last_words);
     expect(sigma_read(too_far, sizeof too_far, words, SIGMA_READ_WORDS) == 5, "server 257");
+    messages();
+    largest_numbers();
+    most_of_a_client();
     enter_and_leave();
     in_a_struct();
+    most_of_a_server();
     a_full_queue();
     clock_of_a_client();
     saved_server();
