@@ -221,6 +221,16 @@ static void play_on(uint32_t most)
         }
 }
 
+/* With the rule kept client k asks and waits, and enters when the one that is inside has left. */
+static void enters_after(uint32_t k, uint32_t other)
+{
+    play_on(200);
+    require(inside(other) && !inside(k), "it asks and waits");
+    leave(other);
+    play_on(200);
+    require(inside(k) && quiet(), "until the other has left");
+}
+
 /* An answer is delivered once. Client 2 counts server 2, yields it to client 1, which enters by it; the same answer once more,
  * and client 2 counts what it has given away. No server is ever down. */
 static void an_answer_delivered_twice(int twice)
@@ -244,11 +254,7 @@ static void an_answer_delivered_twice(int twice)
         require(two_inside(), "client 2 is inside too, by servers 2 and 3");
         return;
     }
-    play_on(200);
-    require(inside(1) && !inside(2), "client 2 asks and waits");
-    leave(1);
-    play_on(200);
-    require(inside(2) && quiet(), "until client 1 has left");
+    enters_after(2, 1);
 }
 
 /* A YIELD is delivered once. Client 2 yields server 2 while nobody else wants it, gets it again, and enters by it; the same YIELD
@@ -274,11 +280,7 @@ static void a_yield_delivered_twice(int twice)
         require(two_inside(), "client 1 is inside too, by servers 1 and 2");
         return;
     }
-    play_on(200);
-    require(inside(2) && !inside(1), "client 1 asks and waits");
-    leave(2);
-    play_on(200);
-    require(inside(1) && quiet(), "until client 2 has left");
+    enters_after(1, 2);
 }
 
 /* Over one client's wait and turn at most f servers are ever down, here one; not two one after the other. While client 1 is
@@ -333,11 +335,7 @@ static void servers_restarted_in_one_wait(int both)
     }
     gets(1, 3);
     require(inside(1), "client 1 is inside by servers 1, 2 and 3");
-    play_on(200);
-    require(inside(1) && !inside(2), "client 2 asks and waits");
-    leave(1);
-    play_on(200);
-    require(inside(2) && quiet(), "until client 1 has left");
+    enters_after(2, 1);
 }
 
 /* A message is from whom it says. Somebody else's RELEASE in client 1's name frees its server, and client 2 gets in beside it. */
@@ -432,11 +430,7 @@ static void a_living_owner_given_up(int suspicions, int restarts)
         require(two_inside(), "client 2 is inside too, by servers 1, 2 and 4");
         return;
     }
-    play_on(200);
-    require(inside(1) && !inside(2), "client 2 asks and waits");
-    leave(1);
-    play_on(200);
-    require(inside(2) && quiet(), "until client 1 has left");
+    enters_after(2, 1);
 }
 
 /* A simulation knows who lives, and refuses what a host should not do. */
