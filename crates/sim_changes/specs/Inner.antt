@@ -12,7 +12,7 @@ use Rattle.server.specs.declared.Server.{Server}
 use Rattle.server.specs.declared.Head as server-head
 use Rattle.client_responses.specs.Figure1 as client
 use Rattle.client_responses.specs.Figure1.{enough}
-use Rattle.client.specs.Record as client_record_lem
+use Rattle.client.specs.Record as client-record
 use Rattle.client.specs.Calls.{begin_outcome, exit_outcome, client_after}
 use Rattle.client.specs.declared.Client.{Client}
 use Rattle.words.specs.Records.{client_from, server_from, max_word, client_words, server_words}
@@ -79,7 +79,7 @@ pub record Cleared (w w' : List ℕ) : Type 0 where
 
 -- the record of a new client, and its block written; the same of a new server
 abbrev pub fresh_record : ℕ → ℕ → ClientId → Client
-fresh_record n m k = client_record_lem.client_of (client_record_lem.head_in n m k (client.fresh n)) (replicate response_words 0)
+fresh_record n m k = client-record.client_of (client-record.head_in n m k (client.fresh n)) (replicate response_words 0)
 
 unfoldable pub new_client : ℕ → ℕ → ClientId → List ℕ → List ℕ
 new_client n m k w = with_client_block w k (sets (set (client_block_of w k) 0 1) 1 (client_words (fresh_record n m k)))
@@ -96,17 +96,17 @@ in_turn f (suc i) w = f (suc i) (in_turn f i w)
 
 -- what the call asks of the record, and its outcome before the room is known
 abbrev pub ClientAsks : ClientAct → Client → Type 0
-ClientAsks client-act.Try c = client_record_lem.valid c ≡ true
-ClientAsks client-act.Exit c = client_record_lem.valid c ≡ true
-ClientAsks (client-act.Response i j o) c = (client_record_lem.valid c ≡ true) × (1 ≤ j.0) × (j.0 ≤ c.head.n) × (valid_owner o ≡ true)
-ClientAsks (client-act.Check i j t) c = client_record_lem.valid c ≡ true
+ClientAsks client-act.Try c = client-record.valid c ≡ true
+ClientAsks client-act.Exit c = client-record.valid c ≡ true
+ClientAsks (client-act.Response i j o) c = (client-record.valid c ≡ true) × (1 ≤ j.0) × (j.0 ≤ c.head.n) × (valid_owner o ≡ true)
+ClientAsks (client-act.Check i j t) c = client-record.valid c ≡ true
 
 abbrev pub client_outcome : ClientAct → Client → Outcome client.State
 client_outcome client-act.Try c = begin_outcome c
 client_outcome client-act.Exit c = exit_outcome c
 client_outcome (client-act.Response i j o) c =
-    stepped (client.responds (enough c.head.m) c.head.n c.head.id j o (client_record_lem.view c))
-client_outcome (client-act.Check i j t) c = stepped (client.checked c.head.id j t (client_record_lem.view c))
+    stepped (client.responds (enough c.head.m) c.head.n c.head.id j o (client-record.view c))
+client_outcome (client-act.Check i j t) c = stepped (client.checked c.head.id j t (client-record.view c))
 
 -- the step that it makes
 abbrev pub client_step : List ℕ → ClientId → ClientAct → Step client.State
