@@ -1,5 +1,8 @@
 // The C interface: numbers and slices in, 0 or a refusal's number out. A slice is a pointer, then a length.
 // include/sigma.h declares these functions.
+
+#![tactic(auto)]
+
 ghost use Rattle.std.specs.Prelude.{◌≡◌, [], ◌∷◌, ◌++◌, ◌+◌, ◌≤◌, length};
 ghost use Rattle.std.proofs.lemmas.List.Edits.{sets};
 ghost use Rattle.wire.specs.Format.{words as words_of};
@@ -75,14 +78,14 @@ pub extern "C" fn sigma_write(words: &[u32], out: &mut [u8]) -> u32
 }
 
 // The steps of a server's record, and of a client's.
-#[derive(Drop)]
+#[derive(Clone, Copy)]
 pub enum ServerCall {
     Message(Message),
     Suspect,
     Check,
 }
 
-#[derive(Drop)]
+#[derive(Clone, Copy)]
 pub enum ClientCall {
     Message(Message),
     Begin,

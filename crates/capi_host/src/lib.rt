@@ -1,18 +1,21 @@
 // For a C host whose server's record is a struct: each call takes the struct by reference, and does with its words what the call of `capi` does.
 // include/sigma.h declares the struct by the names of its words.
+
+#![tactic(auto)]
+
 ghost use Rattle.capi.specs.Steps.{server_message, server_suspect, server_check};
 ghost use Rattle.capi_host.specs.Leaves.{Leaves};
 
 // The record's words, and what the last accepted step sent: messages, and their bytes.
 #[repr(C)]
-#[derive(Drop)]
+#[derive(Clone, Copy)]
 pub struct Host {
     pub words: [u32; words::SERVER_WORDS],
     pub sent: [u32; 2],
 }
 
 // The struct after a call, and what the call returns.
-#[derive(Drop)]
+#[derive(Clone, Copy)]
 pub struct Stepped {
     pub host: Host,
     pub code: u32,

@@ -1,4 +1,7 @@
 // For C: a packet read message by message, and packed. include/sigma.h declares these functions.
+
+#![tactic(auto)]
+
 ghost use Rattle.std.specs.Prelude.{◌≡◌, ltb, length};
 ghost use Rattle.std.proofs.lemmas.List.Edits.{sets};
 ghost use Rattle.ids.specs.Choice.{if◌then◌else◌};

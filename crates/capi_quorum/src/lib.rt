@@ -1,4 +1,7 @@
 // The C interface of the setting check: numbers in, 0 or a refusal's number out, and words for what else there is to say.
+
+#![tactic(auto)]
+
 ghost use Rattle.std.specs.Prelude.{◌≡◌, [], ◌∷◌};
 ghost use Rattle.quorum.specs.Check.{verdict, Demand3};
 ghost use Rattle.quorum.specs.Run.{run_event};

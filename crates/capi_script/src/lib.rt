@@ -1,5 +1,8 @@
 // The C interface of a script: its state in words that the host lends, its input and output in parts of any size.
 // include/sigma.h declares these functions.
+
+#![tactic(auto)]
+
 ghost use Rattle.std.specs.Prelude.{◌≡◌, ◌≤◌, length};
 ghost use Rattle.ids.specs.Refusals.{code};
 ghost use Rattle.script.specs.State.{valid};

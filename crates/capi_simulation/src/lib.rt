@@ -1,5 +1,8 @@
 // The C interface of a simulation: a whole system in words that the host lends, made anew and taken on event by event.
 // include/sigma.h declares these functions.
+
+#![tactic(auto)]
+
 ghost use Rattle.std.specs.Prelude.{◌≡◌, length};
 ghost use Rattle.sim_changes.specs.Happens.{event_says};
 ghost use Rattle.simulation.specs.Opens.{opens, open_says, NewLeaves};

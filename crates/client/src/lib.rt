@@ -1,4 +1,7 @@
 // The client: Figure 1, lines 1 to 25, on a head by value and a lent row of responses; and the same calls on a record by value.
+
+#![tactic(auto)]
+
 ghost use Rattle.std.specs.Prelude.{◌≡◌, true, ◌&&◌, ◌+◌, ◌*◌, ◌≤◌, ◌<◌, length, replicate};
 ghost use Rattle.std.proofs.lemmas.List.Edits.{sets};
 ghost use Rattle.ids.specs.Limits.{max_timestamp, valid_owner};
@@ -26,7 +29,7 @@ pub const MAX_PLACES: usize = ids::MAX_SERVERS as usize;
 pub const ROW_WORDS: usize = 2 * MAX_PLACES;
 
 // Client `id` with `n` servers and threshold `m`. Its responses stand in a row, a place for each server.
-#[derive(Drop)]
+#[derive(Clone, Copy)]
 pub struct Head {
     pub n: u16,
     pub m: u16,
@@ -37,21 +40,21 @@ pub struct Head {
 }
 
 // Head and row in one record.
-#[derive(Drop)]
+#[derive(Clone, Copy)]
 pub struct Client {
     pub head: Head,
     pub row: [u32; ROW_WORDS],
 }
 
 // What a call on a lent row answers: the head after it, and what was sent.
-#[derive(Drop)]
+#[derive(Clone, Copy)]
 pub struct Turned {
     pub head: Head,
     pub answer: Answer,
 }
 
 // The same with the record.
-#[derive(Drop)]
+#[derive(Clone, Copy)]
 pub struct Stepped {
     pub client: Client,
     pub answer: Answer,

@@ -1,5 +1,8 @@
 // A client's responses in a lent row of words, two words a place, a place for each server: counted, heard and answered. Figure 1's lines 1
 // to 25 stand as definitions in specs/Figure1.
+
+#![tactic(auto)]
+
 ghost use Rattle.std.specs.Prelude.{◌≡◌, map, ◌+◌, ◌*◌, ◌≤◌, length};
 ghost use Rattle.std.proofs.lemmas.List.Edits.{sets};
 ghost use Rattle.ids.specs.Limits.{max_client};
@@ -13,7 +16,7 @@ ghost use Rattle.client_responses.specs.Inner.{pair, one};
 use ids::{Owner, Request, ServerId, Timestamp};
 use wire::Message;
 
-#[derive(Drop)]
+#[derive(Clone, Copy)]
 pub enum Section {
     Remainder,
     Trying,

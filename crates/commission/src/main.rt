@@ -1,6 +1,9 @@
 // The commissioning screen: `commission n m f`, and `commission n f`, which proposes thresholds. What is said goes to standard error; the run that
 // shows a setting unsafe goes to standard output as a gallery script, so that `bin/commission 3 2 1 | bin/gallery` plays it; one of more than
 // 31 servers can only be read. Arguments that are not two or three numbers are refused 16, as a script's first line is.
+
+#![tactic(auto)]
+
 use ids::Refusal;
 use libc::{STDERR_FILENO, STDOUT_FILENO};
 use quorum::Verdict;

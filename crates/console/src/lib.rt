@@ -1,5 +1,8 @@
 // Standard input, output and error, for the programs. Where the system fails, standard error says so. No contract can speak of what a
 // call of C reads or writes: these say only that what was read lies within what was lent.
+
+#![tactic(auto)]
+
 ghost use Rattle.std.specs.Prelude.{length};
 ghost use Rattle.console.specs.Fits.{Fits, Some};
 
@@ -7,7 +10,7 @@ use libc::STDIN_FILENO;
 
 // What reading gave: the system failed; the input has ended; so many bytes at the start of what was lent. Which of them is the
 // system's to say.
-#[derive(Drop)]
+#[derive(Clone, Copy)]
 pub enum Input {
     Failed,
     End,

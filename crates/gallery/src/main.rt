@@ -1,5 +1,8 @@
 // The gallery program: a script on standard input, what it prints on standard output. Document 01, 'The gallery script'. The kit has no
 // exit status: where reading or writing fails, standard error says so and the program ends there.
+
+#![tactic(auto)]
+
 ghost use Rattle.std.specs.Prelude.{◌≡◌, true, ◌≤◌, length};
 ghost use Rattle.console.specs.Fits.{Fits};
 ghost use Rattle.script.specs.State.{valid};

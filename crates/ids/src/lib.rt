@@ -1,4 +1,7 @@
 // Who takes part, in what order requests are served, and why a call is refused.
+
+#![tactic(auto)]
+
 ghost use Rattle.std.specs.Prelude.{◌≡◌};
 ghost use Rattle.ids.specs.Limits.{within, valid_client, valid_server, valid_timestamp, valid_request, valid_owner, valid_parties, valid_stamped};
 ghost use Rattle.ids.specs.Order.{before};
@@ -18,31 +21,31 @@ pub const MAX_TIMESTAMP: u32 = 4_294_967_295;
 pub const MAX_SHORT: u32 = 65_535;
 
 // Document 01's kiosk, keeper and ticket. Three types, so that passing one for another does not build.
-#[derive(Drop)]
+#[derive(Clone, Copy)]
 pub struct ClientId(pub u16);
 
-#[derive(Drop)]
+#[derive(Clone, Copy)]
 pub struct ServerId(pub u16);
 
-#[derive(Drop)]
+#[derive(Clone, Copy)]
 pub struct Timestamp(pub u32);
 
 // A client with the timestamp of its attempt: Figure 1's pair (ci, t).
-#[derive(Drop)]
+#[derive(Clone, Copy)]
 pub struct Request {
     pub client: ClientId,
     pub timestamp: Timestamp,
 }
 
 // Whom a server names as the owner of its vote.
-#[derive(Drop)]
+#[derive(Clone, Copy)]
 pub enum Owner {
     Nobody,
     Of(Request),
 }
 
 // Why a call is refused; `code` gives each its number in document 01's table, and from 22 on in document 02.
-#[derive(Drop)]
+#[derive(Clone, Copy)]
 pub enum Refusal {
     HeaderShort,
     KindUnknown,

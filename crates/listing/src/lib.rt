@@ -1,6 +1,9 @@
 // All the short runs of a setting: what is listed and in which order is defined in specs/, and that it is what document 02 asks for is
 // proved in proofs/. `listing_print` prints it.
 
+#![tactic(auto)]
+
+
 use ids::Refusal;
 use system::Setting;
 
@@ -12,7 +15,7 @@ pub const MAX_CLIENTS: u32 = 2;
 pub const MAX_EVENTS: u32 = 6;
 
 // What is asked for: the runs of a setting with at most so many events; or a refusal.
-#[derive(Drop)]
+#[derive(Clone, Copy)]
 pub enum Asked {
     Runs(Setting, u32),
     Refused(Refusal),

@@ -1,5 +1,8 @@
 // The input of the program that lists all the short runs: two lines, read and judged. Document 02, L5. What they ask for stands in specs/Asked, and how
 // much is read in specs/Reading.
+
+#![tactic(auto)]
+
 ghost use Rattle.std.specs.Prelude.{◌≡◌, ◌+◌, ◌≤◌, ◌<◌, eqb, length, drop, get_or};
 ghost use Rattle.ids.specs.Choice.{if◌then◌else◌};
 ghost use Rattle.script_lines.specs.Words.{newline};
@@ -100,7 +103,7 @@ pub fn asked_in(input: &[u8]) -> Asked
 }
 
 // What was read into the start of a buffer: reading failed; so many bytes, and the input has ended; so many bytes, which decide what is asked.
-#[derive(Drop)]
+#[derive(Clone, Copy)]
 pub enum Lines {
     Failed,
     Ended(usize),

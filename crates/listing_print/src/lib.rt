@@ -1,6 +1,9 @@
 // All the short runs of a setting, printed while they are listed: document 02, L5. What is printed is defined in `listing`. What follows a run is listed with one event fewer to go: `follow` calls itself with the simulation after the event.
 // A part of the text is handed over to be written when the next line might not fit the buffer (specs/Printing); where writing fails, standard
 // error says so, and nothing more is listed.
+
+#![tactic(auto)]
+
 ghost use Rattle.std.specs.Prelude.{◌≡◌, true, false, ◌||◌, ◌&&◌, not, leb, ltb, [], ◌++◌, ◌+◌, ◌-◌, ◌*◌, ◌≤◌, ◌<◌, length, take, drop, get_or};
 ghost use Rattle.ids.specs.Choice.{if◌then◌else◌};
 ghost use Rattle.sim_changes.specs.Opening.{Starts};
@@ -26,7 +29,7 @@ use simulation::Simulation;
 use system::{Event, MessageNumber, Setting};
 
 // The setting and the count of events of a listing.
-#[derive(Drop)]
+#[derive(Clone, Copy)]
 pub struct Task {
     pub setting: Setting,
     pub events: u32,
@@ -34,7 +37,7 @@ pub struct Task {
 
 // How far a text is printed: the runs listed, those of them in which two were inside at some moment, the bytes handed over to be written, those
 // that wait in the buffer, and whether writing failed.
-#[derive(Drop)]
+#[derive(Clone, Copy)]
 pub struct Progress {
     pub runs: u32,
     pub meetings: u32,
@@ -44,7 +47,7 @@ pub struct Progress {
 }
 
 // A run that is listed: how many events may follow it, whether two were inside at some moment, and where its text ends.
-#[derive(Drop)]
+#[derive(Clone, Copy)]
 pub struct Place {
     pub left: u32,
     pub met: bool,
@@ -52,7 +55,7 @@ pub struct Place {
 }
 
 // What came of a run and one more event: whether the simulation is another one now, and whether there is more to follow the longer run.
-#[derive(Drop)]
+#[derive(Clone, Copy)]
 pub struct Extended {
     pub progress: Progress,
     pub place: Place,
@@ -61,7 +64,7 @@ pub struct Extended {
 }
 
 // How many clients, servers and messages events can name.
-#[derive(Drop)]
+#[derive(Clone, Copy)]
 pub struct Sizes {
     pub clients: u16,
     pub servers: u16,

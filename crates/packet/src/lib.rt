@@ -1,5 +1,8 @@
 // Packets (document 02, L1): the packet's length in two bytes, the total, then messages one after another. Nothing of a packet is given unless all of it
 // is accepted.
+
+#![tactic(auto)]
+
 ghost use Rattle.std.specs.Prelude.{◌≡◌, true, ◌+◌, ◌*◌, ◌≤◌, length, drop};
 ghost use Rattle.std.proofs.lemmas.List.Edits.{sets};
 ghost use Rattle.packet.specs.Packet.{total_bytes, max_total, contents_of, pieces};
@@ -23,7 +26,7 @@ pub const MAX_TOTAL: usize = ids::MAX_SHORT as usize;
 const LEAST_LENGTH: usize = 4;
 
 // What reading at a place gives: a message with the place behind it, the packet's end, or why neither.
-#[derive(Drop)]
+#[derive(Clone, Copy)]
 pub enum Next {
     Message(Message, usize),
     End,
@@ -31,7 +34,7 @@ pub enum Next {
 }
 
 // Whether the messages of a packet are all accepted.
-#[derive(Drop)]
+#[derive(Clone, Copy)]
 pub enum Verdict {
     Accepted,
     Refused(Refusal),
@@ -202,14 +205,14 @@ pub fn part_at(packet: &[u8], at: usize) -> &[u8]
 //         Next::End => ..
 //         Next::Refused(e) => ..
 //     }
-#[derive(Drop)]
+#[derive(Clone, Copy)]
 pub struct Reader<'a> {
     pub packet: &'a [u8],
     pub at: usize,
 }
 
 // What a reader gives: the next message with the place behind it, and the part of the packet that it came from.
-#[derive(Drop)]
+#[derive(Clone, Copy)]
 pub struct Given<'a> {
     pub next: Next,
     pub part: &'a [u8],

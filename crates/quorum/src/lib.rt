@@ -1,5 +1,8 @@
 // The check of a setting: whether n servers with threshold m and f faults exclude and do not stall, and the run that shows it
 // where they do not exclude.
+
+#![tactic(auto)]
+
 ghost use Rattle.std.specs.Prelude.{◌≡◌, true, ◌+◌, ◌*◌, ◌-◌, ◌≤◌, pos, negsuc, ◌-ℤ◌};
 ghost use Rattle.system.specs.Setting.{takes, lost};
 ghost use Rattle.system.specs.declared.Event.TheVariants.{Try};
@@ -15,7 +18,7 @@ use ids::{ClientId, Refusal, ServerId};
 use system::{Event, MessageNumber};
 
 // What the check says of a setting: the margin, and where it is unsafe how many events its run has.
-#[derive(Drop)]
+#[derive(Clone, Copy)]
 pub enum Verdict {
     Accepted(i32),
     Unsafe(i32, u32),
@@ -24,21 +27,21 @@ pub enum Verdict {
 }
 
 // An event of the unsafe run, asked for by its number.
-#[derive(Drop)]
+#[derive(Clone, Copy)]
 pub enum Asked {
     Event(Event),
     Refused(Refusal),
 }
 
 // The threshold that the commissioning screen proposes.
-#[derive(Drop)]
+#[derive(Clone, Copy)]
 pub enum Threshold {
     Default(u32),
     OutOfRange,
 }
 
 // The thresholds that the commissioning screen proposes: all from the first to the second.
-#[derive(Drop)]
+#[derive(Clone, Copy)]
 pub enum Proposal {
     Thresholds(u32, u32),
     NoThreshold,

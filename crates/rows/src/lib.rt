@@ -1,6 +1,9 @@
 // Requests in a lent row of words: two words a place, client and timestamp, as many places as the caller lends. A place read and written, a
 // queue in the first places with zeros behind it, and the test of a row that a host lends. The functions with a `requires` are for the two
 // machines, which have tested their rows.
+
+#![tactic(auto)]
+
 ghost use Rattle.std.specs.Prelude.{◌≡◌, ◌&&◌, ◌∷◌, ◌++◌, suc, ◌+◌, ◌-◌, ◌*◌, ◌<◌, ◌≤◌, eqb, leb, length, get_or, take, drop, replicate};
 ghost use Rattle.ids.specs.Limits.{max_client};
 ghost use Rattle.ids.specs.Requests.{no_request};
@@ -13,7 +16,7 @@ ghost use Rattle.rows.specs.Queues.{is_client, matching, first, Holds};
 use ids::{ClientId, Request, Timestamp};
 
 // What a search through a queue looks for: a request's client, the request itself, or a request behind it.
-#[derive(Drop)]
+#[derive(Clone, Copy)]
 pub enum Wanted {
     Client,
     Pair,

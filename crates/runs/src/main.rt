@@ -1,3 +1,5 @@
+#![tactic(auto)]
+
 use listing_print::Task;
 use system::Setting;
 

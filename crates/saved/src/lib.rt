@@ -1,5 +1,8 @@
 // Records that a host has saved, in each form that a record has had, taken over as records of today (document 02, L3 and L4): for the C interface.
 // The number of words tells the form (specs/Forms). What is known of earlier players has no code (specs/Players).
+
+#![tactic(auto)]
+
 ghost use Rattle.std.specs.Prelude.{◌≡◌, true, ◌++◌, ◌-◌, ◌≤◌, ◌<◌, length, replicate};
 ghost use Rattle.std.proofs.lemmas.List.Edits.{sets};
 ghost use Rattle.words.specs.Records.{server_size, client_size};

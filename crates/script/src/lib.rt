@@ -1,6 +1,9 @@
 // A script of events run on the simulation, from bytes to bytes: document 01, 'The gallery script'.
 // The input comes in parts of any size, and what it prints goes into lent buffers; between the calls the state is words that the
 // caller lends.
+
+#![tactic(auto)]
+
 ghost use Rattle.std.specs.Prelude.{◌≡◌, true, ◌≤◌, ◌+◌, [], length, get_or, set, replicate};
 ghost use Rattle.std.proofs.Math.Option.{some};
 ghost use Rattle.std.proofs.lemmas.List.Edits.{sets};
@@ -55,7 +58,7 @@ pub const MAX_PRINTED: usize = 52;
 pub const MAX_ENDING: usize = 2 * MAX_PRINTED;
 
 // Bytes used and bytes written, or the refusal.
-#[derive(Drop)]
+#[derive(Clone, Copy)]
 pub enum Progress {
     Took(usize, usize),
     Refused(Refusal),

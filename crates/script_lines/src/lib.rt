@@ -1,4 +1,7 @@
 // The lines of a script, read and printed: document 01, 'The gallery script'.
+
+#![tactic(auto)]
+
 ghost use Rattle.std.specs.Prelude.{◌≡◌, ◌+◌, ◌≤◌, ◌<◌, [], ◌∷◌, ◌++◌, length, drop};
 ghost use Rattle.std.proofs.lemmas.List.Edits.{sets};
 ghost use Rattle.ids.specs.Limits.{max_short};
@@ -17,7 +20,7 @@ use system::{Event, MessageNumber, Setting};
 pub const MAX_LINE: usize = 40;
 
 // The word that an event line begins with; `Other` is any word that is no command.
-#[derive(Drop)]
+#[derive(Clone, Copy)]
 pub enum Command {
     Try,
     Exit,
@@ -33,7 +36,7 @@ pub enum Command {
 
 // An event line: its event; an event of a client or server with a number too large for its type, so that there is none such;
 // or no event.
-#[derive(Drop)]
+#[derive(Clone, Copy)]
 pub enum Line {
     Event(Event),
     Unknown,
@@ -41,14 +44,14 @@ pub enum Line {
 }
 
 // The first line: its setting, or none.
-#[derive(Drop)]
+#[derive(Clone, Copy)]
 pub enum First {
     Setting(Setting),
     Bad,
 }
 
 // A number that a space ends, with the place behind that space.
-#[derive(Drop)]
+#[derive(Clone, Copy)]
 pub enum Field {
     Number(u32, usize),
     Nothing,

@@ -1,4 +1,7 @@
 // Decimal numbers of 32 bits, read and printed.
+
+#![tactic(auto)]
+
 ghost use Rattle.std.specs.Prelude.{◌≡◌, ◌+◌, ◌≤◌, ◌<◌, length};
 ghost use Rattle.std.proofs.lemmas.List.Edits.{sets};
 ghost use Rattle.script_numbers.specs.Decimals.{largest32, digit_up_to, digits_up_to, number, decimal};
@@ -10,7 +13,7 @@ const LARGEST_32: u64 = 4_294_967_295;
 pub const DIGITS_32: usize = 10;
 
 // Bytes as a number, if they are one.
-#[derive(Drop)]
+#[derive(Clone, Copy)]
 pub enum Reading {
     Number(u32),
     Nothing,

@@ -2,6 +2,9 @@
 // are over this. Its parts and buffers may be of any size (script_output/proofs/Cuts). The contracts say which bytes the state has taken in and
 // what stands in the buffer to be written; that it is written, and what is read, is the system's. Where writing fails, standard error says so,
 // and the answer is that nothing more is to be done.
+
+#![tactic(auto)]
+
 ghost use Rattle.std.specs.Prelude.{◌≡◌, true, ◌≤◌, ◌<◌, length};
 ghost use Rattle.console.specs.Fits.{Fits, Some};
 ghost use Rattle.console.specs.declared.Input.TheVariants.{End};

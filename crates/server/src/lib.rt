@@ -1,5 +1,8 @@
 // The server's record and its calls: Figure 1, lines 26 to 56. A call works on a head by value and a lent row of words, two words a place,
 // of any even length; the same calls on a record by value lend the record's own row and write what is sent.
+
+#![tactic(auto)]
+
 ghost use Rattle.std.specs.Prelude.{◌≡◌, ◌+◌, ◌<◌, ◌≤◌, length, drop};
 ghost use Rattle.std.proofs.lemmas.List.Edits.{sets};
 ghost use Rattle.ids.specs.Limits.{valid_request};
@@ -26,41 +29,41 @@ pub const QUEUE_PLACES: usize = 32;
 pub const ROW_WORDS: usize = 2 * QUEUE_PLACES;
 
 // Server `id` of `n`: its record but for the queue's row.
-#[derive(Drop)]
+#[derive(Clone, Copy)]
 pub struct Head {
     pub n: u16,
     pub id: ServerId,
     pub votes: Votes,
 }
 
-#[derive(Drop)]
+#[derive(Clone, Copy)]
 pub struct Server {
     pub head: Head,
     pub row: [u32; ROW_WORDS],
 }
 
 // The record after a call, and what was sent.
-#[derive(Drop)]
+#[derive(Clone, Copy)]
 pub struct Stepped {
     pub server: Server,
     pub answer: Answer,
 }
 
 // What a message asks of a server: a step by its tag, or nothing, where it goes to a client.
-#[derive(Drop)]
+#[derive(Clone, Copy)]
 pub enum Asked {
     Step(Tag, ClientId, ServerId, Timestamp),
     Nothing,
 }
 
-#[derive(Drop)]
+#[derive(Clone, Copy)]
 pub enum Ruling {
     Done,
     Refused(Refusal),
 }
 
 // What a call on a lent row leaves beside the row: the head, and the messages to send, in order.
-#[derive(Drop)]
+#[derive(Clone, Copy)]
 pub struct Turned {
     pub head: Head,
     pub ruling: Ruling,

@@ -1,4 +1,7 @@
 // The server's record stays where its host keeps it: each call takes it by reference and leaves in it what `server`'s call of the same name returns.
+
+#![tactic(auto)]
+
 ghost use Rattle.std.specs.Prelude.{length};
 ghost use Rattle.wire.specs.Step.{with_room};
 ghost use Rattle.server.specs.Calls.{message_outcome, suspect_outcome, check_outcome};

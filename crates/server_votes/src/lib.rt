@@ -1,5 +1,8 @@
 // A server's owner, and its request queue in a lent row of words; the steps of Figure 1, lines 26 to 45 and 50 to 56, on them. The public
 // functions with a `requires` are for the layers above, which have tested the record.
+
+#![tactic(auto)]
+
 ghost use Rattle.std.specs.Prelude.{◌≡◌};
 ghost use Rattle.std.proofs.Math.Option.{some};
 ghost use Rattle.ids.specs.Requests.{is_request, is_client};
@@ -13,7 +16,7 @@ ghost use Rattle.server_votes.specs.Inner.{MovesAny, MovesTwo, standing_of, info
 use ids::{ClientId, Owner, Request, ServerId, Timestamp};
 use wire::Message;
 
-#[derive(Drop)]
+#[derive(Clone, Copy)]
 pub enum Tag {
     Request,
     Yield,
@@ -22,21 +25,21 @@ pub enum Tag {
 }
 
 // A server's owner, and how many wait behind it: the first `len` places of its row.
-#[derive(Drop)]
+#[derive(Clone, Copy)]
 pub struct Votes {
     pub owner: Owner,
     pub len: usize,
 }
 
 // A message to send, or none.
-#[derive(Drop)]
+#[derive(Clone, Copy)]
 pub enum Mail {
     Nothing,
     One(Message),
 }
 
 // What a part of a step leaves beside the row: the votes, unless the row is too short for them, and the messages to send, in order.
-#[derive(Drop)]
+#[derive(Clone, Copy)]
 pub struct Moved {
     pub votes: Votes,
     pub full: bool,
@@ -46,7 +49,7 @@ pub struct Moved {
 }
 
 // Whether a client is owner or waits, and with which timestamp.
-#[derive(Drop)]
+#[derive(Clone, Copy)]
 pub enum Standing {
     Absent,
     With(Timestamp),

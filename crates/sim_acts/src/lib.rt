@@ -1,4 +1,7 @@
 // The eight events of a simulation in which no message is taken. The public functions are for `simulation`, whose words are valid.
+
+#![tactic(auto)]
+
 ghost use Rattle.std.specs.Prelude.{◌≡◌, true};
 ghost use Rattle.system.specs.declared.Event.TheVariants.{Try, Exit, Fall, Down, Up, Drop, Miss, Check};
 ghost use Rattle.sim_layout.specs.Layout.{valid};

@@ -1,5 +1,8 @@
 // A client and a server of a simulation as words: a block each, lent as its own slice.
 // For the simulation, whose state is valid: but for the two tests, the functions ask what a valid block has.
+
+#![tactic(auto)]
+
 ghost use Rattle.std.specs.Prelude.{◌≡◌, true, ◌&&◌, ◌≤◌, ◌+◌, ◌*◌, length, take, drop, set, eqb, leb};
 ghost use Rattle.std.proofs.lemmas.List.Edits.{sets};
 ghost use Rattle.ids.specs.Choice.{if◌then◌else◌};

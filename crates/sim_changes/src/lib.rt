@@ -1,5 +1,8 @@
 // One part of a simulation changed or tested, a party's step with all that it changes, and the parts of a new simulation put. What an event answers.
 // These functions are for the events (`sim_acts`, `sim_takes`) and for a new simulation, whose words are valid.
+
+#![tactic(auto)]
+
 ghost use Rattle.std.specs.Prelude.{◌≡◌, true, [], ◌∷◌, map, ◌≤◌, ◌+◌, max, length, set};
 ghost use Rattle.ids.specs.Choice.{if◌then◌else◌};
 ghost use Rattle.ids.specs.Limits.{within};
@@ -38,14 +41,14 @@ use system::Setting;
 use wire::{Answer, Message};
 
 // What an event did: the messages it sent, or its refusal.
-#[derive(Drop)]
+#[derive(Clone, Copy)]
 pub enum Moved {
     Sent(u32),
     Refused(Refusal),
 }
 
 // The same with the living holders afterwards.
-#[derive(Drop)]
+#[derive(Clone, Copy)]
 pub enum Reply {
     Accepted(u32, u32),
     Refused(Refusal),
@@ -55,7 +58,7 @@ pub enum Reply {
 const OUT_BYTES: usize = 512;
 
 // What a client does in an event: it begins its step (document 01's try), leaves the critical section, or takes the RESPONSE or the CHECK in a slot.
-#[derive(Drop)]
+#[derive(Clone, Copy)]
 pub enum ClientAct {
     Try,
     Exit,
@@ -64,7 +67,7 @@ pub enum ClientAct {
 }
 
 // What a server does in an event: it asks its owner, suspects it, or takes the client's message in a slot.
-#[derive(Drop)]
+#[derive(Clone, Copy)]
 pub enum ServerAct {
     Check,
     Suspect,

@@ -1,5 +1,8 @@
 // The index of messages in transit by receiver, kept in lent words (specs/Index): document 02's L2. For `sim_indexed`, which keeps it beside
 // the messages and knows what its words are.
+
+#![tactic(auto)]
+
 ghost use Rattle.std.specs.Prelude.{◌≡◌, suc, ◌+◌, ◌-◌, ◌<◌, ◌≤◌, length, get_or, set, take, drop};
 ghost use Rattle.system.specs.Limits.{system_messages};
 ghost use Rattle.sim_index.specs.Index.{receivers, numbers_from, marks_from, index_size};
@@ -17,7 +20,7 @@ const MARKS: usize = NUMBERS + MESSAGES;
 pub const INDEX_WORDS: usize = MARKS + MESSAGES;
 
 // An entry with its receiver: the receiver's place, the message's number, and 1 if the message is delivered.
-#[derive(Drop)]
+#[derive(Clone, Copy)]
 pub struct Card {
     pub place: usize,
     pub number: u32,

@@ -1,5 +1,8 @@
 // The messages in transit with their index by receiver, kept in lent words: document 02's L2. Each change of a message changes its entry too, and a
 // server's restart looks only at that server's entries. For the simulation and what shows one, whose words are valid; `valid` is for all.
+
+#![tactic(auto)]
+
 ghost use Rattle.std.specs.Prelude.{◌≡◌, true, [], ◌∷◌, ◌≤◌, ◌<◌, ◌+◌, ◌-◌, length};
 ghost use Rattle.wire.specs.Format.{valid as valid_message};
 ghost use Rattle.system.specs.Limits.{system_messages, system_servers, system_clients};
@@ -77,7 +80,7 @@ pub fn valid(t: &[u32], len: usize, sent: u32, n: u32, clients: u32) -> bool
 }
 
 // An entry of the index: a message's number, and whether it is delivered; or none.
-#[derive(Drop)]
+#[derive(Clone, Copy)]
 pub enum Listed {
     Nothing,
     Entry(MessageNumber, bool),

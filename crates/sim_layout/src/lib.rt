@@ -1,5 +1,8 @@
 // The words of a whole simulation: a head, client blocks, server blocks, and messages in transit. Document 01 says gallery for simulation.
 // The functions are for callers whose words are valid: the simulation and what shows one; `valid` is for all.
+
+#![tactic(auto)]
+
 ghost use Rattle.std.specs.Prelude.{◌≡◌, true, ℕ, ◌≤◌, ◌<◌, ◌+◌, ◌*◌, ◌-◌, max, length, set, take, drop, map};
 ghost use Rattle.std.proofs.lemmas.List.Edits.{sets};
 ghost use Rattle.ids.specs.Choice.{if◌then◌else◌};

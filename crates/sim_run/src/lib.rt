@@ -1,5 +1,8 @@
 // A run of a setting's events, without any script: a simulation's words, which the caller lends, and two counts by value.
 // What a run is stands in specs/Run.
+
+#![tactic(auto)]
+
 ghost use Rattle.std.specs.Prelude.{◌≡◌, true, ◌<◌, length};
 ghost use Rattle.sim_layout.specs.Layout.{valid};
 ghost use Rattle.simulation.specs.Opens.{opens};
@@ -12,21 +15,21 @@ use simulation::Moved;
 use system::{Event, Setting};
 
 // The events accepted, and the most living clients in the critical section at once.
-#[derive(Drop)]
+#[derive(Clone, Copy)]
 pub struct Counts {
     pub accepted: u32,
     pub holding: u32,
 }
 
 // The counts of a new run, or its refusal.
-#[derive(Drop)]
+#[derive(Clone, Copy)]
 pub enum Begun {
     Run(Counts),
     Refused(Refusal),
 }
 
 // The counts after an event, and what the event did.
-#[derive(Drop)]
+#[derive(Clone, Copy)]
 pub struct Went {
     pub counts: Counts,
     pub reply: Reply,

@@ -1,4 +1,7 @@
 // A message of a simulation is taken by its receiver. `take` is for `simulation`, whose words are valid.
+
+#![tactic(auto)]
+
 ghost use Rattle.std.specs.Prelude.{◌≡◌, true};
 ghost use Rattle.system.specs.declared.Event.TheVariants.{Take};
 ghost use Rattle.sim_layout.specs.Layout.{valid};

@@ -1,4 +1,7 @@
 // The messages in transit, kept in lent words: a slot of seven for each. For the simulation and what shows one, whose words are valid.
+
+#![tactic(auto)]
+
 ghost use Rattle.std.specs.Prelude.{◌≡◌, true, [], ◌∷◌, ◌≤◌, ◌<◌, ◌+◌, ◌*◌, length, take, drop, get_or, replicate, eqb};
 ghost use Rattle.std.proofs.lemmas.List.Edits.{sets};
 ghost use Rattle.std.proofs.Math.Seq.{paste};

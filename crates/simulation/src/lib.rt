@@ -1,5 +1,8 @@
 // The bounded simulation of a whole system: a new one, and its nine events. Document 01 says gallery for simulation.
 // The state is words that the caller lends (`sim_layout`): an event loads one client's or one server's record, steps it, and stores it (`sim_takes`, `sim_acts`).
+
+#![tactic(auto)]
+
 ghost use Rattle.std.specs.Prelude.{◌≡◌, true, length};
 ghost use Rattle.sim_layout.specs.Layout.{view, valid};
 ghost use Rattle.sim_changes.specs.Happens.{happens, Leaves, moved_of, reply_of, EventLeaves, event_reply, moved_says, reply_says, event_says};
@@ -82,13 +85,13 @@ pub fn new(w: &mut [u32], s: Setting) -> Moved
 }
 
 // A simulation by value, for callers that keep one and go on from another: it costs a copy of its words at each event.
-#[derive(Drop)]
+#[derive(Clone, Copy)]
 pub struct Simulation {
     pub words: [u32; SIMULATION_WORDS],
 }
 
 // A simulation after an event, and what the event did.
-#[derive(Drop)]
+#[derive(Clone, Copy)]
 pub struct Happened {
     pub simulation: Simulation,
     pub reply: Reply,

@@ -2,6 +2,9 @@
 // event, a slip for each server and each client (text_knowledge/specs/Knowledge). With the argument `last` the slips stand only behind the
 // last event's line; with `mail` the messages in transit stand behind the slips of each event (text_knowledge/specs/Mail), and with `boxes` these
 // by receiver (text_knowledge/specs/Boxes). Where reading or writing fails, standard error says so and the program ends there.
+
+#![tactic(auto)]
+
 ghost use Rattle.std.specs.Prelude.{◌≡◌, true, ◌≤◌, ◌<◌, length};
 ghost use Rattle.console.specs.Fits.{Fits};
 ghost use Rattle.sim_layout.specs.Layout.{valid as valid_simulation};
@@ -15,7 +18,7 @@ use console::Input;
 use libc::{STDERR_FILENO, STDOUT_FILENO};
 
 // Where slips stand, and what stands behind them.
-#[derive(Drop)]
+#[derive(Clone, Copy)]
 enum Wanted {
     Each,
     Last,

@@ -1,1 +1,4 @@
 // No code: document 01's rehearsed cases, as theorems about the definitions.
+
+#![tactic(auto)]
+

@@ -1,6 +1,9 @@
 // What each server and each client of a simulation knows, and its messages in transit, as text on a sheet: the teacher's slips
 // (specs/Knowledge), and the mail in the order of its numbers (specs/Mail) or by receiver (specs/Boxes). The public functions are for `slips`,
 // whose script has a valid simulation.
+
+#![tactic(auto)]
+
 ghost use Rattle.std.specs.Prelude.{◌≡◌, true, [], ◌∷◌, ◌++◌, ◌≤◌, ◌<◌};
 ghost use Rattle.sim_changes.specs.Changes.{HasClient, HasServer};
 ghost use Rattle.client_responses.specs.Row.{shown, responses_in};

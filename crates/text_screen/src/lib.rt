@@ -1,5 +1,8 @@
 // What the commissioning screen says of a setting, and the run of an unsafe one as a gallery script, as texts on a sheet
 // (specs/Screen). For `commission`.
+
+#![tactic(auto)]
+
 ghost use Rattle.std.specs.Prelude.{◌≡◌, [], ◌∷◌};
 ghost use Rattle.std.proofs.Math.IntN.{sub_ℕ};
 ghost use Rattle.script_numbers.specs.Decimals.{decimal};

@@ -1,5 +1,8 @@
 // A sheet: a lent buffer that is filled from its start. A text that does not fit whole is left out, so that no call asks for room.
 // Each call takes the place behind what was put and returns the next one.
+
+#![tactic(auto)]
+
 ghost use Rattle.std.specs.Prelude.{◌≡◌, [], ◌∷◌, ◌+◌, ◌≤◌, length};
 ghost use Rattle.std.proofs.lemmas.List.Edits.{sets};
 ghost use Rattle.script_numbers.specs.Decimals.{decimal};

@@ -1,4 +1,7 @@
 // Messages and their bytes: document 01, 'Messages'.
+
+#![tactic(auto)]
+
 ghost use Rattle.std.specs.Prelude.{◌≡◌, ◌+◌, ◌*◌, ◌≤◌, length, take, drop};
 ghost use Rattle.std.proofs.lemmas.List.Edits.{sets};
 ghost use Rattle.wire.specs.Bytes.{little_endian, number};
@@ -11,7 +14,7 @@ ghost use Rattle.ids.specs.Limits.{valid_owner};
 use ids::{ClientId, Owner, Refusal, Request, ServerId, Timestamp};
 
 // REQUEST, YIELD, RELEASE and INQUIRY go from the client to the server, RESPONSE and CHECK from the server to the client.
-#[derive(Drop)]
+#[derive(Clone, Copy)]
 pub enum Message {
     Request(ClientId, ServerId, Timestamp),
     Yield(ClientId, ServerId, Timestamp),
@@ -22,7 +25,7 @@ pub enum Message {
 }
 
 // A message's numbers, as wide as the format has them. The owner's client is 0 where the kind has none.
-#[derive(Drop)]
+#[derive(Clone, Copy)]
 pub struct Fields {
     pub kind: u16,
     pub client: u16,
@@ -32,28 +35,28 @@ pub struct Fields {
 }
 
 // A message with the bytes it took, or why there is none.
-#[derive(Drop)]
+#[derive(Clone, Copy)]
 pub enum Parsed {
     Accepted(Message, usize),
     Refused(Refusal),
 }
 
 // A message's numbers with the bytes it took, or why there are none.
-#[derive(Drop)]
+#[derive(Clone, Copy)]
 pub enum Numbers {
     Fitting(Fields, usize),
     Refused(Refusal),
 }
 
 // The bytes written, or why there are none.
-#[derive(Drop)]
+#[derive(Clone, Copy)]
 pub enum Written {
     Bytes(usize),
     Refused(Refusal),
 }
 
 // What a step sent: how many messages, in how many bytes; or why nothing was done.
-#[derive(Drop)]
+#[derive(Clone, Copy)]
 pub enum Answer {
     Sent(usize, usize),
     Refused(Refusal),

@@ -1,4 +1,7 @@
 // How messages and records cross to C: as 32-bit words. For the C interface, saved records and the simulation, which test lengths and room first.
+
+#![tactic(auto)]
+
 ghost use Rattle.std.specs.Prelude.{◌≡◌, [], ◌∷◌, ◌+◌, ◌≤◌, eqb, length};
 ghost use Rattle.std.proofs.lemmas.List.Edits.{sets};
 ghost use Rattle.ids.specs.Limits.{max_short};
@@ -21,7 +24,7 @@ pub const SERVER_WORDS: usize = SERVER_HEAD + server::ROW_WORDS;
 pub const CLIENT_WORDS: usize = CLIENT_HEAD + client::ROW_WORDS;
 
 // What five words hold.
-#[derive(Drop)]
+#[derive(Clone, Copy)]
 pub enum Crossed {
     Numbers(Fields),
     TooLarge,
