@@ -3,8 +3,8 @@ use borrow.Author.Rules.{rules}
 use Rattle.ids.proofs.code_of.Statement.{statement}
 use Rattle.ids.proofs.code_of.Tie as tie
 
-pub code-of-spec : {M : Type 1} → statement M
-code-of-spec =
+pub code_of_spec : {M : Type 1} → statement M
+code_of_spec =
     tie.close
     (tie.spec
     (λ c. search rules)
@@ -29,25 +29,25 @@ code-of-spec =
     (λ c. search rules)
     (λ c. search rules)
     (λ c. search rules)
-    (λ c. rw c.enum_told.given.1)
-    (λ c. rw c.enum-told2.given.1)
-    (λ c. rw c.enum-told3.given.1)
-    (λ c. rw c.enum-told4.given.1)
-    (λ c. rw c.enum-told5.given.1)
-    (λ c. rw c.enum-told6.given.1)
-    (λ c. rw c.enum-told7.given.1)
-    (λ c. rw c.enum-told8.given.1)
-    (λ c. rw c.enum-told9.given.1)
-    (λ c. rw c.enum-told10.given.1)
-    (λ c. rw c.enum-told11.given.1)
-    (λ c. rw c.enum-told12.given.1)
-    (λ c. rw c.enum-told13.given.1)
-    (λ c. rw c.enum-told14.given.1)
-    (λ c. rw c.enum-told15.given.1)
-    (λ c. rw c.enum-told16.given.1)
-    (λ c. rw c.enum-told17.given.1)
-    (λ c. rw c.enum-told18.given.1)
-    (λ c. rw c.enum-told19.given.1)
-    (λ c. rw c.enum-told20.given.1)
-    (λ c. rw c.enum-told21.given.1)
-    (λ c. rw c.enum-told22.given.1))
+    (λ c. rw c.in-HeaderShort.is)
+    (λ c. rw c.in-KindUnknown.is)
+    (λ c. rw c.in-LengthWrong.is)
+    (λ c. rw c.in-MessageCut.is)
+    (λ c. rw c.in-NumberOutOfRange.is)
+    (λ c. rw c.in-RoomShort.is)
+    (λ c. rw c.in-ParameterOutOfRange.is)
+    (λ c. rw c.in-Unsafe.is)
+    (λ c. rw c.in-Stalls.is)
+    (λ c. rw c.in-WrongSection.is)
+    (λ c. rw c.in-TimestampsSpent.is)
+    (λ c. rw c.in-NotForClient.is)
+    (λ c. rw c.in-NotForServer.is)
+    (λ c. rw c.in-QueueFull.is)
+    (λ c. rw c.in-NoOwner.is)
+    (λ c. rw c.in-BadLine.is)
+    (λ c. rw c.in-NoSuchParty.is)
+    (λ c. rw c.in-PartyDown.is)
+    (λ c. rw c.in-SystemFull.is)
+    (λ c. rw c.in-OwnerLives.is)
+    (λ c. rw c.in-InvalidRecord.is)
+    (λ c. rw c.in-PacketMalformed.is))

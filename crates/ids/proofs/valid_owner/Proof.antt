@@ -4,13 +4,13 @@ use Rattle.ids.specs.Limits.{valid_owner}
 use Rattle.ids.proofs.valid_owner.Statement.{statement}
 use Rattle.ids.proofs.valid_owner.Tie as tie
 
-pub valid-owner-spec : {M : Type 1} → statement M
+pub valid_owner_spec : {M : Type 1} → statement M
 unfolding valid_owner
-valid-owner-spec =
+valid_owner_spec =
     tie.close
     (tie.spec
     (λ c. search rules)
     (λ c. search rules)
     (λ c κs. search rules)
     (λ c. search rules)
-    (λ c. rw c.before.before.o.given.1 c.valid-request.ensures))
+    (λ c. rw c.in-Of.is c.valid_request.ensures))

@@ -5,9 +5,9 @@ use Rattle.ids.specs.Limits.{valid_parties_up_to}
 use Rattle.ids.proofs.valid_parties.Statement.{statement}
 use Rattle.ids.proofs.valid_parties.Tie as tie
 
-pub valid-parties-spec : {M : Type 1} → statement M
+pub valid_parties_spec : {M : Type 1} → statement M
 unfolding valid_parties_up_to
-valid-parties-spec =
+valid_parties_spec =
     tie.close
     (tie.spec
     (λ c κs. search rules)

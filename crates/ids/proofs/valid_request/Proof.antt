@@ -5,9 +5,9 @@ use Rattle.ids.proofs.Choice.{and_goes_on, and_stops}
 use Rattle.ids.proofs.valid_request.Statement.{statement}
 use Rattle.ids.proofs.valid_request.Tie as tie
 
-pub valid-request-spec : {M : Type 1} → statement M
+pub valid_request_spec : {M : Type 1} → statement M
 unfolding valid_request
-valid-request-spec =
+valid_request_spec =
     tie.close
     (tie.spec
     (λ c κs. search rules)

@@ -5,9 +5,9 @@ use Rattle.ids.specs.Limits.{valid_stamped_up_to}
 use Rattle.ids.proofs.valid_stamped.Statement.{statement}
 use Rattle.ids.proofs.valid_stamped.Tie as tie
 
-pub valid-stamped-spec : {M : Type 1} → statement M
+pub valid_stamped_spec : {M : Type 1} → statement M
 unfolding valid_stamped_up_to
-valid-stamped-spec =
+valid_stamped_spec =
     tie.close
     (tie.spec
     (λ c κs. search rules)

@@ -3,9 +3,9 @@ use borrow.Author.Tests.{le-leb, lt-leb}
 use Rattle.ids.proofs.within_limit.Statement.{statement}
 use Rattle.ids.proofs.within_limit.Tie as tie
 
-pub within-limit-spec : {M : Type 1} → statement M
-within-limit-spec =
+pub within_limit_spec : {M : Type 1} → statement M
+within_limit_spec =
     tie.close
     (tie.spec
-    (λ c. simp (le-leb _ _ c.if1.true))
-    (λ c. simp (lt-leb _ _ c.if1.false)))
+    (λ c. simp (le-leb _ _ c.if-x-ge1.true))
+    (λ c. simp (lt-leb _ _ c.if-x-ge1.false)))

@@ -5,10 +5,10 @@ use borrow.Author.Rules.{rules}
 use Rattle.rows.proofs.copy.Statement.{statement}
 use Rattle.rows.proofs.copy.Tie as tie
 
-abbrev invariant-loop : tie.invariant-loop
+abbrev invariant-loop : tie.invariant-loop-i
 invariant-loop from to₀ n i₀ to i = Copying from to₀ to i
 
-abbrev decreases-loop : tie.decreases-loop
+abbrev decreases-loop : tie.decreases-loop-i
 decreases-loop from to₀ n i₀ to i = n - i
 
 pub copy_spec : {M : Type 1} → statement M

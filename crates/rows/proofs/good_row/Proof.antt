@@ -4,8 +4,8 @@ use borrow.Author.Rules.{rules}
 use Rattle.rows.proofs.good_row.Statement.{statement}
 use Rattle.rows.proofs.good_row.Tie as tie
 
-pub good-row-spec : {M : Type 1} → statement M
-good-row-spec =
+pub good_row_spec : {M : Type 1} → statement M
+good_row_spec =
     tie.close
     (tie.spec
     (λ c. search rules)

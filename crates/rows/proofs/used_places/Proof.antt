@@ -7,25 +7,25 @@ use borrow.Author.Rules.{rules}
 use Rattle.rows.proofs.used_places.Statement.{statement}
 use Rattle.rows.proofs.used_places.Tie as tie
 
-abbrev invariant-loop : tie.invariant-loop
+abbrev invariant-loop : tie.invariant-loop-i
 invariant-loop row len n bad₀ i₀ bad i = Counting empty row len n bad i
 
-abbrev decreases-loop : tie.decreases-loop
+abbrev decreases-loop : tie.decreases-loop-i
 decreases-loop row len n bad₀ i₀ bad i = n - i
 
 -- a place is tested
-module _ (c : tie.After-used invariant-loop decreases-loop) where
-  abbrev turn : tie.In-loop invariant-loop decreases-loop
+module _ (c : tie.After-used-bad invariant-loop decreases-loop) where
+  abbrev turn : tie.In-loop-i invariant-loop decreases-loop
   turn = c.before.before.before
 
-add-bad : tie.Need-overflow-add-bad invariant-loop decreases-loop
+add-bad : tie.Need-overflow_add-bad invariant-loop decreases-loop
 add-bad c =
     let t = turn c in
-    let v = t.before.loop.inv in
-    omega (arith, counting_few _ _ _ _ _ _ v _ t.loop-test.taken (empty-at _ _ _ _ _ _ v _ t.loop-test.taken c.used.ensures), v.size)
+    let v = t.loop-i.invariant in
+    omega (arith, counting_few _ _ _ _ _ _ v _ t.loop-i-test.true (empty-at _ _ _ _ _ _ v _ t.loop-i-test.true c.used-bad.ensures), v.size)
 
-pub used-places-spec : {M : Type 1} → statement M
-used-places-spec =
+pub used_places_spec : {M : Type 1} → statement M
+used_places_spec =
     tie.close
     (tie.spec
     invariant-loop

@@ -7,5 +7,5 @@ pub wide_spec : {M : Type 1} → statement M
 wide_spec =
     tie.close
     (tie.spec
-    (λ c. simp (le-leb _ _ c.if1.true))
-    (λ c. simp (lt-leb _ _ c.if1.false)))
+    (λ c. simp (le-leb _ _ c.if-client-le-MAX_CLIENT.true))
+    (λ c. simp (lt-leb _ _ c.if-client-le-MAX_CLIENT.false)))

@@ -5,14 +5,14 @@ use borrow.Author.Rules.{rules}
 use Rattle.rows.proofs.zero.Statement.{statement}
 use Rattle.rows.proofs.zero.Tie as tie
 
-abbrev invariant-loop : tie.invariant-loop
+abbrev invariant-loop : tie.invariant-loop-i
 invariant-loop words₀ n i₀ words i = Zeroing words₀ words i
 
-abbrev decreases-loop : tie.decreases-loop
+abbrev decreases-loop : tie.decreases-loop-i
 decreases-loop words₀ n i₀ words i = n - i
 
-pub zero-spec : {M : Type 1} → statement M
-zero-spec =
+pub zero_spec : {M : Type 1} → statement M
+zero_spec =
     tie.close
     (tie.spec
     invariant-loop
