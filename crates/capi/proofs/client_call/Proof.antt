@@ -11,41 +11,41 @@ use Rattle.capi.proofs.client_call.Statement.{statement}
 use Rattle.capi.proofs.client_call.Tie as tie
 
 -- the words are a client's record
-module _ (c : tie.Else1) where
-  long : length c.before.before.before.before.before.before.args.state.now ≡ client_size
-  long = client-long _ _ c.before.holds-client.ensures c.if1.false
+module _ (c : tie.Else-not-holds_client) where
+  long : length c.args.state-1.now ≡ client_size
+  long = client-long _ _ c.holds_client.ensures c.if-not-holds_client.false
 
 -- its head is read
-module _ (c : tie.After-client-head) where
-  abbrev tested : tie.Else1
+module _ (c : tie.After-client_head-h) where
+  abbrev tested : tie.Else-not-holds_client
   tested = c.before.before
 
   abbrev entry : tie.Start
   entry = c.before.before.before.before.before.before.before.before
 
 -- the step is made
-module _ (c : tie.After-client-step) where
-  abbrev loaded : tie.After-client-head
+module _ (c : tie.After-client_step-t) where
+  abbrev loaded : tie.After-client_head-h
   loaded = c.before.before.before.before
 
-  storable : Storable c.client-step.result.answer
+  storable : Storable c.client_step-t.result.answer
   storable =
       let t = tested loaded in
       let e = entry loaded in
-      client_storable _ _ t.before.holds-client.ensures t.if1.left _ loaded.client-head.ensures e.args.call
-      e.args.out.now e.args.sent.now _ _ _ c.client-step.ensures
+      client_storable _ _ t.holds_client.ensures t.if-not-holds_client.false _ loaded.client_head-h.ensures e.args.call
+      e.args.out-1.now e.args.sent-1.now _ _ _ c.client_step-t.ensures
 
-client-head-requires : tie.Need-client-head-requires
-client-head-requires c κs = (client-held _ _ (is-client _ _ c.before.before.holds-client.ensures c.before.if1.false)).headed
+client-head-requires : tie.Need-client_head-h-requires
+client-head-requires c κs = (client-held _ _ (is-client _ _ c.holds_client.ensures c.if-not-holds_client.false)).headed
 
-client-finish-requires : tie.Need-client-finish-requires
+client-finish-requires : tie.Need-client_finish-requires
 client-finish-requires c κs =
     let made = c.before.before.before.before.before.before in
     let l = loaded made in
-    (omega (arith, long (tested l)), made.before.before.before.if2.false, storable made)
+    (omega (arith, long (tested l)), made.if-sent-lt2.false, storable made)
 
-pub client-call-spec : {M : Type 1} → statement M
-client-call-spec =
+pub client_call_spec : {M : Type 1} → statement M
+client_call_spec =
     tie.close
     (tie.spec
     (λ c κs. search rules)

@@ -3,17 +3,17 @@ use borrow.Author.Rules.{rules}
 use Rattle.capi.proofs.client_made.Statement.{statement}
 use Rattle.capi.proofs.client_made.Tie as tie
 
-returns : tie.Need-returns
+returns : tie.Need-returns-in-Sent
 returns c =
     let stored = c.before.before in
     let arm = stored.before.before.before.before.before.before in
-    (rw arm.enum_told.given.1, rw arm.enum_told.given.1 stored.put-client.ensures)
+    (rw arm.in-Sent.is, rw arm.in-Sent.is stored.put_client.ensures)
 
-returns-2 : tie.Need-returns-2
-returns-2 c = let arm = c.before.before in (rw arm.answer.given.1 c.code_of_lem.ensures, rw arm.answer.given.1)
+returns-2 : tie.Need-returns-in-Refused
+returns-2 c = let arm = c.before.before in (rw arm.in-Refused.is c.code_of_lem.ensures, rw arm.in-Refused.is)
 
-pub client-made-spec : {M : Type 1} → statement M
-client-made-spec =
+pub client_made_spec : {M : Type 1} → statement M
+client_made_spec =
     tie.close
     (tie.spec
     (λ c. search rules)

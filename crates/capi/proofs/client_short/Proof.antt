@@ -4,8 +4,8 @@ use borrow.Author.Rules.{rules}
 use Rattle.capi.proofs.client_short.Statement.{statement}
 use Rattle.capi.proofs.client_short.Tie as tie
 
-pub client-short-spec : {M : Type 1} → statement M
-client-short-spec =
+pub client_short_spec : {M : Type 1} → statement M
+client_short_spec =
     tie.close
     (tie.spec
     (λ c. search rules)

@@ -3,17 +3,17 @@ use borrow.Author.Rules.{rules}
 use Rattle.capi.proofs.client_step.Statement.{statement}
 use Rattle.capi.proofs.client_step.Tie as tie
 
-returns : tie.Need-returns
-returns c = let made = c.before.before.before.before in rw made.before.before.before.before.call.given.1 made.message-row.ensures
+returns : tie.Need-returns-in-Message
+returns c = let made = c.before.before.before.before in rw made.in-Message.is made.message_row.ensures
 
-returns-2 : tie.Need-returns-2
-returns-2 c = let made = c.before.before.before.before in rw made.before.before.before.enum_told.given.1 made.begin-row.ensures
+returns-2 : tie.Need-returns-in-Begin
+returns-2 c = let made = c.before.before.before.before in rw made.in-Begin.is made.begin_row.ensures
 
-returns-3 : tie.Need-returns-3
-returns-3 c = let made = c.before.before.before.before in rw made.before.before.before.enum-told2.given.1 made.exit-row.ensures
+returns-3 : tie.Need-returns-in-Exit
+returns-3 c = let made = c.before.before.before.before in rw made.in-Exit.is made.exit_row.ensures
 
-pub client-step-spec : {M : Type 1} → statement M
-client-step-spec =
+pub client_step_spec : {M : Type 1} → statement M
+client_step_spec =
     tie.close
     (tie.spec
     (λ c. search rules)

@@ -4,8 +4,8 @@ use borrow.Author.Rules.{rules}
 use Rattle.capi.proofs.put_client.Statement.{statement}
 use Rattle.capi.proofs.put_client.Tie as tie
 
-pub put-client-spec : {M : Type 1} → statement M
-put-client-spec =
+pub put_client_spec : {M : Type 1} → statement M
+put_client_spec =
     tie.close
     (tie.spec
     (λ c κs. search rules)

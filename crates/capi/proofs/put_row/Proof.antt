@@ -4,8 +4,8 @@ use borrow.Author.Rules.{rules}
 use Rattle.capi.proofs.put_row.Statement.{statement}
 use Rattle.capi.proofs.put_row.Tie as tie
 
-pub put-row-spec : {M : Type 1} → statement M
-put-row-spec =
+pub put_row_spec : {M : Type 1} → statement M
+put_row_spec =
     tie.close
     (tie.spec
     (λ c. search rules)

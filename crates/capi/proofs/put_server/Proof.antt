@@ -4,8 +4,8 @@ use borrow.Author.Rules.{rules}
 use Rattle.capi.proofs.put_server.Statement.{statement}
 use Rattle.capi.proofs.put_server.Tie as tie
 
-pub put-server-spec : {M : Type 1} → statement M
-put-server-spec =
+pub put_server_spec : {M : Type 1} → statement M
+put_server_spec =
     tie.close
     (tie.spec
     (λ c κs. search rules)

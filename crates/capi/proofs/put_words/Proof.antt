@@ -5,8 +5,8 @@ use borrow.Author.Rules.{rules}
 use Rattle.capi.proofs.put_words.Statement.{statement}
 use Rattle.capi.proofs.put_words.Tie as tie
 
-pub put-words-spec : {M : Type 1} → statement M
-put-words-spec =
+pub put_words_spec : {M : Type 1} → statement M
+put_words_spec =
     tie.close
     (tie.spec
     (λ c. search rules)

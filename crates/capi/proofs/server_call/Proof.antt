@@ -13,43 +13,43 @@ use Rattle.capi.proofs.server_call.Statement.{statement}
 use Rattle.capi.proofs.server_call.Tie as tie
 
 -- the words are a server's record
-module _ (c : tie.Else1) where
-  long : length c.before.before.before.before.before.before.args.state.now ≡ server_size
-  long = server-long _ _ c.before.holds-server.ensures c.if1.false
+module _ (c : tie.Else-not-holds_server) where
+  long : length c.args.state-1.now ≡ server_size
+  long = server-long _ _ c.holds_server.ensures c.if-not-holds_server.false
 
 -- the step is made
-module _ (c : tie.After-server-step) where
+module _ (c : tie.After-server_step-t) where
   abbrev copied : tie.After-copy
   copied = c.before.before.before
 
-  abbrev loaded : tie.After-server-head
+  abbrev loaded : tie.After-server_head-h
   loaded = c.before.before.before.before.before.before.before
 
-  abbrev tested : tie.Else1
+  abbrev tested : tie.Else-not-holds_server
   tested = c.before.before.before.before.before.before.before.before.before
 
   abbrev entry : tie.Start
   entry = c.before.before.before.before.before.before.before.before.before.before.before.before.before.before.before
 
-  kept : length c.server-step.new.1.0 ≡ server.row_words
-  kept = server-kept _ _ tested.before.holds-server.ensures tested.if1.left _ _ loaded.server-head.ensures
-      copied.copy.ensures entry.args.call _ _ c.server-step.ensures
+  kept : length c.server_step-t.new.1.0 ≡ server.row_words
+  kept = server-kept _ _ tested.holds_server.ensures tested.if-not-holds_server.false _ _ loaded.server_head-h.ensures
+      copied.copy.ensures entry.args.call _ _ c.server_step-t.ensures
 
-  short : c.server-step.result.ruling ≡ Done → c.server-step.result.head.votes.len ≤ max_word
-  short = server-short _ _ tested.before.holds-server.ensures tested.if1.left _ _ loaded.server-head.ensures
-      copied.copy.ensures entry.args.call _ _ c.server-step.ensures
+  short : c.server_step-t.result.ruling ≡ Done → c.server_step-t.result.head.votes.len ≤ max_word
+  short = server-short _ _ tested.holds_server.ensures tested.if-not-holds_server.false _ _ loaded.server_head-h.ensures
+      copied.copy.ensures entry.args.call _ _ c.server_step-t.ensures
 
-server-head-requires : tie.Need-server-head-requires
-server-head-requires c κs = (server-held _ _ (is-server _ _ c.before.before.holds-server.ensures c.before.if1.false)).headed
+server-head-requires : tie.Need-server_head-h-requires
+server-head-requires c κs = (server-held _ _ (is-server _ _ c.holds_server.ensures c.if-not-holds_server.false)).headed
 
-part-copy-end : tie.Need-slice-bounds-copy-end
+part-copy-end : tie.Need-slice_bounds-copy-end
 part-copy-end c = omega (arith, long c.before.before.before)
 
-server-finish-requires : tie.Need-server-finish-requires
+server-finish-requires : tie.Need-server_finish-requires
 server-finish-requires c κs = let made = c.before.before.before.before.before in (omega (arith, long (tested made), kept made), short made)
 
-pub server-call-spec : {M : Type 1} → statement M
-server-call-spec =
+pub server_call_spec : {M : Type 1} → statement M
+server_call_spec =
     tie.close
     (tie.spec
     (λ c κs. search rules)

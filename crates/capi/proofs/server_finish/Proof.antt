@@ -5,24 +5,24 @@ use borrow.Author.Rules.{rules}
 use Rattle.capi.proofs.server_finish.Statement.{statement}
 use Rattle.capi.proofs.server_finish.Tie as tie
 
-server-send-requires : tie.Need-server-send-requires
+server-send-requires : tie.Need-server_send-requires
 server-send-requires c κs = let e = c.before.before.before.before.before.before.before.before.before in (
   e.requires.0,
-  e.requires.1 c.before.before.before.enum_told.given.1,
+  e.requires.1 c.in-Done.is,
 )
 
-returns : tie.Need-returns
-returns c = let told = c.before.before.before.before.before.before in rw told.before.before.before.before.enum_told.given.1
-    told.server-send.ensures
+returns : tie.Need-returns-in-Done
+returns c = let told = c.before.before.before.before.before.before in rw told.in-Done.is
+    told.server_send.ensures
 
-returns-2 : tie.Need-returns-2
+returns-2 : tie.Need-returns-in-Refused
 returns-2 c =
     let arm = c.before.before in
     let e = arm.before.before.before.before.before.before in
-    rw arm.ruling.given.1 (refused_leaves _ _ _ e.args.state.now e.args.out.now e.args.sent.now refl c.code_of_lem.ensures)
+    rw arm.in-Refused.is (refused_leaves _ _ _ e.args.state-1.now e.args.out-1.now e.args.sent-1.now refl c.code_of_lem.ensures)
 
-pub server-finish-spec : {M : Type 1} → statement M
-server-finish-spec =
+pub server_finish_spec : {M : Type 1} → statement M
+server_finish_spec =
     tie.close
     (tie.spec
     (λ c. search rules)

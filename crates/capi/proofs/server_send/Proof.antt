@@ -4,8 +4,8 @@ use borrow.Author.Rules.{rules}
 use Rattle.capi.proofs.server_send.Statement.{statement}
 use Rattle.capi.proofs.server_send.Tie as tie
 
-pub server-send-spec : {M : Type 1} → statement M
-server-send-spec =
+pub server_send_spec : {M : Type 1} → statement M
+server_send_spec =
     tie.close
     (tie.spec
     (λ c κs. search rules)

@@ -3,14 +3,14 @@ use borrow.Author.Rules.{rules}
 use Rattle.capi.proofs.server_step.Statement.{statement}
 use Rattle.capi.proofs.server_step.Tie as tie
 
-returns : tie.Need-returns
-returns c = let made = c.before.before in rw made.before.before.before.call.given.1 made.message-row.ensures
+returns : tie.Need-returns-in-Message
+returns c = let made = c.before.before in rw made.in-Message.is made.message_row.ensures
 
-returns-2 : tie.Need-returns-2
-returns-2 c = let made = c.before.before in rw made.before.before.enum_told.given.1 made.suspect-row.ensures
+returns-2 : tie.Need-returns-in-Suspect
+returns-2 c = let made = c.before.before in rw made.in-Suspect.is made.suspect_row.ensures
 
-pub server-step-spec : {M : Type 1} → statement M
-server-step-spec =
+pub server_step_spec : {M : Type 1} → statement M
+server_step_spec =
     tie.close
     (tie.spec
     (λ c. search rules)
@@ -24,4 +24,4 @@ server-step-spec =
     (λ c. search rules)
     returns-2
     (λ c. search rules)
-    (λ c. rw c.before.before.enum-told2.given.1 c.check-row.ensures))
+    (λ c. rw c.in-Check.is c.check_row.ensures))

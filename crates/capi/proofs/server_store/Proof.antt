@@ -3,25 +3,25 @@ use borrow.Author.Rules.{rules}
 use Rattle.capi.proofs.server_store.Statement.{statement}
 use Rattle.capi.proofs.server_store.Tie as tie
 
-put-counts-requires : tie.Need-put-counts-requires
+put-counts-requires : tie.Need-put_counts-requires
 put-counts-requires c κs =
     let arm = c.before.before.before.before.before.before in
     let e = arm.before.before.before.before.before in
-    let few = e.requires.3.few _ _ arm.a.given.1 in
+    let few = e.requires.3.few _ _ arm.in-Sent.is in
     (e.requires.1, few.0, few.1)
 
-returns : tie.Need-returns
+returns : tie.Need-returns-in-Sent
 returns c =
     let counted = c.before.before in
     let stored = counted.before.before.before.before in
     let arm = stored.before.before.before in
-    (rw arm.a.given.1, rw arm.a.given.1 stored.put-server.ensures, rw arm.a.given.1 counted.put-counts.ensures)
+    (rw arm.in-Sent.is, rw arm.in-Sent.is stored.put_server.ensures, rw arm.in-Sent.is counted.put_counts.ensures)
 
-returns-2 : tie.Need-returns-2
-returns-2 c = let arm = c.before.before in (rw arm.a2.given.1 c.code_of_lem.ensures, rw arm.a2.given.1, rw arm.a2.given.1)
+returns-2 : tie.Need-returns-in-Refused
+returns-2 c = let arm = c.before.before in (rw arm.in-Refused.is c.code_of_lem.ensures, rw arm.in-Refused.is, rw arm.in-Refused.is)
 
-pub server-store-spec : {M : Type 1} → statement M
-server-store-spec =
+pub server_store_spec : {M : Type 1} → statement M
+server_store_spec =
     tie.close
     (tie.spec
     (λ c. search rules)

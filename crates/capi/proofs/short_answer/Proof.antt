@@ -3,8 +3,8 @@ use borrow.Author.Rules.{rules}
 use Rattle.capi.proofs.short_answer.Statement.{statement}
 use Rattle.capi.proofs.short_answer.Tie as tie
 
-pub short-answer-spec : {M : Type 1} → statement M
-short-answer-spec =
+pub short_answer_spec : {M : Type 1} → statement M
+short_answer_spec =
     tie.close
     (tie.spec
     (λ c. search rules)
@@ -12,4 +12,4 @@ short-answer-spec =
     (λ c. search rules)
     (λ c κs. search rules)
     (λ c. search rules)
-    (λ c. rw c.before.before.a.given.1 c.code-of2.ensures))
+    (λ c. rw c.in-Refused.is c.code_of-in-Refused.ensures))

@@ -10,10 +10,10 @@ returns c =
     let called = c.before.before.before.before.before.before in
     let read = called.before.before.before.before in
     let e = read.before.before.before.before.before in
-    rw (client_takes-words e.args.state.now (message_in e.args.message.now) _ read.message-in.ensures) at called.client-call.ensures
+    rw (client_takes-words e.args.state-1.now (message_in e.args.message.now) _ read.message_in-m.ensures) at called.client_call.ensures
 
-pub sigma-client-message-spec : {M : Type 1} → statement M
-sigma-client-message-spec =
+pub sigma_client_message_spec : {M : Type 1} → statement M
+sigma_client_message_spec =
     tie.close
     (tie.spec
     (λ c κs. search rules)

@@ -6,26 +6,26 @@ use borrow.Author.Rules.{rules}
 use Rattle.capi.proofs.sigma_read.Statement.{statement}
 use Rattle.capi.proofs.sigma_read.Tie as tie
 
-returns : tie.Need-returns
-returns c = read-room _ _ _ c.before.before.before.before.before.read-fields.ensures.0 _ _ c.before.before.before.p.given.1 _
-    c.before.if1.true c.code_of_lem.ensures
+returns : tie.Need-returns-then-words-lt-READ_WORDS
+returns c = read-room _ _ _ c.read_fields-p.ensures.0 _ _ c.in-Fitting.is _
+    c.if-words-lt-READ_WORDS.true c.code_of_lem.ensures
 
-cast-put-words : tie.Need-overflow-cast-put-words
+cast-put-words : tie.Need-overflow_cast-used
 cast-put-words c =
-    let n = used-small _ [] _ c.before.before.before.before.before.read-fields.ensures.0 _ _ c.before.before.before.p.given.1 in
+    let n = used-small _ [] _ c.read_fields-p.ensures.0 _ _ c.in-Fitting.is in
     omega arith
 
-returns-2 : tie.Need-returns-2
+returns-2 : tie.Need-returns-else-words-lt-READ_WORDS
 returns-2 c =
     let b = c.before.before.before.before in
-    read_done _ _ _ b.before.before.before.before.read-fields.ensures.0 _ _ b.before.before.p.given.1 _ b.if1.false
-    c.before.before.put-words.ensures
+    read_done _ _ _ b.read_fields-p.ensures.0 _ _ b.in-Fitting.is _ b.if-words-lt-READ_WORDS.false
+    c.put_words.ensures
 
-returns-3 : tie.Need-returns-3
-returns-3 c = read-refused _ _ _ c.before.before.before.before.read-fields.ensures.0 _ _ c.before.before.p2.given.1 c.code-of2.ensures
+returns-3 : tie.Need-returns-in-Refused
+returns-3 c = read-refused _ _ _ c.read_fields-p.ensures.0 _ _ c.in-Refused.is c.code_of-in-Refused.ensures
 
-pub sigma-read-spec : {M : Type 1} → statement M
-sigma-read-spec =
+pub sigma_read_spec : {M : Type 1} → statement M
+sigma_read_spec =
     tie.close
     (tie.spec
     (λ c κs. search rules)

@@ -10,10 +10,10 @@ returns c =
     let called = c.before.before.before.before.before.before in
     let read = called.before.before.before.before in
     let e = read.before.before.before.before.before in
-    rw (server_takes-words e.args.state.now (message_in e.args.message.now) _ read.message-in.ensures) at called.server-call.ensures
+    rw (server_takes-words e.args.state-1.now (message_in e.args.message.now) _ read.message_in-m.ensures) at called.server_call.ensures
 
-pub sigma-server-message-spec : {M : Type 1} → statement M
-sigma-server-message-spec =
+pub sigma_server_message_spec : {M : Type 1} → statement M
+sigma_server_message_spec =
     tie.close
     (tie.spec
     (λ c κs. search rules)

@@ -8,35 +8,35 @@ use borrow.Author.Rules.{rules}
 use Rattle.capi.proofs.sigma_server_new.Statement.{statement}
 use Rattle.capi.proofs.sigma_server_new.Tie as tie
 
-returns : tie.Need-returns
-returns c = server_new-room _ _ c.before.before.before.args.state.now _ c.before.if1.true c.code_of_lem.ensures
+returns : tie.Need-returns-then-state-lt-SERVER_WORDS
+returns c = server_new-room _ _ c.args.state-1.now _ c.if-state-lt-SERVER_WORDS.true c.code_of_lem.ensures
 
-returns-2 : tie.Need-returns-2
+returns-2 : tie.Need-returns-then-not-fits_head
 returns-2 c =
     let asked = c.before.before in
     let tested = asked.before in
-    server_new-wide _ _ tested.before.before.args.state.now tested.if1.false _ _ asked.fits_head.ensures
-    c.before.if2.true c.code-of2.ensures
+    server_new-wide _ _ tested.args.state-1.now tested.if-state-lt-SERVER_WORDS.false _ _ asked.fits_head.ensures
+    c.if-not-fits_head.true c.code_of-then-not-fits_head.ensures
 
-cast-new : tie.Need-overflow-cast-new
-cast-new c = let (a, b, d) = head_small _ _ _ (sym c.before.fits_head.ensures ∙ not-false _ c.if2.false) in omega arith
+cast-new : tie.Need-overflow_cast-j
+cast-new c = let (a, b, d) = head_small _ _ _ (sym c.fits_head.ensures ∙ not-false _ c.if-not-fits_head.false) in omega arith
 
-cast-new-2 : tie.Need-overflow-cast-new-2
-cast-new-2 c = let (a, b, d) = head_small _ _ _ (sym c.before.fits_head.ensures ∙ not-false _ c.if2.false) in omega arith
+cast-new-2 : tie.Need-overflow_cast-n
+cast-new-2 c = let (a, b, d) = head_small _ _ _ (sym c.fits_head.ensures ∙ not-false _ c.if-not-fits_head.false) in omega arith
 
-server-made-requires : tie.Need-server-made-requires
-server-made-requires c κs = let w = server_new-whole _ _ _ c.before.new.ensures.0 in (c.before.before.before.before.if1.false, w.0, w.1)
+server-made-requires : tie.Need-server_made-requires
+server-made-requires c κs = let w = server_new-whole _ _ _ c.new-r.ensures.0 in (c.if-state-lt-SERVER_WORDS.false, w.0, w.1)
 
-returns-3 : tie.Need-returns-3
+returns-3 : tie.Need-returns
 returns-3 c =
     let made = c.before.before in
     let new = made.before.before in
     let tested = new.before.before.before in
-    server_new-done _ _ tested.before.before.args.state.now tested.if1.false _ _ _ new.new.ensures.0
-    made.server-made.ensures.0 made.server-made.ensures.1
+    server_new-done _ _ tested.args.state-1.now tested.if-state-lt-SERVER_WORDS.false _ _ _ new.new-r.ensures.0
+    made.server_made.ensures.0 made.server_made.ensures.1
 
-pub sigma-server-new-spec : {M : Type 1} → statement M
-sigma-server-new-spec =
+pub sigma_server_new_spec : {M : Type 1} → statement M
+sigma_server_new_spec =
     tie.close
     (tie.spec
     (λ c κs. search rules)

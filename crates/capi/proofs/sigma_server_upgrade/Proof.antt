@@ -7,34 +7,34 @@ use Rattle.capi.proofs.sigma_server_upgrade.Statement.{statement}
 use Rattle.capi.proofs.sigma_server_upgrade.Tie as tie
 
 -- the saved words are sound
-module _ (c : tie.Else1) where
-  abbrev tested : tie.After-valid-server
+module _ (c : tie.Else-not-valid_server) where
+  abbrev tested : tie.After-valid_server
   tested = c.before
 
   abbrev entry : tie.Start
   entry = tested.before.before.before
 
-returns : tie.Need-returns
-returns c = upgrade_broken _ _ _ _ _ c.before.before.valid-server.ensures _ c.before.if1.true c.code_of_lem.ensures
+returns : tie.Need-returns-then-not-valid_server
+returns c = upgrade_broken _ _ _ _ _ c.valid_server.ensures _ c.if-not-valid_server.true c.code_of_lem.ensures
 
-returns-2 : tie.Need-returns-2
+returns-2 : tie.Need-returns-then-state-lt-SERVER_WORDS
 returns-2 c =
     let s = c.before.before in
-    upgrade-short _ _ _ _ _ (tested s).valid-server.ensures _ s.if1.false c.before.if2.true c.code-of2.ensures
+    upgrade-short _ _ _ _ _ (tested s).valid_server.ensures _ s.if-not-valid_server.false c.if-state-lt-SERVER_WORDS.true c.code_of-then-state-lt-SERVER_WORDS.ensures
 
-take-server-requires : tie.Need-take-server-requires
-take-server-requires c κs = let s = c.before.before in (holds _ _ (tested s).valid-server.ensures s.if1.false, c.before.if2.false)
+take-server-requires : tie.Need-take_server-requires
+take-server-requires c κs = let s = c.before.before in (holds _ _ (tested s).valid_server.ensures s.if-not-valid_server.false, c.if-state-lt-SERVER_WORDS.false)
 
-returns-3 : tie.Need-returns-3
+returns-3 : tie.Need-returns
 returns-3 c =
     let t = c.before.before in
     let s = t.before.before.before in
     let e = entry s in
-    upgrade-done _ _ (server_now e.args.old.now) e.args.state.now _ (tested s).valid-server.ensures 0 s.if1.false _ t.before.before.if2.false
-    t.take-server.ensures
+    upgrade-done _ _ (server_now e.args.old.now) e.args.state-1.now _ (tested s).valid_server.ensures 0 s.if-not-valid_server.false _ t.if-state-lt-SERVER_WORDS.false
+    t.take_server.ensures
 
-pub sigma-server-upgrade-spec : {M : Type 1} → statement M
-sigma-server-upgrade-spec =
+pub sigma_server_upgrade_spec : {M : Type 1} → statement M
+sigma_server_upgrade_spec =
     tie.close
     (tie.spec
     (λ c κs. search rules)

@@ -4,17 +4,17 @@ use borrow.Author.Rules.{rules}
 use Rattle.capi.proofs.sigma_write.Statement.{statement}
 use Rattle.capi.proofs.sigma_write.Tie as tie
 
-returns : tie.Need-returns
+returns : tie.Need-returns-in-Numbers
 returns c =
     let b = c.before.before.before.before.before.before in
-    write_numbers_lem _ _ _ b.before.before.cross.ensures.0 _ _ _ _ b.g.given.1 c.before.before.before.write-fields.ensures.0.0
-    c.before.before.before.write-fields.ensures.0.1 c.written-code.ensures
+    write_numbers_lem _ _ _ b.cross-g.ensures.0 _ _ _ _ b.in-Numbers.is c.write_fields.ensures.0.0
+    c.write_fields.ensures.0.1 c.written_code.ensures
 
-returns-2 : tie.Need-returns-2
-returns-2 c = write_large _ _ _ c.before.before.before.cross.ensures.0 _ c.before.enum_told.given.1 c.code_of_lem.ensures
+returns-2 : tie.Need-returns-in-TooLarge
+returns-2 c = write_large _ _ _ c.cross-g.ensures.0 _ c.in-TooLarge.is c.code_of_lem.ensures
 
-pub sigma-write-spec : {M : Type 1} → statement M
-sigma-write-spec =
+pub sigma_write_spec : {M : Type 1} → statement M
+sigma_write_spec =
     tie.close
     (tie.spec
     (λ c κs. search rules)

@@ -3,12 +3,12 @@ use borrow.Author.Rules.{rules}
 use Rattle.capi.proofs.written_code.Statement.{statement}
 use Rattle.capi.proofs.written_code.Tie as tie
 
-pub written-code-spec : {M : Type 1} → statement M
-written-code-spec =
+pub written_code_spec : {M : Type 1} → statement M
+written_code_spec =
     tie.close
     (tie.spec
     (λ c. search rules)
     (λ c. search rules)
     (λ c κs. search rules)
     (λ c. search rules)
-    (λ c. rw c.before.before.w.given.1 c.code_of_lem.ensures))
+    (λ c. rw c.in-Refused.is c.code_of_lem.ensures))

@@ -13,9 +13,9 @@ use Rattle.capi_host.specs.contracts.sigma_host_check as thin
 use Rattle.capi_host.proofs.sigma_host_check.Statement.{statement}
 use Rattle.capi_host.proofs.sigma_host_check.Code as code
 
-pub sigma-host-check-spec : {M : Type 1} → statement M
+pub sigma_host_check_spec : {M : Type 1} → statement M
 unfolding code.routine tables_of
-sigma-host-check-spec 𝓤 𝓛 𝓜 𝓡 =
+sigma_host_check_spec 𝓤 𝓛 𝓜 𝓡 =
     entered 𝓤 𝓛.H (triple_of 𝓛 thin.signature (thin.spec 𝓛 𝓜.mem 𝓡.run))
     (tables 𝓤 𝓛.H 𝓜 𝓡 code.env).C (tables 𝓤 𝓛.H 𝓜 𝓡 code.env).Λ #sigma-host-check code.function (code.unfolded 𝓤 𝓛.H 𝓜 𝓡)
     (meets types (Says server_check) (Left server_check) (λ h ys r zs e. e) 𝓛 callee.name (tables_of 𝓤 𝓛.H 𝓜 (tables 𝓤 𝓛.H 𝓜 𝓡 code.env))

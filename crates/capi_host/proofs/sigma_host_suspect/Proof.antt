@@ -13,9 +13,9 @@ use Rattle.capi_host.specs.contracts.sigma_host_suspect as thin
 use Rattle.capi_host.proofs.sigma_host_suspect.Statement.{statement}
 use Rattle.capi_host.proofs.sigma_host_suspect.Code as code
 
-pub sigma-host-suspect-spec : {M : Type 1} → statement M
+pub sigma_host_suspect_spec : {M : Type 1} → statement M
 unfolding code.routine tables_of
-sigma-host-suspect-spec 𝓤 𝓛 𝓜 𝓡 =
+sigma_host_suspect_spec 𝓤 𝓛 𝓜 𝓡 =
     entered 𝓤 𝓛.H (triple_of 𝓛 thin.signature (thin.spec 𝓛 𝓜.mem 𝓡.run))
     (tables 𝓤 𝓛.H 𝓜 𝓡 code.env).C (tables 𝓤 𝓛.H 𝓜 𝓡 code.env).Λ #sigma-host-suspect code.function (code.unfolded 𝓤 𝓛.H 𝓜 𝓡)
     (meets types (Says server_suspect) (Left server_suspect) (λ h ys r zs e. e) 𝓛 callee.name (tables_of 𝓤 𝓛.H 𝓜 (tables 𝓤 𝓛.H 𝓜 𝓡 code.env))

@@ -4,15 +4,15 @@ use borrow.Author.Rules.{rules}
 use Rattle.capi_packet.proofs.answer.Statement.{statement}
 use Rattle.capi_packet.proofs.answer.Tie as tie
 
-pub answer-spec : {M : Type 1} → statement M
-answer-spec =
+pub answer_spec : {M : Type 1} → statement M
+answer_spec =
     tie.close
     (tie.spec
     (λ c κs. search rules)
-    (λ c. answer-short _ _ _ _ c.before.if1.true c.code_of_lem.ensures)
+    (λ c. answer-short _ _ _ _ c.if-words-lt-READ_WORDS.true c.code_of_lem.ensures)
     (λ c κs. search rules)
     (λ c. search rules)
     (λ c.
     let b = c.before.before.before.before in
-    let a = b.before.before.args in
-    answer-put a.words.now a.f a.used _ b.if1.false c.before.before.put-words.ensures))
+    let a = b.args in
+    answer-put a.words-1.now a.f a.used _ b.if-words-lt-READ_WORDS.false c.put_words.ensures))

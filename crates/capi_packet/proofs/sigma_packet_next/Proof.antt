@@ -6,20 +6,20 @@ use borrow.Author.Rules.{rules}
 use Rattle.capi_packet.proofs.sigma_packet_next.Statement.{statement}
 use Rattle.capi_packet.proofs.sigma_packet_next.Tie as tie
 
-returns : tie.Need-returns
+returns : tie.Need-returns-in-Message
 returns c =
     let b = c.before.before.before in
     let m = b.before.before.before in
-    next-given _ _ _ _ m.before.before.next-at.ensures.0 _ _ _ _ _ m.m.given.1 b.fields-of.ensures c.before.before.answer.ensures
+    next-given _ _ _ _ m.next_at.ensures.0 _ _ _ _ _ m.in-Message.is b.fields_of.ensures c.answer.ensures
 
-returns-2 : tie.Need-returns-2
+returns-2 : tie.Need-returns-in-End
 returns-2 c =
     let b = c.before.before.before in
     let t = b.before.before in
-    next_end _ _ _ _ t.before.before.next-at.ensures.0 _ _ t.enum_told.given.1 (rw b.no_fields.ensures at c.before.before.answer2.ensures)
+    next_end _ _ _ _ t.next_at.ensures.0 _ _ t.in-End.is (rw b.no_fields.ensures at c.answer-in-End.ensures)
 
-pub sigma-packet-next-spec : {M : Type 1} → statement M
-sigma-packet-next-spec =
+pub sigma_packet_next_spec : {M : Type 1} → statement M
+sigma_packet_next_spec =
     tie.close
     (tie.spec
     (λ c κs. search rules)
@@ -27,10 +27,10 @@ sigma-packet-next-spec =
     (λ c κs. search rules)
     (λ c.
     let m = c.before.before.before in
-    place_order _ _ _ _ (sym m.before.before.next-at.ensures.0 ∙ m.m.given.1))
+    place_order _ _ _ _ (sym m.next_at.ensures.0 ∙ m.in-Message.is))
     (λ c.
     let m = c.before.before.before in
-    omega (arith, used-small _ _ _ _ (sym m.before.before.next-at.ensures.0 ∙ m.m.given.1)))
+    omega (arith, used-small _ _ _ _ (sym m.next_at.ensures.0 ∙ m.in-Message.is)))
     (λ c κs. search rules)
     (λ c. search rules)
     (λ c κs. search rules)
@@ -41,4 +41,4 @@ sigma-packet-next-spec =
     returns
     (λ c. search rules)
     returns-2
-    (λ c. next-none _ _ _ _ c.before.before.before.before.next-at.ensures.0 _ _ _ c.before.before.e.given.1 c.code_of_lem.ensures refl))
+    (λ c. next-none _ _ _ _ c.next_at.ensures.0 _ _ _ c.in-Refused.is c.code_of_lem.ensures refl))

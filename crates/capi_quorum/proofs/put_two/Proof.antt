@@ -4,18 +4,18 @@ use borrow.Author.Rules.{rules}
 use Rattle.capi_quorum.proofs.put_two.Statement.{statement}
 use Rattle.capi_quorum.proofs.put_two.Tie as tie
 
-returns : tie.Need-returns
+returns : tie.Need-returns-then-words-lt2
 returns c =
-    let a = c.before.before.before.args in
-    two-short a.words.now a.a a.b a.code _ c.before.if1.true c.code_of_lem.ensures
+    let a = c.args in
+    two-short a.words.now a.a a.b a.code _ c.if-words-lt2.true c.code_of_lem.ensures
 
-returns-2 : tie.Need-returns-2
+returns-2 : tie.Need-returns
 returns-2 c =
-    let a = c.before.before.args in
-    two-done a.words.now a.a a.b a.code c.if1.false
+    let a = c.args in
+    two-done a.words.now a.a a.b a.code c.if-words-lt2.false
 
-pub put-two-spec : {M : Type 1} → statement M
-put-two-spec =
+pub put_two_spec : {M : Type 1} → statement M
+put_two_spec =
     tie.close
     (tie.spec
     (λ c κs. search rules)

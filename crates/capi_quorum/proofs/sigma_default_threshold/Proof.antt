@@ -4,27 +4,27 @@ use borrow.Author.Rules.{rules}
 use Rattle.capi_quorum.proofs.sigma_default_threshold.Statement.{statement}
 use Rattle.capi_quorum.proofs.sigma_default_threshold.Tie as tie
 
-returns : tie.Need-returns
+returns : tie.Need-returns-then-words-lt1
 returns c =
     let d = c.before.before.before.before.before in
-    let a = d.before.before.args in
-    threshold_short a.n a.words.now _ d.default-threshold.ensures.0 _ _ c.before.before.before.t.given.1
-    c.before.if1.true c.code_of_lem.ensures
+    let a = d.args in
+    threshold_short a.n a.words.now _ d.default_threshold-t.ensures.0 _ _ c.in-Default.is
+    c.if-words-lt1.true c.code_of_lem.ensures
 
-returns-2 : tie.Need-returns-2
+returns-2 : tie.Need-returns-else-words-lt1
 returns-2 c =
     let d = c.before.before.before.before in
-    let a = d.before.before.args in
-    threshold_given a.n a.words.now _ d.default-threshold.ensures.0 _ c.before.before.t.given.1 c.if1.false
+    let a = d.args in
+    threshold_given a.n a.words.now _ d.default_threshold-t.ensures.0 _ c.in-Default.is c.if-words-lt1.false
 
-returns-3 : tie.Need-returns-3
+returns-3 : tie.Need-returns-in-OutOfRange
 returns-3 c =
     let d = c.before.before.before in
-    let a = d.before.before.args in
-    threshold_refused a.n a.words.now _ d.default-threshold.ensures.0 _ c.before.enum_told.given.1 c.code-of2.ensures
+    let a = d.args in
+    threshold_refused a.n a.words.now _ d.default_threshold-t.ensures.0 _ c.in-OutOfRange.is c.code_of-in-OutOfRange.ensures
 
-pub sigma-default-threshold-spec : {M : Type 1} → statement M
-sigma-default-threshold-spec =
+pub sigma_default_threshold_spec : {M : Type 1} → statement M
+sigma_default_threshold_spec =
     tie.close
     (tie.spec
     (λ c κs. search rules)

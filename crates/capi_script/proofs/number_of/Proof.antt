@@ -4,12 +4,12 @@ use borrow.Author.Rules.{rules}
 use Rattle.capi_script.proofs.number_of.Statement.{statement}
 use Rattle.capi_script.proofs.number_of.Tie as tie
 
-pub number-of-spec : {M : Type 1} → statement M
-number-of-spec =
+pub number_of_spec : {M : Type 1} → statement M
+number_of_spec =
     tie.close
     (tie.spec
     (λ c. search rules)
     (λ c. search rules)
     (λ c κs. search rules)
     (λ c. search rules)
-    (λ c. refused-code _ _ _ c.before.before.p.given.1 c.code_of_lem.ensures))
+    (λ c. refused-code _ _ _ c.in-Refused.is c.code_of_lem.ensures))

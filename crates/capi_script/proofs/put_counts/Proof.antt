@@ -4,8 +4,8 @@ use borrow.Author.Rules.{rules}
 use Rattle.capi_script.proofs.put_counts.Statement.{statement}
 use Rattle.capi_script.proofs.put_counts.Tie as tie
 
-pub put-counts-spec : {M : Type 1} → statement M
-put-counts-spec =
+pub put_counts_spec : {M : Type 1} → statement M
+put_counts_spec =
     tie.close
     (tie.spec
     (λ c. search rules)
@@ -13,5 +13,5 @@ put-counts-spec =
     (λ c. search rules)
     (λ c. search rules)
     (λ c. search rules)
-    (λ c. took_counts c.before.before.before.args.counts.now _ _ _ c.before.p.given.1)
+    (λ c. took_counts c.args.counts.now _ _ _ c.in-Took.is)
     (λ c. search rules))

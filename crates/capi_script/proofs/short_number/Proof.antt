@@ -4,18 +4,18 @@ use borrow.Author.Rules.{rules}
 use Rattle.capi_script.proofs.short_number.Statement.{statement}
 use Rattle.capi_script.proofs.short_number.Tie as tie
 
-returns : tie.Need-returns
+returns : tie.Need-returns-then-valid
 returns c =
     let v = c.before.before in
-    short-valid v.before.before.args.state.now _ v.valid.ensures _ c.before.if1.true c.code_of_lem.ensures
+    short-valid v.args.state.now _ v.valid.ensures _ c.if-valid.true c.code_of_lem.ensures
 
-returns-2 : tie.Need-returns-2
+returns-2 : tie.Need-returns
 returns-2 c =
     let v = c.before.before in
-    short_invalid v.before.before.args.state.now _ v.valid.ensures _ c.before.if1.false c.code-of2.ensures
+    short_invalid v.args.state.now _ v.valid.ensures _ c.if-valid.false c.code_of-2.ensures
 
-pub short-number-spec : {M : Type 1} → statement M
-short-number-spec =
+pub short_number_spec : {M : Type 1} → statement M
+short_number_spec =
     tie.close
     (tie.spec
     (λ c κs. search rules)

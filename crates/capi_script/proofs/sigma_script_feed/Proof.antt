@@ -4,23 +4,23 @@ use borrow.Author.Rules.{rules}
 use Rattle.capi_script.proofs.sigma_script_feed.Statement.{statement}
 use Rattle.capi_script.proofs.sigma_script_feed.Tie as tie
 
-returns : tie.Need-returns
+returns : tie.Need-returns-then-counts-lt2
 returns c =
     let t = c.before.before in
-    let a = t.before.before.before.before.before.args in
-    feed_short a.state.now a.out.now a.counts.now _ a.input.now t.if1.true c.short-number.ensures
+    let a = t.args in
+    feed_short a.state-1.now a.out-1.now a.counts-1.now _ a.input.now t.if-counts-lt2.true c.short_number.ensures
 
-returns-2 : tie.Need-returns-2
+returns-2 : tie.Need-returns
 returns-2 c =
     let k = c.before.before.before in
     let f = k.before.before.before.before.before.before in
     let e = f.before.before.before in
-    let a = e.before.before.before.before.before.args in
-    feed_lent a.state.now a.out.now a.counts.now _ e.if1.false _ _ _ _ k.put-counts.ensures c.number_of_lem.ensures
-    a.input.now f.feed.ensures.0
+    let a = e.args in
+    feed_lent a.state-1.now a.out-1.now a.counts-1.now _ e.if-counts-lt2.false _ _ _ _ k.put_counts.ensures c.number_of_lem.ensures
+    a.input.now f.feed-p.ensures.0
 
-pub sigma-script-feed-spec : {M : Type 1} → statement M
-sigma-script-feed-spec =
+pub sigma_script_feed_spec : {M : Type 1} → statement M
+sigma_script_feed_spec =
     tie.close
     (tie.spec
     (λ c κs. search rules)

@@ -7,10 +7,10 @@ use Rattle.capi_script.proofs.sigma_script_new.Tie as tie
 returns : tie.Need-returns
 returns c =
     let n = c.before.before.before in
-    new_done n.before.before.before.args.state.now _ _ _ n.new.ensures.0 c.number_of_lem.ensures
+    new_done n.args.state-1.now _ _ _ n.new-p.ensures.0 c.number_of_lem.ensures
 
-pub sigma-script-new-spec : {M : Type 1} → statement M
-sigma-script-new-spec =
+pub sigma_script_new_spec : {M : Type 1} → statement M
+sigma_script_new_spec =
     tie.close
     (tie.spec
     (λ c κs. search rules)

@@ -3,8 +3,8 @@ use Rattle.capi_simulation.proofs.CallLaws.{is_try, is_exit, is_fall, is_down_le
 use Rattle.capi_simulation.proofs.command_of.Statement.{statement}
 use Rattle.capi_simulation.proofs.command_of.Tie as tie
 
-pub command-of-spec : {M : Type 1} → statement M
-command-of-spec =
+pub command_of_spec : {M : Type 1} → statement M
+command_of_spec =
     tie.close
     (tie.spec
     (λ c. search is_try)

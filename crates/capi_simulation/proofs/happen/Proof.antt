@@ -4,8 +4,8 @@ use borrow.Author.Rules.{rules}
 use Rattle.capi_simulation.proofs.happen.Statement.{statement}
 use Rattle.capi_simulation.proofs.happen.Tie as tie
 
-pub happen-spec : {M : Type 1} → statement M
-happen-spec =
+pub happen_spec : {M : Type 1} → statement M
+happen_spec =
     tie.close
     (tie.spec
     (λ c κs. search rules)

@@ -4,8 +4,8 @@ use borrow.Author.Rules.{rules}
 use Rattle.capi_simulation.proofs.short.Statement.{statement}
 use Rattle.capi_simulation.proofs.short.Tie as tie
 
-pub short-spec : {M : Type 1} → statement M
-short-spec =
+pub short_spec : {M : Type 1} → statement M
+short_spec =
     tie.close
     (tie.spec
     (λ c κs. search rules)

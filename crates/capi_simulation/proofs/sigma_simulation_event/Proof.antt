@@ -4,8 +4,8 @@ use borrow.Author.Rules.{rules}
 use Rattle.capi_simulation.proofs.sigma_simulation_event.Statement.{statement}
 use Rattle.capi_simulation.proofs.sigma_simulation_event.Tie as tie
 
-pub sigma-simulation-event-spec : {M : Type 1} → statement M
-sigma-simulation-event-spec =
+pub sigma_simulation_event_spec : {M : Type 1} → statement M
+sigma_simulation_event_spec =
     tie.close
     (tie.spec
     (λ c κs. search rules)

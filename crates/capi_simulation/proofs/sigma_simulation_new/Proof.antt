@@ -4,8 +4,8 @@ use borrow.Author.Rules.{rules}
 use Rattle.capi_simulation.proofs.sigma_simulation_new.Statement.{statement}
 use Rattle.capi_simulation.proofs.sigma_simulation_new.Tie as tie
 
-pub sigma-simulation-new-spec : {M : Type 1} → statement M
-sigma-simulation-new-spec =
+pub sigma_simulation_new_spec : {M : Type 1} → statement M
+sigma_simulation_new_spec =
     tie.close
     (tie.spec
     (λ c κs. search rules)

@@ -4,8 +4,8 @@ use borrow.Author.Rules.{rules}
 use Rattle.capi_simulation.proofs.unknown.Statement.{statement}
 use Rattle.capi_simulation.proofs.unknown.Tie as tie
 
-pub unknown-spec : {M : Type 1} → statement M
-unknown-spec =
+pub unknown_spec : {M : Type 1} → statement M
+unknown_spec =
     tie.close
     (tie.spec
     (λ c κs. search rules)

@@ -5,15 +5,15 @@ use Rattle.client.proofs.attempt.Statement.{statement}
 use Rattle.client.proofs.attempt.Tie as tie
 
 -- the last timestamp leaves room for one more
-add-t11 : tie.Need-overflow-add-t11
+add-t11 : tie.Need-overflow_add-t
 add-t11 c =
     let a = c.before in
     let s = a.before.before.before.before.before in
-    let k = try_left _ _ _ a.latest.ensures s.requires.1 in
+    let k = try_left _ _ _ a.latest-last.ensures s.requires.1 in
     search (rules, k)
 
-pub attempt-spec : {M : Type 1} → statement M
-attempt-spec =
+pub attempt_spec : {M : Type 1} → statement M
+attempt_spec =
     tie.close
     (tie.spec
     (λ c. search rules)

@@ -8,10 +8,10 @@ returns : tie.Need-returns
 returns c =
     let r = c.before.before.before.before in
     let s = r.before.before.before.before.before in
-    by_value s.args.c _ s.args.out.now _ _ _ r.begin-row.ensures _ c.together.ensures
+    by_value s.args.c _ s.args.out-1.now _ _ _ r.begin_row-turned.ensures _ c.together.ensures
 
-pub begin-spec : {M : Type 1} → statement M
-begin-spec =
+pub begin_spec : {M : Type 1} → statement M
+begin_spec =
     tie.close
     (tie.spec
     (λ c. search rules)

@@ -4,8 +4,8 @@ use borrow.Author.Rules.{rules}
 use Rattle.client.proofs.check_row.Statement.{statement}
 use Rattle.client.proofs.check_row.Tie as tie
 
-pub check-row-spec : {M : Type 1} → statement M
-check-row-spec =
+pub check_row_spec : {M : Type 1} → statement M
+check_row_spec =
     tie.close
     (tie.spec
     (λ c κs. search rules)

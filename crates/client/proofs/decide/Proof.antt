@@ -4,8 +4,8 @@ use borrow.Author.Rules.{rules}
 use Rattle.client.proofs.decide.Statement.{statement}
 use Rattle.client.proofs.decide.Tie as tie
 
-pub decide-spec : {M : Type 1} → statement M
-decide-spec =
+pub decide_spec : {M : Type 1} → statement M
+decide_spec =
     tie.close
     (tie.spec
     (λ c κs. search rules)

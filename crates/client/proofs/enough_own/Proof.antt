@@ -4,10 +4,10 @@ use borrow.Author.Rules.{rules}
 use Rattle.client.proofs.enough_own.Statement.{statement}
 use Rattle.client.proofs.enough_own.Tie as tie
 
-pub enough-own-spec : {M : Type 1} → statement M
+pub enough_own_spec : {M : Type 1} → statement M
 unfolding enough
-enough-own-spec =
+enough_own_spec =
     tie.close
     (tie.spec
     (λ c κs. search rules)
-    (λ c. rw c.own-count.ensures))
+    (λ c. rw c.own_count.ensures))

@@ -8,10 +8,10 @@ returns : tie.Need-returns
 returns c =
     let r = c.before.before.before.before in
     let s = r.before.before.before.before.before in
-    by_value s.args.c _ s.args.out.now _ _ _ r.exit-row.ensures _ c.together.ensures
+    by_value s.args.c _ s.args.out-1.now _ _ _ r.exit_row-turned.ensures _ c.together.ensures
 
-pub exit-spec : {M : Type 1} → statement M
-exit-spec =
+pub exit_spec : {M : Type 1} → statement M
+exit_spec =
     tie.close
     (tie.spec
     (λ c. search rules)

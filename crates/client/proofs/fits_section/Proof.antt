@@ -8,37 +8,37 @@ use Rattle.client.proofs.fits_section.Statement.{statement}
 use Rattle.client.proofs.fits_section.Tie as tie
 
 -- the filled places are counted
-module _ (c : tie.After-filled-count) where
+module _ (c : tie.After-filled_count-found) where
   abbrev entry : tie.Start
   entry = c.before.before
 
   abbrev heard : List Owner
   heard = responses_in entry.args.row.now entry.args.n
 
-returns : tie.Need-returns
-returns c = let f = c.before.before in rw c.enum_told.given.1
-    (section_remainder (entry f).args.m (entry f).args.r (heard f) _ f.filled-count.ensures)
+returns : tie.Need-returns-in-Remainder
+returns c = let f = c.before.before in rw c.in-Remainder.is
+    (section_remainder (entry f).args.m (entry f).args.r (heard f) _ f.filled_count-found.ensures)
 
-returns-2 : tie.Need-returns-2
-returns-2 c = let f = c.before.before in rw c.enum-told2.given.1
-    (section-trying (entry f).args.m (entry f).args.r (heard f) _ f.filled-count.ensures)
+returns-2 : tie.Need-returns-in-Trying
+returns-2 c = let f = c.before.before in rw c.in-Trying.is
+    (section-trying (entry f).args.m (entry f).args.r (heard f) _ f.filled_count-found.ensures)
 
-returns-3 : tie.Need-returns-3
+returns-3 : tie.Need-returns-then-enough_own
 returns-3 c =
     let t = c.before.before in
     let f = t.before.before in
-    rw t.enum-told3.given.1
-    (section_critical (entry f).args.m (entry f).args.r (heard f) _ f.filled-count.ensures _ c.before.enough-own.ensures c.if1.true)
+    rw t.in-Critical.is
+    (section_critical (entry f).args.m (entry f).args.r (heard f) _ f.filled_count-found.ensures _ c.enough_own.ensures c.if-enough_own.true)
 
-returns-4 : tie.Need-returns-4
+returns-4 : tie.Need-returns-else-enough_own
 returns-4 c =
     let t = c.before.before in
     let f = t.before.before in
-    rw t.enum-told3.given.1
-    (section-few (entry f).args.m (entry f).args.r (heard f) _ f.filled-count.ensures _ c.before.enough-own.ensures c.if1.false)
+    rw t.in-Critical.is
+    (section-few (entry f).args.m (entry f).args.r (heard f) _ f.filled_count-found.ensures _ c.enough_own.ensures c.if-enough_own.false)
 
-pub fits-section-spec : {M : Type 1} → statement M
-fits-section-spec =
+pub fits_section_spec : {M : Type 1} → statement M
+fits_section_spec =
     tie.close
     (tie.spec
     (λ c κs. search rules)

@@ -3,8 +3,8 @@ use borrow.Author.Rules.{rules}
 use Rattle.client.proofs.fits_timestamp.Statement.{statement}
 use Rattle.client.proofs.fits_timestamp.Tie as tie
 
-pub fits-timestamp-spec : {M : Type 1} → statement M
-fits-timestamp-spec =
+pub fits_timestamp_spec : {M : Type 1} → statement M
+fits_timestamp_spec =
     tie.close
     (tie.spec
     (λ c. search rules)
@@ -13,5 +13,5 @@ fits-timestamp-spec =
     (λ c. search rules)
     (λ c κs. search rules)
     (λ c. search rules)
-    (λ c. rw c.before.enum-told2.given.1 c.taken-timestamp.ensures)
-    (λ c. rw c.before.enum-told3.given.1 c.taken-timestamp2.ensures))
+    (λ c. rw c.in-Trying.is c.taken_timestamp.ensures)
+    (λ c. rw c.in-Critical.is c.taken_timestamp-in-Critical.ensures))

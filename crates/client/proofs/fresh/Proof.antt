@@ -4,5 +4,5 @@ use Rattle.client.proofs.RecordLaws.{with-head}
 use Rattle.client.proofs.fresh.Statement.{statement}
 use Rattle.client.proofs.fresh.Tie as tie
 
-pub fresh-spec : {M : Type 1} → statement M
-fresh-spec = tie.close (tie.spec (λ c κs. search rules) (λ c. search with-head))
+pub fresh_spec : {M : Type 1} → statement M
+fresh_spec = tie.close (tie.spec (λ c κs. search rules) (λ c. search with-head))

@@ -11,10 +11,10 @@ returns c =
     let o = d.before.before.before in
     let q = o.before.before in
     let s = q.before.before.before.before.before.before.before in
-    rw (verdicts s.args.h s.args.row.now _ _ _ q.before.filled-count.ensures q.request-of.ensures o.own-count.ensures) d.decide.ensures
+    rw (verdicts s.args.h s.args.row-1.now _ _ _ q.filled_count.ensures q.request_of.ensures o.own_count.ensures) d.decide.ensures
 
-pub judge-spec : {M : Type 1} → statement M
-judge-spec =
+pub judge_spec : {M : Type 1} → statement M
+judge_spec =
     tie.close
     (tie.spec
     (λ c. search rules)

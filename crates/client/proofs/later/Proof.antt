@@ -4,11 +4,11 @@ use Rattle.client.proofs.StepLaws.{later-is}
 use Rattle.client.proofs.later.Statement.{statement}
 use Rattle.client.proofs.later.Tie as tie
 
-returns : tie.Need-returns
-returns c = later-is _ _ _ (omega (arith, c.if1.true))
+returns : tie.Need-returns-then-a-b
+returns c = later-is _ _ _ (omega (arith, c.if-a-b.true))
 
-returns-2 : tie.Need-returns-2
-returns-2 c = later-is _ _ _ (omega (arith, c.if1.false))
+returns-2 : tie.Need-returns
+returns-2 c = later-is _ _ _ (omega (arith, c.if-a-b.false))
 
-pub later-spec : {M : Type 1} → statement M
-later-spec = tie.close (tie.spec returns returns-2)
+pub later_spec : {M : Type 1} → statement M
+later_spec = tie.close (tie.spec returns returns-2)

@@ -8,10 +8,10 @@ returns : tie.Need-returns
 returns c =
     let r = c.before.before.before.before in
     let s = r.before.before.before.before.before in
-    by_value s.args.c _ s.args.out.now _ _ _ r.message-row.ensures _ c.together.ensures
+    by_value s.args.c _ s.args.out-1.now _ _ _ r.message_row-turned.ensures _ c.together.ensures
 
-pub message-spec : {M : Type 1} → statement M
-message-spec =
+pub message_spec : {M : Type 1} → statement M
+message_spec =
     tie.close
     (tie.spec
     (λ c. search rules)

@@ -6,19 +6,19 @@ use Rattle.client.proofs.message_row.Statement.{statement}
 use Rattle.client.proofs.message_row.Tie as tie
 
 -- the message's numbers are in range, and the record before it valid
-module _ (c : tie.Else2) where
-  abbrev tested : tie.Else1
+module _ (c : tie.Else-not-valid_message) where
+  abbrev tested : tie.Else-not-valid_row
   tested = c.before.before
 
-returns-3 : tie.Need-returns-3
+returns-3 : tie.Need-returns
 returns-3 c =
     let a = c.before.before.before.before in
     let s = a.before.before.before in
     let v = tested s in
-    rw (message-received _ _ _ v.before.valid-row.ensures _ _ v.if1.left s.before.valid-message.ensures s.if2.false) a.receive.ensures
+    rw (message-received _ _ _ v.valid_row.ensures _ _ v.if-not-valid_row.false s.valid_message.ensures s.if-not-valid_message.false) a.receive.ensures
 
-pub message-row-spec : {M : Type 1} → statement M
-message-row-spec =
+pub message_row_spec : {M : Type 1} → statement M
+message_row_spec =
     tie.close
     (tie.spec
     (λ c κs. search rules)

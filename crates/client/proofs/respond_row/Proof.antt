@@ -4,8 +4,8 @@ use borrow.Author.Rules.{rules}
 use Rattle.client.proofs.respond_row.Statement.{statement}
 use Rattle.client.proofs.respond_row.Tie as tie
 
-pub respond-row-spec : {M : Type 1} → statement M
-respond-row-spec =
+pub respond_row_spec : {M : Type 1} → statement M
+respond_row_spec =
     tie.close
     (tie.spec
     (λ c κs. search rules)

@@ -4,7 +4,7 @@ use Rattle.client.proofs.saw.Statement.{statement}
 use Rattle.client.proofs.saw.Tie as tie
 
 returns : tie.Need-returns
-returns c = rw c.later.ensures
+returns c = rw c.later-seen.ensures
 
-pub saw-spec : {M : Type 1} → statement M
-saw-spec = tie.close (tie.spec (λ c κs. search rules) returns)
+pub saw_spec : {M : Type 1} → statement M
+saw_spec = tie.close (tie.spec (λ c κs. search rules) returns)

@@ -4,5 +4,5 @@ use borrow.Author.Rules.{rules}
 use Rattle.client.proofs.settle.Statement.{statement}
 use Rattle.client.proofs.settle.Tie as tie
 
-pub settle-spec : {M : Type 1} → statement M
-settle-spec = tie.close (tie.spec (λ c κs. search rules) (λ c. search settled-refused) (λ c. search settled-taken))
+pub settle_spec : {M : Type 1} → statement M
+settle_spec = tie.close (tie.spec (λ c κs. search rules) (λ c. search settled-refused) (λ c. search settled-taken))

@@ -5,19 +5,19 @@ use Rattle.client.proofs.take_check.Statement.{statement}
 use Rattle.client.proofs.take_check.Tie as tie
 
 -- whom the message is for is tested
-module _ (c : tie.After-for-client) where
+module _ (c : tie.After-for_client) where
   abbrev entry : tie.Start
   entry = c.before.before.before
 
-returns-2 : tie.Need-returns-2
+returns-2 : tie.Need-returns
 returns-2 c =
     let r = c.before.before in
     let e = r.before.before in
     let a = (entry e.before).args in
-    rw (check-taken a.h _ a.k a.j _ e.before.for-client.ensures e.if1.false a.t) r.check-row.ensures
+    rw (check-taken a.h _ a.k a.j _ e.for_client.ensures e.if-not-for_client.false a.t) r.check_row.ensures
 
-pub take-check-spec : {M : Type 1} → statement M
-take-check-spec =
+pub take_check_spec : {M : Type 1} → statement M
+take_check_spec =
     tie.close
     (tie.spec
     (λ c κs. search rules)

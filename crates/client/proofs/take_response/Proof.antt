@@ -6,26 +6,26 @@ use Rattle.client.proofs.take_response.Statement.{statement}
 use Rattle.client.proofs.take_response.Tie as tie
 
 -- whom the message is for is tested
-module _ (c : tie.After-for-client) where
+module _ (c : tie.After-for_client) where
   abbrev entry : tie.Start
   entry = c.before.before.before
 
-respond-row-requires : tie.Need-respond-row-requires
+respond-row-requires : tie.Need-respond_row-requires
 respond-row-requires c κs =
     let e = c.before.before in
     let s = entry e.before in
-    let v = response-range max_servers s.args.k s.args.j s.args.o s.pre.1 in
-    (s.pre.0, v.0, its-server s.args.h s.args.row.now s.args.k s.args.j _ e.before.for-client.ensures e.if1.false, v.1)
+    let v = response-range max_servers s.args.k s.args.j s.args.o s.requires.1 in
+    (s.requires.0, v.0, its-server s.args.h s.args.row-1.now s.args.k s.args.j _ e.for_client.ensures e.if-not-for_client.false, v.1)
 
-returns-2 : tie.Need-returns-2
+returns-2 : tie.Need-returns
 returns-2 c =
     let r = c.before.before.before.before in
     let e = r.before.before.before in
     let a = (entry e.before).args in
-    rw (response-taken a.h _ a.k a.j _ e.before.for-client.ensures e.if1.false a.o) r.respond-row.ensures
+    rw (response-taken a.h _ a.k a.j _ e.for_client.ensures e.if-not-for_client.false a.o) r.respond_row.ensures
 
-pub take-response-spec : {M : Type 1} → statement M
-take-response-spec =
+pub take_response_spec : {M : Type 1} → statement M
+take_response_spec =
     tie.close
     (tie.spec
     (λ c κs. search rules)

@@ -5,8 +5,8 @@ use borrow.Author.Rules.{rules}
 use Rattle.client.proofs.upon_check.Statement.{statement}
 use Rattle.client.proofs.upon_check.Tie as tie
 
-pub upon-check-spec : {M : Type 1} → statement M
-upon-check-spec =
+pub upon_check_spec : {M : Type 1} → statement M
+upon_check_spec =
     tie.close
     (tie.spec
     (λ c κs. search rules)

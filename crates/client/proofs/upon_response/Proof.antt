@@ -10,66 +10,66 @@ use Rattle.client.proofs.upon_response.Statement.{statement}
 use Rattle.client.proofs.upon_response.Tie as tie
 
 -- it tries
-module _ (c : tie.Else1) where
+module _ (c : tie.Else-not-is_trying) where
   abbrev begun : tie.Start
   begun = c.before.before.before.before
 
-  room : 2 * begun.args.h.n ≤ length begun.args.row.now
-  room = padded-words _ _ (valid-padded _ begun.pre.0)
+  room : 2 * begun.args.h.n ≤ length begun.args.row-1.now
+  room = padded-words _ _ (valid-padded _ begun.requires.0)
 
 -- the response is heard
-module _ (c : tie.After-hear) where
-  abbrev tries : tie.Else1
+module _ (c : tie.After-hear-old) where
+  abbrev tries : tie.Else-not-is_trying
   tries = c.before.before.before
 
-  heard : Heard (begun tries).args.h (begun tries).args.row.now (begun tries).args.j (begun tries).args.o c.hear.result c.hear.new.1.0
+  heard : Heard (begun tries).args.h (begun tries).args.row-1.now (begun tries).args.j (begun tries).args.o c.hear-old.result c.hear-old.new.1.0
   heard =
       let s = begun tries in
-      respond_heard _ _ s.pre.0 _ _ _ tries.before.is-trying.ensures s.pre.1 s.pre.2 s.pre.3 tries.if1.left _ _ _
-      c.before.before.request-of.ensures c.hear.ensures.0 c.hear.ensures.1
+      respond_heard _ _ s.requires.0 _ _ _ tries.is_trying.ensures s.requires.1 s.requires.2 s.requires.3 tries.if-not-is_trying.false _ _ _
+      c.request_of.ensures c.hear-old.ensures.0 c.hear-old.ensures.1
 
 -- the row is judged
-module _ (c : tie.After-judge) where
-  abbrev hearing : tie.After-hear
+module _ (c : tie.After-judge-r) where
+  abbrev hearing : tie.After-hear-old
   hearing = c.before.before.before.before.before
 
-module _ (c : tie.After-is-refused) where
-  abbrev judged : tie.After-judge
+module _ (c : tie.After-is_refused) where
+  abbrev judged : tie.After-judge-r
   judged = c.before.before.before.before.before
 
-hear-requires : tie.Need-hear-requires
+hear-requires : tie.Need-hear-old-requires
 hear-requires c κs =
     let e = c.before.before in
     let s = begun e in
-    ((valid-padded _ s.pre.0).places, s.pre.1, omega (arith, room e, s.pre.2))
+    ((valid-padded _ s.requires.0).places, s.requires.1, omega (arith, room e, s.requires.2))
 
-judge-requires : tie.Need-judge-requires
+judge-requires : tie.Need-judge-r-requires
 judge-requires c κs = (heard c.before.before.before.before).padded
 
-sub-put-request : tie.Need-overflow-sub-put-request
-sub-put-request c = omega (arith, (begun (tries (hearing (judged c.before.before.before)))).pre.1)
+sub-put-request : tie.Need-overflow_sub-j
+sub-put-request c = omega (arith, (begun (tries (hearing (judged c.before.before.before)))).requires.1)
 
-put-request-requires : tie.Need-put-request-requires
+put-request-requires : tie.Need-put_request-requires
 put-request-requires c κs =
     let e = tries (hearing (judged c.before.before.before)) in
-    omega (arith, room e, (begun e).pre.1, (begun e).pre.2)
+    omega (arith, room e, (begun e).requires.1, (begun e).requires.2)
 
-returns-2 : tie.Need-returns-2
+returns-2 : tie.Need-returns-then-is_refused
 returns-2 c =
     let p = c.before.before in
     let t = p.before.before.before in
     let a = judged t.before in
-    respond_undone _ _ _ _ _ _ (heard (hearing a)) _ _ (begun (tries (hearing a))).args.out.now _ a.judge.ensures _
-    t.before.is-refused.ensures _ t.if2.true p.put-request.ensures
+    respond_undone _ _ _ _ _ _ (heard (hearing a)) _ _ (begun (tries (hearing a))).args.out-1.now _ a.judge-r.ensures _
+    t.is_refused.ensures _ t.if-is_refused.true p.put_request.ensures
 
-returns-3 : tie.Need-returns-3
+returns-3 : tie.Need-returns
 returns-3 c =
     let a = judged c.before in
-    respond_kept _ _ _ _ _ _ (heard (hearing a)) _ _ (begun (tries (hearing a))).args.out.now _ a.judge.ensures _
-    c.before.is-refused.ensures c.if2.false
+    respond_kept _ _ _ _ _ _ (heard (hearing a)) _ _ (begun (tries (hearing a))).args.out-1.now _ a.judge-r.ensures _
+    c.is_refused.ensures c.if-is_refused.false
 
-pub upon-response-spec : {M : Type 1} → statement M
-upon-response-spec =
+pub upon_response_spec : {M : Type 1} → statement M
+upon_response_spec =
     tie.close
     (tie.spec
     (λ c κs. search rules)

@@ -4,8 +4,8 @@ use borrow.Author.Rules.{rules}
 use Rattle.client.proofs.valid_places.Statement.{statement}
 use Rattle.client.proofs.valid_places.Tie as tie
 
-pub valid-places-spec : {M : Type 1} → statement M
-valid-places-spec =
+pub valid_places_spec : {M : Type 1} → statement M
+valid_places_spec =
     tie.close
     (tie.spec
     (λ c κs. search rules)

@@ -6,8 +6,8 @@ use borrow.Author.Rules.{rules}
 use Rattle.client.proofs.valid_row_up_to.Statement.{statement}
 use Rattle.client.proofs.valid_row_up_to.Tie as tie
 
-pub valid-row-up-to-spec : {M : Type 1} → statement M
-valid-row-up-to-spec =
+pub valid_row_up_to_spec : {M : Type 1} → statement M
+valid_row_up_to_spec =
     tie.close
     (tie.spec
     (λ c κs. search rules)
@@ -19,5 +19,5 @@ valid-row-up-to-spec =
     (λ c. search rules)
     (λ c κs. search rules)
     (λ c. search row_fails)
-    (λ c κs. good-padded _ _ (holds _ _ c.before.good-row.ensures c.if4.false))
+    (λ c κs. good-padded _ _ (holds _ _ c.good_row.ensures c.if-not-good_row.false))
     (λ c. search places-decide))

@@ -4,8 +4,8 @@ use borrow.Author.Rules.{rules}
 use Rattle.client.proofs.valid_sizes.Statement.{statement}
 use Rattle.client.proofs.valid_sizes.Tie as tie
 
-pub valid-sizes-spec : {M : Type 1} → statement M
-valid-sizes-spec =
+pub valid_sizes_spec : {M : Type 1} → statement M
+valid_sizes_spec =
     tie.close
     (tie.spec
     (λ c κs. search rules)

@@ -5,10 +5,10 @@ use mathlib.Core.Path.{◌∙◌}
 use Rattle.client_responses.proofs.filled.Statement.{statement}
 use Rattle.client_responses.proofs.filled.Tie as tie
 
-pub filled-spec : {M : Type 1} → statement M
-filled-spec =
+pub filled_spec : {M : Type 1} → statement M
+filled_spec =
     tie.close
     (tie.spec
     (λ c. search filled-client)
     (λ c κs. search rules)
-    (λ c. c.one-if.ensures ∙ filled-timestamp _ _ c.before.if1.false))
+    (λ c. c.one_if.ensures ∙ filled-timestamp _ _ c.if-client-ne0.false))

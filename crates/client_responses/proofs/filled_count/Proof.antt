@@ -7,24 +7,24 @@ use borrow.Author.Rules.{rules}
 use Rattle.client_responses.proofs.filled_count.Statement.{statement}
 use Rattle.client_responses.proofs.filled_count.Tie as tie
 
-abbrev invariant-loop : tie.invariant-loop
+abbrev invariant-loop : tie.invariant-loop-i
 invariant-loop row n found₀ i₀ found i = Counting filled row n found i
 
-abbrev decreases-loop : tie.decreases-loop
+abbrev decreases-loop : tie.decreases-loop-i
 decreases-loop row n found₀ i₀ found i = n - i
 
 -- a place is tested
-module _ (c : tie.After-filled invariant-loop decreases-loop) where
-  abbrev turn : tie.In-loop invariant-loop decreases-loop
+module _ (c : tie.After-filled-found invariant-loop decreases-loop) where
+  abbrev turn : tie.In-loop-i invariant-loop decreases-loop
   turn = c.before.before.before
 
-add-found : tie.Need-overflow-add-found invariant-loop decreases-loop
+add-found : tie.Need-overflow_add-found invariant-loop decreases-loop
 add-found c =
     let t = turn c in
-    omega (arith, counting_few _ _ _ _ _ t.before.loop.inv _ t.loop-test.taken c.filled.ensures, t.before.loop.inv.size)
+    omega (arith, counting_few _ _ _ _ _ t.loop-i.invariant _ t.loop-i-test.true c.filled-found.ensures, t.loop-i.invariant.size)
 
-pub filled-count-spec : {M : Type 1} → statement M
-filled-count-spec =
+pub filled_count_spec : {M : Type 1} → statement M
+filled_count_spec =
     tie.close
     (tie.spec
     invariant-loop

@@ -4,8 +4,8 @@ use borrow.Author.Rules.{rules}
 use Rattle.client_responses.proofs.hear.Statement.{statement}
 use Rattle.client_responses.proofs.hear.Tie as tie
 
-pub hear-spec : {M : Type 1} → statement M
-hear-spec =
+pub hear_spec : {M : Type 1} → statement M
+hear_spec =
     tie.close
     (tie.spec
     (λ c. search rules)

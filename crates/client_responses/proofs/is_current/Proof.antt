@@ -4,18 +4,18 @@ use borrow.Author.Rules.{rules}
 use Rattle.client_responses.proofs.is_current.Statement.{statement}
 use Rattle.client_responses.proofs.is_current.Tie as tie
 
-returns : tie.Need-returns
+returns : tie.Need-returns-then-q-r
 returns c =
     let o = c.before.before.before.before in
-    rw o.o.given.1 (current-other o.before.before.args.r o.o.given.0.0 c.if1.true)
+    rw o.in-Of.is (current-other o.args.r o.in-Of.q c.if-q-r.true)
 
-returns-3 : tie.Need-returns-3
+returns-3 : tie.Need-returns-else-q-r
 returns-3 c =
     let o = c.before.before.before.before.before.before in
-    rw o.o.given.1 (current-own o.before.before.args.r o.o.given.0.0 c.before.before.if1.false)
+    rw o.in-Of.is (current-own o.args.r o.in-Of.q c.if-q-r.false)
 
-pub is-current-spec : {M : Type 1} → statement M
-is-current-spec =
+pub is_current_spec : {M : Type 1} → statement M
+is_current_spec =
     tie.close
     (tie.spec
     (λ c. search rules)

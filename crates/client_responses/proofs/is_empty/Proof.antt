@@ -9,5 +9,5 @@ unfolding same
 is_empty_spec =
     tie.close
     (tie.spec
-    (λ c. simp (eq-eqb _ _ c.before.if1.true))
-    (λ c. simp (ne_eqb _ _ c.if1.false)))
+    (λ c. simp (eq-eqb _ _ c.if-q-eq0.true))
+    (λ c. simp (ne_eqb _ _ c.if-q-eq0.false)))

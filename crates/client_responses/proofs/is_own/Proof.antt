@@ -4,8 +4,8 @@ use borrow.Author.Rules.{rules}
 use Rattle.client_responses.proofs.is_own.Statement.{statement}
 use Rattle.client_responses.proofs.is_own.Tie as tie
 
-pub is-own-spec : {M : Type 1} → statement M
-is-own-spec =
+pub is_own_spec : {M : Type 1} → statement M
+is_own_spec =
     tie.close
     (tie.spec
     (λ c κs. search rules)

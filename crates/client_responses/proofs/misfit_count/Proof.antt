@@ -8,30 +8,30 @@ use borrow.Author.Rules.{rules}
 use Rattle.client_responses.proofs.misfit_count.Statement.{statement}
 use Rattle.client_responses.proofs.misfit_count.Tie as tie
 
-abbrev invariant-loop : tie.invariant-loop
+abbrev invariant-loop : tie.invariant-loop-i
 invariant-loop r row n found₀ i₀ found i = Counting (misfit r) row n found i
 
-abbrev decreases-loop : tie.decreases-loop
+abbrev decreases-loop : tie.decreases-loop-i
 decreases-loop r row n found₀ i₀ found i = n - i
 
 -- a place is tested
-module _ (c : tie.After-misfit invariant-loop decreases-loop) where
-  abbrev turn : tie.In-loop invariant-loop decreases-loop
+module _ (c : tie.After-misfit-found invariant-loop decreases-loop) where
+  abbrev turn : tie.In-loop-i invariant-loop decreases-loop
   turn = c.before.before.before
 
-misfit-requires : tie.Need-misfit-requires invariant-loop decreases-loop
+misfit-requires : tie.Need-misfit-found-requires invariant-loop decreases-loop
 misfit-requires c κs =
     let t = c.before.before in
     let e = t.before.before.before in
-    client-small e.args.row.now _ (omega (arith, t.before.loop.invariant.size)) e.requires.0
+    client-small e.args.row.now _ (omega (arith, t.loop-i.invariant.size)) e.requires.0
 
-add-found : tie.Need-overflow-add-found invariant-loop decreases-loop
+add-found : tie.Need-overflow_add-found invariant-loop decreases-loop
 add-found c =
     let t = turn c in
-    omega (arith, counting_few _ _ _ _ _ t.before.loop.inv _ t.loop-test.taken c.misfit.ensures, t.before.loop.inv.size)
+    omega (arith, counting_few _ _ _ _ _ t.loop-i.invariant _ t.loop-i-test.true c.misfit-found.ensures, t.loop-i.invariant.size)
 
-pub misfit-count-spec : {M : Type 1} → statement M
-misfit-count-spec =
+pub misfit_count_spec : {M : Type 1} → statement M
+misfit_count_spec =
     tie.close
     (tie.spec
     invariant-loop

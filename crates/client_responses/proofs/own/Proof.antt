@@ -4,8 +4,8 @@ use borrow.Author.Rules.{rules}
 use Rattle.client_responses.proofs.own.Statement.{statement}
 use Rattle.client_responses.proofs.own.Tie as tie
 
-pub own-spec : {M : Type 1} → statement M
-own-spec =
+pub own_spec : {M : Type 1} → statement M
+own_spec =
     tie.close
     (tie.spec
     (λ c. search rules)

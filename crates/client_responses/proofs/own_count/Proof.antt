@@ -7,24 +7,24 @@ use borrow.Author.Rules.{rules}
 use Rattle.client_responses.proofs.own_count.Statement.{statement}
 use Rattle.client_responses.proofs.own_count.Tie as tie
 
-abbrev invariant-loop : tie.invariant-loop
+abbrev invariant-loop : tie.invariant-loop-i
 invariant-loop r row n found₀ i₀ found i = Counting (is_request r) row n found i
 
-abbrev decreases-loop : tie.decreases-loop
+abbrev decreases-loop : tie.decreases-loop-i
 decreases-loop r row n found₀ i₀ found i = n - i
 
 -- a place is tested
-module _ (c : tie.After-own invariant-loop decreases-loop) where
-  abbrev turn : tie.In-loop invariant-loop decreases-loop
+module _ (c : tie.After-own-found invariant-loop decreases-loop) where
+  abbrev turn : tie.In-loop-i invariant-loop decreases-loop
   turn = c.before.before.before
 
-add-found : tie.Need-overflow-add-found invariant-loop decreases-loop
+add-found : tie.Need-overflow_add-found invariant-loop decreases-loop
 add-found c =
     let t = turn c in
-    omega (arith, counting_few _ _ _ _ _ t.before.loop.inv _ t.loop-test.taken c.own.ensures, t.before.loop.inv.size)
+    omega (arith, counting_few _ _ _ _ _ t.loop-i.invariant _ t.loop-i-test.true c.own-found.ensures, t.loop-i.invariant.size)
 
-pub own-count-spec : {M : Type 1} → statement M
-own-count-spec =
+pub own_count_spec : {M : Type 1} → statement M
+own_count_spec =
     tie.close
     (tie.spec
     invariant-loop

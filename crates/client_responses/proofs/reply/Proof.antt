@@ -4,8 +4,8 @@ use borrow.Author.Rules.{rules}
 use Rattle.client_responses.proofs.reply.Statement.{statement}
 use Rattle.client_responses.proofs.reply.Tie as tie
 
-pub reply-spec : {M : Type 1} → statement M
-reply-spec =
+pub reply_spec : {M : Type 1} → statement M
+reply_spec =
     tie.close
     (tie.spec
     (λ c. search reply_yield)

@@ -4,17 +4,17 @@ use borrow.Author.Rules.{rules}
 use Rattle.client_responses.proofs.send_reply.Statement.{statement}
 use Rattle.client_responses.proofs.send_reply.Tie as tie
 
-returns-2 : tie.Need-returns-2
+returns-2 : tie.Need-returns
 returns-2 c =
     let r = c.before.before.before.before in
-    replies-one _ _ _ _ _ _ r.before.before.is-empty.ensures _ r.before.if1.false r.reply.ensures _ _ c.before.before.put.ensures
+    replies-one _ _ _ _ _ _ r.is_empty.ensures _ r.if-is_empty.false r.reply-m.ensures _ _ c.put.ensures
 
-pub send-reply-spec : {M : Type 1} → statement M
-send-reply-spec =
+pub send_reply_spec : {M : Type 1} → statement M
+send_reply_spec =
     tie.close
     (tie.spec
     (λ c κs. search rules)
-    (λ c. replies-none _ _ _ _ _ _ c.before.is-empty.ensures c.if1.true)
+    (λ c. replies-none _ _ _ _ _ _ c.is_empty.ensures c.if-is_empty.true)
     (λ c κs. search rules)
     (λ c κs. search replies_fit)
     (λ c. search rules)

@@ -6,32 +6,32 @@ use borrow.Author.Rules.{rules}
 use Rattle.client_responses.proofs.send_round.Statement.{statement}
 use Rattle.client_responses.proofs.send_round.Tie as tie
 
-abbrev invariant-loop : tie.invariant-loop
+abbrev invariant-loop : tie.invariant-loop-i
 invariant-loop r row n out₀ at₀ i₀ out at i = Replying r row n out₀ out at i
 
-abbrev decreases-loop : tie.decreases-loop
+abbrev decreases-loop : tie.decreases-loop-i
 decreases-loop r row n out₀ at₀ i₀ out at i = n - i
 
 -- a place is read
-module _ (c : tie.After-request-at invariant-loop decreases-loop) where
-  abbrev turn : tie.In-loop invariant-loop decreases-loop
+module _ (c : tie.After-request_at-q invariant-loop decreases-loop) where
+  abbrev turn : tie.In-loop-i invariant-loop decreases-loop
   turn = c.before
 
-send-reply-requires : tie.Need-send-reply-requires invariant-loop decreases-loop
+send-reply-requires : tie.Need-send_reply-at-requires invariant-loop decreases-loop
 send-reply-requires c κs =
     let t = turn c.before in
-    rw c.before.request-at.ensures (replying_fits _ _ _ _ _ _ _ t.before.loop.inv t.loop-test.taken)
+    rw c.request_at-q.ensures (replying_fits _ _ _ _ _ _ _ t.loop-i.invariant t.loop-i-test.true)
 
-loop-again : tie.Need-loop-preserved invariant-loop decreases-loop
+loop-again : tie.Need-loop-i-preserved invariant-loop decreases-loop
 loop-again c =
     let p = c.before.before in
     let q = p.before.before in
     let t = turn q in
-    let e = rw q.request-at.ensures at p.send-reply.ensures in
-    replying_more _ _ _ _ _ _ _ t.before.loop.inv t.loop-test.taken _ _ e.0 e.1
+    let e = rw q.request_at-q.ensures at p.send_reply-at.ensures in
+    replying_more _ _ _ _ _ _ _ t.loop-i.invariant t.loop-i-test.true _ _ e.0 e.1
 
-pub send-round-spec : {M : Type 1} → statement M
-send-round-spec =
+pub send_round_spec : {M : Type 1} → statement M
+send_round_spec =
     tie.close
     (tie.spec
     invariant-loop

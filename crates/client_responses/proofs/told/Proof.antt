@@ -4,5 +4,5 @@ use borrow.Author.Rules.{rules}
 use Rattle.client_responses.proofs.told.Statement.{statement}
 use Rattle.client_responses.proofs.told.Tie as tie
 
-pub told-spec : {M : Type 1} → statement M
-told-spec = tie.close (tie.spec (λ c κs. search rules) (λ c. search told-place))
+pub told_spec : {M : Type 1} → statement M
+told_spec = tie.close (tie.spec (λ c κs. search rules) (λ c. search told-place))

@@ -8,14 +8,14 @@ use borrow.Author.Rules.{rules}
 use Rattle.packet.proofs.first_bad.Statement.{statement}
 use Rattle.packet.proofs.first_bad.Tie as tie
 
-abbrev invariant-loop : tie.invariant-loop
+abbrev invariant-loop : tie.invariant-loop-at
 invariant-loop bytes from at₀ at = Judging bytes from at
 
-abbrev decreases-loop : tie.decreases-loop
+abbrev decreases-loop : tie.decreases-loop-at
 decreases-loop bytes from at₀ at = length bytes - at
 
 -- the part at the place reached
-module _ (c : tie.After-size-at invariant-loop decreases-loop) where
+module _ (c : tie.After-size_at invariant-loop decreases-loop) where
   abbrev start : tie.Start invariant-loop decreases-loop
   start = c.before.before.before.before
 
@@ -23,29 +23,29 @@ module _ (c : tie.After-size-at invariant-loop decreases-loop) where
   s = start.args.bytes.now
 
   abbrev at : ℕ
-  at = c.before.before.loop.at
+  at = c.loop-at.at
 
   judging : Judging s start.args.from at
-  judging = c.before.before.loop.invariant
+  judging = c.loop-at.invariant
 
-  part : PartAt s at c.size-at.result
-  part = its-part s start.args.from at judging c.size-at.result c.before.loop-test.true c.size-at.ensures
+  part : PartAt s at c.size_at.result
+  part = its-part s start.args.from at judging c.size_at.result c.loop-at-test.true c.size_at.ensures
 
 -- it was read
-loop-again : tie.Need-loop-preserved invariant-loop decreases-loop
+loop-again : tie.Need-loop-at-preserved invariant-loop decreases-loop
 loop-again c =
     let b = c.before.before.before.before in
-    judging_more _ _ _ (judging b) _ b.before.loop-test.true b.size-at.ensures _ c.before.before.read.ensures.0 _ _ c.enum_told.given.1
+    judging_more _ _ _ (judging b) _ b.loop-at-test.true b.size_at.ensures _ c.read.ensures.0 _ _ c.in-Accepted.is
 
 -- it was refused
-returns : tie.Need-returns invariant-loop decreases-loop
+returns : tie.Need-returns-in-Refused invariant-loop decreases-loop
 returns c =
     let b = c.before.before.before.before.before in
-    let r = c.before.before.before.read.ensures.0 in
-    judging_bad _ _ _ (judging b) _ b.before.loop-test.true b.size-at.ensures _ r _ c.before.e.given.1
+    let r = c.read.ensures.0 in
+    judging_bad _ _ _ (judging b) _ b.loop-at-test.true b.size_at.ensures _ r _ c.in-Refused.is
 
-pub first-bad-spec : {M : Type 1} → statement M
-first-bad-spec =
+pub first_bad_spec : {M : Type 1} → statement M
+first_bad_spec =
     tie.close
     (tie.spec
     invariant-loop

@@ -7,11 +7,11 @@ use borrow.Author.Rules.{rules}
 use Rattle.packet.proofs.judge.Statement.{statement}
 use Rattle.packet.proofs.judge.Tie as tie
 
-pub judge-spec : {M : Type 1} → statement M
-judge-spec =
+pub judge_spec : {M : Type 1} → statement M
+judge_spec =
     tie.close
     (tie.spec
     (λ c κs. search rules)
-    (λ c. sym (ap judged (contents_broken _ (fails _ _ c.before.walks.ensures c.if1.true))))
-    (λ c κs. (c.before.before.before.requires, holds _ _ c.before.walks.ensures c.if1.false))
+    (λ c. sym (ap judged (contents_broken _ (fails _ _ c.walks.ensures c.if-not-walks.true))))
+    (λ c κs. (c.requires, holds _ _ c.walks.ensures c.if-not-walks.false))
     (λ c. search rules))

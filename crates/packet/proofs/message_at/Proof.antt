@@ -12,7 +12,7 @@ use Rattle.packet.proofs.message_at.Statement.{statement}
 use Rattle.packet.proofs.message_at.Tie as tie
 
 -- a message starts at the place
-module _ (c : tie.Else3) where
+module _ (c : tie.Else-place-bytes) where
   abbrev start : tie.Start
   start = c.before.before.before.before.before.before
 
@@ -20,27 +20,27 @@ module _ (c : tie.Else3) where
   s = start.args.bytes.now
 
   abbrev place : ℕ
-  place = c.before.before.before.reach.result
+  place = c.reach-place.result
 
   reached : Reached s start.args.at place
-  reached = c.before.before.before.reach.ensures.1
+  reached = c.reach-place.ensures.1
 
   inside : place < length s
-  inside = omega (arith, reached.within, c.if3.false)
+  inside = omega (arith, reached.within, c.if-place-bytes.false)
 
-  part : PartAt s place c.before.size-at.result
-  part = here s start.args.at place c.before.size-at.result reached inside c.before.size-at.ensures
+  part : PartAt s place c.size_at.result
+  part = here s start.args.at place c.size_at.result reached inside c.size_at.ensures
 
-pub message-at-spec : {M : Type 1} → statement M
-message-at-spec =
+pub message_at_spec : {M : Type 1} → statement M
+message_at_spec =
     tie.close
     (tie.spec
-    (λ c. place_past c.before.before.args.bytes.now _ c.before.before.requires.0 c.before.before.requires.1 c.if1.true)
+    (λ c. place_past c.args.bytes.now _ c.requires.0 c.requires.1 c.if-bytes-at.true)
     (λ c κs. search rules)
-    (λ c. place-between _ _ _ c.before.reach.ensures.1 c.before.reach.ensures.0 c.if2.true)
-    (λ c κs. c.before.reach.ensures.1.within)
-    (λ c. omega (arith, size-within _ _ _ c.before.before.reach.ensures.1.within c.size-at.ensures))
-    (λ c. place_end _ _ _ c.before.before.before.reach.ensures.1 c.before.before.if2.false c.if3.true)
+    (λ c. place-between _ _ _ c.reach-place.ensures.1 c.reach-place.ensures.0 c.if-place-at.true)
+    (λ c κs. c.reach-place.ensures.1.within)
+    (λ c. omega (arith, size-within _ _ _ c.reach-place.ensures.1.within c.size_at.ensures))
+    (λ c. place_end _ _ _ c.reach-place.ensures.1 c.if-place-at.false c.if-place-bytes.true)
     (λ c. search rules)
     (λ c. search rules)
     (λ c. (part c).within)
@@ -49,9 +49,9 @@ message-at-spec =
     (λ c. search rules)
     (λ c.
     let b = c.before.before.before.before.before in
-    let r = c.before.before.before.read.ensures.0 in
-    place-message _ _ _ (reached b) b.before.before.if2.false _ (inside b) b.before.size-at.ensures _ r _ _ c.before.m.given.1)
+    let r = c.read.ensures.0 in
+    place-message _ _ _ (reached b) b.if-place-at.false _ (inside b) b.size_at.ensures _ r _ _ c.in-Accepted.is)
     (λ c.
     let b = c.before.before.before.before.before in
-    let r = c.before.before.before.read.ensures.0 in
-    place_bad _ _ _ (reached b) b.before.before.if2.false _ (inside b) b.before.size-at.ensures _ r _ c.before.e.given.1))
+    let r = c.read.ensures.0 in
+    place_bad _ _ _ (reached b) b.if-place-at.false _ (inside b) b.size_at.ensures _ r _ c.in-Refused.is))

@@ -6,26 +6,26 @@ use borrow.Author.Rules.{rules}
 use Rattle.packet.proofs.pack.Statement.{statement}
 use Rattle.packet.proofs.pack.Tie as tie
 
-pub pack-spec : {M : Type 1} → statement M
-pack-spec =
+pub pack_spec : {M : Type 1} → statement M
+pack_spec =
     tie.close
     (tie.spec
     (λ c. search rules)
-    (λ c. pack_said _ _ _ _ (pack_long _ _ c.if1.true))
+    (λ c. pack_said _ _ _ _ (pack_long _ _ c.if-bytes.true))
     (λ c κs. search rules)
     (λ c. search rules)
     (λ c. search rules)
     (λ c.
     let j = c.before.before.before in
-    pack_said _ _ _ _ (pack_refused _ _ j.before.if1.false _ (sym c.before.e.given.1 ∙ j.judge.ensures)))
+    pack_said _ _ _ _ (pack_refused _ _ j.if-bytes.false _ (sym c.in-Refused.is ∙ j.judge.ensures)))
     (λ c. search rules)
     (λ c.
     let j = c.before.before.before in
-    pack_said _ _ _ _ (pack_room _ _ j.before.if1.false (sym c.before.enum_told.given.1 ∙ j.judge.ensures) _ refl c.if2.true))
+    pack_said _ _ _ _ (pack_room _ _ j.if-bytes.false (sym c.in-Accepted.is ∙ j.judge.ensures) _ refl c.if-out-total.true))
     (λ c κs. search rules)
     (λ c. search rules)
     (λ c.
     let r = c.before.before.before.before in
     let j = r.before.before.before in
-    let g = sym r.before.enum_told.given.1 ∙ j.judge.ensures in
-    pack_said _ _ _ _ (pack_done _ _ j.before.if1.false g _ refl r.if2.false _ c.before.before.put-packet.ensures)))
+    let g = sym r.in-Accepted.is ∙ j.judge.ensures in
+    pack_said _ _ _ _ (pack_done _ _ j.if-bytes.false g _ refl r.if-out-total.false _ c.put_packet.ensures)))

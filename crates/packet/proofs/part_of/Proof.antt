@@ -6,14 +6,14 @@ use borrow.Author.Rules.{rules}
 use Rattle.packet.proofs.part_of.Statement.{statement}
 use Rattle.packet.proofs.part_of.Tie as tie
 
-pub part-of-spec : {M : Type 1} → statement M
-part-of-spec =
+pub part_of_spec : {M : Type 1} → statement M
+part_of_spec =
     tie.close
     (tie.spec
     (λ c. search rules)
-    (λ c. omega (arith, (shows _ _ _ _ (sym c.before.before.before.requires ∙ c.before.next.given.1)).order))
-    (λ c. omega (arith, (shows _ _ _ _ (sym c.before.before.before.requires ∙ c.before.next.given.1)).order))
-    (λ c. let w = shows _ _ _ _ (sym c.before.before.before.requires ∙ c.before.next.given.1) in omega (arith, w.within, w.lent))
+    (λ c. omega (arith, (shows _ _ _ _ (sym c.requires ∙ c.in-Message.is)).order))
+    (λ c. omega (arith, (shows _ _ _ _ (sym c.requires ∙ c.in-Message.is)).order))
+    (λ c. let w = shows _ _ _ _ (sym c.requires ∙ c.in-Message.is) in omega (arith, w.within, w.lent))
     (λ c. search rules)
     (λ c. search rules)
     (λ c. search rules)
@@ -22,6 +22,6 @@ part-of-spec =
     (λ c. search rules)
     (λ c. search rules)
     (λ c. search rules)
-    (λ c. (shows _ _ _ _ (sym c.before.before.before.before.requires ∙ c.before.before.next.given.1)).shown)
-    (λ c. end_shows _ _ _ c.before.before.before.requires c.before.enum_told.given.1)
-    (λ c. refused-shows _ _ _ c.before.before.before.requires _ c.before.enum-told2.given.1))
+    (λ c. (shows _ _ _ _ (sym c.requires ∙ c.in-Message.is)).shown)
+    (λ c. end_shows _ _ _ c.requires c.in-End.is)
+    (λ c. refused-shows _ _ _ c.requires _ c.in-Refused.is))

@@ -8,14 +8,14 @@ use borrow.Author.Rules.{rules}
 use Rattle.packet.proofs.put_packet.Statement.{statement}
 use Rattle.packet.proofs.put_packet.Tie as tie
 
-abbrev invariant-loop : tie.invariant-loop
+abbrev invariant-loop : tie.invariant-loop-i
 invariant-loop bytes out₀ total i₀ out i = Laying out₀ out bytes i
 
-abbrev decreases-loop : tie.decreases-loop
+abbrev decreases-loop : tie.decreases-loop-i
 decreases-loop bytes out₀ total i₀ out i = length bytes - i
 
-pub put-packet-spec : {M : Type 1} → statement M
-put-packet-spec =
+pub put_packet_spec : {M : Type 1} → statement M
+put_packet_spec =
     tie.close
     (tie.spec
     invariant-loop
@@ -28,9 +28,9 @@ put-packet-spec =
     (λ c. laying_start _ _)
     (λ c. search rules)
     (λ c. search rules)
-    (λ c. omega (arith, simp length-set at c.before.before.loop.invariant.lengths, c.before.loop-test.true, c.before.before.before.requires.0))
+    (λ c. omega (arith, simp length-set at c.loop-i.invariant.lengths, c.loop-i-test.true, c.requires.0))
     (λ c. search rules)
     (λ c. search rules)
-    (λ c. laying_more _ _ _ _ c.before.before.loop.invariant c.before.loop-test.true)
-    (λ c. simp length-set at c.before.loop.invariant.lengths)
-    (λ c. laid_packet _ _ _ _ refl (laying_done _ _ _ _ c.before.loop.invariant c.loop-test.false)))
+    (λ c. laying_more _ _ _ _ c.loop-i.invariant c.loop-i-test.true)
+    (λ c. simp length-set at c.loop-i.invariant.lengths)
+    (λ c. laid_packet _ _ _ _ refl (laying_done _ _ _ _ c.loop-i.invariant c.loop-i-test.false)))

@@ -9,14 +9,14 @@ use borrow.Author.Rules.{rules}
 use Rattle.packet.proofs.reach.Statement.{statement}
 use Rattle.packet.proofs.reach.Tie as tie
 
-abbrev invariant-loop : tie.invariant-loop
+abbrev invariant-loop : tie.invariant-loop-place
 invariant-loop bytes at place₀ place = Reached bytes at place
 
-abbrev decreases-loop : tie.decreases-loop
+abbrev decreases-loop : tie.decreases-loop-place
 decreases-loop bytes at place₀ place = at - place
 
 -- the part at the place reached
-module _ (c : tie.After-size-at invariant-loop decreases-loop) where
+module _ (c : tie.After-size_at-place invariant-loop decreases-loop) where
   abbrev start : tie.Start invariant-loop decreases-loop
   start = c.before.before.before.before
 
@@ -24,16 +24,16 @@ module _ (c : tie.After-size-at invariant-loop decreases-loop) where
   s = start.args.bytes.now
 
   abbrev place : ℕ
-  place = c.before.before.loop.place
+  place = c.loop-place.place
 
   inside : place < length s
-  inside = omega (arith, c.before.loop-test.true, start.pre.0)
+  inside = omega (arith, c.loop-place-test.true, start.requires.0)
 
-  part : PartAt s place c.size-at.result
-  part = here s start.args.at place c.size-at.result c.before.before.loop.invariant inside c.size-at.ensures
+  part : PartAt s place c.size_at-place.result
+  part = here s start.args.at place c.size_at-place.result c.loop-place.invariant inside c.size_at-place.ensures
 
-pub reach-spec : {M : Type 1} → statement M
-reach-spec =
+pub reach_spec : {M : Type 1} → statement M
+reach_spec =
     tie.close
     (tie.spec
     invariant-loop
@@ -43,6 +43,6 @@ reach-spec =
     (λ c. omega (arith, (part c).within))
     (λ c. omega (arith, (part c).least))
     (λ c.
-    let n = c.before.loop-test.true in
-    reached-more _ _ _ _ c.before.before.loop.invariant (inside c) c.size-at.ensures (λ e. omega arith))
+    let n = c.loop-place-test.true in
+    reached-more _ _ _ _ c.loop-place.invariant (inside c) c.size_at-place.ensures (λ e. omega arith))
     (λ c. search rules))

@@ -4,8 +4,8 @@ use borrow.Author.Rules.{rules}
 use Rattle.packet.proofs.size_at.Statement.{statement}
 use Rattle.packet.proofs.size_at.Tie as tie
 
-pub size-at-spec : {M : Type 1} → statement M
-size-at-spec =
+pub size_at_spec : {M : Type 1} → statement M
+size_at_spec =
     tie.close
     (tie.spec
     (λ c. search rules)

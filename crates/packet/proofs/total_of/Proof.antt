@@ -4,8 +4,8 @@ use borrow.Author.Rules.{rules}
 use Rattle.packet.proofs.total_of.Statement.{statement}
 use Rattle.packet.proofs.total_of.Tie as tie
 
-pub total-of-spec : {M : Type 1} → statement M
-total-of-spec =
+pub total_of_spec : {M : Type 1} → statement M
+total_of_spec =
     tie.close
     (tie.spec
     (λ c. search total-few)

@@ -7,22 +7,22 @@ use borrow.Author.Rules.{rules}
 use Rattle.packet.proofs.walks.Statement.{statement}
 use Rattle.packet.proofs.walks.Tie as tie
 
-abbrev invariant-loop : tie.invariant-loop
+abbrev invariant-loop : tie.invariant-loop-size
 invariant-loop bytes from at₀ size₀ at size = Walking bytes from at size
 
-abbrev decreases-loop : tie.decreases-loop
+abbrev decreases-loop : tie.decreases-loop-size
 decreases-loop bytes from at₀ size₀ at size = length bytes - at
 
-pub walks-spec : {M : Type 1} → statement M
-walks-spec =
+pub walks_spec : {M : Type 1} → statement M
+walks_spec =
     tie.close
     (tie.spec
     invariant-loop
     decreases-loop
     (λ c κs. search rules)
     (λ c. search walking_start)
-    (λ c. omega (arith, (past _ _ _ _ c.before.loop.invariant c.loop-test.true).1))
-    (λ c κs. (past _ _ _ _ c.before.loop.invariant c.loop-test.true).1)
-    (λ c. let p = past _ _ _ _ c.before.before.loop.invariant c.before.loop-test.true in omega arith)
+    (λ c. omega (arith, (past _ _ _ _ c.loop-size.invariant c.loop-size-test.true).1))
+    (λ c κs. (past _ _ _ _ c.loop-size.invariant c.loop-size-test.true).1)
+    (λ c. let p = past _ _ _ _ c.loop-size.invariant c.loop-size-test.true in omega arith)
     (λ c. search walking_more)
     (λ c. search walking_done))

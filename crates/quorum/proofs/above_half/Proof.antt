@@ -5,14 +5,14 @@ use Prim.Native.Nat.{◌+◌, ◌*◌}
 use Rattle.quorum.proofs.above_half.Statement.{statement}
 use Rattle.quorum.proofs.above_half.Tie as tie
 
-abbrev invariant-loop : tie.invariant-loop
+abbrev invariant-loop : tie.invariant-loop-left
 invariant-loop x left₀ m₀ left m = left + 2 * m ≡ x + 2
 
-abbrev decreases-loop : tie.decreases-loop
+abbrev decreases-loop : tie.decreases-loop-left
 decreases-loop x left₀ m₀ left m = left
 
-pub above-half-spec : {M : Type 1} → statement M
-above-half-spec =
+pub above_half_spec : {M : Type 1} → statement M
+above_half_spec =
     tie.close
     (tie.spec
     invariant-loop

@@ -5,23 +5,23 @@ use borrow.Author.Rules.{rules}
 use Rattle.quorum.proofs.check.Statement.{statement}
 use Rattle.quorum.proofs.check.Tie as tie
 
-returns : tie.Need-returns
+returns : tie.Need-returns-then-not-in_range
 returns c =
-    let a = c.before.before.args in
-    check-said _ _ _ _ (check-refuses a.n a.m a.f _ c.before.in_range_lem.ensures c.if1.true)
+    let a = c.args in
+    check-said _ _ _ _ (check-refuses a.n a.m a.f _ c.before.in_range_lem.ensures c.if-not-in_range.true)
 
 judge-requires : tie.Need-judge-requires
 judge-requires c κs =
-    let a = c.before.before.args in
-    in_bounds a.n a.m a.f _ c.before.in_range_lem.ensures c.if1.false
+    let a = c.args in
+    in_bounds a.n a.m a.f _ c.before.in_range_lem.ensures c.if-not-in_range.false
 
-returns-2 : tie.Need-returns-2
+returns-2 : tie.Need-returns
 returns-2 c =
-    let a = c.before.before.before.args in
-    check-said _ _ _ _ (check_judges a.n a.m a.f _ c.before.before.in_range_lem.ensures _ c.before.if1.false c.judge.ensures)
+    let a = c.args in
+    check-said _ _ _ _ (check_judges a.n a.m a.f _ c.before.before.in_range_lem.ensures _ c.if-not-in_range.false c.judge.ensures)
 
-pub check-spec : {M : Type 1} → statement M
-check-spec =
+pub check_spec : {M : Type 1} → statement M
+check_spec =
     tie.close
     (tie.spec
     (λ c κs. search rules)

@@ -6,16 +6,16 @@ use borrow.Author.Rules.{rules}
 use Rattle.quorum.proofs.default_threshold.Statement.{statement}
 use Rattle.quorum.proofs.default_threshold.Tie as tie
 
-mul-t4 : tie.Need-overflow-mul-t4
+mul-t4 : tie.Need-overflow_mul-result
 mul-t4 c =
-    record { fits = omega (arith, few-servers c.before.before.args.n _ c.before.within-limit.ensures c.if1.false) }
+    record { fits = omega (arith, few-servers c.args.n _ c.within_limit.ensures c.if-not-within_limit.false) }
 
-add-t5 : tie.Need-overflow-add-t5
+add-t5 : tie.Need-overflow_add-result
 add-t5 c =
-    record { fits = omega (arith, few-servers c.before.before.args.n _ c.before.within-limit.ensures c.if1.false) }
+    record { fits = omega (arith, few-servers c.args.n _ c.within_limit.ensures c.if-not-within_limit.false) }
 
-pub default-threshold-spec : {M : Type 1} → statement M
-default-threshold-spec =
+pub default_threshold_spec : {M : Type 1} → statement M
+default_threshold_spec =
     tie.close
     (tie.spec
     (λ c κs. search rules)

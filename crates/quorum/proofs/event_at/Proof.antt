@@ -4,8 +4,8 @@ use borrow.Author.Rules.{rules}
 use Rattle.quorum.proofs.event_at.Statement.{statement}
 use Rattle.quorum.proofs.event_at.Tie as tie
 
-pub event-at-spec : {M : Type 1} → statement M
-event-at-spec =
+pub event_at_spec : {M : Type 1} → statement M
+event_at_spec =
     tie.close
     (tie.spec
     (λ c. search rules)

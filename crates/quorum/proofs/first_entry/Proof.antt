@@ -4,8 +4,8 @@ use borrow.Author.Rules.{rules}
 use Rattle.quorum.proofs.first_entry.Statement.{statement}
 use Rattle.quorum.proofs.first_entry.Tie as tie
 
-pub first-entry-spec : {M : Type 1} → statement M
-first-entry-spec =
+pub first_entry_spec : {M : Type 1} → statement M
+first_entry_spec =
     tie.close
     (tie.spec
     (λ c κs. search rules)

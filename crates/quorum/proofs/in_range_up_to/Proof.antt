@@ -4,15 +4,15 @@ use borrow.Author.Rules.{rules}
 use Rattle.quorum.proofs.in_range_up_to.Statement.{statement}
 use Rattle.quorum.proofs.in_range_up_to.Tie as tie
 
-returns-3 : tie.Need-returns-3
+returns-3 : tie.Need-returns
 returns-3 c =
     let d = c.before.before.before in
-    let a = d.before.args in
-    faults_decide a.limit a.n a.m a.f _ d.within-limit.ensures _ c.before.before.if1.false
-    c.before.within-limit2.ensures c.if2.false
+    let a = d.args in
+    faults_decide a.limit a.n a.m a.f _ d.within_limit.ensures _ c.if-not-within_limit.false
+    c.within_limit-2.ensures c.if-not-within_limit-2.false
 
-pub in-range-up-to-spec : {M : Type 1} → statement M
-in-range-up-to-spec =
+pub in_range_up_to_spec : {M : Type 1} → statement M
+in_range_up_to_spec =
     tie.close
     (tie.spec
     (λ c κs. search rules)

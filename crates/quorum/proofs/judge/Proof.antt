@@ -4,8 +4,8 @@ use borrow.Author.Rules.{rules}
 use Rattle.quorum.proofs.judge.Statement.{statement}
 use Rattle.quorum.proofs.judge.Tie as tie
 
-pub judge-spec : {M : Type 1} → statement M
-judge-spec =
+pub judge_spec : {M : Type 1} → statement M
+judge_spec =
     tie.close
     (tie.spec
     (λ c κs. search rules)

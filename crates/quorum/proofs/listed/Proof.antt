@@ -4,15 +4,15 @@ use borrow.Author.Rules.{rules}
 use Rattle.quorum.proofs.listed.Statement.{statement}
 use Rattle.quorum.proofs.listed.Tie as tie
 
-event-at-requires : tie.Need-event-at-requires
+event-at-requires : tie.Need-event_at-e-requires
 event-at-requires c κs =
     let d = c.before.before.before in
-    let a = d.before.args in
-    event_bounds a.n a.m a.f a.i d.before.requires d.if1.false _ c.before.before.events.ensures _
-    c.before.within-limit.ensures c.if2.false
+    let a = d.args in
+    event_bounds a.n a.m a.f a.i d.requires d.if-n-f.false _ c.events.ensures _
+    c.within_limit.ensures c.if-not-within_limit.false
 
-pub listed-spec : {M : Type 1} → statement M
-listed-spec =
+pub listed_spec : {M : Type 1} → statement M
+listed_spec =
     tie.close
     (tie.spec
     (λ c. search rules)

@@ -6,12 +6,12 @@ use borrow.Author.Rules.{rules}
 use Rattle.quorum.proofs.margin.Statement.{statement}
 use Rattle.quorum.proofs.margin.Tie as tie
 
-sub-result-2 : tie.Need-overflow-sub-result-2
+sub-result-2 : tie.Need-overflow_sub-result-2
 sub-result-2 c =
     second_fits (2 * c.args.m) c.args.n c.args.f (omega (arith, c.requires)) c.requires.0 c.requires.2
 
-pub margin-spec : {M : Type 1} → statement M
-margin-spec =
+pub margin_spec : {M : Type 1} → statement M
+margin_spec =
     tie.close
     (tie.spec
     (λ c. search rules)

@@ -12,40 +12,40 @@ use Rattle.quorum.proofs.propose.Statement.{statement}
 use Rattle.quorum.proofs.propose.Tie as tie
 
 -- n is in range
-module _ (c : tie.Else1) where
+module _ (c : tie.Else-not-within_limit) where
   abbrev entry : tie.Start
   entry = c.before.before
 
   servers : within entry.args.n max_servers ≡ true
-  servers = holds _ (within entry.args.n max_servers) c.before.within-limit.ensures c.if1.false
+  servers = holds _ (within entry.args.n max_servers) c.within_limit.ensures c.if-not-within_limit.false
 
   few : entry.args.n ≤ max_servers
-  few = few-servers entry.args.n _ c.before.within-limit.ensures c.if1.false
+  few = few-servers entry.args.n _ c.within_limit.ensures c.if-not-within_limit.false
 
-returns : tie.Need-returns
+returns : tie.Need-returns-then-not-within_limit
 returns c =
-    let a = c.before.before.args in
-    proposes_no_servers a.n a.f _ c.before.within-limit.ensures c.if1.true
+    let a = c.args in
+    proposes_no_servers a.n a.f _ c.within_limit.ensures c.if-not-within_limit.true
 
-returns-2 : tie.Need-returns-2
+returns-2 : tie.Need-returns-then-n-f
 returns-2 c =
     let a = (entry c.before).args in
-    proposes_no_faults a.n a.f (servers c.before) c.if2.true
+    proposes_no_faults a.n a.f (servers c.before) c.if-n-f.true
 
-returns-3 : tie.Need-returns-3
+returns-3 : tie.Need-returns-then-n-least
 returns-3 c =
     let e = c.before.before in
     let a = (entry e.before).args in
-    proposes_none a.n a.f (servers e.before) e.if2.false _ c.before.above_half.ensures c.if3.true
+    proposes_none a.n a.f (servers e.before) e.if-n-f.false _ c.above_half-least.ensures c.if-n-least.true
 
-returns-4 : tie.Need-returns-4
+returns-4 : tie.Need-returns
 returns-4 c =
     let e = c.before.before in
     let a = (entry e.before).args in
-    proposes_some a.n a.f (servers e.before) e.if2.false _ c.before.above_half.ensures c.if3.false
+    proposes_some a.n a.f (servers e.before) e.if-n-f.false _ c.above_half-least.ensures c.if-n-least.false
 
-pub propose-spec : {M : Type 1} → statement M
-propose-spec =
+pub propose_spec : {M : Type 1} → statement M
+propose_spec =
     tie.close
     (tie.spec
     (λ c κs. search rules)

@@ -4,8 +4,8 @@ use borrow.Author.Rules.{rules}
 use Rattle.quorum.proofs.restart.Statement.{statement}
 use Rattle.quorum.proofs.restart.Tie as tie
 
-pub restart-spec : {M : Type 1} → statement M
-restart-spec =
+pub restart_spec : {M : Type 1} → statement M
+restart_spec =
     tie.close
     (tie.spec
     (λ c. search rules)

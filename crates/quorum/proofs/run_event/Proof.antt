@@ -7,11 +7,11 @@ use Rattle.quorum.proofs.run_event.Tie as tie
 
 listed-requires : tie.Need-listed-requires
 listed-requires c κs =
-    let a = c.before.before.args in
-    in_bounds a.n a.m a.f _ c.before.in_range_lem.ensures c.if1.false
+    let a = c.args in
+    in_bounds a.n a.m a.f _ c.before.in_range_lem.ensures c.if-not-in_range.false
 
-pub run-event-spec : {M : Type 1} → statement M
-run-event-spec =
+pub run_event_spec : {M : Type 1} → statement M
+run_event_spec =
     tie.close
     (tie.spec
     (λ c κs. search rules)

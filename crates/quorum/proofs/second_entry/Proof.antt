@@ -4,8 +4,8 @@ use borrow.Author.Rules.{rules}
 use Rattle.quorum.proofs.second_entry.Statement.{statement}
 use Rattle.quorum.proofs.second_entry.Tie as tie
 
-pub second-entry-spec : {M : Type 1} → statement M
-second-entry-spec =
+pub second_entry_spec : {M : Type 1} → statement M
+second_entry_spec =
     tie.close
     (tie.spec
     (λ c κs. search rules)

@@ -4,8 +4,8 @@ use Rattle.saved.proofs.Ordered.{rest-inside, rest-fits, rest-kept, rest_put}
 use Rattle.saved.proofs.put_unseen.Statement.{statement}
 use Rattle.saved.proofs.put_unseen.Tie as tie
 
-pub put-unseen-spec : {M : Type 1} → statement M
-put-unseen-spec =
+pub put_unseen_spec : {M : Type 1} → statement M
+put_unseen_spec =
     tie.close
     (tie.spec
     (λ c. search rules)

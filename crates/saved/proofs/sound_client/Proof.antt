@@ -4,8 +4,8 @@ use Rattle.saved.proofs.FormLaws.{no_client_lem, client-headed, client_six, clie
 use Rattle.saved.proofs.sound_client.Statement.{statement}
 use Rattle.saved.proofs.sound_client.Tie as tie
 
-pub sound-client-spec : {M : Type 1} → statement M
-sound-client-spec =
+pub sound_client_spec : {M : Type 1} → statement M
+sound_client_spec =
     tie.close
     (tie.spec
     (λ c κs. search rules)

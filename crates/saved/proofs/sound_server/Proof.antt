@@ -4,8 +4,8 @@ use Rattle.saved.proofs.FormLaws.{no_server_lem, server-headed, server_five, ser
 use Rattle.saved.proofs.sound_server.Statement.{statement}
 use Rattle.saved.proofs.sound_server.Tie as tie
 
-pub sound-server-spec : {M : Type 1} → statement M
-sound-server-spec =
+pub sound_server_spec : {M : Type 1} → statement M
+sound_server_spec =
     tie.close
     (tie.spec
     (λ c κs. search rules)

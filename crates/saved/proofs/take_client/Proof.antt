@@ -4,8 +4,8 @@ use Rattle.saved.proofs.Ordered.{now-put, today_now, earlier_head_lem, earlier_r
 use Rattle.saved.proofs.take_client.Statement.{statement}
 use Rattle.saved.proofs.take_client.Tie as tie
 
-pub take-client-spec : {M : Type 1} → statement M
-take-client-spec =
+pub take_client_spec : {M : Type 1} → statement M
+take_client_spec =
     tie.close
     (tie.spec
     (λ c. search rules)

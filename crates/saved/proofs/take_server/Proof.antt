@@ -4,8 +4,8 @@ use Rattle.saved.proofs.FormLaws.{servers, room, taken}
 use Rattle.saved.proofs.take_server.Statement.{statement}
 use Rattle.saved.proofs.take_server.Tie as tie
 
-pub take-server-spec : {M : Type 1} → statement M
-take-server-spec =
+pub take_server_spec : {M : Type 1} → statement M
+take_server_spec =
     tie.close
     (tie.spec
     (λ c. search rules)

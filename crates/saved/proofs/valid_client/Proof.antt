@@ -4,8 +4,8 @@ use Rattle.saved.proofs.Ordered.{today_judged, too_short, too_long, earlier_judg
 use Rattle.saved.proofs.valid_client.Statement.{statement}
 use Rattle.saved.proofs.valid_client.Tie as tie
 
-pub valid-client-spec : {M : Type 1} → statement M
-valid-client-spec =
+pub valid_client_spec : {M : Type 1} → statement M
+valid_client_spec =
     tie.close
     (tie.spec
     (λ c κs. search rules)

@@ -5,23 +5,23 @@ use Rattle.script.proofs.begin.Statement.{statement}
 use Rattle.script.proofs.begin.Tie as tie
 
 -- the run is asked for
-module _ (c : tie.After-new) where
+module _ (c : tie.After-new-begun) where
   abbrev entry : tie.Start
   entry = c.before.before.before.before
 
 -- it is refused
-module _ (c : tie.After-begun) where
-  abbrev asked : tie.After-new
+module _ (c : tie.In-Refused-2) where
+  abbrev asked : tie.After-new-begun
   asked = c.before.before.before.before
 
 -- it is made
-module _ (c : tie.After-begun2) where
-  abbrev made : tie.After-new
+module _ (c : tie.In-Run-2) where
+  abbrev made : tie.After-new-begun
   made = c.before.before.before.before
 
 -- and the script runs
 module _ (c : tie.After-start) where
-  abbrev run : tie.After-begun2
+  abbrev run : tie.In-Run-2
   run = c.before.before.before
 
 refuse-requires : tie.Need-refuse-requires
@@ -30,7 +30,7 @@ refuse-requires c κs =
     let n = asked m in
     let d = entry n in
     let a = d.args in
-    begin_ready a.w.now a.out.now a.at d.pre.0 d.pre.1 a.s _ _ n.new.ensures.0 _ m.begun.given.1
+    begin_ready a.w-1.now a.out-1.now a.at d.requires.0 d.requires.1 a.s _ _ n.new-begun.ensures.0 _ m.in-Refused.is
 
 start-requires : tie.Need-start-requires
 start-requires c κs =
@@ -38,47 +38,47 @@ start-requires c κs =
     let n = made m in
     let d = entry n in
     let a = d.args in
-    begin_long a.w.now a.out.now a.at d.pre.0 d.pre.1 a.s _ _ n.new.ensures.0 _ m.begun2.given.1
+    begin_long a.w-1.now a.out-1.now a.at d.requires.0 d.requires.1 a.s _ _ n.new-begun.ensures.0 _ m.in-Run.is
 
-put-header-requires : tie.Need-put-header-requires
+put-header-requires : tie.Need-put_header-requires
 put-header-requires c κs =
     let m = run c.before.before.before in
     let n = made m in
     let d = entry n in
     let a = d.args in
-    begin_room a.w.now a.out.now a.at d.pre.0 d.pre.1 a.s _ _ n.new.ensures.0 _ m.begun2.given.1
+    begin_room a.w-1.now a.out-1.now a.at d.requires.0 d.requires.1 a.s _ _ n.new-begun.ensures.0 _ m.in-Run.is
 
-returns : tie.Need-returns
+returns : tie.Need-returns-in-Refused
 returns c =
     let m = c.before.before.before.before.before.before.before.before in
     let n = asked m in
     let d = entry n in
     let a = d.args in
-    begin_refused a.w.now a.out.now a.at d.pre.0 d.pre.1 a.s _ _ n.new.ensures.0 _ m.begun.given.1
-    _ _ _ c.before.before.before.before.refuse.ensures
+    begin_refused a.w-1.now a.out-1.now a.at d.requires.0 d.requires.1 a.s _ _ n.new-begun.ensures.0 _ m.in-Refused.is
+    _ _ _ c.refuse.ensures
 
-same-length-3 : tie.Need-same-length-3
+same-length-3 : tie.Need-shape_of-w-in-Run
 same-length-3 c =
     let s = c.before.before.before.before.before.before in
     let m = run s in
     let n = made m in
     let d = entry n in
     let a = d.args in
-    begin_same a.w.now a.out.now a.at d.pre.0 d.pre.1 a.s _ _ n.new.ensures.0 _ m.begun2.given.1
+    begin_same a.w-1.now a.out-1.now a.at d.requires.0 d.requires.1 a.s _ _ n.new-begun.ensures.0 _ m.in-Run.is
     _ s.start.ensures
 
-returns-2 : tie.Need-returns-2
+returns-2 : tie.Need-returns-in-Run
 returns-2 c =
     let s = c.before.before.before.before.before.before in
     let m = run s in
     let n = made m in
     let d = entry n in
     let a = d.args in
-    begin_running a.w.now a.out.now a.at d.pre.0 d.pre.1 a.s _ _ n.new.ensures.0 _ m.begun2.given.1
-    _ s.start.ensures _ _ c.before.before.put-header.ensures
+    begin_running a.w-1.now a.out-1.now a.at d.requires.0 d.requires.1 a.s _ _ n.new-begun.ensures.0 _ m.in-Run.is
+    _ s.start.ensures _ _ c.put_header.ensures
 
-pub begin-spec : {M : Type 1} → statement M
-begin-spec =
+pub begin_spec : {M : Type 1} → statement M
+begin_spec =
     tie.close
     (tie.spec
     (λ c. search rules)

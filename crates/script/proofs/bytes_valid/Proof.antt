@@ -10,17 +10,17 @@ use Rattle.script.proofs.bytes_valid.Statement.{statement}
 use Rattle.script.proofs.bytes_valid.Tie as tie
 use Rattle.script_output.specs.Reader.{max_kept}
 
-abbrev invariant-loop : tie.invariant-loop
+abbrev invariant-loop : tie.invariant-loop-i
 invariant-loop w i₀ i = Passing byte_word 0 (drop 5 w) max_kept i
 
-abbrev decreases-loop : tie.decreases-loop
+abbrev decreases-loop : tie.decreases-loop-i
 decreases-loop w i₀ i = max_kept - i
 
-loop-again : tie.Need-loop-preserved invariant-loop decreases-loop
-loop-again c = bytes-more c.before.before.before.before.args.w.now _ c.before.before.before.loop.invariant (omega arith) c.if1.false
+loop-again : tie.Need-loop-i-preserved invariant-loop decreases-loop
+loop-again c = bytes-more c.args.w.now _ c.loop-i.invariant (omega arith) c.if-w-i-gt255.false
 
-pub bytes-valid-spec : {M : Type 1} → statement M
-bytes-valid-spec =
+pub bytes_valid_spec : {M : Type 1} → statement M
+bytes_valid_spec =
     tie.close
     (tie.spec
     invariant-loop
@@ -29,8 +29,8 @@ bytes-valid-spec =
     (λ c. search rules)
     (λ c. search rules)
     (λ c. search rules)
-    (λ c. bytes_failed _ _ c.before.before.before.loop.invariant (omega arith) c.if1.true)
+    (λ c. bytes_failed _ _ c.loop-i.invariant (omega arith) c.if-w-i-gt255.true)
     (λ c. search rules)
     (λ c. omega arith)
     loop-again
-    (λ c. bytes-all _ _ c.before.loop.invariant (omega arith)))
+    (λ c. bytes-all _ _ c.loop-i.invariant (omega arith)))

@@ -10,10 +10,10 @@ use Rattle.script.proofs.clear.Statement.{statement}
 use Rattle.script.proofs.clear.Tie as tie
 use Rattle.script.specs.State.{state_size}
 
-abbrev invariant-loop : tie.invariant-loop
+abbrev invariant-loop : tie.invariant-loop-i
 invariant-loop w₀ i₀ w i = (length w₀ ≡ state_size) × Clearing w₀ 0 state_size w i
 
-abbrev decreases-loop : tie.decreases-loop
+abbrev decreases-loop : tie.decreases-loop-i
 decreases-loop w₀ i₀ w i = state_size - i
 
 pub clear_spec : {M : Type 1} → statement M
@@ -27,6 +27,6 @@ clear_spec =
     (λ c. search rules)
     (λ c. search rules)
     (λ c. omega arith)
-    (λ c. (c.before.loop.invariant.0, cleared_more _ _ _ _ c.before.loop.invariant.1 (omega arith)))
+    (λ c. (c.loop-i.invariant.0, cleared_more _ _ _ _ c.loop-i.invariant.1 (omega arith)))
     (λ c. search rules)
-    (λ c. all-cleared _ _ _ c.before.loop.invariant.0 c.before.loop.invariant.1 (omega arith)))
+    (λ c. all-cleared _ _ _ c.loop-i.invariant.0 c.loop-i.invariant.1 (omega arith)))

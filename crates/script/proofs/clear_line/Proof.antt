@@ -11,27 +11,27 @@ use borrow.Author.Rules.{rules}
 use Rattle.script.proofs.clear_line.Statement.{statement}
 use Rattle.script.proofs.clear_line.Tie as tie
 
-abbrev invariant-loop : tie.invariant-loop
+abbrev invariant-loop : tie.invariant-loop-i
 invariant-loop w₀ len i₀ w i = Sound w₀ × (len ≡ get_or w₀ length_at 0) × Clearing w₀ line_from len w i
 
-abbrev decreases-loop : tie.decreases-loop
+abbrev decreases-loop : tie.decreases-loop-i
 decreases-loop w₀ len i₀ w i = len - i
 
-pub clear-line-spec : {M : Type 1} → statement M
-clear-line-spec =
+pub clear_line_spec : {M : Type 1} → statement M
+clear_line_spec =
     tie.close
     (tie.spec
     invariant-loop
     decreases-loop
     (λ c. search rules)
     (λ c. search rules)
-    (λ c. (c.before.requires, refl, clearing_none _ _ _))
+    (λ c. (c.requires, refl, clearing_none _ _ _))
     (λ c. search rules)
     (λ c. search rules)
     (λ c. search rules)
     (λ c. search rules)
     (λ c. omega arith)
-    (λ c. let k = c.before.loop.invariant in (k.0, k.1, clearing_more _ _ _ _ _ k.2 (omega arith)))
+    (λ c. let k = c.loop-i.invariant in (k.0, k.1, clearing_more _ _ _ _ _ k.2 (omega arith)))
     (λ c. search rules)
     (λ c. search rules)
     (λ c. search line_off))

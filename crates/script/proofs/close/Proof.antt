@@ -8,28 +8,28 @@ use Rattle.script.proofs.close.Statement.{statement}
 use Rattle.script.proofs.close.Tie as tie
 
 -- the last line is done
-module _ (c : tie.After-last) where
+module _ (c : tie.After-last-at) where
   abbrev entry : tie.Start
   entry = c.before.before.before.before.before
 
-  whole : Sound c.last.new.0
-  whole = sound _ c.last.ensures.again
+  whole : Sound c.last-at.new.0
+  whole = sound _ c.last-at.ensures.again
 
 -- the end is printed, which leaves the words
-module _ (c : tie.After-end) where
-  abbrev done : tie.After-last
+module _ (c : tie.After-end-wrote) where
+  abbrev done : tie.After-last-at
   done = c.before.before.before.before.before.before.before
 
-last-requires : tie.Need-last-requires
+last-requires : tie.Need-last-at-requires
 last-requires c κs =
     let d = c.before.before.before.before in
-    closing_ready d.args.w.now d.args.out.now d.requires.0 d.requires.1
+    closing_ready d.args.w-1.now d.args.out-1.now d.requires.0 d.requires.1
 
-end-requires : tie.Need-end-requires
+end-requires : tie.Need-end-wrote-requires
 end-requires c κs =
     let l = c.before.before.before.before.before.before in
     let d = entry l in
-    ending_ready d.args.w.now d.args.out.now d.pre.0 d.pre.1 _ _ _ l.last.ensures
+    ending_ready d.args.w-1.now d.args.out-1.now d.requires.0 d.requires.1 _ _ _ l.last-at.ensures
 
 seal-requires : tie.Need-seal-requires
 seal-requires c κs = (whole (done c.before.before.before)).long
@@ -40,7 +40,7 @@ returns c =
     let e = s.before.before.before.before in
     let l = done e in
     let d = entry l in
-    closing d.args.w.now d.args.out.now d.pre.0 d.pre.1 _ _ _ l.last.ensures _ _ e.end.ensures _ s.seal.ensures
+    closing d.args.w-1.now d.args.out-1.now d.requires.0 d.requires.1 _ _ _ l.last-at.ensures _ _ e.end-wrote.ensures _ s.seal.ensures
 
 pub close_spec : {M : Type 1} → statement M
 close_spec =

@@ -8,30 +8,30 @@ use borrow.Author.Rules.{rules}
 use Rattle.script.proofs.copy_line.Statement.{statement}
 use Rattle.script.proofs.copy_line.Tie as tie
 
-abbrev invariant-loop : tie.invariant-loop
+abbrev invariant-loop : tie.invariant-loop-i
 invariant-loop w line₀ len i₀ line i = Copied line₀ line 0 (view w).line i
 
-abbrev decreases-loop : tie.decreases-loop
+abbrev decreases-loop : tie.decreases-loop-i
 decreases-loop w line₀ len i₀ line i = len - i
 
-cast-line : tie.Need-overflow-cast-line invariant-loop decreases-loop
+cast-line : tie.Need-overflow_cast-line invariant-loop decreases-loop
 cast-line c =
     omega (
       arith,
-      word_small c.before.before.before.before.args.w.now c.before.before.before.before.requires.0
-          c.before.before.loop.i (omega arith),
+      word_small c.args.w.now c.requires.0
+          c.loop-i.i (omega arith),
     )
 
-loop-again : tie.Need-loop-preserved invariant-loop decreases-loop
+loop-again : tie.Need-loop-i-preserved invariant-loop decreases-loop
 loop-again c =
-    copy_more c.before.before.before.before.args.w.now c.before.before.before.before.requires.0 _ _ _ c.before.before.loop.invariant
+    copy_more c.args.w.now c.requires.0 _ _ _ c.loop-i.invariant
     (omega arith)
 
 returns : tie.Need-returns invariant-loop decreases-loop
-returns c = copy_all c.before.before.before.args.w.now c.before.before.before.requires.0 _ _ _ c.before.loop.invariant (omega arith)
+returns c = copy_all c.args.w.now c.requires.0 _ _ _ c.loop-i.invariant (omega arith)
 
-pub copy-line-spec : {M : Type 1} → statement M
-copy-line-spec =
+pub copy_line_spec : {M : Type 1} → statement M
+copy_line_spec =
     tie.close
     (tie.spec
     invariant-loop

@@ -8,5 +8,5 @@ returns : tie.Need-returns
 unfolding head_in
 returns c = search rules
 
-pub counts-in-spec : {M : Type 1} → statement M
-counts-in-spec = tie.close (tie.spec (λ c. search rules) (λ c. search rules) returns)
+pub counts_in_spec : {M : Type 1} → statement M
+counts_in_spec = tie.close (tie.spec (λ c. search rules) (λ c. search rules) returns)

@@ -5,42 +5,42 @@ use Rattle.script.proofs.happen.Statement.{statement}
 use Rattle.script.proofs.happen.Tie as tie
 
 -- the counts are read, the event has happened, the counts are stored
-module _ (c : tie.After-counts-in) where
+module _ (c : tie.After-counts_in-counts) where
   abbrev entry : tie.Start
   entry = c.before.before.before.before.before
 
-module _ (c : tie.After-event) where
-  abbrev counted : tie.After-counts-in
+module _ (c : tie.After-event-went) where
+  abbrev counted : tie.After-counts_in-counts
   counted = c.before.before
 
-module _ (c : tie.After-put-counts) where
-  abbrev went : tie.After-event
+module _ (c : tie.After-put_counts) where
+  abbrev went : tie.After-event-went
   went = c.before.before.before.before
 
-event-requires : tie.Need-event-requires
+event-requires : tie.Need-event-went-requires
 event-requires c κs =
     let k = c.before in
     let d = entry k in
     let a = d.args in
-    (simulation_valid a.w.now a.out.now a.at d.pre.0 d.pre.1, counts-small a.w.now d.pre.1 _ k.counts-in.ensures)
+    (simulation_valid a.w-1.now a.out-1.now a.at d.requires.0 d.requires.1, counts-small a.w-1.now d.requires.1 _ k.counts_in-counts.ensures)
 
-put-counts-requires : tie.Need-put-counts-requires
+put-counts-requires : tie.Need-put_counts-requires
 put-counts-requires c κs =
     let h = c.before.before.before in
     let k = counted h in
     let d = entry k in
     let a = d.args in
-    event-long a.w.now a.out.now a.at d.pre.0 d.pre.1 a.e _ _ k.counts-in.ensures _ h.event.ensures
+    event-long a.w-1.now a.out-1.now a.at d.requires.0 d.requires.1 a.e _ _ k.counts_in-counts.ensures _ h.event-went.ensures
 
-same_length : tie.Need-same-length
+same_length : tie.Need-shape_of-w
 same_length c =
     let s = c.before.before.before.before.before.before in
     let h = went s in
     let k = counted h in
     let d = entry k in
     let a = d.args in
-    event-same a.w.now a.out.now a.at d.pre.0 d.pre.1 a.e _ _ k.counts-in.ensures _ h.event.ensures
-    _ s.put-counts.ensures
+    event-same a.w-1.now a.out-1.now a.at d.requires.0 d.requires.1 a.e _ _ k.counts_in-counts.ensures _ h.event-went.ensures
+    _ s.put_counts.ensures
 
 returns : tie.Need-returns
 returns c =
@@ -49,11 +49,11 @@ returns c =
     let k = counted h in
     let d = entry k in
     let a = d.args in
-    event-happened a.w.now a.out.now a.at d.pre.0 d.pre.1 a.e _ _ k.counts-in.ensures _ h.event.ensures
-    _ s.put-counts.ensures _ _ c.before.before.put-reply.ensures
+    event-happened a.w-1.now a.out-1.now a.at d.requires.0 d.requires.1 a.e _ _ k.counts_in-counts.ensures _ h.event-went.ensures
+    _ s.put_counts.ensures _ _ c.put_reply.ensures
 
-pub happen-spec : {M : Type 1} → statement M
-happen-spec =
+pub happen_spec : {M : Type 1} → statement M
+happen_spec =
     tie.close
     (tie.spec
     (λ c. search rules)
@@ -64,7 +64,7 @@ happen-spec =
     (λ c. search rules)
     event-requires
     put-counts-requires
-    (λ c κs. (entry (counted (went c.before.before.before))).pre.0.room)
+    (λ c κs. (entry (counted (went c.before.before.before))).requires.0.room)
     same_length
     (λ c. search rules)
     returns)

@@ -4,8 +4,8 @@ use borrow.Author.Rules.{rules}
 use Rattle.script.proofs.idle_valid.Statement.{statement}
 use Rattle.script.proofs.idle_valid.Tie as tie
 
-pub idle-valid-spec : {M : Type 1} → statement M
-idle-valid-spec =
+pub idle_valid_spec : {M : Type 1} → statement M
+idle_valid_spec =
     tie.close
     (tie.spec
     (λ c. search rules)

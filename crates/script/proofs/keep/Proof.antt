@@ -5,17 +5,17 @@ use borrow.Author.Rules.{rules}
 use Rattle.script.proofs.keep.Statement.{statement}
 use Rattle.script.proofs.keep.Tie as tie
 
-returns : tie.Need-returns
+returns : tie.Need-returns-then-len-ge-MAX_KEPT
 returns c =
     let d = c.before.before in
     let a = d.args in
-    keep_full a.w.now a.b d.requires c.if1.true
+    keep_full a.w.now a.b d.requires c.if-len-ge-MAX_KEPT.true
 
-returns-2 : tie.Need-returns-2
+returns-2 : tie.Need-returns
 returns-2 c =
     let d = c.before.before in
     let a = d.args in
-    keep_more a.w.now a.b d.requires c.if1.false (omega arith)
+    keep_more a.w.now a.b d.requires c.if-len-ge-MAX_KEPT.false (omega arith)
 
 pub keep_spec : {M : Type 1} → statement M
 keep_spec =

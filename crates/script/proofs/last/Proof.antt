@@ -4,20 +4,20 @@ use borrow.Author.Rules.{rules}
 use Rattle.script.proofs.last.Statement.{statement}
 use Rattle.script.proofs.last.Tie as tie
 
-returns : tie.Need-returns
+returns : tie.Need-returns-then-w-eq0
 returns c =
     let d = c.before.before.before.before in
-    last_none d.args.w.now d.args.out.now 0 d.requires c.if1.true
+    last_none d.args.w-1.now d.args.out-1.now 0 d.requires c.if-w-eq0.true
 
-returns-2 : tie.Need-returns-2
+returns-2 : tie.Need-returns
 returns-2 c =
     let k = c.before.before.before.before in
     let e = k.before.before.before in
     let d = e.before.before.before.before in
-    last_line_lem d.args.w.now d.args.out.now 0 d.requires e.if1.false _ _ _ k.work.ensures
+    last_line_lem d.args.w-1.now d.args.out-1.now 0 d.requires e.if-w-eq0.false _ _ _ k.work.ensures
 
-pub last-spec : {M : Type 1} → statement M
-last-spec =
+pub last_spec : {M : Type 1} → statement M
+last_spec =
     tie.close
     (tie.spec
     (λ c. search rules)

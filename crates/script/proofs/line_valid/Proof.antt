@@ -5,8 +5,8 @@ use borrow.Author.Rules.{rules}
 use Rattle.script.proofs.line_valid.Statement.{statement}
 use Rattle.script.proofs.line_valid.Tie as tie
 
-pub line-valid-spec : {M : Type 1} → statement M
-line-valid-spec =
+pub line_valid_spec : {M : Type 1} → statement M
+line_valid_spec =
     tie.close
     (tie.spec
     (λ c. search rules)

@@ -5,19 +5,19 @@ use borrow.Author.Rules.{rules}
 use Rattle.script.proofs.new.Statement.{statement}
 use Rattle.script.proofs.new.Tie as tie
 
-returns-2 : tie.Need-returns-2
+returns-2 : tie.Need-returns
 returns-2 c = new_said _ _ (
-  newly_answered c.before.before.before.before.before.before.args.w.now c.before.before.before.before.if1.false,
+  newly_answered c.args.w-1.now c.if-w-ne-STATE_WORDS.false,
   newly
-      c.before.before.before.before.before.before.args.w.now _ c.before.before.before.before.if1.false
-      c.before.before.clear.ensures,
+      c.args.w-1.now _ c.if-w-ne-STATE_WORDS.false
+      c.clear.ensures,
 )
 
 pub new_spec : {M : Type 1} → statement M
 new_spec =
     tie.close
     (tie.spec
-    (λ c. new_said _ _ (not_new c.before.before.args.w.now c.if1.true))
+    (λ c. new_said _ _ (not_new c.args.w-1.now c.if-w-ne-STATE_WORDS.true))
     (λ c κs. search rules)
     (λ c. search rules)
     returns-2)

@@ -6,27 +6,27 @@ use Rattle.script.proofs.open.Statement.{statement}
 use Rattle.script.proofs.open.Tie as tie
 
 -- the line is read
-module _ (c : tie.After-read-setting) where
+module _ (c : tie.After-read_setting-first) where
   abbrev entry : tie.Start
   entry = c.before.before.before.before
 
-returns : tie.Need-returns
+returns : tie.Need-returns-in-Bad
 returns c =
     let p = c.before.before.before.before in
     let t = p.before.before.before in
     let r = t.before.before in
     let d = entry r in
-    bad_first d.args.w.now d.args.out.now d.args.at d.pre.0 _ _ _
-    (sym t.enum_told.given.1 ∙ r.read-setting.ensures) p.refuse.ensures
+    bad_first d.args.w-1.now d.args.out-1.now d.args.at d.requires.0 _ _ _
+    (sym t.in-Bad.is ∙ r.read_setting-first.ensures) p.refuse.ensures
 
-returns-2 : tie.Need-returns-2
+returns-2 : tie.Need-returns-in-Setting
 returns-2 c =
     let p = c.before.before.before.before in
     let t = p.before.before.before.before in
     let r = t.before.before in
     let d = entry r in
-    setting-first d.args.w.now d.args.out.now d.args.at d.pre.0 _ _ _
-    _ (sym t.first.given.1 ∙ r.read-setting.ensures) p.begin.ensures
+    setting-first d.args.w-1.now d.args.out-1.now d.args.at d.requires.0 _ _ _
+    _ (sym t.in-Setting.is ∙ r.read_setting-first.ensures) p.begin.ensures
 
 pub open_spec : {M : Type 1} → statement M
 open_spec =

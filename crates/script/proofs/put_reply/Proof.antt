@@ -5,26 +5,26 @@ use borrow.Author.Rules.{rules}
 use Rattle.script.proofs.put_reply.Statement.{statement}
 use Rattle.script.proofs.put_reply.Tie as tie
 
-put-ok-requires : tie.Need-put-ok-requires
+put-ok-requires : tie.Need-put_ok-requires
 put-ok-requires c κs =
     let d = c.before.before.before.before.before in
-    ok_fits d.args.out.now _ d.requires _ _ _ (omega arith) (omega arith) (omega arith)
+    ok_fits d.args.out-1.now _ d.requires _ _ _ (omega arith) (omega arith) (omega arith)
 
-returns : tie.Need-returns
+returns : tie.Need-returns-in-Refused
 returns c =
-    replied_no _ _ _ _ _ _ (omega arith) _ c.before.before.before.before.before.reply.given.1 c.before.before.put-no.ensures
+    replied_no _ _ _ _ _ _ (omega arith) _ c.in-Refused.is c.put_no.ensures
 
-returns-2 : tie.Need-returns-2
+returns-2 : tie.Need-returns-in-Accepted
 returns-2 c =
-    replied_ok _ _ _ _ _ _ (omega arith) _ _ (omega arith) (omega arith) c.before.before.before.before.before.reply2.given.1
-    c.before.before.put-ok.ensures
+    replied_ok _ _ _ _ _ _ (omega arith) _ _ (omega arith) (omega arith) c.in-Accepted.is
+    c.put_ok.ensures
 
-pub put-reply-spec : {M : Type 1} → statement M
-put-reply-spec =
+pub put_reply_spec : {M : Type 1} → statement M
+put_reply_spec =
     tie.close
     (tie.spec
     (λ c. search rules)
-    (λ c κs. let d = c.before.before.before.before.before in no_fits d.args.out.now _ d.requires _ _ (omega arith))
+    (λ c κs. let d = c.before.before.before.before.before in no_fits d.args.out-1.now _ d.requires _ _ (omega arith))
     (λ c. search rules)
     put-ok-requires
     (λ c. search rules)

@@ -10,10 +10,10 @@ returns : tie.Need-returns
 returns c =
     let d = c.before.before.before.before.before.before in
     let a = d.args in
-    refused_does a.w.now a.out.now a.at d.requires.0 d.requires.1 a.x _ _ c.before.before.Put-refused.ensures
+    refused_does a.w.now a.out-1.now a.at d.requires.0 d.requires.1 a.x _ _ c.before.before.Put-refused.ensures
 
-pub refuse-spec : {M : Type 1} → statement M
-refuse-spec =
+pub refuse_spec : {M : Type 1} → statement M
+refuse_spec =
     tie.close
     (tie.spec
     (λ c. search rules)

@@ -10,62 +10,62 @@ module _ (c : tie.After-valid) where
   abbrev entry : tie.Start
   entry = c.before.before.before
 
-module _ (c : tie.Else2) where
-  abbrev good : tie.Else1
+module _ (c : tie.Else-w-gt-MAX_LINES) where
+  abbrev good : tie.Else-not-valid
   good = c.before.before
 
-module _ (c : tie.Else3) where
-  abbrev lines : tie.Else2
+module _ (c : tie.Else-w) where
+  abbrev lines : tie.Else-w-gt-MAX_LINES
   lines = c.before.before.before
 
-returns-2 : tie.Need-returns-2
+returns-2 : tie.Need-returns-then-w-gt-MAX_LINES
 returns-2 c =
     let t = c.before.before in
     let d = entry t.before in
-    lines-many d.args.w.now d.pre _ t.before.valid.ensures t.if1.false c.if2.true
+    lines-many d.args.w.now d.requires _ t.valid.ensures t.if-not-valid.false c.if-w-gt-MAX_LINES.true
 
-returns-3 : tie.Need-returns-3
+returns-3 : tie.Need-returns-then-w
 returns-3 c =
     let l = c.before.before.before in
     let t = good l in
     let d = entry t.before in
-    accepted-many d.args.w.now d.pre _ t.before.valid.ensures t.if1.left l.if2.false c.if3.true
+    accepted-many d.args.w.now d.requires _ t.valid.ensures t.if-not-valid.false l.if-w-gt-MAX_LINES.false c.if-w.true
 
 holders-requires : tie.Need-holders-requires
 holders-requires c κs =
     let t = good (lines c.before) in
     let d = entry t.before in
-    simulation_good d.args.w.now d.pre _ t.before.valid.ensures t.if1.left
+    simulation_good d.args.w.now d.requires _ t.valid.ensures t.if-not-valid.false
 
-returns-4 : tie.Need-returns-4
+returns-4 : tie.Need-returns-then-w-holders
 returns-4 c =
     let h = c.before in
     let x = h.before.before in
     let l = lines x in
     let t = good l in
     let d = entry t.before in
-    holders-many d.args.w.now d.pre _ t.before.valid.ensures t.if1.left l.if2.left x.if3.false
-    _ h.holders.ensures c.if4.true
+    holders-many d.args.w.now d.requires _ t.valid.ensures t.if-not-valid.false l.if-w-gt-MAX_LINES.false x.if-w.false
+    _ h.holders.ensures c.if-w-holders.true
 
-returns-5 : tie.Need-returns-5
+returns-5 : tie.Need-returns
 returns-5 c =
     let h = c.before.before in
     let x = h.before.before in
     let l = lines x in
     let t = good l in
     let d = entry t.before in
-    holders-few d.args.w.now d.pre _ t.before.valid.ensures t.if1.left l.if2.left x.if3.false
-    _ h.holders.ensures c.before.if4.false _ refl
+    holders-few d.args.w.now d.requires _ t.valid.ensures t.if-not-valid.false l.if-w-gt-MAX_LINES.false x.if-w.false
+    _ h.holders.ensures c.if-w-holders.false _ refl
 
-pub run-valid-spec : {M : Type 1} → statement M
-run-valid-spec =
+pub run_valid_spec : {M : Type 1} → statement M
+run_valid_spec =
     tie.close
     (tie.spec
     (λ c. search rules)
     (λ c. search rules)
     (λ c. search rules)
     (λ c κs. search rules)
-    (λ c. let d = entry c.before in simulation_bad d.args.w.now d.pre _ c.before.valid.ensures c.if1.true)
+    (λ c. let d = entry c.before in simulation_bad d.args.w.now d.requires _ c.valid.ensures c.if-not-valid.true)
     (λ c. search rules)
     returns-2
     (λ c. search rules)

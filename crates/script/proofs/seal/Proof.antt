@@ -8,11 +8,11 @@ use borrow.Author.Rules.{rules}
 use Rattle.script.proofs.seal.Statement.{statement}
 use Rattle.script.proofs.seal.Tie as tie
 
-pub seal-spec : {M : Type 1} → statement M
-seal-spec =
+pub seal_spec : {M : Type 1} → statement M
+seal_spec =
     tie.close
     (tie.spec
     (λ c κs. search rules)
     (λ c. search rules)
     (λ c. search rules)
-    (λ c. ap (λ (l : List ℕ). set l stage_at stage_closed) c.before.before.clear.ensures))
+    (λ c. ap (λ (l : List ℕ). set l stage_at stage_closed) c.clear.ensures))

@@ -7,17 +7,17 @@ use borrow.Author.Rules.{rules}
 use Rattle.script.proofs.take_all.Statement.{statement}
 use Rattle.script.proofs.take_all.Tie as tie
 
-abbrev invariant-loop : tie.invariant-loop
+abbrev invariant-loop : tie.invariant-loop-used
 invariant-loop w₀ input out₀ used₀ at₀ w out used at = Feeding w₀ input out₀ w out used at
 
-abbrev decreases-loop : tie.decreases-loop
+abbrev decreases-loop : tie.decreases-loop-used
 decreases-loop w₀ input out₀ used₀ at₀ w out used at = length input - used
 
-loop-again : tie.Need-loop-preserved invariant-loop decreases-loop
+loop-again : tie.Need-loop-used-preserved invariant-loop decreases-loop
 loop-again c =
     let t = c.before.before.before.before in
     let r = t.before.before.before.before in
-    feeding_more r.before.before.loop.invariant (omega arith) r.if1.false _ _ _ t.take.ensures
+    feeding_more r.loop-used.invariant (omega arith) r.if-out-at-lt-MAX_PRINTED.false _ _ _ t.take-at.ensures
 
 pub take_all_spec : {M : Type 1} → statement M
 take_all_spec =
@@ -25,16 +25,16 @@ take_all_spec =
     (tie.spec
     invariant-loop
     decreases-loop
-    (λ c. let d = c.before.before.before in feeding_none d.args.w.now d.args.input.now d.args.out.now d.requires)
+    (λ c. let d = c.before.before.before in feeding_none d.args.w-1.now d.args.input.now d.args.out-1.now d.requires)
     (λ c. search rules)
     (λ c. search rules)
     (λ c. search rules)
-    (λ c. feeding_short c.before.before.loop.invariant c.if1.true)
+    (λ c. feeding_short c.loop-used.invariant c.if-out-at-lt-MAX_PRINTED.true)
     (λ c. search rules)
-    (λ c κs. feeding_ready c.before.before.before.before.before.loop.invariant c.before.before.before.if1.false)
+    (λ c κs. feeding_ready c.loop-used.invariant c.if-out-at-lt-MAX_PRINTED.false)
     (λ c. search rules)
     (λ c. omega arith)
     loop-again
     (λ c. search rules)
     (λ c. search rules)
-    (λ c. feeding_all c.before.loop.invariant (omega arith)))
+    (λ c. feeding_all c.loop-used.invariant (omega arith)))

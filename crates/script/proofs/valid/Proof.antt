@@ -4,8 +4,8 @@ use borrow.Author.Rules.{rules}
 use Rattle.script.proofs.valid.Statement.{statement}
 use Rattle.script.proofs.valid.Tie as tie
 
-pub valid-spec : {M : Type 1} → statement M
-valid-spec =
+pub valid_spec : {M : Type 1} → statement M
+valid_spec =
     tie.close
     (tie.spec
     (λ c. search size-wrong)

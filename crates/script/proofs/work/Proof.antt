@@ -4,23 +4,23 @@ use borrow.Author.Rules.{rules}
 use Rattle.script.proofs.work.Statement.{statement}
 use Rattle.script.proofs.work.Tie as tie
 
-returns : tie.Need-returns
+returns : tie.Need-returns-then-w-eq-OPENING
 returns c =
     let o = c.before.before.before.before in
     let t = o.before.before.before in
     let d = t.before.before.before.before in
     let a = d.args in
-    opening_does a.w.now a.out.now a.at d.requires _ _ _ t.if1.true o.«open».ensures
+    opening_does a.w-1.now a.out-1.now a.at d.requires _ _ _ t.if-w-eq-OPENING.true o.«open».ensures
 
-returns-3 : tie.Need-returns-3
+returns-3 : tie.Need-returns
 returns-3 c =
     let e = c.before.before in
     let d = e.before.before.before.before in
     let a = d.args in
-    closed_does a.w.now a.out.now a.at d.requires e.if1.false c.if2.false
+    closed_does a.w-1.now a.out-1.now a.at d.requires e.if-w-eq-OPENING.false c.if-w-eq-RUNNING.false
 
-pub work-spec : {M : Type 1} → statement M
-work-spec =
+pub work_spec : {M : Type 1} → statement M
+work_spec =
     tie.close
     (tie.spec
     (λ c. search rules)
@@ -32,5 +32,5 @@ work-spec =
     (λ c κs. search rules)
     (λ c. search rules)
     (λ c. search rules)
-    (λ c. c.before.before.before.before.answer.ensures)
+    (λ c. c.answer.ensures)
     returns-3)

@@ -8,122 +8,122 @@ use borrow.Author.Rules.{rules}
 use Rattle.script_lines.proofs.command_in.Statement.{statement}
 use Rattle.script_lines.proofs.command_in.Tie as tie
 
-module _ (c : tie.Else1) where
+module _ (c : tie.Else-equal) where
   abbrev its₁ : List ℕ
-  its₁ = c.before.before.before.before.args.w.now
+  its₁ = c.args.w.now
 
   left₁ : Left its₁ (drop 1 commands)
-  left₁ = left-more its₁ _ _ (left-all its₁) _ c.before.equal.ensures c.if1.false
+  left₁ = left-more its₁ _ _ (left-all its₁) _ c.equal.ensures c.if-equal.false
 
-module _ (c : tie.Else2) where
-  abbrev last₂ : tie.Else1
+module _ (c : tie.Else-equal-2) where
+  abbrev last₂ : tie.Else-equal
   last₂ = c.before.before.before
 
   abbrev its₂ : List ℕ
   its₂ = its₁ last₂
 
   left₂ : Left its₂ (drop 2 commands)
-  left₂ = left-more its₂ _ _ (left₁ last₂) _ c.before.equal2.ensures c.if2.false
+  left₂ = left-more its₂ _ _ (left₁ last₂) _ c.equal-2.ensures c.if-equal-2.false
 
-module _ (c : tie.Else3) where
-  abbrev last₃ : tie.Else2
+module _ (c : tie.Else-equal-3) where
+  abbrev last₃ : tie.Else-equal-2
   last₃ = c.before.before.before
 
   abbrev its₃ : List ℕ
   its₃ = its₂ last₃
 
   left₃ : Left its₃ (drop 3 commands)
-  left₃ = left-more its₃ _ _ (left₂ last₃) _ c.before.equal3.ensures c.if3.false
+  left₃ = left-more its₃ _ _ (left₂ last₃) _ c.equal-3.ensures c.if-equal-3.false
 
-module _ (c : tie.Else4) where
-  abbrev last₄ : tie.Else3
+module _ (c : tie.Else-equal-4) where
+  abbrev last₄ : tie.Else-equal-3
   last₄ = c.before.before.before
 
   abbrev its₄ : List ℕ
   its₄ = its₃ last₄
 
   left₄ : Left its₄ (drop 4 commands)
-  left₄ = left-more its₄ _ _ (left₃ last₄) _ c.before.equal4.ensures c.if4.false
+  left₄ = left-more its₄ _ _ (left₃ last₄) _ c.equal-4.ensures c.if-equal-4.false
 
-module _ (c : tie.Else5) where
-  abbrev last₅ : tie.Else4
+module _ (c : tie.Else-equal-5) where
+  abbrev last₅ : tie.Else-equal-4
   last₅ = c.before.before.before
 
   abbrev its₅ : List ℕ
   its₅ = its₄ last₅
 
   left₅ : Left its₅ (drop 5 commands)
-  left₅ = left-more its₅ _ _ (left₄ last₅) _ c.before.equal5.ensures c.if5.false
+  left₅ = left-more its₅ _ _ (left₄ last₅) _ c.equal-5.ensures c.if-equal-5.false
 
-module _ (c : tie.Else6) where
-  abbrev last₆ : tie.Else5
+module _ (c : tie.Else-equal-6) where
+  abbrev last₆ : tie.Else-equal-5
   last₆ = c.before.before.before
 
   abbrev its₆ : List ℕ
   its₆ = its₅ last₆
 
   left₆ : Left its₆ (drop 6 commands)
-  left₆ = left-more its₆ _ _ (left₅ last₆) _ c.before.equal6.ensures c.if6.false
+  left₆ = left-more its₆ _ _ (left₅ last₆) _ c.equal-6.ensures c.if-equal-6.false
 
-module _ (c : tie.Else7) where
-  abbrev last₇ : tie.Else6
+module _ (c : tie.Else-equal-7) where
+  abbrev last₇ : tie.Else-equal-6
   last₇ = c.before.before.before
 
   abbrev its₇ : List ℕ
   its₇ = its₆ last₇
 
   left₇ : Left its₇ (drop 7 commands)
-  left₇ = left-more its₇ _ _ (left₆ last₇) _ c.before.equal7.ensures c.if7.false
+  left₇ = left-more its₇ _ _ (left₆ last₇) _ c.equal-7.ensures c.if-equal-7.false
 
-module _ (c : tie.Else8) where
-  abbrev last₈ : tie.Else7
+module _ (c : tie.Else-equal-8) where
+  abbrev last₈ : tie.Else-equal-7
   last₈ = c.before.before.before
 
   abbrev its₈ : List ℕ
   its₈ = its₇ last₈
 
   left₈ : Left its₈ (drop 8 commands)
-  left₈ = left-more its₈ _ _ (left₇ last₈) _ c.before.equal8.ensures c.if8.false
+  left₈ = left-more its₈ _ _ (left₇ last₈) _ c.equal-8.ensures c.if-equal-8.false
 
-module _ (c : tie.Else9) where
-  abbrev last₉ : tie.Else8
+module _ (c : tie.Else-equal-9) where
+  abbrev last₉ : tie.Else-equal-8
   last₉ = c.before.before.before
 
   abbrev its₉ : List ℕ
   its₉ = its₈ last₉
 
   left₉ : Left its₉ (drop 9 commands)
-  left₉ = left-more its₉ _ _ (left₈ last₉) _ c.before.equal9.ensures c.if9.false
+  left₉ = left-more its₉ _ _ (left₈ last₉) _ c.equal-9.ensures c.if-equal-9.false
 
-pub command-in-spec : {M : Type 1} → statement M
-command-in-spec =
+pub command_in_spec : {M : Type 1} → statement M
+command_in_spec =
     tie.close
     (tie.spec
     (λ c. search rules)
     (λ c κs. search rules)
-    (λ c. left_is _ _ _ (left-all _) _ c.before.equal.ensures c.if1.true)
+    (λ c. left_is _ _ _ (left-all _) _ c.equal.ensures c.if-equal.true)
     (λ c. search rules)
     (λ c κs. search rules)
-    (λ c. left_is _ _ _ (left₁ c.before.before.before) _ c.before.equal2.ensures c.if2.true)
+    (λ c. left_is _ _ _ (left₁ c.before.before.before) _ c.equal-2.ensures c.if-equal-2.true)
     (λ c. search rules)
     (λ c κs. search rules)
-    (λ c. left_is _ _ _ (left₂ c.before.before.before) _ c.before.equal3.ensures c.if3.true)
+    (λ c. left_is _ _ _ (left₂ c.before.before.before) _ c.equal-3.ensures c.if-equal-3.true)
     (λ c. search rules)
     (λ c κs. search rules)
-    (λ c. left_is _ _ _ (left₃ c.before.before.before) _ c.before.equal4.ensures c.if4.true)
+    (λ c. left_is _ _ _ (left₃ c.before.before.before) _ c.equal-4.ensures c.if-equal-4.true)
     (λ c. search rules)
     (λ c κs. search rules)
-    (λ c. left_is _ _ _ (left₄ c.before.before.before) _ c.before.equal5.ensures c.if5.true)
+    (λ c. left_is _ _ _ (left₄ c.before.before.before) _ c.equal-5.ensures c.if-equal-5.true)
     (λ c. search rules)
     (λ c κs. search rules)
-    (λ c. left_is _ _ _ (left₅ c.before.before.before) _ c.before.equal6.ensures c.if6.true)
+    (λ c. left_is _ _ _ (left₅ c.before.before.before) _ c.equal-6.ensures c.if-equal-6.true)
     (λ c. search rules)
     (λ c κs. search rules)
-    (λ c. left_is _ _ _ (left₆ c.before.before.before) _ c.before.equal7.ensures c.if7.true)
+    (λ c. left_is _ _ _ (left₆ c.before.before.before) _ c.equal-7.ensures c.if-equal-7.true)
     (λ c. search rules)
     (λ c κs. search rules)
-    (λ c. left_is _ _ _ (left₇ c.before.before.before) _ c.before.equal8.ensures c.if8.true)
+    (λ c. left_is _ _ _ (left₇ c.before.before.before) _ c.equal-8.ensures c.if-equal-8.true)
     (λ c. search rules)
     (λ c κs. search rules)
-    (λ c. left_is _ _ _ (left₈ c.before.before.before) _ c.before.equal9.ensures c.if9.true)
+    (λ c. left_is _ _ _ (left₈ c.before.before.before) _ c.equal-9.ensures c.if-equal-9.true)
     (λ c. left-none _ (left₉ c)))

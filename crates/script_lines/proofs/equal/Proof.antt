@@ -6,14 +6,14 @@ use borrow.Author.Rules.{rules}
 use Rattle.script_lines.proofs.equal.Statement.{statement}
 use Rattle.script_lines.proofs.equal.Tie as tie
 
-abbrev invariant-loop : tie.invariant-loop
+abbrev invariant-loop : tie.invariant-loop-i
 invariant-loop a b i₀ i = Agrees a b i
 
-abbrev decreases-loop : tie.decreases-loop
+abbrev decreases-loop : tie.decreases-loop-i
 decreases-loop a b i₀ i = length a - i
 
-pub equal-spec : {M : Type 1} → statement M
-equal-spec =
+pub equal_spec : {M : Type 1} → statement M
+equal_spec =
     tie.close
     (tie.spec
     invariant-loop

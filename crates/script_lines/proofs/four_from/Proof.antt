@@ -13,68 +13,68 @@ module _ (c : tie.Start) where
   line = c.args.line.now
 
 -- the first number is found, the second, the third: each with the place behind the space that ended it
-module _ (c : tie.After-known-told) where
+module _ (c : tie.In-Number) where
   abbrev entry : tie.Start
   entry = c.before.before.before.before.before
 
   abbrev n : ℕ
-  n = c.before.n.given.0.0
+  n = c.in-Number.n-1
 
   abbrev behind₁ : ℕ
-  behind₁ = c.before.n.given.0.1.0
+  behind₁ = c.in-Number.a
 
   one : Found (line entry) entry.args.at n behind₁
-  one = found _ _ _ _ _ entry.pre c.before.before.before.read-field.ensures c.before.n.given.1
+  one = found _ _ _ _ _ entry.requires c.read_field.ensures c.in-Number.is
 
-module _ (c : tie.After-known-told2) where
-  abbrev from₁ : tie.After-known-told
+module _ (c : tie.In-Number-read_field) where
+  abbrev from₁ : tie.In-Number
   from₁ = c.before.before.before.before
 
   abbrev behind₂ : ℕ
-  behind₂ = c.before.m.given.0.1.0
+  behind₂ = c.in-Number-read_field.b
 
-  two : Found (line (entry from₁)) (behind₁ from₁) c.before.m.given.0.0 behind₂
-  two = found _ _ _ _ _ (one from₁).within c.before.before.before.read-field2.ensures c.before.m.given.1
+  two : Found (line (entry from₁)) (behind₁ from₁) c.in-Number-read_field.m-1 behind₂
+  two = found _ _ _ _ _ (one from₁).within c.read_field-2.ensures c.in-Number-read_field.is
 
-module _ (c : tie.After-known-told3) where
-  abbrev from₂ : tie.After-known-told2
+module _ (c : tie.In-Number-read_field-2) where
+  abbrev from₂ : tie.In-Number-read_field
   from₂ = c.before.before.before.before
 
-  three : Found (line (entry (from₁ from₂))) (behind₂ from₂) c.before.f.given.0.0 c.before.f.given.0.1.0
-  three = found _ _ _ _ _ (two from₂).within c.before.before.before.read-field3.ensures c.before.f.given.1
+  three : Found (line (entry (from₁ from₂))) (behind₂ from₂) c.in-Number-read_field-2.f-1 c.in-Number-read_field-2.c
+  three = found _ _ _ _ _ (two from₂).within c.read_field-3.ensures c.in-Number-read_field-2.is
 
-returns-2 : tie.Need-returns-2
+returns-2 : tie.Need-returns-in_default-read_field
 returns-2 c =
     let r = c.before.before in
-    no_second _ _ _ _ (one r.before) _ r.read-field2.ensures c.enum-told2.given.1
+    no_second _ _ _ _ (one r.before) _ r.read_field-2.ensures c.in_default-read_field.is
 
-returns-3 : tie.Need-returns-3
+returns-3 : tie.Need-returns-in_default-read_field-2
 returns-3 c =
     let r = c.before.before in
-    no_third _ _ _ _ (one (from₁ r.before)) _ _ (two r.before) _ r.read-field3.ensures c.enum-told3.given.1
+    no_third _ _ _ _ (one (from₁ r.before)) _ _ (two r.before) _ r.read_field-3.ensures c.in_default-read_field-2.is
 
-returns-4 : tie.Need-returns-4
+returns-4 : tie.Need-returns-in_default-read_number
 returns-4 c =
     let r = c.before.before in
     let d = r.before.before in
     let b = from₂ d in
-    no_fourth _ _ _ _ (one (from₁ b)) _ _ (two b) _ _ (three d) _ r.read_number.ensures.0 c.enum-told4.given.1
+    no_fourth _ _ _ _ (one (from₁ b)) _ _ (two b) _ _ (three d) _ r.read_number.ensures.0 c.in_default-read_number.is
 
-returns-5 : tie.Need-returns-5
+returns-5 : tie.Need-returns
 returns-5 c =
     let r = c.before.before.before in
     let d = r.before.before in
     let b = from₂ d in
-    all_four _ _ _ _ (one (from₁ b)) _ _ (two b) _ _ (three d) _ r.read_number.ensures.0 _ c.before.clients.given.1
+    all_four _ _ _ _ (one (from₁ b)) _ _ (two b) _ _ (three d) _ r.read_number.ensures.0 _ c.in-Number-read_number.is
 
-pub four-from-spec : {M : Type 1} → statement M
-four-from-spec =
+pub four_from_spec : {M : Type 1} → statement M
+four_from_spec =
     tie.close
     (tie.spec
     (λ c κs. search rules)
     (λ c. search rules)
     (λ c. search rules)
-    (λ c. no_first _ _ _ c.before.before.read-field.ensures c.enum_told.given.1)
+    (λ c. no_first _ _ _ c.read_field.ensures c.in_default.is)
     (λ c κs. (one c).within)
     (λ c. search rules)
     (λ c. search rules)

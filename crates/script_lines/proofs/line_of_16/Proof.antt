@@ -15,9 +15,9 @@ module _ (c : tie.Start) where
   short : leb c.args.x max_short ≡ true
   short = le-leb c.args.x max_short (omega arith)
 
-pub line-of-16-spec : {M : Type 1} → statement M
+pub line_of_16_spec : {M : Type 1} → statement M
 unfolding event_of sixteen_bits line_of
-line-of-16-spec =
+line_of_16_spec =
     tie.close
     (tie.spec
     (λ c. search rules)
@@ -30,13 +30,13 @@ line-of-16-spec =
     (λ c. search rules)
     (λ c. search rules)
     (λ c. search rules)
-    (λ c. rw (c.enum_told.given.1, short c.before.before))
-    (λ c. rw (c.enum-told2.given.1, short c.before.before))
-    (λ c. rw (c.enum-told3.given.1, short c.before.before))
-    (λ c. rw (c.enum-told4.given.1, short c.before.before))
-    (λ c. rw (c.enum-told5.given.1, short c.before.before))
-    (λ c. rw c.enum-told6.given.1)
-    (λ c. rw c.enum-told7.given.1)
-    (λ c. rw (c.enum-told8.given.1, short c.before.before))
-    (λ c. rw (c.enum-told9.given.1, short c.before.before))
-    (λ c. rw c.enum-told10.given.1))
+    (λ c. rw (c.in-Try.is, short c.before.before))
+    (λ c. rw (c.in-Exit.is, short c.before.before))
+    (λ c. rw (c.in-Fall.is, short c.before.before))
+    (λ c. rw (c.in-Down.is, short c.before.before))
+    (λ c. rw (c.in-Up.is, short c.before.before))
+    (λ c. rw c.in-Take.is)
+    (λ c. rw c.in-Drop.is)
+    (λ c. rw (c.in-Miss.is, short c.before.before))
+    (λ c. rw (c.in-Check.is, short c.before.before))
+    (λ c. rw c.in-Other.is))

@@ -14,9 +14,9 @@ module _ (c : tie.Start) where
   long : leb c.args.x max_short ≡ false
   long = lt-leb _ _ c.requires
 
-pub line-of-32-spec : {M : Type 1} → statement M
+pub line_of_32_spec : {M : Type 1} → statement M
 unfolding event_of sixteen_bits line_of
-line-of-32-spec =
+line_of_32_spec =
     tie.close
     (tie.spec
     (λ c. search rules)
@@ -29,13 +29,13 @@ line-of-32-spec =
     (λ c. search rules)
     (λ c. search rules)
     (λ c. search rules)
-    (λ c. rw (c.enum_told.given.1, long c.before.before))
-    (λ c. rw (c.enum-told2.given.1, long c.before.before))
-    (λ c. rw (c.enum-told3.given.1, long c.before.before))
-    (λ c. rw (c.enum-told4.given.1, long c.before.before))
-    (λ c. rw (c.enum-told5.given.1, long c.before.before))
-    (λ c. rw c.enum-told6.given.1)
-    (λ c. rw c.enum-told7.given.1)
-    (λ c. rw (c.enum-told8.given.1, long c.before.before))
-    (λ c. rw (c.enum-told9.given.1, long c.before.before))
-    (λ c. rw c.enum-told10.given.1))
+    (λ c. rw (c.in-Try.is, long c.before.before))
+    (λ c. rw (c.in-Exit.is, long c.before.before))
+    (λ c. rw (c.in-Fall.is, long c.before.before))
+    (λ c. rw (c.in-Down.is, long c.before.before))
+    (λ c. rw (c.in-Up.is, long c.before.before))
+    (λ c. rw c.in-Take.is)
+    (λ c. rw c.in-Drop.is)
+    (λ c. rw (c.in-Miss.is, long c.before.before))
+    (λ c. rw (c.in-Check.is, long c.before.before))
+    (λ c. rw c.in-Other.is))

@@ -6,9 +6,9 @@ use borrow.Author.Rules.{rules}
 use Rattle.script_lines.proofs.name_at.Statement.{statement}
 use Rattle.script_lines.proofs.name_at.Tie as tie
 
-pub name-at-spec : {M : Type 1} → statement M
+pub name_at_spec : {M : Type 1} → statement M
 unfolding word
-name-at-spec =
+name_at_spec =
     tie.close
     (tie.spec
     (λ c. search rules)
@@ -20,12 +20,12 @@ name-at-spec =
     (λ c. search rules)
     (λ c. search rules)
     (λ c. search rules)
-    (λ c. rw c.enum_told.given.1 (omega arith, refl))
-    (λ c. rw c.enum-told2.given.1 (omega arith, refl))
-    (λ c. rw c.enum-told3.given.1 (omega arith, refl))
-    (λ c. rw c.enum-told4.given.1 (omega arith, refl))
-    (λ c. rw c.enum-told5.given.1 (omega arith, refl))
-    (λ c. rw c.enum-told6.given.1 (omega arith, refl))
-    (λ c. rw c.enum-told7.given.1 (omega arith, refl))
-    (λ c. rw c.enum-told8.given.1 (omega arith, refl))
-    (λ c. rw c.enum-told9.given.1 (omega arith, refl)))
+    (λ c. rw c.in-Try.is (omega arith, refl))
+    (λ c. rw c.in-Exit.is (omega arith, refl))
+    (λ c. rw c.in-Fall.is (omega arith, refl))
+    (λ c. rw c.in-Down.is (omega arith, refl))
+    (λ c. rw c.in-Up.is (omega arith, refl))
+    (λ c. rw c.in-Take.is (omega arith, refl))
+    (λ c. rw c.in-Drop.is (omega arith, refl))
+    (λ c. rw c.in-Miss.is (omega arith, refl))
+    (λ c. rw c.in-Check.is (omega arith, refl)))

@@ -3,8 +3,8 @@ use borrow.Author.Rules.{rules}
 use Rattle.script_lines.proofs.number_of.Statement.{statement}
 use Rattle.script_lines.proofs.number_of.Tie as tie
 
-pub number-of-spec : {M : Type 1} → statement M
-number-of-spec =
+pub number_of_spec : {M : Type 1} → statement M
+number_of_spec =
     tie.close
     (tie.spec
     (λ c. search rules)

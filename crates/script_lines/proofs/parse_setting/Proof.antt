@@ -5,25 +5,25 @@ use borrow.Author.Rules.{rules}
 use Rattle.script_lines.proofs.parse_setting.Statement.{statement}
 use Rattle.script_lines.proofs.parse_setting.Tie as tie
 
-returns-3 : tie.Need-returns-3
+returns-3 : tie.Need-returns-then-not-equal
 returns-3 c =
     let d = c.before.before.before.before in
-    first_said _ _ (setting-other _ _ d.before.before.if1.false d.before.word-end.ensures d.if2.false _ c.before.equal.ensures c.if3.true)
+    first_said _ _ (setting-other _ _ d.if-line-gt-MAX_LINE.false d.word_end-p.ensures d.if-p-line.false _ c.equal.ensures c.if-not-equal.true)
 
-returns-4 : tie.Need-returns-4
+returns-4 : tie.Need-returns
 returns-4 c =
     let e = c.before in
     let d = e.before.before.before.before in
-    first_said _ _ (setting-numbers _ _ d.before.before.if1.false d.before.word-end.ensures d.if2.false _ e.before.equal.ensures
-    _ e.if3.false c.four-from.ensures)
+    first_said _ _ (setting-numbers _ _ d.if-line-gt-MAX_LINE.false d.word_end-p.ensures d.if-p-line.false _ e.equal.ensures
+    _ e.if-not-equal.false c.four_from.ensures)
 
-pub parse-setting-spec : {M : Type 1} → statement M
-parse-setting-spec =
+pub parse_setting_spec : {M : Type 1} → statement M
+parse_setting_spec =
     tie.close
     (tie.spec
-    (λ c. first_said _ _ (setting-long _ c.if1.true))
+    (λ c. first_said _ _ (setting-long _ c.if-line-gt-MAX_LINE.true))
     (λ c κs. search rules)
-    (λ c. first_said _ _ (setting_one_word _ _ c.before.before.if1.false c.before.word-end.ensures c.if2.true))
+    (λ c. first_said _ _ (setting_one_word _ _ c.if-line-gt-MAX_LINE.false c.word_end-p.ensures c.if-p-line.true))
     (λ c. search rules)
     (λ c. search rules)
     (λ c. search rules)

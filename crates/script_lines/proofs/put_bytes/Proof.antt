@@ -6,14 +6,14 @@ use borrow.Author.Rules.{rules}
 use Rattle.script_lines.proofs.put_bytes.Statement.{statement}
 use Rattle.script_lines.proofs.put_bytes.Tie as tie
 
-abbrev invariant-loop : tie.invariant-loop
+abbrev invariant-loop : tie.invariant-loop-i
 invariant-loop out₀ at w i₀ out i = Copied out₀ out at w i
 
-abbrev decreases-loop : tie.decreases-loop
+abbrev decreases-loop : tie.decreases-loop-i
 decreases-loop out₀ at w i₀ out i = length w - i
 
-pub put-bytes-spec : {M : Type 1} → statement M
-put-bytes-spec =
+pub put_bytes_spec : {M : Type 1} → statement M
+put_bytes_spec =
     tie.close
     (tie.spec
     invariant-loop
@@ -27,4 +27,4 @@ put-bytes-spec =
     (λ c. search copied_more)
     (λ c. search rules)
     (λ c. search rules)
-    (λ c. copied_all _ _ _ _ _ c.before.loop.invariant c.loop-test.false))
+    (λ c. copied_all _ _ _ _ _ c.loop-i.invariant c.loop-i-test.false))

@@ -13,20 +13,20 @@ use Rattle.script_lines.proofs.put_end.Tie as tie
 -- at entry there is room for the line
 module _ (c : tie.Start) where
   room : c.args.at + (length (decimal c.args.accepted) + length (decimal c.args.holders) + length (decimal c.args.downs) + 7)
-      ≤ length c.args.out.now
+      ≤ length c.args.out-1.now
   room = omega (arith, length_end c.args.accepted c.args.holders c.args.downs, c.requires)
 
 -- the word is put, the events accepted, the holders
-module _ (c : tie.After-put-word) where
+module _ (c : tie.After-put_word-p) where
   abbrev entry : tie.Start
   entry = c.before.before.before.before
 
-module _ (c : tie.After-put-number) where
-  abbrev one : tie.After-put-word
+module _ (c : tie.After-put_number-q) where
+  abbrev one : tie.After-put_word-p
   one = c.before.before.before.before
 
-module _ (c : tie.After-put-number2) where
-  abbrev two : tie.After-put-number
+module _ (c : tie.After-put_number-t) where
+  abbrev two : tie.After-put_number-q
   two = c.before.before.before.before
 
 returns : tie.Need-returns
@@ -37,13 +37,13 @@ returns c =
     let d₂ = two d₃ in
     let d₁ = one d₂ in
     let a = (entry d₁).args in
-    let e₁ = puts-more (puts_none a.out.now a.at) (text "end") d₁.put_word.ensures in
-    let e₂ = puts-more e₁ (decimal a.accepted) d₂.put-number.ensures in
-    let e₃ = puts-more e₂ (decimal a.holders) d₃.put-number2.ensures in
-    puts-last e₃ (decimal a.downs) d₄.put-number3.ensures
+    let e₁ = puts-more (puts_none a.out-1.now a.at) (text "end") d₁.put_word-p.ensures in
+    let e₂ = puts-more e₁ (decimal a.accepted) d₂.put_number-q.ensures in
+    let e₃ = puts-more e₂ (decimal a.holders) d₃.put_number-t.ensures in
+    puts-last e₃ (decimal a.downs) d₄.put_number.ensures
 
-pub put-end-spec : {M : Type 1} → statement M
-put-end-spec =
+pub put_end_spec : {M : Type 1} → statement M
+put_end_spec =
     tie.close
     (tie.spec
     (λ c. search rules)

@@ -12,28 +12,28 @@ use Rattle.script_lines.proofs.put_event.Statement.{statement}
 use Rattle.script_lines.proofs.put_event.Tie as tie
 
 -- the event's word is found
-module _ (c : tie.After-word-end) where
+module _ (c : tie.After-word_end-to) where
   abbrev entry : tie.Start
   entry = c.before.before.before.before
 
-  named : take (c.word-end.result - c.before.name-at.result) (drop c.before.name-at.result names) ≡ word_of entry.args.e
-  named = cut_word names _ _ c.word-end.ensures.0 ∙ c.before.name-at.ensures.1
+  named : take (c.word_end-to.result - c.name_at-from.result) (drop c.name_at-from.result names) ≡ word_of entry.args.e
+  named = cut_word names _ _ c.word_end-to.ensures.0 ∙ c.name_at-from.ensures.1
 
 -- and put
-module _ (c : tie.After-put-word) where
-  abbrev found : tie.After-word-end
+module _ (c : tie.After-put_word-p) where
+  abbrev found : tie.After-word_end-to
   found = c.before.before.before
 
-put-word-requires : tie.Need-put-word-requires
+put-word-requires : tie.Need-put_word-p-requires
 put-word-requires c κs =
     let d = c.before.before in
     word_room (entry d).args.e _ (named d) _ _ (entry d).requires
 
-put-decimal-requires : tie.Need-put-decimal-requires
+put-decimal-requires : tie.Need-put_decimal-requires
 put-decimal-requires c κs =
     let p = c.before.before.before.before in
     let d = found p in
-    omega (arith, number-room (entry d).args.e _ (named d) _ _ _ c.number_of_lem.ensures _ p.put_word.ensures.0 (entry d).pre)
+    omega (arith, number-room (entry d).args.e _ (named d) _ _ _ c.number_of_lem.ensures _ p.put_word-p.ensures.0 (entry d).requires)
 
 returns : tie.Need-returns
 returns c =
@@ -41,10 +41,10 @@ returns c =
     let p = q.before.before.before.before.before in
     let d = found p in
     put-line (entry d).args.e _ (named d) _ _ _ q.before.number_of_lem.ensures
-    (entry d).args.out.now _ _ _ p.put_word.ensures q.put-decimal.ensures
+    (entry d).args.out-1.now _ _ _ p.put_word-p.ensures q.put_decimal.ensures
 
-pub put-event-spec : {M : Type 1} → statement M
-put-event-spec =
+pub put_event_spec : {M : Type 1} → statement M
+put_event_spec =
     tie.close
     (tie.spec
     (λ c. search rules)

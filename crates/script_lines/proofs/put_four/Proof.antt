@@ -11,20 +11,20 @@ use Rattle.script_lines.proofs.put_four.Tie as tie
 -- at entry there is room for all four
 module _ (c : tie.Start) where
   room : c.args.at + (length (decimal c.args.s.n) + length (decimal c.args.s.m) + length (decimal c.args.s.f)
-      + length (decimal c.args.s.clients) + 3) ≤ length c.args.out.now
+      + length (decimal c.args.s.clients) + 3) ≤ length c.args.out-1.now
   room = omega (arith, length_four c.args.s, c.requires)
 
 -- the first number is put, the second, the third
-module _ (c : tie.After-put-number) where
+module _ (c : tie.After-put_number-p) where
   abbrev entry : tie.Start
   entry = c.before.before.before
 
-module _ (c : tie.After-put-number2) where
-  abbrev one : tie.After-put-number
+module _ (c : tie.After-put_number-q) where
+  abbrev one : tie.After-put_number-p
   one = c.before.before.before.before
 
-module _ (c : tie.After-put-number3) where
-  abbrev two : tie.After-put-number2
+module _ (c : tie.After-put_number-t) where
+  abbrev two : tie.After-put_number-q
   two = c.before.before.before.before
 
 returns : tie.Need-returns
@@ -34,13 +34,13 @@ returns c =
     let d₂ = two d₃ in
     let d₁ = one d₂ in
     let a = (entry d₁).args in
-    let e₁ = puts-more (puts_none a.out.now a.at) (decimal a.s.n) d₁.put-number.ensures in
-    let e₂ = puts-more e₁ (decimal a.s.m) d₂.put-number2.ensures in
-    let e₃ = puts-more e₂ (decimal a.s.f) d₃.put-number3.ensures in
-    puts_end e₃ (decimal a.s.clients) d₄.put-decimal.ensures
+    let e₁ = puts-more (puts_none a.out-1.now a.at) (decimal a.s.n) d₁.put_number-p.ensures in
+    let e₂ = puts-more e₁ (decimal a.s.m) d₂.put_number-q.ensures in
+    let e₃ = puts-more e₂ (decimal a.s.f) d₃.put_number-t.ensures in
+    puts_end e₃ (decimal a.s.clients) d₄.put_decimal.ensures
 
-pub put-four-spec : {M : Type 1} → statement M
-put-four-spec =
+pub put_four_spec : {M : Type 1} → statement M
+put_four_spec =
     tie.close
     (tie.spec
     (λ c κs. omega (arith, room c.before.before))

@@ -11,15 +11,15 @@ use Rattle.script_lines.proofs.put_no.Statement.{statement}
 use Rattle.script_lines.proofs.put_no.Tie as tie
 
 -- the number is put, and the word
-module _ (c : tie.After-put-number) where
+module _ (c : tie.After-put_number-p) where
   abbrev entry : tie.Start
   entry = c.before.before.before
 
-module _ (c : tie.After-put-word) where
-  abbrev one : tie.After-put-number
+module _ (c : tie.After-put_word-q) where
+  abbrev one : tie.After-put_number-p
   one = c.before.before.before.before.before
 
-put-number-requires-2 : tie.Need-put-number-requires-2
+put-number-requires-2 : tie.Need-put_number-requires
 put-number-requires-2 c κs =
     let a = (entry (one c.before.before.before.before)).args in
     omega (arith, length_no a.number a.refusal, ap (λ x. length (decimal x)) c.code_of_lem.ensures)
@@ -31,15 +31,15 @@ returns c =
     let d₂ = d₃.before.before.before.before.before in
     let d₁ = one d₂ in
     let a = (entry d₁).args in
-    let e₁ = puts-more (puts_none a.out.now a.at) (decimal a.number) d₁.put-number.ensures in
-    let e₂ = puts-more e₁ (text "no") d₂.put_word.ensures in
-    rw d₃.before.code_of_lem.ensures at (puts-last e₂ (decimal d₃.before.code_of_lem.result) d₃.put-number2.ensures)
+    let e₁ = puts-more (puts_none a.out-1.now a.at) (decimal a.number) d₁.put_number-p.ensures in
+    let e₂ = puts-more e₁ (text "no") d₂.put_word-q.ensures in
+    rw d₃.before.code_of_lem.ensures at (puts-last e₂ (decimal d₃.before.code_of_lem.result) d₃.put_number.ensures)
 
-pub put-no-spec : {M : Type 1} → statement M
-put-no-spec =
+pub put_no_spec : {M : Type 1} → statement M
+put_no_spec =
     tie.close
     (tie.spec
-    (λ c κs. let a = c.before.before.args in omega (arith, length_no a.number a.refusal))
+    (λ c κs. let a = c.args in omega (arith, length_no a.number a.refusal))
     (λ c. search rules)
     (λ c κs. let a = (entry c.before.before.before.before).args in omega (arith, length_no a.number a.refusal))
     (λ c κs. search rules)

@@ -8,11 +8,11 @@ use Rattle.script_lines.proofs.put_number.Tie as tie
 returns : tie.Need-returns
 returns c =
     let d = c.before.before in
-    let a = d.before.before.before.args in
-    put-behind a.out.now _ _ _ _ (decimal a.x) d.put-decimal.ensures
+    let a = d.args in
+    put-behind a.out-1.now _ _ _ _ (decimal a.x) d.put_decimal-p.ensures
 
-pub put-number-spec : {M : Type 1} → statement M
-put-number-spec =
+pub put_number_spec : {M : Type 1} → statement M
+put_number_spec =
     tie.close
     (tie.spec
     (λ c κs. search rules)

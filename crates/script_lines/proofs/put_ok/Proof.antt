@@ -13,20 +13,20 @@ use Rattle.script_lines.proofs.put_ok.Tie as tie
 -- at entry there is room for the line
 module _ (c : tie.Start) where
   room : c.args.at + (length (decimal c.args.number) + length (decimal c.args.sent) + length (decimal c.args.holders) + 6)
-      ≤ length c.args.out.now
+      ≤ length c.args.out-1.now
   room = omega (arith, length_ok c.args.number c.args.sent c.args.holders, c.requires)
 
 -- the number is put, the word, the messages sent
-module _ (c : tie.After-put-number) where
+module _ (c : tie.After-put_number-p) where
   abbrev entry : tie.Start
   entry = c.before.before.before
 
-module _ (c : tie.After-put-word) where
-  abbrev one : tie.After-put-number
+module _ (c : tie.After-put_word-q) where
+  abbrev one : tie.After-put_number-p
   one = c.before.before.before.before.before
 
-module _ (c : tie.After-put-number2) where
-  abbrev two : tie.After-put-word
+module _ (c : tie.After-put_number-t) where
+  abbrev two : tie.After-put_word-q
   two = c.before.before.before.before
 
 returns : tie.Need-returns
@@ -37,13 +37,13 @@ returns c =
     let d₂ = two d₃ in
     let d₁ = one d₂ in
     let a = (entry d₁).args in
-    let e₁ = puts-more (puts_none a.out.now a.at) (decimal a.number) d₁.put-number.ensures in
-    let e₂ = puts-more e₁ (text "ok") d₂.put_word.ensures in
-    let e₃ = puts-more e₂ (decimal a.sent) d₃.put-number2.ensures in
-    puts-last e₃ (decimal a.holders) d₄.put-number3.ensures
+    let e₁ = puts-more (puts_none a.out-1.now a.at) (decimal a.number) d₁.put_number-p.ensures in
+    let e₂ = puts-more e₁ (text "ok") d₂.put_word-q.ensures in
+    let e₃ = puts-more e₂ (decimal a.sent) d₃.put_number-t.ensures in
+    puts-last e₃ (decimal a.holders) d₄.put_number.ensures
 
-pub put-ok-spec : {M : Type 1} → statement M
-put-ok-spec =
+pub put_ok_spec : {M : Type 1} → statement M
+put_ok_spec =
     tie.close
     (tie.spec
     (λ c κs. omega (arith, room c.before.before))

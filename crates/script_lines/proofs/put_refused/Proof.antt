@@ -11,11 +11,11 @@ use Rattle.script_lines.proofs.put_refused.Statement.{statement}
 use Rattle.script_lines.proofs.put_refused.Tie as tie
 
 -- the word is put
-module _ (c : tie.After-put-word) where
+module _ (c : tie.After-put_word-p) where
   abbrev entry : tie.Start
   entry = c.before.before.before.before
 
-put-number-requires : tie.Need-put-number-requires
+put-number-requires : tie.Need-put_number-requires
 put-number-requires c κs =
     omega (arith, length-refused (entry c.before.before.before.before).args.refusal, ap (λ x. length (decimal x)) c.code_of_lem.ensures)
 
@@ -25,15 +25,15 @@ returns c =
     let d₂ = c.before.before in
     let d₁ = d₂.before.before.before.before.before in
     let a = (entry d₁).args in
-    let e₁ = puts-more (puts_none a.out.now a.at) (text "no") d₁.put_word.ensures in
-    rw d₂.before.code_of_lem.ensures at (puts-last e₁ (decimal d₂.before.code_of_lem.result) d₂.put-number.ensures)
+    let e₁ = puts-more (puts_none a.out-1.now a.at) (text "no") d₁.put_word-p.ensures in
+    rw d₂.before.code_of_lem.ensures at (puts-last e₁ (decimal d₂.before.code_of_lem.result) d₂.put_number.ensures)
 
-pub put-refused-spec : {M : Type 1} → statement M
-put-refused-spec =
+pub put_refused_spec : {M : Type 1} → statement M
+put_refused_spec =
     tie.close
     (tie.spec
     (λ c. search rules)
-    (λ c κs. omega (arith, length-refused c.before.before.before.args.refusal))
+    (λ c κs. omega (arith, length-refused c.args.refusal))
     (λ c κs. search rules)
     put-number-requires
     (λ c. search rules)

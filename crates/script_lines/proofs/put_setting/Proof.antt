@@ -6,7 +6,7 @@ use Rattle.script_lines.proofs.put_setting.Statement.{statement}
 use Rattle.script_lines.proofs.put_setting.Tie as tie
 
 -- the word is put
-module _ (c : tie.After-put-word) where
+module _ (c : tie.After-put_word-p) where
   abbrev entry : tie.Start
   entry = c.before.before.before.before
 
@@ -14,14 +14,14 @@ returns : tie.Need-returns
 returns c =
     let d = c.before.before.before.before.before.before in
     let a = (entry d).args in
-    put-opening a.s a.out.now _ _ _ _ _ c.before.before.put_four.ensures d.put_word.ensures
+    put-opening a.s a.out-1.now _ _ _ _ _ c.put_four.ensures d.put_word-p.ensures
 
-pub put-setting-spec : {M : Type 1} → statement M
-put-setting-spec =
+pub put_setting_spec : {M : Type 1} → statement M
+put_setting_spec =
     tie.close
     (tie.spec
     (λ c. search rules)
-    (λ c κs. omega (arith, length-setting c.before.before.before.args.s))
+    (λ c κs. omega (arith, length-setting c.args.s))
     (λ c κs. omega (arith, length-setting (entry c.before.before.before).args.s))
     (λ c. search rules)
     returns)

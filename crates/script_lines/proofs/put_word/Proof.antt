@@ -7,11 +7,11 @@ use Rattle.script_lines.proofs.put_word.Tie as tie
 returns : tie.Need-returns
 returns c =
     let d = c.before.before in
-    let a = d.before.before.before.before.args in
-    put-behind a.out.now _ _ _ _ a.w.now d.put-bytes.ensures
+    let a = d.args in
+    put-behind a.out-1.now _ _ _ _ a.w.now d.put_bytes-p.ensures
 
-pub put-word-spec : {M : Type 1} → statement M
-put-word-spec =
+pub put_word_spec : {M : Type 1} → statement M
+put_word_spec =
     tie.close
     (tie.spec
     (λ c κs. search rules)

@@ -4,24 +4,24 @@ use borrow.Author.Rules.{rules}
 use Rattle.script_lines.proofs.read_field.Statement.{statement}
 use Rattle.script_lines.proofs.read_field.Tie as tie
 
-returns-2 : tie.Need-returns-2
+returns-2 : tie.Need-returns-in-Number
 returns-2 c =
     let r = c.before.before.before in
     let d = r.before.before in
-    field_found _ _ _ d.before.word-end.ensures d.if1.false _ r.read_number.ensures.0 _ c.before.x.given.1
+    field_found _ _ _ d.word_end-p.ensures d.if-p-line.false _ r.read_number.ensures.0 _ c.in-Number.is
 
-returns-3 : tie.Need-returns-3
+returns-3 : tie.Need-returns-in-Nothing
 returns-3 c =
     let r = c.before.before in
     let d = r.before.before in
-    field_unread _ _ _ d.before.word-end.ensures d.if1.false _ r.read_number.ensures.0 c.enum_told.given.1
+    field_unread _ _ _ d.word_end-p.ensures d.if-p-line.false _ r.read_number.ensures.0 c.in-Nothing.is
 
-pub read-field-spec : {M : Type 1} → statement M
-read-field-spec =
+pub read_field_spec : {M : Type 1} → statement M
+read_field_spec =
     tie.close
     (tie.spec
     (λ c κs. search rules)
-    (λ c. field_unended _ _ _ c.before.word-end.ensures c.if1.true)
+    (λ c. field_unended _ _ _ c.word_end-p.ensures c.if-p-line.true)
     (λ c. search rules)
     (λ c. search rules)
     (λ c. search rules)

@@ -6,14 +6,14 @@ use borrow.Author.Rules.{rules}
 use Rattle.script_lines.proofs.word_end.Statement.{statement}
 use Rattle.script_lines.proofs.word_end.Tie as tie
 
-abbrev invariant-loop : tie.invariant-loop
+abbrev invariant-loop : tie.invariant-loop-i
 invariant-loop line at i₀ i = Passes line at i
 
-abbrev decreases-loop : tie.decreases-loop
+abbrev decreases-loop : tie.decreases-loop-i
 decreases-loop line at i₀ i = length line - i
 
-pub word-end-spec : {M : Type 1} → statement M
-word-end-spec =
+pub word_end_spec : {M : Type 1} → statement M
+word_end_spec =
     tie.close
     (tie.spec
     invariant-loop

@@ -4,8 +4,8 @@ use Rattle.script_numbers.proofs.ReadLaws.{digit_low, digit_high, digit_large, d
 use Rattle.script_numbers.proofs.add_digit.Statement.{statement}
 use Rattle.script_numbers.proofs.add_digit.Tie as tie
 
-pub add-digit-spec : {M : Type 1} → statement M
-add-digit-spec =
+pub add_digit_spec : {M : Type 1} → statement M
+add_digit_spec =
     tie.close
     (tie.spec
     (λ c. search digit_low)

@@ -8,14 +8,14 @@ use borrow.Author.Rules.{rules}
 use Rattle.script_numbers.proofs.read_digits.Statement.{statement}
 use Rattle.script_numbers.proofs.read_digits.Tie as tie
 
-abbrev invariant-loop : tie.invariant-loop
+abbrev invariant-loop : tie.invariant-loop-i
 invariant-loop s x₀ i₀ x i = Reads largest32 s x i
 
-abbrev decreases-loop : tie.decreases-loop
+abbrev decreases-loop : tie.decreases-loop-i
 decreases-loop s x₀ i₀ x i = length s - i
 
-pub read-digits-spec : {M : Type 1} → statement M
-read-digits-spec =
+pub read_digits_spec : {M : Type 1} → statement M
+read_digits_spec =
     tie.close
     (tie.spec
     invariant-loop

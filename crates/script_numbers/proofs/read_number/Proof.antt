@@ -4,8 +4,8 @@ use borrow.Author.Rules.{rules}
 use Rattle.script_numbers.proofs.read_number.Statement.{statement}
 use Rattle.script_numbers.proofs.read_number.Tie as tie
 
-pub read-number-spec : {M : Type 1} → statement M
-read-number-spec =
+pub read_number_spec : {M : Type 1} → statement M
+read_number_spec =
     tie.close
     (tie.spec
     (λ c. number-said _ _ (search number-empty))

@@ -13,10 +13,10 @@ use borrow.Author.Rules.{rules}
 use Rattle.server.proofs.all_valid.Statement.{statement}
 use Rattle.server.proofs.all_valid.Tie as tie
 
-abbrev invariant-loop : tie.invariant-loop
+abbrev invariant-loop : tie.invariant-loop-i
 invariant-loop row len i₀ i = Passing (every valid_request) (queue_of row len) 0 i
 
-abbrev decreases-loop : tie.decreases-loop
+abbrev decreases-loop : tie.decreases-loop-i
 decreases-loop row len i₀ i = len - i
 
 -- at entry
@@ -28,28 +28,28 @@ module _ (c : tie.Start invariant-loop decreases-loop) where
   within = c.requires.within
 
 -- in a turn
-module _ (c : tie.In-loop invariant-loop decreases-loop) where
+module _ (c : tie.In-loop-i invariant-loop decreases-loop) where
   abbrev entry : tie.Start invariant-loop decreases-loop
   entry = c.before.before.before
 
 -- the place is tested
-module _ (c : tie.After-valid-request invariant-loop decreases-loop) where
-  abbrev turn : tie.In-loop invariant-loop decreases-loop
+module _ (c : tie.After-valid_request invariant-loop decreases-loop) where
+  abbrev turn : tie.In-loop-i invariant-loop decreases-loop
   turn = c.before.before
 
-  tested : c.valid-request.result ≡ valid_request (get_or (places (entry turn)) turn.before.loop.i no_request)
-  tested = c.valid-request.ensures ∙ ap valid_request c.before.request-at.ensures
+  tested : c.valid_request.result ≡ valid_request (get_or (places (entry turn)) turn.loop-i.i no_request)
+  tested = c.valid_request.ensures ∙ ap valid_request c.request_at.ensures
 
-returns : tie.Need-returns invariant-loop decreases-loop
-returns c = let t = turn c.before in valid_stops _ _ (within (entry t)) _ t.loop-test.taken _ _ (tested c.before)
-    t.before.loop.inv c.if1.true
+returns : tie.Need-returns-then-not-valid_request invariant-loop decreases-loop
+returns c = let t = turn c.before in valid_stops _ _ (within (entry t)) _ t.loop-i-test.true _ _ (tested c.before)
+    t.loop-i.invariant c.if-not-valid_request.true
 
-loop-again : tie.Need-loop-preserved invariant-loop decreases-loop
-loop-again c = let t = turn c.before in valid_on _ _ (within (entry t)) _ t.loop-test.taken _ _ (tested c.before)
-    t.before.loop.inv c.if1.false
+loop-again : tie.Need-loop-i-preserved invariant-loop decreases-loop
+loop-again c = let t = turn c.before in valid_on _ _ (within (entry t)) _ t.loop-i-test.true _ _ (tested c.before)
+    t.loop-i.invariant c.if-not-valid_request.false
 
-pub all-valid-spec : {M : Type 1} → statement M
-all-valid-spec =
+pub all_valid_spec : {M : Type 1} → statement M
+all_valid_spec =
     tie.close
     (tie.spec
     invariant-loop

@@ -4,17 +4,17 @@ use borrow.Author.Rules.{rules}
 use Rattle.server.proofs.answered.Statement.{statement}
 use Rattle.server.proofs.answered.Tie as tie
 
-returns : tie.Need-returns
+returns : tie.Need-returns-in-Done
 returns c =
     let sent = c.before.before in
     let told = sent.before.before in
-    answers-done told.before.before.before.args.t _ _ _ told.enum_told.given.1 sent.send.ensures
+    answers-done told.args.t _ _ _ told.in-Done.is sent.send.ensures
 
-returns-2 : tie.Need-returns-2
-returns-2 c = answers-refused c.before.before.before.before.args.t _ _ c.before.ruling.given.1
+returns-2 : tie.Need-returns-in-Refused
+returns-2 c = answers-refused c.args.t _ _ c.in-Refused.is
 
-pub answered-spec : {M : Type 1} → statement M
-answered-spec =
+pub answered_spec : {M : Type 1} → statement M
+answered_spec =
     tie.close
     (tie.spec
     (λ c. search rules)

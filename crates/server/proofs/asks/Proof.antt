@@ -3,8 +3,8 @@ use borrow.Author.Rules.{rules}
 use Rattle.server.proofs.asks.Statement.{statement}
 use Rattle.server.proofs.asks.Tie as tie
 
-pub asks-spec : {M : Type 1} → statement M
-asks-spec =
+pub asks_spec : {M : Type 1} → statement M
+asks_spec =
     tie.close
     (tie.spec
     (λ c. search rules)
@@ -13,9 +13,9 @@ asks-spec =
     (λ c. search rules)
     (λ c. search rules)
     (λ c. search rules)
-    (λ c. rw c.before.m.given.1)
-    (λ c. rw c.before.m2.given.1)
-    (λ c. rw c.before.m3.given.1)
-    (λ c. rw c.before.m4.given.1)
+    (λ c. rw c.in-Request.is)
+    (λ c. rw c.in-Yield.is)
+    (λ c. rw c.in-Release.is)
+    (λ c. rw c.in-Inquiry.is)
     (λ c. search rules)
     (λ c. search rules))

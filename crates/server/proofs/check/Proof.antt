@@ -5,16 +5,16 @@ use Rattle.server.proofs.check.Statement.{statement}
 use Rattle.server.proofs.check.Tie as tie
 
 -- the call on the row is made
-module _ (c : tie.After-check-row) where
+module _ (c : tie.After-check_row-t) where
   abbrev entry : tie.Start
   entry = c.before.before.before.before.before
 
 returns : tie.Need-returns
-returns c = let made = c.before.before.before.before in turns_by_value (entry made).args.s _ _ _ _ _ _ made.check-row.ensures
-    c.before.before.finish.ensures
+returns c = let made = c.before.before.before.before in turns_by_value (entry made).args.s _ _ _ _ _ _ made.check_row-t.ensures
+    c.finish.ensures
 
-pub check-spec : {M : Type 1} → statement M
-check-spec =
+pub check_spec : {M : Type 1} → statement M
+check_spec =
     tie.close
     (tie.spec
     (λ c. search rules)

@@ -5,25 +5,25 @@ use borrow.Author.Rules.{rules}
 use Rattle.server.proofs.counts.Statement.{statement}
 use Rattle.server.proofs.counts.Tie as tie
 
-add-result : tie.Need-overflow-add-result
-add-result c = omega (arith, mail_few c.before.before.args.first, mail_few c.before.before.args.second)
+add-result : tie.Need-overflow_add-result
+add-result c = omega (arith, mail_few c.args.first, mail_few c.args.second)
 
-add-result-2 : tie.Need-overflow-add-result-2
+add-result-2 : tie.Need-overflow_add-result-2
 add-result-2 c = omega (
   arith,
-  mail_few c.before.before.before.args.first,
-  mail_few c.before.before.before.args.second,
-  mail_few c.before.before.before.args.third,
+  mail_few c.args.first,
+  mail_few c.args.second,
+  mail_few c.args.third,
 )
 
 returns : tie.Need-returns
 returns c = omega (
   arith,
-  three_count c.before.before.before.args.first c.before.before.before.args.second c.before.before.before.args.third,
+  three_count c.args.first c.args.second c.args.third,
 )
 
-pub counts-spec : {M : Type 1} → statement M
-counts-spec =
+pub counts_spec : {M : Type 1} → statement M
+counts_spec =
     tie.close
     (tie.spec
     (λ c κs. search rules)

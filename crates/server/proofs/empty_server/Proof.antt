@@ -4,5 +4,5 @@ use Rattle.server.proofs.RecordLaws.{with-head}
 use Rattle.server.proofs.empty_server.Statement.{statement}
 use Rattle.server.proofs.empty_server.Tie as tie
 
-pub empty-server-spec : {M : Type 1} → statement M
-empty-server-spec = tie.close (tie.spec (λ c κs. search rules) (λ c. search with-head))
+pub empty_server_spec : {M : Type 1} → statement M
+empty_server_spec = tie.close (tie.spec (λ c κs. search rules) (λ c. search with-head))

@@ -14,10 +14,10 @@ use borrow.Author.Rules.{rules}
 use Rattle.server.proofs.in_order.Statement.{statement}
 use Rattle.server.proofs.in_order.Tie as tie
 
-abbrev invariant-loop : tie.invariant-loop
+abbrev invariant-loop : tie.invariant-loop-i
 invariant-loop row len i₀ i = Passing ordered (queue_of row len) 0 i
 
-abbrev decreases-loop : tie.decreases-loop
+abbrev decreases-loop : tie.decreases-loop-i
 decreases-loop row len i₀ i = len - i
 
 -- at entry
@@ -29,33 +29,33 @@ module _ (c : tie.Start invariant-loop decreases-loop) where
   within = c.requires.within
 
 -- in a turn
-module _ (c : tie.In-loop invariant-loop decreases-loop) where
+module _ (c : tie.In-loop-i invariant-loop decreases-loop) where
   abbrev entry : tie.Start invariant-loop decreases-loop
   entry = c.before.before.before
 
 -- the two are compared
 module _ (c : tie.After-precedes invariant-loop decreases-loop) where
-  abbrev turn : tie.In-loop invariant-loop decreases-loop
+  abbrev turn : tie.In-loop-i invariant-loop decreases-loop
   turn = c.before.before.before
 
-  tested : c.precedes.result ≡ before (get_or (places (entry turn)) turn.before.loop.i no_request)
-      (get_or (places (entry turn)) (turn.before.loop.i + 1) no_request)
+  tested : c.precedes.result ≡ before (get_or (places (entry turn)) turn.loop-i.i no_request)
+      (get_or (places (entry turn)) (turn.loop-i.i + 1) no_request)
   tested =
-      let a = c.before.before.request-at.ensures in
-      let b = c.before.request-at2.ensures in
+      let a = c.request_at.ensures in
+      let b = c.request_at-in-loop-i.ensures in
       c.precedes.ensures ∙ (λ i. before (a i) (b i))
 
-add-loop : tie.Need-overflow-add-loop invariant-loop decreases-loop
-add-loop c = let e = c.before.before in omega (arith, passing-within _ _ (within e) ordered _ c.loop.invariant)
+add-loop : tie.Need-overflow_add-i invariant-loop decreases-loop
+add-loop c = let e = c.before.before in omega (arith, passing-within _ _ (within e) ordered _ c.loop-i.invariant)
 
-returns : tie.Need-returns invariant-loop decreases-loop
-returns c = let t = turn c.before in order_stops _ _ (within (entry t)) _ t.loop-test.taken _ (tested c.before) t.before.loop.inv c.if1.true
+returns : tie.Need-returns-then-not-precedes invariant-loop decreases-loop
+returns c = let t = turn c.before in order_stops _ _ (within (entry t)) _ t.loop-i-test.true _ (tested c.before) t.loop-i.invariant c.if-not-precedes.true
 
-loop-again : tie.Need-loop-preserved invariant-loop decreases-loop
-loop-again c = let t = turn c.before in order_on _ _ (within (entry t)) _ t.loop-test.taken _ (tested c.before) t.before.loop.inv c.if1.false
+loop-again : tie.Need-loop-i-preserved invariant-loop decreases-loop
+loop-again c = let t = turn c.before in order_on _ _ (within (entry t)) _ t.loop-i-test.true _ (tested c.before) t.loop-i.invariant c.if-not-precedes.false
 
-pub in-order-spec : {M : Type 1} → statement M
-in-order-spec =
+pub in_order_spec : {M : Type 1} → statement M
+in_order_spec =
     tie.close
     (tie.spec
     invariant-loop

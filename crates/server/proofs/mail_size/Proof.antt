@@ -4,8 +4,8 @@ use borrow.Author.Rules.{rules}
 use Rattle.server.proofs.mail_size.Statement.{statement}
 use Rattle.server.proofs.mail_size.Tie as tie
 
-pub mail-size-spec : {M : Type 1} → statement M
-mail-size-spec =
+pub mail_size_spec : {M : Type 1} → statement M
+mail_size_spec =
     tie.close
     (tie.spec
     (λ c. search rules)

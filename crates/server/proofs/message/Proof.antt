@@ -5,16 +5,16 @@ use Rattle.server.proofs.message.Statement.{statement}
 use Rattle.server.proofs.message.Tie as tie
 
 -- the call on the row is made
-module _ (c : tie.After-message-row) where
+module _ (c : tie.After-message_row-t) where
   abbrev entry : tie.Start
   entry = c.before.before.before.before.before
 
 returns : tie.Need-returns
 returns c = let made = c.before.before.before.before.before in turns_by_value (entry made).args.s _ _ _ _ _ _
-    made.message-row.ensures c.before.before.finish.ensures
+    made.message_row-t.ensures c.finish.ensures
 
-pub message-spec : {M : Type 1} → statement M
-message-spec =
+pub message_spec : {M : Type 1} → statement M
+message_spec =
     tie.close
     (tie.spec
     (λ c. search rules)

@@ -7,15 +7,15 @@ use Rattle.server.proofs.message_row.Statement.{statement}
 use Rattle.server.proofs.message_row.Tie as tie
 
 -- the record is valid
-module _ (c : tie.Else1) where
+module _ (c : tie.Else-not-valid_row) where
   abbrev entry : tie.Start
   entry = c.before.before.before.before
 
-  padded : Padded entry.args.row.now entry.args.h.votes.len
-  padded = server-padded _ _ c.before.valid-row.ensures c.if1.false
+  padded : Padded entry.args.row-1.now entry.args.h.votes.len
+  padded = server-padded _ _ c.valid_row.ensures c.if-not-valid_row.false
 
-pub message-row-spec : {M : Type 1} → statement M
-message-row-spec =
+pub message_row_spec : {M : Type 1} → statement M
+message_row_spec =
     tie.close
     (tie.spec
     (λ c κs. search rules)

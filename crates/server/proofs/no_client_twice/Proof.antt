@@ -7,14 +7,14 @@ use borrow.Author.Rules.{rules}
 use Rattle.server.proofs.no_client_twice.Statement.{statement}
 use Rattle.server.proofs.no_client_twice.Tie as tie
 
-abbrev invariant-loop : tie.invariant-loop
+abbrev invariant-loop : tie.invariant-loop-i
 invariant-loop row len i₀ i = Passing once (queue_of row len) 0 i
 
-abbrev decreases-loop : tie.decreases-loop
+abbrev decreases-loop : tie.decreases-loop-i
 decreases-loop row len i₀ i = len - i
 
-pub no-client-twice-spec : {M : Type 1} → statement M
-no-client-twice-spec =
+pub no_client_twice_spec : {M : Type 1} → statement M
+no_client_twice_spec =
     tie.close
     (tie.spec
     invariant-loop

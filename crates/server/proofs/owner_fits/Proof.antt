@@ -4,8 +4,8 @@ use borrow.Author.Rules.{rules}
 use Rattle.server.proofs.owner_fits.Statement.{statement}
 use Rattle.server.proofs.owner_fits.Tie as tie
 
-pub owner-fits-spec : {M : Type 1} → statement M
-owner-fits-spec =
+pub owner_fits_spec : {M : Type 1} → statement M
+owner_fits_spec =
     tie.close
     (tie.spec
     (λ c. search rules)

@@ -4,16 +4,16 @@ use borrow.Author.Rules.{rules}
 use Rattle.server.proofs.put_mail.Statement.{statement}
 use Rattle.server.proofs.put_mail.Tie as tie
 
-returns-2 : tie.Need-returns-2
-returns-2 c = one-put _ _ _ _ _ _ c.before.before.before.before.before.m.given.1 c.before.before.put.ensures
+returns-2 : tie.Need-returns-in-One
+returns-2 c = one-put _ _ _ _ _ _ c.in-One.is c.put.ensures
 
-pub put-mail-spec : {M : Type 1} → statement M
-put-mail-spec =
+pub put_mail_spec : {M : Type 1} → statement M
+put_mail_spec =
     tie.close
     (tie.spec
     (λ c. search rules)
     (λ c. search rules)
     (λ c κs. search one-room)
-    (λ c. no_put _ _ _ c.enum_told.given.1)
+    (λ c. no_put _ _ _ c.in-Nothing.is)
     (λ c. search rules)
     returns-2)

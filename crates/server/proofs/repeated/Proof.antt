@@ -4,8 +4,8 @@ use borrow.Author.Rules.{rules}
 use Rattle.server.proofs.repeated.Statement.{statement}
 use Rattle.server.proofs.repeated.Tie as tie
 
-pub repeated-spec : {M : Type 1} → statement M
-repeated-spec =
+pub repeated_spec : {M : Type 1} → statement M
+repeated_spec =
     tie.close
     (tie.spec
     (λ c κs. search rules)

@@ -4,16 +4,16 @@ use borrow.Author.Rules.{rules}
 use Rattle.server.proofs.send.Statement.{statement}
 use Rattle.server.proofs.send.Tie as tie
 
-returns-2 : tie.Need-returns-2
-returns-2 c = send_done _ _ _ c.before.before.before.before.before.before.sizes.ensures _ _
-    c.before.before.before.before.before.if1.false c.counts.ensures c.before.before.before.put_three.ensures
+returns-2 : tie.Need-returns
+returns-2 c = send_done _ _ _ c.sizes-size.ensures _ _
+    c.if-out-size.false c.counts.ensures c.put_three.ensures
 
-pub send-spec : {M : Type 1} → statement M
-send-spec =
+pub send_spec : {M : Type 1} → statement M
+send_spec =
     tie.close
     (tie.spec
     (λ c κs. search rules)
-    (λ c. send_short _ _ _ c.before.sizes.ensures c.if1.true)
+    (λ c. send_short _ _ _ c.sizes-size.ensures c.if-out-size.true)
     (λ c κs. search rules)
     (λ c κs. search rules)
     (λ c. search rules)

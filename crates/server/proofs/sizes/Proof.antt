@@ -5,25 +5,25 @@ use borrow.Author.Rules.{rules}
 use Rattle.server.proofs.sizes.Statement.{statement}
 use Rattle.server.proofs.sizes.Tie as tie
 
-add-result : tie.Need-overflow-add-result
-add-result c = omega (arith, mail_small c.before.before.args.first, mail_small c.before.before.args.second)
+add-result : tie.Need-overflow_add-result
+add-result c = omega (arith, mail_small c.args.first, mail_small c.args.second)
 
-add-result-2 : tie.Need-overflow-add-result-2
+add-result-2 : tie.Need-overflow_add-result-2
 add-result-2 c = omega (
   arith,
-  mail_small c.before.before.before.args.first,
-  mail_small c.before.before.before.args.second,
-  mail_small c.before.before.before.args.third,
+  mail_small c.args.first,
+  mail_small c.args.second,
+  mail_small c.args.third,
 )
 
 returns : tie.Need-returns
 returns c = omega (
   arith,
-  three_size c.before.before.before.args.first c.before.before.before.args.second c.before.before.before.args.third,
+  three_size c.args.first c.args.second c.args.third,
 )
 
-pub sizes-spec : {M : Type 1} → statement M
-sizes-spec =
+pub sizes_spec : {M : Type 1} → statement M
+sizes_spec =
     tie.close
     (tie.spec
     (λ c κs. search rules)

@@ -5,16 +5,16 @@ use Rattle.server.proofs.suspect.Statement.{statement}
 use Rattle.server.proofs.suspect.Tie as tie
 
 -- the call on the row is made
-module _ (c : tie.After-suspect-row) where
+module _ (c : tie.After-suspect_row-t) where
   abbrev entry : tie.Start
   entry = c.before.before.before.before.before
 
 returns : tie.Need-returns
 returns c = let made = c.before.before.before.before.before in turns_by_value (entry made).args.s _ _ _ _ _ _
-    made.suspect-row.ensures c.before.before.finish.ensures
+    made.suspect_row-t.ensures c.finish.ensures
 
-pub suspect-spec : {M : Type 1} → statement M
-suspect-spec =
+pub suspect_spec : {M : Type 1} → statement M
+suspect_spec =
     tie.close
     (tie.spec
     (λ c. search rules)

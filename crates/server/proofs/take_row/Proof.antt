@@ -4,8 +4,8 @@ use borrow.Author.Rules.{rules}
 use Rattle.server.proofs.take_row.Statement.{statement}
 use Rattle.server.proofs.take_row.Tie as tie
 
-pub take-row-spec : {M : Type 1} → statement M
-take-row-spec =
+pub take_row_spec : {M : Type 1} → statement M
+take_row_spec =
     tie.close
     (tie.spec
     (λ c κs. search rules)

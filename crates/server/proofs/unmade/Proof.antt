@@ -7,10 +7,10 @@ use Rattle.server.proofs.unmade.Statement.{statement}
 use Rattle.server.proofs.unmade.Tie as tie
 
 returns : tie.Need-returns
-returns c = ap (λ (s : Server). record { server = s; answer = Refused c.before.args.e }) c.empty-server.ensures
+returns c = ap (λ (s : Server). record { server = s; answer = Refused c.args.e }) c.empty_server-server.ensures
 
-pub unmade-spec : {M : Type 1} → statement M
-unmade-spec =
+pub unmade_spec : {M : Type 1} → statement M
+unmade_spec =
     tie.close
     (tie.spec
     (λ c κs. search rules)

@@ -4,8 +4,8 @@ use borrow.Author.Rules.{rules}
 use Rattle.server.proofs.valid_row_up_to.Statement.{statement}
 use Rattle.server.proofs.valid_row_up_to.Tie as tie
 
-pub valid-row-up-to-spec : {M : Type 1} → statement M
-valid-row-up-to-spec =
+pub valid_row_up_to_spec : {M : Type 1} → statement M
+valid_row_up_to_spec =
     tie.close
     (tie.spec
     (λ c. search rules)
@@ -17,5 +17,5 @@ valid-row-up-to-spec =
     (λ c. search server_2)
     (λ c κs. search rules)
     (λ c. search server_3)
-    (λ c κs. row-padded _ _ _ c.before.good-row.ensures c.if3.false)
+    (λ c κs. row-padded _ _ _ c.good_row.ensures c.if-not-good_row.false)
     (λ c. search server_4))

@@ -4,8 +4,8 @@ use borrow.Author.Rules.{rules}
 use Rattle.server.proofs.valid_votes.Statement.{statement}
 use Rattle.server.proofs.valid_votes.Tie as tie
 
-pub valid-votes-spec : {M : Type 1} → statement M
-valid-votes-spec =
+pub valid_votes_spec : {M : Type 1} → statement M
+valid_votes_spec =
     tie.close
     (tie.spec
     (λ c κs. search rules)

@@ -13,9 +13,9 @@ use Rattle.server_host.specs.contracts.check as check
 use Rattle.server_host.proofs.check.Statement.{statement}
 use Rattle.server_host.proofs.check.Code as code
 
-pub check-spec : {M : Type 1} → statement M
+pub check_spec : {M : Type 1} → statement M
 unfolding code.routine tables_of
-check-spec 𝓤 𝓛 𝓜 𝓡 =
+check_spec 𝓤 𝓛 𝓜 𝓡 =
     entered 𝓤 𝓛.H (triple_of 𝓛 check.signature (check.spec 𝓛 𝓜.mem 𝓡.run))
     (tables 𝓤 𝓛.H 𝓜 𝓡 code.env).C (tables 𝓤 𝓛.H 𝓜 𝓡 code.env).Λ #host·check code.function (code.unfolded 𝓤 𝓛.H 𝓜 𝓡)
     (meets types (Says check_outcome) (Left check_outcome) (leaves check_outcome) 𝓛 callee.name (tables_of 𝓤 𝓛.H 𝓜 (tables 𝓤 𝓛.H 𝓜 𝓡 code.env))

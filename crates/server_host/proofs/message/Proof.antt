@@ -120,7 +120,7 @@ module _ {M : Type 1} {𝓤 : Ura M} (𝓛 : Logic 𝓤) (at_mem : Memory → SP
   abbrev passed : (Step 𝓛 at_mem run).Ghost
   passed = (((κ', tt), (q', tt), tt, (h, (m, (y, tt))), (k_vals h, (m-vals m, (s ∷ [], tt)))), tt)
 
-  goes_in : ent 𝓤 (sep 𝓤 (sep 𝓤 (A.lft κ' q') (sem 𝓛 ftrue)) (sem 𝓛 (owns (K.the_row ∷ E.the_row ∷ MutSlice (named 0) κ' u8 ∷ []) (h, (m, (y, tt))) (k_vals h, (m-vals m, (s ∷ [], tt)))))) ((Step 𝓛 at_mem run).pre passed)
+  goes_in : ent 𝓤 (sep 𝓤 (sep 𝓤 (A.lft κ' q') (sem 𝓛 ftrue)) (sem 𝓛 (owns (K.the_row ∷ E.the_row ∷ MutSlice (named 0) κ' u8 ∷ []) (h, (m, (y, tt))) (k_vals h, (m-vals m, (s ∷ [], tt)))))) ((Step 𝓛 at_mem run).requires passed)
   goes_in = qed 𝓛 ((‵ (flft κ' q') ⊛ ‵ ftrue) ∷ ‵ (owns (K.the_row ∷ E.the_row ∷ MutSlice (named 0) κ' u8 ∷ []) (h, (m, (y, tt))) (k_vals h, (m-vals m, (s ∷ [], tt)))) ∷ []) ∵ join ! $ frame ! $ done !
 
   module _ (C : Calls 𝓤 H) (Λ : Loops 𝓤 H) (fm : FmC 𝓤 H 𝓛.laws C) (known : Triple 𝓤 (C #server·message) (Step 𝓛 at_mem run)) where
@@ -140,7 +140,7 @@ module _ {M : Type 1} {𝓤 : Ura M} (𝓛 : Logic 𝓤) (at_mem : Memory → SP
         assigns ! (agg ! (and_then ! (load ! (from ! (stop !)) (look ! 7 refl)) (and_then ! (load ! (from ! (fld ! refl (stop !))) (look_in ! 13 (sub ! 1 refl (whole !)))) (no_more !)))) (from ! (stop !)) (init ! 5 refl (tt, (tt, (record { fits = room.0 }, tt)))) $
         -- what the callee asks is put together
         move ! (21 ∷ []) $ nothing ! $ move ! (1 ∷ 0 ∷ []) $ fjoin ! $ move ! (22 ∷ 0 ∷ []) $ fjoin ! $ move ! (2 ∷ 0 ∷ []) $ fjoin ! $ move ! (21 ∷ []) $ nothing ! $ move ! (1 ∷ 0 ∷ []) $ join ! $
-        use2 𝓛 (raw ((Step 𝓛 at_mem run).pre passed)) goes_in $
+        use2 𝓛 (raw ((Step 𝓛 at_mem run).requires passed)) goes_in $
         calls_at ! fm (Step 𝓛 at_mem run) known passed (and_then ! (load ! (from ! (stop !)) (look ! 9 refl)) (and_then ! (load ! (from ! (stop !)) (look ! 15 refl)) (and_then ! (load ! (from ! (stop !)) (look ! 5 refl)) (no_more !)))) (λ v.
         use1 𝓛 (later (some (λ (r : Stepped). ((‵ (flft κ' q') ⊛ ‵ ftrue) ⊛ ‵ ((S.the_row).own_val r (v ∷ []))) ⊛ raw (ensured 𝓛 covered.ended (covered.clauses 𝓛 at_mem run) (κ', tt) (h, (m, (y, tt))) tt r)))) (id⊢ 𝓤 _) $ await ! tt $ pick ! (λ r.
         split ! $ move ! (1 ∷ []) $ use1 𝓛 (some (λ (zs : Unit {0} × (Unit {0} × (List ℕ × Unit {0}))). ‵ (lasts covered.ended (κ', tt) (h, (m, (y, tt))) zs) ⊛ raw (fact 𝓤 (Says r zs.1.1.0)))) (id⊢ 𝓤 _) $ pick ! (λ zs.
@@ -174,9 +174,9 @@ message-meets : {M : Type 1} {𝓤 : Ura M} (𝓛 : Logic 𝓤) (at_mem : Memory
 message-meets {𝓤 = 𝓤} 𝓛 at_mem run 𝓣 known = walk_Meets 𝓛 message.ended stayed (goes 𝓛 at_mem run) (message.clauses 𝓛 at_mem run) (WpFn 𝓤 𝓛.H 𝓣.C 𝓣.Λ code.function) (WpFn-mono 𝓤 𝓛.H 𝓛.laws 𝓣 code.function)
     (message-walks 𝓛 at_mem run 𝓣.C 𝓣.Λ (fm_of 𝓤 𝓛.H 𝓛.laws 𝓣) known)
 
-pub message-spec : {M : Type 1} → stated.statement M
+pub message_spec : {M : Type 1} → stated.statement M
 unfolding code.routine tables_of
-message-spec 𝓤 𝓛 𝓜 𝓡 =
+message_spec 𝓤 𝓛 𝓜 𝓡 =
     entered 𝓤 𝓛.H (triple_of 𝓛 message.signature (message.spec 𝓛 𝓜.mem 𝓡.run))
     (tables 𝓤 𝓛.H 𝓜 𝓡 code.env).C (tables 𝓤 𝓛.H 𝓜 𝓡 code.env).Λ #host·message code.function (code.unfolded 𝓤 𝓛.H 𝓜 𝓡)
     (message-meets 𝓛 𝓜.mem 𝓡.run (tables_of 𝓤 𝓛.H 𝓜 (tables 𝓤 𝓛.H 𝓜 𝓡 code.env))

@@ -13,9 +13,9 @@ use Rattle.server_host.specs.contracts.suspect as suspect
 use Rattle.server_host.proofs.suspect.Statement.{statement}
 use Rattle.server_host.proofs.suspect.Code as code
 
-pub suspect-spec : {M : Type 1} → statement M
+pub suspect_spec : {M : Type 1} → statement M
 unfolding code.routine tables_of
-suspect-spec 𝓤 𝓛 𝓜 𝓡 =
+suspect_spec 𝓤 𝓛 𝓜 𝓡 =
     entered 𝓤 𝓛.H (triple_of 𝓛 suspect.signature (suspect.spec 𝓛 𝓜.mem 𝓡.run))
     (tables 𝓤 𝓛.H 𝓜 𝓡 code.env).C (tables 𝓤 𝓛.H 𝓜 𝓡 code.env).Λ #host·suspect code.function (code.unfolded 𝓤 𝓛.H 𝓜 𝓡)
     (meets types (Says suspect_outcome) (Left suspect_outcome) (leaves suspect_outcome) 𝓛 callee.name (tables_of 𝓤 𝓛.H 𝓜 (tables 𝓤 𝓛.H 𝓜 𝓡 code.env))

@@ -4,8 +4,8 @@ use borrow.Author.Rules.{rules}
 use Rattle.server_votes.proofs.act_inquiry.Statement.{statement}
 use Rattle.server_votes.proofs.act_inquiry.Tie as tie
 
-pub act-inquiry-spec : {M : Type 1} → statement M
-act-inquiry-spec =
+pub act_inquiry_spec : {M : Type 1} → statement M
+act_inquiry_spec =
     tie.close
     (tie.spec
     (λ c. search rules)

@@ -4,8 +4,8 @@ use borrow.Author.Rules.{rules}
 use Rattle.server_votes.proofs.act_request.Statement.{statement}
 use Rattle.server_votes.proofs.act_request.Tie as tie
 
-pub act-request-spec : {M : Type 1} → statement M
-act-request-spec =
+pub act_request_spec : {M : Type 1} → statement M
+act_request_spec =
     tie.close
     (tie.spec
     (λ c κs. search rules)

@@ -4,8 +4,8 @@ use borrow.Author.Rules.{rules}
 use Rattle.server_votes.proofs.act_yield.Statement.{statement}
 use Rattle.server_votes.proofs.act_yield.Tie as tie
 
-pub act-yield-spec : {M : Type 1} → statement M
-act-yield-spec =
+pub act_yield_spec : {M : Type 1} → statement M
+act_yield_spec =
     tie.close
     (tie.spec
     (λ c κs. search rules)

@@ -4,8 +4,8 @@ use borrow.Author.Rules.{rules}
 use Rattle.server_votes.proofs.delete.Statement.{statement}
 use Rattle.server_votes.proofs.delete.Tie as tie
 
-pub delete-spec : {M : Type 1} → statement M
-delete-spec =
+pub delete_spec : {M : Type 1} → statement M
+delete_spec =
     tie.close
     (tie.spec
     (λ c κs. search rules)

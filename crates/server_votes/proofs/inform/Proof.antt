@@ -4,8 +4,8 @@ use borrow.Author.Rules.{rules}
 use Rattle.server_votes.proofs.inform.Statement.{statement}
 use Rattle.server_votes.proofs.inform.Tie as tie
 
-pub inform-spec : {M : Type 1} → statement M
-inform-spec =
+pub inform_spec : {M : Type 1} → statement M
+inform_spec =
     tie.close
     (tie.spec
     (λ c κs. search rules)

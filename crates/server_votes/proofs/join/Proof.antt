@@ -4,8 +4,8 @@ use borrow.Author.Rules.{rules}
 use Rattle.server_votes.proofs.join.Statement.{statement}
 use Rattle.server_votes.proofs.join.Tie as tie
 
-pub join-spec : {M : Type 1} → statement M
-join-spec =
+pub join_spec : {M : Type 1} → statement M
+join_spec =
     tie.close
     (tie.spec
     (λ c κs. search rules)

@@ -4,8 +4,8 @@ use borrow.Author.Rules.{rules}
 use Rattle.server_votes.proofs.joined.Statement.{statement}
 use Rattle.server_votes.proofs.joined.Tie as tie
 
-pub joined-spec : {M : Type 1} → statement M
-joined-spec =
+pub joined_spec : {M : Type 1} → statement M
+joined_spec =
     tie.close
     (tie.spec
     (λ c. search rules)

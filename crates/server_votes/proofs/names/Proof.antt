@@ -3,11 +3,11 @@ use borrow.Author.Rules.{rules}
 use Rattle.server_votes.proofs.names.Statement.{statement}
 use Rattle.server_votes.proofs.names.Tie as tie
 
-returns-2 : tie.Need-returns-2
-returns-2 c = rw c.before.before.before.o.given.1
+returns-2 : tie.Need-returns-in-Of
+returns-2 c = rw c.in-Of.is
 
-pub names-spec : {M : Type 1} → statement M
-names-spec =
+pub names_spec : {M : Type 1} → statement M
+names_spec =
     tie.close
     (tie.spec
     (λ c. search rules)

@@ -3,12 +3,12 @@ use borrow.Author.Rules.{rules}
 use Rattle.server_votes.proofs.owns.Statement.{statement}
 use Rattle.server_votes.proofs.owns.Tie as tie
 
-pub owns-spec : {M : Type 1} → statement M
-owns-spec =
+pub owns_spec : {M : Type 1} → statement M
+owns_spec =
     tie.close
     (tie.spec
     (λ c. search rules)
     (λ c. search rules)
     (λ c κs. search rules)
     (λ c. search rules)
-    (λ c. rw c.before.before.o.given.1 c.same-request.ensures))
+    (λ c. rw c.in-Of.is c.same_request.ensures))

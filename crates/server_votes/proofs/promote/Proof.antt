@@ -4,8 +4,8 @@ use borrow.Author.Rules.{rules}
 use Rattle.server_votes.proofs.promote.Statement.{statement}
 use Rattle.server_votes.proofs.promote.Tie as tie
 
-pub promote-spec : {M : Type 1} → statement M
-promote-spec =
+pub promote_spec : {M : Type 1} → statement M
+promote_spec =
     tie.close
     (tie.spec
     (λ c κs. search rules)

@@ -4,8 +4,8 @@ use borrow.Author.Rules.{rules}
 use Rattle.server_votes.proofs.rotate.Statement.{statement}
 use Rattle.server_votes.proofs.rotate.Tie as tie
 
-pub rotate-spec : {M : Type 1} → statement M
-rotate-spec =
+pub rotate_spec : {M : Type 1} → statement M
+rotate_spec =
     tie.close
     (tie.spec
     (λ c κs. search rules)

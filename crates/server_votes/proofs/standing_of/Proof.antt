@@ -4,8 +4,8 @@ use borrow.Author.Rules.{rules}
 use Rattle.server_votes.proofs.standing_of.Statement.{statement}
 use Rattle.server_votes.proofs.standing_of.Tie as tie
 
-pub standing-of-spec : {M : Type 1} → statement M
-standing-of-spec =
+pub standing_of_spec : {M : Type 1} → statement M
+standing_of_spec =
     tie.close
     (tie.spec
     (λ c. search rules)

@@ -4,8 +4,8 @@ use borrow.Author.Rules.{rules}
 use Rattle.server_votes.proofs.waiting.Statement.{statement}
 use Rattle.server_votes.proofs.waiting.Tie as tie
 
-pub waiting-spec : {M : Type 1} → statement M
-waiting-spec =
+pub waiting_spec : {M : Type 1} → statement M
+waiting_spec =
     tie.close
     (tie.spec
     (λ c κs. search rules)

@@ -5,18 +5,18 @@ use borrow.Author.Rules.{rules}
 use Rattle.sim_acts.proofs.check.Statement.{statement}
 use Rattle.sim_acts.proofs.check.Tie as tie
 
-returns : tie.Need-returns
+returns : tie.Need-returns-then-not-has_server
 returns c =
     let d = c.before.before.before.before in
-    server_missing _ d.args.j d.requires c.before.has-server.ensures _ (no_server_checks _ _ _ _) c.if1.true
+    server_missing _ d.args.j d.requires c.has_server.ensures _ (no_server_checks _ _ _ _) c.if-not-has_server.true
 
-server-acts-requires : tie.Need-server-acts-requires
+server-acts-requires : tie.Need-server_acts-requires
 server-acts-requires c κs =
     let t = c.before.before in
-    server-here _ _ t.before.before.before.requires t.has-server.ensures c.before.if1.false
+    server-here _ _ t.requires t.has_server.ensures c.if-not-has_server.false
 
-pub check-spec : {M : Type 1} → statement M
-check-spec =
+pub check_spec : {M : Type 1} → statement M
+check_spec =
     tie.close
     (tie.spec
     (λ c κs. search rules)

@@ -10,53 +10,53 @@ use Rattle.sim_acts.proofs.down.Statement.{statement}
 use Rattle.sim_acts.proofs.down.Tie as tie
 
 -- the server is there
-module _ (c : tie.Else1) where
+module _ (c : tie.Else-not-has_server) where
   abbrev entry : tie.Start
   entry = c.before.before.before.before
 
-  here : HasServer entry.args.w.now entry.args.j
-  here = server-here _ _ entry.pre c.before.has-server.ensures c.if1.false
+  here : HasServer entry.args.w-1.now entry.args.j
+  here = server-here _ _ entry.requires c.has_server.ensures c.if-not-has_server.false
 
 -- it is up
-module _ (c : tie.Else2) where
-  abbrev present : tie.Else1
+module _ (c : tie.Else-not-is_up) where
+  abbrev present : tie.Else-not-has_server
   present = c.before.before.before
 
 -- it is down now
-module _ (c : tie.After-sink-server) where
-  abbrev running : tie.Else2
+module _ (c : tie.After-sink_server) where
+  abbrev running : tie.Else-not-is_up
   running = c.before.before
 
-returns : tie.Need-returns
+returns : tie.Need-returns-then-not-has_server
 returns c =
     let d = c.before.before.before.before in
-    server_missing _ d.args.j d.requires c.before.has-server.ensures _ (no_server-downs _ _ _ _) c.if1.true
+    server_missing _ d.args.j d.requires c.has_server.ensures _ (no_server-downs _ _ _ _) c.if-not-has_server.true
 
-returns-2 : tie.Need-returns-2
-returns-2 c = server-down _ _ (here c.before.before.before) c.before.is_up.ensures _ (downs_twice _ _ _ _) c.if2.true
+returns-2 : tie.Need-returns-then-not-is_up
+returns-2 c = server-down _ _ (here c.before.before.before) c.is_up.ensures _ (downs_twice _ _ _ _) c.if-not-is_up.true
 
-restart-messages-requires : tie.Need-restart-messages-requires
+restart-messages-requires : tie.Need-restart_messages-requires
 restart-messages-requires c κs =
     let s = c.before.before.before in
-    sunk-server _ _ (here (present (running s))) s.sink-server.ensures
+    sunk-server _ _ (here (present (running s))) s.sink_server.ensures
 
-note-down-requires : tie.Need-note-down-requires
+note-down-requires : tie.Need-note_down-requires
 note-down-requires c κs =
     let r = c.before.before.before in
     let s = r.before.before.before.before in
-    still-server _ _ (here (present (running s))) s.sink-server.ensures r.restart-messages.ensures
+    still-server _ _ (here (present (running s))) s.sink_server.ensures r.restart_messages.ensures
 
-returns-3 : tie.Need-returns-3
+returns-3 : tie.Need-returns
 returns-3 c =
     let n = c.before.before in
     let r = n.before.before.before.before in
     let s = r.before.before.before.before in
     let u = running s in
-    down_leaves _ _ (here (present u)) s.sink-server.ensures r.restart-messages.ensures n.note-down.ensures u.before.is_up.ensures
-    u.if2.left
+    down_leaves _ _ (here (present u)) s.sink_server.ensures r.restart_messages.ensures n.note_down.ensures u.is_up.ensures
+    u.if-not-is_up.false
 
-pub down-spec : {M : Type 1} → statement M
-down-spec =
+pub down_spec : {M : Type 1} → statement M
+down_spec =
     tie.close
     (tie.spec
     (λ c κs. search rules)

@@ -4,23 +4,23 @@ use borrow.Author.Rules.{rules}
 use Rattle.sim_acts.proofs.drop.Statement.{statement}
 use Rattle.sim_acts.proofs.drop.Tie as tie
 
-returns : tie.Need-returns
+returns : tie.Need-returns-then-i-in_transit
 returns c =
     let f = c.before.before.before in
-    drop_missing _ _ f.before.before.before.requires f.find-present.ensures c.before.in_transit_lem.ensures c.if1.true
+    drop_missing _ _ f.requires f.find_present-i.ensures c.before.in_transit_lem.ensures c.if-i-in_transit.true
 
-remove-requires : tie.Need-remove-message-requires
+remove-requires : tie.Need-remove_message-requires
 remove-requires c κs =
     let e = c.before in
     let f = e.before.before.before in
-    record { valid = search rules; used = used _ _ f.before.before.before.requires f.find-present.ensures e.before.in_transit_lem.ensures e.if1.false }
+    record { valid = search rules; used = used _ _ f.requires f.find_present-i.ensures e.before.in_transit_lem.ensures e.if-i-in_transit.false }
 
-returns-2 : tie.Need-returns-2
+returns-2 : tie.Need-returns
 returns-2 c =
     let e = c.before.before.before.before in
     let f = e.before.before.before in
-    drop_leaves _ _ f.before.before.before.requires f.find-present.ensures e.before.in_transit_lem.ensures e.if1.false
-    c.before.before.remove-message.ensures
+    drop_leaves _ _ f.requires f.find_present-i.ensures e.before.in_transit_lem.ensures e.if-i-in_transit.false
+    c.remove_message.ensures
 
 pub drop_spec : {M : Type 1} → statement M
 drop_spec =

@@ -5,18 +5,18 @@ use borrow.Author.Rules.{rules}
 use Rattle.sim_acts.proofs.exit.Statement.{statement}
 use Rattle.sim_acts.proofs.exit.Tie as tie
 
-returns : tie.Need-returns
+returns : tie.Need-returns-then-not-has_client
 returns c =
     let d = c.before.before.before.before in
-    client_missing _ d.args.k d.requires c.before.has-client.ensures _ (no_client-exits _ _ _ _) c.if1.true
+    client_missing _ d.args.k d.requires c.has_client.ensures _ (no_client-exits _ _ _ _) c.if-not-has_client.true
 
-client-acts-requires : tie.Need-client-acts-requires
+client-acts-requires : tie.Need-client_acts-requires
 client-acts-requires c κs =
     let t = c.before.before in
-    client-here _ _ t.before.before.before.requires t.has-client.ensures c.before.if1.false
+    client-here _ _ t.requires t.has_client.ensures c.if-not-has_client.false
 
-pub exit-spec : {M : Type 1} → statement M
-exit-spec =
+pub exit_spec : {M : Type 1} → statement M
+exit_spec =
     tie.close
     (tie.spec
     (λ c κs. search rules)

@@ -8,29 +8,29 @@ use borrow.Author.Rules.{rules}
 use Rattle.sim_acts.proofs.fall.Statement.{statement}
 use Rattle.sim_acts.proofs.fall.Tie as tie
 
-returns : tie.Need-returns
+returns : tie.Need-returns-then-not-has_client
 returns c =
     let d = c.before.before.before.before in
-    client_missing _ d.args.k d.requires c.before.has-client.ensures _ (no_client_falls _ _ _ _) c.if1.true
+    client_missing _ d.args.k d.requires c.has_client.ensures _ (no_client_falls _ _ _ _) c.if-not-has_client.true
 
 -- the client is there
-module _ (c : tie.Else1) where
+module _ (c : tie.Else-not-has_client) where
   abbrev entry : tie.Start
   entry = c.before.before.before.before
 
-  here : HasClient entry.args.w.now entry.args.k
-  here = client-here _ _ entry.pre c.before.has-client.ensures c.if1.false
+  here : HasClient entry.args.w-1.now entry.args.k
+  here = client-here _ _ entry.requires c.has_client.ensures c.if-not-has_client.false
 
-returns-2 : tie.Need-returns-2
-returns-2 c = fall_twice _ _ (here c.before.before.before) c.before.is-living.ensures c.if2.true
+returns-2 : tie.Need-returns-then-not-is_living
+returns-2 c = fall_twice _ _ (here c.before.before.before) c.is_living.ensures c.if-not-is_living.true
 
-returns-3 : tie.Need-returns-3
+returns-3 : tie.Need-returns
 returns-3 c =
     let t = c.before.before.before.before in
-    fall_leaves _ _ (here t.before.before.before) t.before.is-living.ensures t.if2.false c.before.before.fall-client.ensures
+    fall_leaves _ _ (here t.before.before.before) t.is_living.ensures t.if-not-is_living.false c.fall_client.ensures
 
-pub fall-spec : {M : Type 1} → statement M
-fall-spec =
+pub fall_spec : {M : Type 1} → statement M
+fall_spec =
     tie.close
     (tie.spec
     (λ c κs. search rules)

@@ -16,67 +16,67 @@ use Rattle.sim_acts.proofs.miss.Statement.{statement}
 use Rattle.sim_acts.proofs.miss.Tie as tie
 
 -- the server is there
-module _ (c : tie.Else1) where
+module _ (c : tie.Else-not-has_server) where
   abbrev entry : tie.Start
   entry = c.before.before.before.before
 
   abbrev words : List ℕ
-  words = entry.args.w.now
+  words = entry.args.w-1.now
 
   here : HasServer words entry.args.j
-  here = server-here words entry.args.j entry.pre c.before.has-server.ensures c.if1.false
+  here = server-here words entry.args.j entry.requires c.has_server.ensures c.if-not-has_server.false
 
 -- it is up
-module _ (c : tie.Else2) where
-  abbrev present : tie.Else1
+module _ (c : tie.Else-not-is_up) where
+  abbrev present : tie.Else-not-has_server
   present = c.before.before.before
 
   up : (server_at (view (words present)) (entry present).args.j).up ≡ true
-  up = server-runs (words present) (entry present).args.j (here present) c.before.is_up.ensures c.if2.false
+  up = server-runs (words present) (entry present).args.j (here present) c.is_up.ensures c.if-not-is_up.false
 
 -- it has an owner
-module _ (c : tie.After-owner) where
-  abbrev running : tie.Else2
+module _ (c : tie.In-Of-2) where
+  abbrev running : tie.Else-not-is_up
   running = c.before.before.before.before
 
-returns : tie.Need-returns
+returns : tie.Need-returns-then-not-has_server
 returns c =
     let d = c.before.before.before.before in
-    server_missing _ d.args.j d.requires c.before.has-server.ensures _ (no_server-misses _ _ _ _) c.if1.true
+    server_missing _ d.args.j d.requires c.has_server.ensures _ (no_server-misses _ _ _ _) c.if-not-has_server.true
 
-returns-2 : tie.Need-returns-2
-returns-2 c = server-down _ _ (here c.before.before.before) c.before.is_up.ensures _ (misses-down _ _ _ _) c.if2.true
+returns-2 : tie.Need-returns-then-not-is_up
+returns-2 c = server-down _ _ (here c.before.before.before) c.is_up.ensures _ (misses-down _ _ _ _) c.if-not-is_up.true
 
-is-living-requires : tie.Need-is-living-requires
+is-living-requires : tie.Need-is_living-requires
 is-living-requires c κs =
     let o = c.before.before.before in
     let r = running o in
-    client_in_lem _ _ (owner-client _ _ (here (present r)) (up r) _ o.before.before.owner_of.ensures _ o.owner.given.1)
+    client_in_lem _ _ (owner-client _ _ (here (present r)) (up r) _ o.owner_of-owner.ensures _ o.in-Of.is)
 
-returns-3 : tie.Need-returns-3
+returns-3 : tie.Need-returns-then-is_living
 returns-3 c =
     let o = c.before.before.before.before.before in
     let r = running o in
-    miss-living _ _ (here (present r)) (up r) _ o.before.before.owner_of.ensures _ o.owner.given.1 _ c.before.is-living.ensures c.if3.true
+    miss-living _ _ (here (present r)) (up r) _ o.owner_of-owner.ensures _ o.in-Of.is _ c.is_living.ensures c.if-is_living.true
 
-server-steps-requires : tie.Need-server-steps-requires
+server-steps-requires : tie.Need-server_steps-requires
 server-steps-requires c κs =
     let l = c.before.before in
     let o = l.before.before.before.before in
     let r = running o in (
-      owner_missing _ _ (here (present r)) (up r) _ o.before.before.owner_of.ensures _ o.owner.given.1 _ l.is-living.ensures
-          c.before.if3.false,
+      owner_missing _ _ (here (present r)) (up r) _ o.owner_of-owner.ensures _ o.in-Of.is _ l.is_living.ensures
+          c.if-is_living.false,
       up r,
     )
 
-returns-4 : tie.Need-returns-4
+returns-4 : tie.Need-returns-in-Nobody
 returns-4 c =
     let o = c.before.before in
     let r = o.before.before in
-    miss_nobody _ _ (here (present r)) (up r) _ o.owner_of.ensures c.enum_told.given.1
+    miss_nobody _ _ (here (present r)) (up r) _ o.owner_of-owner.ensures c.in-Nobody.is
 
-pub miss-spec : {M : Type 1} → statement M
-miss-spec =
+pub miss_spec : {M : Type 1} → statement M
+miss_spec =
     tie.close
     (tie.spec
     (λ c κs. search rules)

@@ -8,29 +8,29 @@ use borrow.Author.Rules.{rules}
 use Rattle.sim_acts.proofs.up.Statement.{statement}
 use Rattle.sim_acts.proofs.up.Tie as tie
 
-returns : tie.Need-returns
+returns : tie.Need-returns-then-not-has_server
 returns c =
     let d = c.before.before.before.before in
-    server_missing _ d.args.j d.requires c.before.has-server.ensures _ (no_server-ups _ _ _ _) c.if1.true
+    server_missing _ d.args.j d.requires c.has_server.ensures _ (no_server-ups _ _ _ _) c.if-not-has_server.true
 
 -- the server is there
-module _ (c : tie.Else1) where
+module _ (c : tie.Else-not-has_server) where
   abbrev entry : tie.Start
   entry = c.before.before.before.before
 
-  here : HasServer entry.args.w.now entry.args.j
-  here = server-here _ _ entry.pre c.before.has-server.ensures c.if1.false
+  here : HasServer entry.args.w-1.now entry.args.j
+  here = server-here _ _ entry.requires c.has_server.ensures c.if-not-has_server.false
 
-returns-2 : tie.Need-returns-2
-returns-2 c = up_twice _ _ (here c.before.before.before) c.before.is_up.ensures c.if2.true
+returns-2 : tie.Need-returns-then-is_up
+returns-2 c = up_twice _ _ (here c.before.before.before) c.is_up.ensures c.if-is_up.true
 
-returns-3 : tie.Need-returns-3
+returns-3 : tie.Need-returns
 returns-3 c =
     let t = c.before.before.before.before in
-    up_leaves _ _ (here t.before.before.before) t.before.is_up.ensures t.if2.false c.before.before.rise-server.ensures
+    up_leaves _ _ (here t.before.before.before) t.is_up.ensures t.if-is_up.false c.rise_server.ensures
 
-pub up-spec : {M : Type 1} → statement M
-up-spec =
+pub up_spec : {M : Type 1} → statement M
+up_spec =
     tie.close
     (tie.spec
     (λ c κs. search rules)

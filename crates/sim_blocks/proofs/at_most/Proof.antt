@@ -9,20 +9,20 @@ use borrow.Author.Rules.{rules}
 use Rattle.sim_blocks.proofs.at_most.Statement.{statement}
 use Rattle.sim_blocks.proofs.at_most.Tie as tie
 
-abbrev invariant-loop : tie.invariant-loop
+abbrev invariant-loop : tie.invariant-loop-i
 invariant-loop words most i₀ i = Passing (λ x. leb x most) 0 words (length words) i
 
-abbrev decreases-loop : tie.decreases-loop
+abbrev decreases-loop : tie.decreases-loop-i
 decreases-loop words most i₀ i = length words - i
 
-returns : tie.Need-returns invariant-loop decreases-loop
-returns c = most_failed _ _ _ c.before.before.before.loop.invariant (omega arith) c.if1.true
+returns : tie.Need-returns-then-most-words invariant-loop decreases-loop
+returns c = most_failed _ _ _ c.loop-i.invariant (omega arith) c.if-most-words.true
 
-loop-again : tie.Need-loop-preserved invariant-loop decreases-loop
-loop-again c = most-more _ _ _ c.before.before.before.loop.invariant (omega arith) c.if1.false
+loop-again : tie.Need-loop-i-preserved invariant-loop decreases-loop
+loop-again c = most-more _ _ _ c.loop-i.invariant (omega arith) c.if-most-words.false
 
-pub at-most-spec : {M : Type 1} → statement M
-at-most-spec =
+pub at_most_spec : {M : Type 1} → statement M
+at_most_spec =
     tie.close
     (tie.spec
     invariant-loop
@@ -34,4 +34,4 @@ at-most-spec =
     (λ c. search rules)
     (λ c. omega arith)
     loop-again
-    (λ c. most-all _ _ _ c.before.loop.invariant (omega arith)))
+    (λ c. most-all _ _ _ c.loop-i.invariant (omega arith)))

@@ -11,14 +11,14 @@ use Rattle.sim_blocks.proofs.clear_flags.Tie as tie
 use Rattle.sim_blocks.specs.Blocks.{client_block, flags_from}
 use Rattle.system.specs.Limits.{system_servers}
 
-abbrev invariant-loop : tie.invariant-loop
+abbrev invariant-loop : tie.invariant-loop-i
 invariant-loop b₀ i₀ b i = (length b₀ ≡ client_block) × Clearing b₀ flags_from system_servers b i
 
-abbrev decreases-loop : tie.decreases-loop
+abbrev decreases-loop : tie.decreases-loop-i
 decreases-loop b₀ i₀ b i = system_servers - i
 
-pub clear-flags-spec : {M : Type 1} → statement M
-clear-flags-spec =
+pub clear_flags_spec : {M : Type 1} → statement M
+clear_flags_spec =
     tie.close
     (tie.spec
     invariant-loop

@@ -4,12 +4,12 @@ use borrow.Author.Rules.{rules}
 use Rattle.sim_blocks.proofs.client_head.Statement.{statement}
 use Rattle.sim_blocks.proofs.client_head.Tie as tie
 
-pub client-head-spec : {M : Type 1} → statement M
-client-head-spec =
+pub client_head_spec : {M : Type 1} → statement M
+client_head_spec =
     tie.close
     (tie.spec
     (λ c. search rules)
     (λ c. search rules)
     (λ c. search rules)
-    (λ c κs. (client-held _ _ c.before.before.requires.1).headed)
+    (λ c κs. (client-held _ _ c.requires.1).headed)
     (λ c. search rules))

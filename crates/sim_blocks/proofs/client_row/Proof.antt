@@ -4,8 +4,8 @@ use borrow.Author.Rules.{rules}
 use Rattle.sim_blocks.proofs.client_row.Statement.{statement}
 use Rattle.sim_blocks.proofs.client_row.Tie as tie
 
-pub client-row-spec : {M : Type 1} → statement M
-client-row-spec =
+pub client_row_spec : {M : Type 1} → statement M
+client_row_spec =
     tie.close
     (tie.spec
     (λ c. search rules)

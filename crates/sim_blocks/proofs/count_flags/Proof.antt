@@ -4,8 +4,8 @@ use borrow.Author.Rules.{rules}
 use Rattle.sim_blocks.proofs.count_flags.Statement.{statement}
 use Rattle.sim_blocks.proofs.count_flags.Tie as tie
 
-pub count-flags-spec : {M : Type 1} → statement M
-count-flags-spec =
+pub count_flags_spec : {M : Type 1} → statement M
+count_flags_spec =
     tie.close
     (tie.spec
     (λ c. search rules)

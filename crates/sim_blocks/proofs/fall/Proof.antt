@@ -8,13 +8,13 @@ use borrow.Author.Rules.{rules}
 use Rattle.sim_blocks.proofs.fall.Statement.{statement}
 use Rattle.sim_blocks.proofs.fall.Tie as tie
 
-same_length : tie.Need-same-length
-same_length c = ap length c.before.before.clear-flags.ensures ∙
-    length-cleared (set c.before.before.before.before.before.args.b.now 0 0) ∙
-    length-set c.before.before.before.before.before.args.b.now 0 0
+same_length : tie.Need-shape_of-b
+same_length c = ap length c.clear_flags.ensures ∙
+    length-cleared (set c.args.b-1.now 0 0) ∙
+    length-set c.args.b-1.now 0 0
 
-pub fall-spec : {M : Type 1} → statement M
-fall-spec =
+pub fall_spec : {M : Type 1} → statement M
+fall_spec =
     tie.close
     (tie.spec
     (λ c. search rules)

@@ -22,47 +22,47 @@ module _ (c : tie.Start) where
   long = (client-held response_words words c.requires).size
 
 -- the record is tested
-module _ (c : tie.After-valid-row) where
-  abbrev head : tie.After-client-head
+module _ (c : tie.After-valid_row) where
+  abbrev head : tie.After-client_head-h
   head = c.before.before
 
   abbrev entry : tie.Start
   entry = head.before.before
 
-  its : client_of head.client-head.result (take (client_record_size - client_head) (drop client_head (words entry))) ≡ client_from (words entry)
-  its = client-lent (words entry) _ entry.pre head.client-head.ensures
+  its : client_of head.client_head-h.result (take (client_record_size - client_head) (drop client_head (words entry))) ≡ client_from (words entry)
+  its = client-lent (words entry) _ entry.requires head.client_head-h.ensures
 
-returns : tie.Need-returns
-returns c = let v = c.before in client_broken _ _ _ _ _ _ (its v) _ v.valid-row.ensures c.if1.true
+returns : tie.Need-returns-then-not-valid_row
+returns c = let v = c.before in client_broken _ _ _ _ _ _ (its v) _ v.valid_row.ensures c.if-not-valid_row.true
 
-returns-2 : tie.Need-returns-2
-returns-2 c = let v = c.before.before.before in servers_differ _ _ _ _ _ _ (its v) _ v.valid-row.ensures c.before.before.if1.false c.if2.true
+returns-2 : tie.Need-returns-then-words-n
+returns-2 c = let v = c.before.before.before in servers_differ _ _ _ _ _ _ (its v) _ v.valid_row.ensures c.if-not-valid_row.false c.if-words-n.true
 
-shared-slice-read-if3 : tie.Need-shared-slice-read-if3
+shared-slice-read-if3 : tie.Need-bounds-words-1
 shared-slice-read-if3 c = omega (arith, long (entry c.before.before.before.before))
 
-returns-3 : tie.Need-returns-3
+returns-3 : tie.Need-returns-then-words-m
 returns-3 c =
     let v = c.before.before.before.before.before in
-    threshold_differs _ _ _ _ _ _ (its v) _ v.valid-row.ensures c.before.before.before.before.if1.false
-    c.before.before.if2.false c.if3.true
+    threshold_differs _ _ _ _ _ _ (its v) _ v.valid_row.ensures c.if-not-valid_row.false
+    c.if-words-n.false c.if-words-m.true
 
-shared-slice-read-if4 : tie.Need-shared-slice-read-if4
+shared-slice-read-if4 : tie.Need-bounds-words-2
 shared-slice-read-if4 c = omega (arith, long (entry c.before.before.before.before.before.before))
 
 -- the three numbers are the setting's and the client's own
-module _ (c : tie.Else3) where
-  abbrev tested : tie.After-valid-row
+module _ (c : tie.Else-words-m) where
+  abbrev tested : tie.After-valid_row
   tested = c.before.before.before.before.before
 
-returns-4 : tie.Need-returns-4
+returns-4 : tie.Need-returns-then-words-k
 returns-4 c =
     let t = c.before.before.before in
     let v = tested t in
-    number_differs _ _ _ _ _ _ (its v) _ v.valid-row.ensures t.before.before.before.before.if1.false
-    t.before.before.if2.false t.if3.false c.if4.true
+    number_differs _ _ _ _ _ _ (its v) _ v.valid_row.ensures t.if-not-valid_row.false
+    t.if-words-n.false t.if-words-m.false c.if-words-k.true
 
-requests-named-requires : tie.Need-requests-named-requires
+requests-named-requires : tie.Need-requests_named-requires
 requests-named-requires c κs =
     let t = c.before.before.before in
     let v = tested t in
@@ -70,23 +70,23 @@ requests-named-requires c κs =
     omega (
       arith,
       long (entry v),
-      servers-few a.n a.m a.clients a.k _ _ (its v) _ v.valid-row.ensures
-          t.before.before.before.before.if1.false t.before.before.if2.false (client-row response_words (words (entry v)) (entry v).pre),
+      servers-few a.n a.m a.clients a.k _ _ (its v) _ v.valid_row.ensures
+          t.if-not-valid_row.false t.if-words-n.false (client-row response_words (words (entry v)) (entry v).requires),
     )
 
-returns-5 : tie.Need-returns-5
+returns-5 : tie.Need-returns
 returns-5 c =
     let e = c.before in
     let t = e.before.before.before in
     let v = tested t in
-    named_decides _ _ _ _ _ _ (its v) _ v.valid-row.ensures t.before.before.before.before.if1.false
-    t.before.before.if2.false t.if3.false e.if4.false _ c.requests-named.ensures
+    named_decides _ _ _ _ _ _ (its v) _ v.valid_row.ensures t.if-not-valid_row.false
+    t.if-words-n.false t.if-words-m.false e.if-words-k.false _ c.requests_named.ensures
 
-pub fits-client-spec : {M : Type 1} → statement M
-fits-client-spec =
+pub fits_client_spec : {M : Type 1} → statement M
+fits_client_spec =
     tie.close
     (tie.spec
-    (λ c κs. (client-held _ _ c.before.requires).headed)
+    (λ c κs. (client-held _ _ c.requires).headed)
     (λ c. search rules)
     (λ c. search rules)
     (λ c. omega (arith, long c.before.before))

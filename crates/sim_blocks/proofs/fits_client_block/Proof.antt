@@ -4,8 +4,8 @@ use borrow.Author.Rules.{rules}
 use Rattle.sim_blocks.proofs.fits_client_block.Statement.{statement}
 use Rattle.sim_blocks.proofs.fits_client_block.Tie as tie
 
-pub fits-client-block-spec : {M : Type 1} → statement M
-fits-client-block-spec =
+pub fits_client_block_spec : {M : Type 1} → statement M
+fits_client_block_spec =
     tie.close
     (tie.spec
     (λ c. search rules)

@@ -5,8 +5,8 @@ use borrow.Author.Rules.{rules}
 use Rattle.sim_blocks.proofs.fits_flags.Statement.{statement}
 use Rattle.sim_blocks.proofs.fits_flags.Tie as tie
 
-pub fits-flags-spec : {M : Type 1} → statement M
-fits-flags-spec =
+pub fits_flags_spec : {M : Type 1} → statement M
+fits_flags_spec =
     tie.close
     (tie.spec
     (λ c κs. tt)

@@ -9,22 +9,22 @@ use Rattle.sim_blocks.proofs.flags_set.Statement.{statement}
 use Rattle.sim_blocks.proofs.flags_set.Tie as tie
 use Rattle.system.specs.Limits.{system_servers}
 
-abbrev invariant-loop : tie.invariant-loop
+abbrev invariant-loop : tie.invariant-loop-i
 invariant-loop words count₀ i₀ count i = Counting words count i
 
-abbrev decreases-loop : tie.decreases-loop
+abbrev decreases-loop : tie.decreases-loop-i
 decreases-loop words count₀ i₀ count i = system_servers - i
 
-add-count : tie.Need-overflow-add-count invariant-loop decreases-loop
+add-count : tie.Need-overflow_add-count invariant-loop decreases-loop
 add-count c = omega (
   arith,
-  c.before.before.before.loop.invariant.few,
-  c.before.before.before.loop.invariant.within,
-  one_at_most (get_or c.before.before.before.before.before.args.words.now c.before.before.before.loop.i 0) _ c.bit-of.ensures,
+  c.loop-i.invariant.few,
+  c.loop-i.invariant.within,
+  one_at_most (get_or c.args.words.now c.loop-i.i 0) _ c.bit_of-count.ensures,
 )
 
-pub flags-set-spec : {M : Type 1} → statement M
-flags-set-spec =
+pub flags_set_spec : {M : Type 1} → statement M
+flags_set_spec =
     tie.close
     (tie.spec
     invariant-loop

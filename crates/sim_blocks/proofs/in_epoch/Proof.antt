@@ -4,8 +4,8 @@ use borrow.Author.Rules.{rules}
 use Rattle.sim_blocks.proofs.in_epoch.Statement.{statement}
 use Rattle.sim_blocks.proofs.in_epoch.Tie as tie
 
-pub in-epoch-spec : {M : Type 1} → statement M
-in-epoch-spec =
+pub in_epoch_spec : {M : Type 1} → statement M
+in_epoch_spec =
     tie.close
     (tie.spec
     (λ c. search rules)

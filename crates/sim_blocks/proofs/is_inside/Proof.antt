@@ -4,8 +4,8 @@ use borrow.Author.Rules.{rules}
 use Rattle.sim_blocks.proofs.is_inside.Statement.{statement}
 use Rattle.sim_blocks.proofs.is_inside.Tie as tie
 
-pub is-inside-spec : {M : Type 1} → statement M
-is-inside-spec =
+pub is_inside_spec : {M : Type 1} → statement M
+is_inside_spec =
     tie.close
     (tie.spec
     (λ c. search rules)

@@ -4,8 +4,8 @@ use borrow.Author.Rules.{rules}
 use Rattle.sim_blocks.proofs.is_living.Statement.{statement}
 use Rattle.sim_blocks.proofs.is_living.Tie as tie
 
-pub is-living-spec : {M : Type 1} → statement M
-is-living-spec =
+pub is_living_spec : {M : Type 1} → statement M
+is_living_spec =
     tie.close
     (tie.spec
     (λ c. search rules)

@@ -4,8 +4,8 @@ use borrow.Author.Rules.{rules}
 use Rattle.sim_blocks.proofs.is_up.Statement.{statement}
 use Rattle.sim_blocks.proofs.is_up.Tie as tie
 
-pub is-up-spec : {M : Type 1} → statement M
-is-up-spec =
+pub is_up_spec : {M : Type 1} → statement M
+is_up_spec =
     tie.close
     (tie.spec
     (λ c. search rules)

@@ -4,8 +4,8 @@ use borrow.Author.Rules.{rules}
 use Rattle.sim_blocks.proofs.mark_down.Statement.{statement}
 use Rattle.sim_blocks.proofs.mark_down.Tie as tie
 
-pub mark-down-spec : {M : Type 1} → statement M
-mark-down-spec =
+pub mark_down_spec : {M : Type 1} → statement M
+mark_down_spec =
     tie.close
     (tie.spec
     (λ c κs. search rules)

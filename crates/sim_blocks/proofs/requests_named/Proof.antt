@@ -6,14 +6,14 @@ use borrow.Author.Rules.{rules}
 use Rattle.sim_blocks.proofs.requests_named.Statement.{statement}
 use Rattle.sim_blocks.proofs.requests_named.Tie as tie
 
-abbrev invariant-loop : tie.invariant-loop
+abbrev invariant-loop : tie.invariant-loop-i
 invariant-loop words head count clients i₀ i = Naming words head count clients i
 
-abbrev decreases-loop : tie.decreases-loop
+abbrev decreases-loop : tie.decreases-loop-i
 decreases-loop words head count clients i₀ i = count - i
 
-pub requests-named-spec : {M : Type 1} → statement M
-requests-named-spec =
+pub requests_named_spec : {M : Type 1} → statement M
+requests_named_spec =
     tie.close
     (tie.spec
     invariant-loop

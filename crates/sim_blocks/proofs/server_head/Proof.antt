@@ -4,12 +4,12 @@ use borrow.Author.Rules.{rules}
 use Rattle.sim_blocks.proofs.server_head.Statement.{statement}
 use Rattle.sim_blocks.proofs.server_head.Tie as tie
 
-pub server-head-spec : {M : Type 1} → statement M
-server-head-spec =
+pub server_head_spec : {M : Type 1} → statement M
+server_head_spec =
     tie.close
     (tie.spec
     (λ c. search rules)
     (λ c. search rules)
     (λ c. search rules)
-    (λ c κs. (server-held _ _ c.before.before.requires.1).headed)
+    (λ c κs. (server-held _ _ c.requires.1).headed)
     (λ c. search rules))

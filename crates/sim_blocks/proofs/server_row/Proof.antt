@@ -4,8 +4,8 @@ use borrow.Author.Rules.{rules}
 use Rattle.sim_blocks.proofs.server_row.Statement.{statement}
 use Rattle.sim_blocks.proofs.server_row.Tie as tie
 
-pub server-row-spec : {M : Type 1} → statement M
-server-row-spec =
+pub server_row_spec : {M : Type 1} → statement M
+server_row_spec =
     tie.close
     (tie.spec
     (λ c. search rules)

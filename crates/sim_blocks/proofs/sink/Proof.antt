@@ -4,8 +4,8 @@ use borrow.Author.Rules.{rules}
 use Rattle.sim_blocks.proofs.sink.Statement.{statement}
 use Rattle.sim_blocks.proofs.sink.Tie as tie
 
-pub sink-spec : {M : Type 1} → statement M
-sink-spec =
+pub sink_spec : {M : Type 1} → statement M
+sink_spec =
     tie.close
     (tie.spec
     (λ c κs. search rules)

@@ -7,11 +7,11 @@ use borrow.Author.Rules.{rules}
 use Rattle.sim_blocks.proofs.valid_client_block.Statement.{statement}
 use Rattle.sim_blocks.proofs.valid_client_block.Tie as tie
 
-fits-client-block-requires : tie.Need-fits-client-block-requires
-fits-client-block-requires c κs = (c.before.before.before.before.before.if1.false, sym c.before.holds-client-of.ensures ∙ not-false _ c.if3.false)
+fits-client-block-requires : tie.Need-fits_client_block-requires
+fits-client-block-requires c κs = (c.if-b-ne-CLIENT_BLOCK.false, sym c.holds_client_of.ensures ∙ not-false _ c.if-not-holds_client_of.false)
 
-pub valid-client-block-spec : {M : Type 1} → statement M
-valid-client-block-spec =
+pub valid_client_block_spec : {M : Type 1} → statement M
+valid_client_block_spec =
     tie.close
     (tie.spec
     (λ c. search client-size)

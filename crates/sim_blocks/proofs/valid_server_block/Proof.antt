@@ -7,8 +7,8 @@ use borrow.Author.Rules.{rules}
 use Rattle.sim_blocks.proofs.valid_server_block.Statement.{statement}
 use Rattle.sim_blocks.proofs.valid_server_block.Tie as tie
 
-pub valid-server-block-spec : {M : Type 1} → statement M
-valid-server-block-spec =
+pub valid_server_block_spec : {M : Type 1} → statement M
+valid_server_block_spec =
     tie.close
     (tie.spec
     (λ c. search server-size)
@@ -19,5 +19,5 @@ valid-server-block-spec =
     (λ c. search rules)
     (λ c κs. tt)
     (λ c. search server-wide)
-    (λ c κs. sym c.before.holds-server-of.ensures ∙ not-false _ c.if3.false)
+    (λ c κs. sym c.holds_server_of.ensures ∙ not-false _ c.if-not-holds_server_of.false)
     (λ c. search server-decided))

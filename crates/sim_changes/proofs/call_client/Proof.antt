@@ -3,38 +3,38 @@ use borrow.Author.Rules.{rules}
 use Rattle.sim_changes.proofs.call_client.Statement.{statement}
 use Rattle.sim_changes.proofs.call_client.Tie as tie
 
-respond-row-requires : tie.Need-respond-row-requires
+respond-row-requires : tie.Need-respond_row-requires
 respond-row-requires c κs =
     let a = c.before.before.before in
-    rw a.act.given.1 at a.before.before.before.before.requires
+    rw a.in-Response.is at a.requires
 
-check-row-requires : tie.Need-check-row-requires
+check-row-requires : tie.Need-check_row-requires
 check-row-requires c κs =
     let a = c.before.before.before in
-    rw a.act2.given.1 at a.before.before.before.before.requires
+    rw a.in-Check.is at a.requires
 
-returns : tie.Need-returns
+returns : tie.Need-returns-in-Try
 returns c =
     let r = c.before.before.before.before in
-    rw r.before.before.before.enum_told.given.1 r.begin-row.ensures
+    rw r.in-Try.is r.begin_row.ensures
 
-returns-2 : tie.Need-returns-2
+returns-2 : tie.Need-returns-in-Exit
 returns-2 c =
     let r = c.before.before.before.before in
-    rw r.before.before.before.enum-told2.given.1 r.exit-row.ensures
+    rw r.in-Exit.is r.exit_row.ensures
 
-returns-3 : tie.Need-returns-3
+returns-3 : tie.Need-returns-in-Response
 returns-3 c =
     let r = c.before.before.before.before in
-    rw r.before.before.before.before.act.given.1 r.respond-row.ensures
+    rw r.in-Response.is r.respond_row.ensures
 
-returns-4 : tie.Need-returns-4
+returns-4 : tie.Need-returns-in-Check
 returns-4 c =
     let r = c.before.before in
-    rw r.before.before.before.before.act2.given.1 r.check-row.ensures
+    rw r.in-Check.is r.check_row.ensures
 
-pub call-client-spec : {M : Type 1} → statement M
-call-client-spec =
+pub call_client_spec : {M : Type 1} → statement M
+call_client_spec =
     tie.close
     (tie.spec
     (λ c. search rules)

@@ -3,21 +3,21 @@ use borrow.Author.Rules.{rules}
 use Rattle.sim_changes.proofs.call_server.Statement.{statement}
 use Rattle.sim_changes.proofs.call_server.Tie as tie
 
-returns : tie.Need-returns
-returns c = rw c.before.before.enum_told.given.1 c.check-row.ensures
+returns : tie.Need-returns-in-Check
+returns c = rw c.in-Check.is c.check_row.ensures
 
-returns-2 : tie.Need-returns-2
+returns-2 : tie.Need-returns-in-Suspect
 returns-2 c =
     let r = c.before.before in
-    rw r.before.before.enum-told2.given.1 r.suspect-row.ensures
+    rw r.in-Suspect.is r.suspect_row.ensures
 
-returns-3 : tie.Need-returns-3
+returns-3 : tie.Need-returns-in-Take
 returns-3 c =
     let r = c.before.before in
-    rw r.before.before.before.act.given.1 r.take_row.ensures
+    rw r.in-Take.is r.take_row.ensures
 
-pub call-server-spec : {M : Type 1} → statement M
-call-server-spec =
+pub call_server_spec : {M : Type 1} → statement M
+call_server_spec =
     tie.close
     (tie.spec
     (λ c. search rules)

@@ -8,14 +8,14 @@ use borrow.Author.Rules.{rules}
 use Rattle.sim_changes.proofs.clear_all.Statement.{statement}
 use Rattle.sim_changes.proofs.clear_all.Tie as tie
 
-abbrev invariant-loop : tie.invariant-loop
+abbrev invariant-loop : tie.invariant-loop-i
 invariant-loop w₀ i₀ w i = Clearing w₀ w i
 
-abbrev decreases-loop : tie.decreases-loop
+abbrev decreases-loop : tie.decreases-loop-i
 decreases-loop w₀ i₀ w i = length w - i
 
-pub clear-all-spec : {M : Type 1} → statement M
-clear-all-spec =
+pub clear_all_spec : {M : Type 1} → statement M
+clear_all_spec =
     tie.close
     (tie.spec
     invariant-loop
@@ -24,7 +24,7 @@ clear-all-spec =
     (λ c. search rules)
     (λ c. search rules)
     (λ c. search rules)
-    (λ c. omega (arith, length-set c.before.loop.w c.before.loop.i 0, c.loop-test.true))
-    (λ c. clearing_more _ _ _ c.before.loop.invariant c.loop-test.true)
-    (λ c. c.before.loop.invariant.same)
-    (λ c. clearing_all _ _ _ c.before.loop.invariant c.loop-test.false))
+    (λ c. omega (arith, length-set c.loop-i.w c.loop-i.i 0, c.loop-i-test.true))
+    (λ c. clearing_more _ _ _ c.loop-i.invariant c.loop-i-test.true)
+    (λ c. c.loop-i.invariant.same)
+    (λ c. clearing_all _ _ _ c.loop-i.invariant c.loop-i-test.false))

@@ -23,137 +23,137 @@ use Rattle.sim_changes.proofs.client_acts.Tie as tie
 -- at entry
 module _ (c : tie.Start) where
   abbrev words : List ℕ
-  words = c.args.w.now
+  words = c.args.w-1.now
 
   there : HasClient words c.args.k
   there = act-client words c.args.k c.args.act c.requires
 
 -- the client lives
-module _ (c : tie.Else1) where
+module _ (c : tie.Else-not-is_living) where
   abbrev entry : tie.Start
   entry = c.before.before.before.before
 
   lives : (client_at (view (words entry)) entry.args.k).living ≡ true
-  lives = events.client-lives (words entry) entry.args.k entry.args.act entry.pre _ c.before.is-living.ensures c.if1.false
+  lives = events.client-lives (words entry) entry.args.k entry.args.act entry.requires _ c.is_living.ensures c.if-not-is_living.false
 
 -- its row and its head are its record
-module _ (c : tie.After-client-head) where
-  abbrev row_read : tie.After-client-row
+module _ (c : tie.After-client_head) where
+  abbrev row_read : tie.After-client_row
   row_read = c.before.before.before
 
-  abbrev alive : tie.Else1
+  abbrev alive : tie.Else-not-is_living
   alive = row_read.before.before.before
 
   abbrev start : tie.Start
   start = entry alive
 
-  read : client_of c.client-head.result row_read.client-row.last.1.1.0 ≡ client_from (client_record (client_block_of (words start) start.args.k))
-  read = client-read _ _ _ c.client-head.ensures row_read.client-row.ensures
+  read : client_of c.client_head.result row_read.client_row.last.1.1.0 ≡ client_from (client_record (client_block_of (words start) start.args.k))
+  read = client-read _ _ _ c.client_head.ensures row_read.client_row.ensures
 
 -- its call is accepted: the step is the event's, and the buffer had room for all that it sends
-module _ (c : tie.After-answer2) where
-  abbrev call : tie.After-call-client
+module _ (c : tie.In-Sent-2) where
+  abbrev call : tie.After-call_client-s
   call = c.before.before.before.before
 
-  abbrev loaded : tie.After-client-head
+  abbrev loaded : tie.After-client_head
   loaded = call.before.before.before
 
   abbrev from : tie.Start
   from = start loaded
 
   abbrev count : ℕ
-  count = c.answer2.given.0.0
+  count = c.in-Sent.count
 
-  called : ClientCalled (words from) from.args.k from.args.act call.call-client.result
-      call.call-client.last.1.0 call.call-client.last.1.1.1.0
+  called : ClientCalled (words from) from.args.k from.args.act call.call_client-s.result
+      call.call_client-s.last.1.0 call.call_client-s.last.1.1.1.0
   called =
-      events.client-called (words from) from.args.k from.args.act from.pre (lives (alive loaded)) _ _ (read loaded) _ _ _
-      call.call-client.ensures _ _ c.answer2.given.1
+      events.client-called (words from) from.args.k from.args.act from.requires (lives (alive loaded)) _ _ (read loaded) _ _ _
+      call.call_client-s.ensures _ _ c.in-Sent.is
 
   few : count ≤ system_servers
-  few = events.client-few called _ _ c.answer2.given.1
+  few = events.client-few called _ _ c.in-Sent.is
 
 -- the simulation's room for it is tested
-module _ (c : tie.After-has-room) where
-  abbrev accepted : tie.After-answer2
+module _ (c : tie.After-has_room) where
+  abbrev accepted : tie.In-Sent-2
   accepted = c.before.before.before.before
 
-  tested : ClientTested (words (from accepted)) (from accepted).args.k (from accepted).args.act (call accepted).call-client.result
-      (call accepted).call-client.last.1.0 (call accepted).call-client.last.1.1.1.0 (count accepted) c.has_room.result
+  tested : ClientTested (words (from accepted)) (from accepted).args.k (from accepted).args.act (call accepted).call_client-s.result
+      (call accepted).call_client-s.last.1.0 (call accepted).call_client-s.last.1.1.1.0 (count accepted) c.has_room.result
   tested =
       record {
         called = called accepted;
         size = _;
-        answered = accepted.answer2.given.1;
-        room = rw c.before.messages-gone.ensures at c.has_room.ensures;
+        answered = accepted.in-Sent.is;
+        room = rw c.messages_gone.ensures at c.has_room.ensures;
       }
 
 -- the record is stored
-module _ (c : tie.After-store-client) where
-  abbrev roomy : tie.Else2
+module _ (c : tie.After-store_client) where
+  abbrev roomy : tie.Else-not-has_room
   roomy = c.before.before.before
 
-is-living-requires : tie.Need-is-living-requires
+is-living-requires : tie.Need-is_living-requires
 is-living-requires c κs = client_in_lem _ _ (there c.before.before)
 
-returns : tie.Need-returns
+returns : tie.Need-returns-then-not-is_living
 returns c =
     let d = c.before.before.before.before in
-    events.client-fallen (words d) d.args.k d.args.act d.requires _ c.before.is-living.ensures c.if1.true
+    events.client-fallen (words d) d.args.k d.args.act d.requires _ c.is_living.ensures c.if-not-is_living.true
 
-client-row-requires : tie.Need-client-row-requires
+client-row-requires : tie.Need-client_row-requires
 client-row-requires c κs = (client_in_lem _ _ (there (entry c.before.before)), search rules)
 
-client-head-requires : tie.Need-client-head-requires
+client-head-requires : tie.Need-client_head-requires
 client-head-requires c κs =
     let d = entry c.before.before.before.before.before in
     (client_in_lem _ _ (there d), client-held _ d.args.k (there d))
 
-call-client-requires : tie.Need-call-client-requires
+call-client-requires : tie.Need-call_client-s-requires
 call-client-requires c κs =
     let l = c.before.before in
     let d = start l in
-    act-asks (words d) d.args.k d.args.act d.pre _ (read l)
+    act-asks (words d) d.args.k d.args.act d.requires _ (read l)
 
-has-room-requires : tie.Need-has-room-requires
+has-room-requires : tie.Need-has_room-requires
 has-room-requires c κs =
     let a = c.before.before.before in
     let d = from a in (
       (there d).valid,
-      rw c.messages-gone.ensures (gone-few (words d) d.args.k d.args.act d.pre),
+      rw c.messages_gone.ensures (gone-few (words d) d.args.k d.args.act d.requires),
       omega (arith, few a),
     )
 
-store-client-requires : tie.Need-store-client-requires
+store-client-requires : tie.Need-store_client-requires
 store-client-requires c κs = ((tested c.before.before.before).called.stores, search rules)
 
 send-requires : tie.Need-send-requires
 send-requires c κs =
     let p = c.before.before.before.before in
-    events.client_sendable (tested (roomy p).before) (roomy p).if2.false _ p.store-client.ensures
+    events.client_sendable (tested (roomy p).before) (roomy p).if-not-has_room.false _ p.store_client.ensures
 
-cast-t31 : tie.Need-overflow-cast-t31
+cast-t31 : tie.Need-overflow_cast-result
 cast-t31 c =
     let p = c.before.before.before.before.before.before.before in
     record { fits = omega (arith, few (accepted (roomy p).before)) }
 
 -- the call was refused, as the event is
-returns-3 : tie.Need-returns-3
+returns-3 : tie.Need-returns-in-Refused
 returns-3 c =
     let m = c.before.before.before.before.before in
     let l = m.before.before.before in
     let d = start l in
-    events.client-refused (words d) d.args.k d.args.act d.pre (lives (alive l)) _ _ (read l) _ _ _
-    m.call-client.ensures _ c.before.answer.given.1
+    events.client-refused (words d) d.args.k d.args.act d.requires (lives (alive l)) _ _ (read l) _ _ _
+    m.call_client-s.ensures _ c.in-Refused.is
 
-returns-4 : tie.Need-returns-4
+returns-4 : tie.Need-returns-else-not-has_room
 returns-4 c =
     let s = c.before.before in
     let p = s.before.before.before.before.before in
-    events.client-sent (tested (roomy p).before) (roomy p).if2.false _ p.store-client.ensures _ s.send.ensures
+    events.client-sent (tested (roomy p).before) (roomy p).if-not-has_room.false _ p.store_client.ensures _ s.send.ensures
 
-pub client-acts-spec : {M : Type 1} → statement M
-client-acts-spec =
+pub client_acts_spec : {M : Type 1} → statement M
+client_acts_spec =
     tie.close
     (tie.spec
     is-living-requires
@@ -170,7 +170,7 @@ client-acts-spec =
     (λ c κs. search rules)
     has-room-requires
     (λ c. search rules)
-    (λ c. events.client-full (tested c.before) c.if2.true)
+    (λ c. events.client-full (tested c.before) c.if-not-has_room.true)
     (λ c. search rules)
     store-client-requires
     (λ c. search rules)

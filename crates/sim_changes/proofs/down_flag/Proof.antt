@@ -4,14 +4,14 @@ use borrow.Author.Rules.{rules}
 use Rattle.sim_changes.proofs.down_flag.Statement.{statement}
 use Rattle.sim_changes.proofs.down_flag.Tie as tie
 
-is-up-requires : tie.Need-is-up-requires
+is-up-requires : tie.Need-is_up-requires
 is-up-requires c κs = search rules
 
-returns : tie.Need-returns
-returns c = rw (sym c.before.is_up.ensures ∙ c.if1.true)
+returns : tie.Need-returns-then-is_up
+returns c = rw (sym c.is_up.ensures ∙ c.if-is_up.true)
 
-returns-2 : tie.Need-returns-2
-returns-2 c = rw (sym c.before.is_up.ensures ∙ c.if1.false)
+returns-2 : tie.Need-returns
+returns-2 c = rw (sym c.is_up.ensures ∙ c.if-is_up.false)
 
-pub down-flag-spec : {M : Type 1} → statement M
-down-flag-spec = tie.close (tie.spec is-up-requires returns returns-2)
+pub down_flag_spec : {M : Type 1} → statement M
+down_flag_spec = tie.close (tie.spec is-up-requires returns returns-2)

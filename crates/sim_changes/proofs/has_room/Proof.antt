@@ -6,38 +6,38 @@ use borrow.Author.Rules.{rules}
 use Rattle.sim_changes.proofs.has_room.Statement.{statement}
 use Rattle.sim_changes.proofs.has_room.Tie as tie
 
-returns : tie.Need-returns
+returns : tie.Need-returns-then-count-eq0
 returns c =
     let d = c.before in
-    room-none d.args.w.now d.args.gone d.args.count c.if1.true
+    room-none d.args.w.now d.args.gone d.args.count c.if-count-eq0.true
 
-shared-slice-read-if2 : tie.Need-shared-slice-read-if2
+shared-slice-read-if2 : tie.Need-bounds-w-4
 shared-slice-read-if2 c =
     let d = c.before.before in
     omega (arith, words_long d.args.w.now d.requires.0)
 
-add-if2 : tie.Need-overflow-add-if2
+add-if2 : tie.Need-overflow_add-w
 add-if2 c =
     let d = c.before.before in
     record { fits = omega (arith, transit-few d.args.w.now d.requires.0) }
 
-returns-2 : tie.Need-returns-2
+returns-2 : tie.Need-returns-then-w-gone-gt-MAX_MESSAGES
 returns-2 c =
     let d = c.before.before.before in
-    room-short d.args.w.now d.args.gone d.args.count c.before.before.if1.false c.if2.true
+    room-short d.args.w.now d.args.gone d.args.count c.if-count-eq0.false c.if-w-gone-gt-MAX_MESSAGES.true
 
-shared-slice-read-result : tie.Need-shared-slice-read-result
+shared-slice-read-result : tie.Need-bounds-w-5
 shared-slice-read-result c =
     let d = c.before.before.before.before in
     omega (arith, words_long d.args.w.now d.requires.0)
 
-returns-3 : tie.Need-returns-3
+returns-3 : tie.Need-returns
 returns-3 c =
     let d = c.before.before.before.before in
-    room-last d.args.w.now d.args.gone d.args.count c.before.before.before.if1.false c.before.if2.false d.requires.2
+    room-last d.args.w.now d.args.gone d.args.count c.if-count-eq0.false c.if-w-gone-gt-MAX_MESSAGES.false d.requires.2
 
-pub has-room-spec : {M : Type 1} → statement M
-has-room-spec =
+pub has_room_spec : {M : Type 1} → statement M
+has_room_spec =
     tie.close
     (tie.spec
     returns

@@ -7,33 +7,33 @@ use borrow.Author.Rules.{rules}
 use Rattle.sim_changes.proofs.mark_message.Statement.{statement}
 use Rattle.sim_changes.proofs.mark_message.Tie as tie
 
-slice-read-len : tie.Need-slice-read-len
+slice-read-len : tie.Need-bounds-w-4
 slice-read-len c =
     let d = c.before.before in
-    omega (arith, words_long d.args.w.now d.requires.valid)
+    omega (arith, words_long d.args.w-1.now d.requires.valid)
 
-cast-len : tie.Need-overflow-cast-len
+cast-len : tie.Need-overflow_cast-len
 cast-len c =
     let d = c.before.before in
-    record { fits = omega (arith, transit-count d.args.w.now d.requires.valid) }
+    record { fits = omega (arith, transit-count d.args.w-1.now d.requires.valid) }
 
-part-mark-end : tie.Need-slice-bounds-mark-end
+part-mark-end : tie.Need-slice_bounds-mark-end
 part-mark-end c =
     let d = c.before.before in
-    omega (arith, words_long d.args.w.now d.requires.valid)
+    omega (arith, words_long d.args.w-1.now d.requires.valid)
 
 mark-requires : tie.Need-mark-requires
 mark-requires c κs =
     let d = c.before.before.before in
-    (held-lent d.args.w.now d.requires.valid, d.requires.used)
+    (held-lent d.args.w-1.now d.requires.valid, d.requires.used)
 
 returns : tie.Need-returns
 returns c =
     let d = c.before.before.before.before.before.before in
-    mark-becomes d.args.w.now d.requires.valid d.args.i _ c.before.before.mark.ensures
+    mark-becomes d.args.w-1.now d.requires.valid d.args.i _ c.mark.ensures
 
-pub mark-message-spec : {M : Type 1} → statement M
-mark-message-spec =
+pub mark_message_spec : {M : Type 1} → statement M
+mark_message_spec =
     tie.close
     (tie.spec
     slice-read-len

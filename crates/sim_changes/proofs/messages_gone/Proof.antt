@@ -3,15 +3,15 @@ use borrow.Author.Rules.{rules}
 use Rattle.sim_changes.proofs.messages_gone.Statement.{statement}
 use Rattle.sim_changes.proofs.messages_gone.Tie as tie
 
-pub messages-gone-spec : {M : Type 1} → statement M
-messages-gone-spec =
+pub messages_gone_spec : {M : Type 1} → statement M
+messages_gone_spec =
     tie.close
     (tie.spec
     (λ c. search rules)
     (λ c. search rules)
     (λ c. search rules)
     (λ c. search rules)
-    (λ c. rw c.enum_told.given.1)
-    (λ c. rw c.enum-told2.given.1)
-    (λ c. rw c.enum-told3.given.1)
-    (λ c. rw c.enum-told4.given.1))
+    (λ c. rw c.in-Try.is)
+    (λ c. rw c.in-Exit.is)
+    (λ c. rw c.in-Response.is)
+    (λ c. rw c.in-Check.is))

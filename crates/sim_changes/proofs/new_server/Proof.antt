@@ -8,20 +8,20 @@ use Rattle.sim_changes.proofs.new_server.Statement.{statement}
 use Rattle.sim_changes.proofs.new_server.Tie as tie
 
 -- the server is up, and its record made
-module _ (c : tie.After-empty-head) where
-  abbrev risen : tie.After-rise-server
+module _ (c : tie.After-empty_head-head) where
+  abbrev risen : tie.After-rise_server
   risen = c.before.before.before
 
   abbrev entry : tie.Start
   entry = risen.before.before.before
 
-  there : ServerIn risen.rise-server.last.0 entry.args.j
-  there = risen_in entry.args.n entry.args.j.0 entry.args.w.now entry.pre _ risen.rise-server.ensures
+  there : ServerIn risen.rise_server.last.0 entry.args.j
+  there = risen_in entry.args.n entry.args.j.0 entry.args.w-1.now entry.requires _ risen.rise_server.ensures
 
-  short : c.empty-head.result.votes.len ≤ max_word
-  short = new_short entry.args.n entry.args.j _ c.empty-head.ensures
+  short : c.empty_head-head.result.votes.len ≤ max_word
+  short = new_short entry.args.n entry.args.j _ c.empty_head-head.ensures
 
-put-server-requires : tie.Need-put-server-requires
+put-server-requires : tie.Need-put_server-requires
 put-server-requires c κs = (there c.before.before, search rules, short c.before.before)
 
 returns : tie.Need-returns
@@ -29,10 +29,10 @@ returns c =
     let p = c.before.before in
     let r = p.before.before.before in
     let d = entry r in
-    server-opened d.args.n d.args.j.0 d.args.w.now d.pre _ (risen r).rise-server.ensures _ r.empty-head.ensures _ p.put-server.ensures
+    server-opened d.args.n d.args.j.0 d.args.w-1.now d.requires _ (risen r).rise_server.ensures _ r.empty_head-head.ensures _ p.put_server.ensures
 
-pub new-server-spec : {M : Type 1} → statement M
-new-server-spec =
+pub new_server_spec : {M : Type 1} → statement M
+new_server_spec =
     tie.close
     (tie.spec
     (λ c κs. search rules)

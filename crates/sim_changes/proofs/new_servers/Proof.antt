@@ -8,37 +8,37 @@ use Rattle.sim_changes.proofs.new_servers.Statement.{statement}
 use Rattle.sim_changes.proofs.new_servers.Tie as tie
 use Rattle.system.specs.Numbered.{server_no}
 
-abbrev invariant-loop : tie.invariant-loop
+abbrev invariant-loop : tie.invariant-loop-i
 invariant-loop w₀ n i₀ w i = Putting (λ (i : ℕ). new_server n (server_no i)) w₀ n w i
 
-abbrev decreases-loop : tie.decreases-loop
+abbrev decreases-loop : tie.decreases-loop-i
 decreases-loop w₀ n i₀ w i = n - i
 
 -- in a turn
-module _ (c : tie.In-loop invariant-loop decreases-loop) where
+module _ (c : tie.In-loop-i invariant-loop decreases-loop) where
   abbrev entry : tie.Start invariant-loop decreases-loop
   entry = c.before.before.before
 
 -- its server is put
-module _ (c : tie.After-new-server invariant-loop decreases-loop) where
-  abbrev turn : tie.In-loop invariant-loop decreases-loop
+module _ (c : tie.After-new_server invariant-loop decreases-loop) where
+  abbrev turn : tie.In-loop-i invariant-loop decreases-loop
   turn = c.before.before
 
-new-server-requires : tie.Need-new-server-requires invariant-loop decreases-loop
-new-server-requires c κs = let t = c.before in putting_server _ _ _ _ _ t.before.loop.invariant (entry t).requires t.loop-test.true
+new-server-requires : tie.Need-new_server-requires invariant-loop decreases-loop
+new-server-requires c κs = let t = c.before in putting_server _ _ _ _ _ t.loop-i.invariant (entry t).requires t.loop-i-test.true
 
-add-i : tie.Need-overflow-add-i invariant-loop decreases-loop
-add-i c = let t = turn c.before.before in omega (arith, (entry t).pre.1, t.loop-test.taken)
+add-i : tie.Need-overflow_add-i invariant-loop decreases-loop
+add-i c = let t = turn c.before.before in omega (arith, (entry t).requires.1, t.loop-i-test.true)
 
-loop-again : tie.Need-loop-preserved invariant-loop decreases-loop
+loop-again : tie.Need-loop-i-preserved invariant-loop decreases-loop
 loop-again c =
     let p = c.before.before in
     let t = turn p in
     let d = entry t in
-    putting_more _ _ _ _ _ t.before.loop.inv (λ k l. length-server d.args.n k l) t.loop-test.taken _ p.new_server_lem.ensures
+    putting_more _ _ _ _ _ t.loop-i.invariant (λ k l. length-server d.args.n k l) t.loop-i-test.true _ p.new_server_lem.ensures
 
-pub new-servers-spec : {M : Type 1} → statement M
-new-servers-spec =
+pub new_servers_spec : {M : Type 1} → statement M
+new_servers_spec =
     tie.close
     (tie.spec
     invariant-loop
@@ -47,7 +47,7 @@ new-servers-spec =
     (λ c. search rules)
     new-server-requires
     add-i
-    (λ c. omega (arith, (turn c.before.before).loop-test.taken))
+    (λ c. omega (arith, (turn c.before.before).loop-i-test.true))
     loop-again
-    (λ c. c.before.loop.invariant.same)
-    (λ c. putting_all _ _ _ _ _ c.before.loop.invariant c.loop-test.false))
+    (λ c. c.loop-i.invariant.same)
+    (λ c. putting_all _ _ _ _ _ c.loop-i.invariant c.loop-i-test.false))

@@ -6,57 +6,57 @@ use Rattle.sim_changes.proofs.Epochs.{Marking, marking_none, marking_fits, marki
 use Rattle.sim_changes.proofs.note_down.Statement.{statement}
 use Rattle.sim_changes.proofs.note_down.Tie as tie
 
-abbrev invariant-loop : tie.invariant-loop
+abbrev invariant-loop : tie.invariant-loop-i
 invariant-loop w₀ j clients i₀ w i = Marking w₀ j clients w i
 
-abbrev decreases-loop : tie.decreases-loop
+abbrev decreases-loop : tie.decreases-loop-i
 decreases-loop w₀ j clients i₀ w i = clients - i
 
 -- a turn's client has noted it
-module _ (c : tie.After-mark-client invariant-loop decreases-loop) where
-  abbrev turn : tie.In-loop invariant-loop decreases-loop
+module _ (c : tie.After-mark_client invariant-loop decreases-loop) where
+  abbrev turn : tie.In-loop-i invariant-loop decreases-loop
   turn = c.before.before
 
 -- all have, and the most is noted
-module _ (c : tie.After-note-most invariant-loop decreases-loop) where
-  abbrev done : tie.After-loop invariant-loop decreases-loop
+module _ (c : tie.After-note_most invariant-loop decreases-loop) where
+  abbrev done : tie.After-loop-i invariant-loop decreases-loop
   done = c.before.before
 
-slice-read-clients : tie.Need-slice-read-clients invariant-loop decreases-loop
-slice-read-clients c = let d = c.before.before in omega (arith, words_long d.args.w.now d.requires.valid)
+slice-read-clients : tie.Need-bounds-w-3 invariant-loop decreases-loop
+slice-read-clients c = let d = c.before.before in omega (arith, words_long d.args.w-1.now d.requires.valid)
 
-cast-clients : tie.Need-overflow-cast-clients invariant-loop decreases-loop
-cast-clients c = let d = c.before.before in record { fits = omega (arith, clients_fit d.args.w.now d.requires.valid) }
+cast-clients : tie.Need-overflow_cast-clients invariant-loop decreases-loop
+cast-clients c = let d = c.before.before in record { fits = omega (arith, clients_fit d.args.w-1.now d.requires.valid) }
 
-loop-holds : tie.Need-loop-init invariant-loop decreases-loop
-loop-holds c = let d = c.before.before in marking_none d.args.w.now d.args.j d.requires
+loop-holds : tie.Need-loop-i-init invariant-loop decreases-loop
+loop-holds c = let d = c.before.before in marking_none d.args.w-1.now d.args.j d.requires
 
-add-t11 : tie.Need-overflow-add-t11 invariant-loop decreases-loop
-add-t11 c = let t = c.before in omega (arith, marking_fits _ _ _ _ _ t.before.loop.invariant, t.loop-test.true)
+add-t11 : tie.Need-overflow_add-i invariant-loop decreases-loop
+add-t11 c = let t = c.before in omega (arith, marking_fits _ _ _ _ _ t.loop-i.invariant, t.loop-i-test.true)
 
-mark-client-requires : tie.Need-mark-client-requires invariant-loop decreases-loop
-mark-client-requires c κs = let t = c.before in marking_in _ _ _ _ _ t.before.loop.invariant t.loop-test.true
+mark-client-requires : tie.Need-mark_client-requires invariant-loop decreases-loop
+mark-client-requires c κs = let t = c.before in marking_in _ _ _ _ _ t.loop-i.invariant t.loop-i-test.true
 
-add-i : tie.Need-overflow-add-i invariant-loop decreases-loop
-add-i c = let t = turn c.before.before in omega (arith, marking_fits _ _ _ _ _ t.before.loop.inv, t.loop-test.taken)
+add-i : tie.Need-overflow_add-i invariant-loop decreases-loop
+add-i c = let t = turn c.before.before in omega (arith, marking_fits _ _ _ _ _ t.loop-i.invariant, t.loop-i-test.true)
 
-loop-again : tie.Need-loop-preserved invariant-loop decreases-loop
+loop-again : tie.Need-loop-i-preserved invariant-loop decreases-loop
 loop-again c =
     let m = c.before.before in
     let t = turn m in
-    marking_more _ _ _ _ _ t.before.loop.inv t.loop-test.taken _ m.mark-client.ensures
+    marking_more _ _ _ _ _ t.loop-i.invariant t.loop-i-test.true _ m.mark_client.ensures
 
-same_length : tie.Need-same-length invariant-loop decreases-loop
-same_length c = let m = c.before.before in marking_same _ _ _ _ _ (done m).before.loop.invariant _ _ m.note-most.ensures
+same_length : tie.Need-shape_of-w invariant-loop decreases-loop
+same_length c = let m = c.before.before in marking_same _ _ _ _ _ (done m).loop-i.invariant _ _ m.note_most.ensures
 
 returns : tie.Need-returns invariant-loop decreases-loop
 returns c =
     let m = c.before.before in
     let l = done m in
-    marking_all _ _ _ _ _ l.before.loop.inv l.loop-test.left _ m.note-most.ensures
+    marking_all _ _ _ _ _ l.loop-i.invariant l.loop-i-test.false _ m.note_most.ensures
 
-pub note-down-spec : {M : Type 1} → statement M
-note-down-spec =
+pub note_down_spec : {M : Type 1} → statement M
+note_down_spec =
     tie.close
     (tie.spec
     invariant-loop
@@ -67,8 +67,8 @@ note-down-spec =
     add-t11
     mark-client-requires
     add-i
-    (λ c. omega (arith, (turn c.before.before).loop-test.taken))
+    (λ c. omega (arith, (turn c.before.before).loop-i-test.true))
     loop-again
-    (λ c κs. marking_sized _ _ _ _ _ c.before.before.loop.invariant)
+    (λ c κs. marking_sized _ _ _ _ _ c.loop-i.invariant)
     same_length
     returns)

@@ -5,13 +5,13 @@ use borrow.Author.Rules.{rules}
 use Rattle.sim_changes.proofs.note_most.Statement.{statement}
 use Rattle.sim_changes.proofs.note_most.Tie as tie
 
-cast-worst-down : tie.Need-overflow-cast-worst-down
+cast-worst-down : tie.Need-overflow_cast-clients
 cast-worst-down c =
     let d = c.before.before.before in
     let a = d.args in
     record { fits = omega (arith, few-word a.w.now d.requires.1) }
 
-worst-down-requires : tie.Need-worst-down-requires
+worst-down-requires : tie.Need-worst_down-worst-requires
 worst-down-requires c κs =
     let d = c.before.before.before in
     let a = d.args in
@@ -21,10 +21,10 @@ returns : tie.Need-returns
 returns c =
     let d = c.before.before.before.before.before.before in
     let a = d.args in
-    noted_words a.w.now _ _ c.before.before.worst-down.ensures c.larger.ensures
+    noted_words a.w.now _ _ c.worst_down-worst.ensures c.larger-most.ensures
 
-pub note-most-spec : {M : Type 1} → statement M
-note-most-spec =
+pub note_most_spec : {M : Type 1} → statement M
+note_most_spec =
     tie.close
     (tie.spec
     (λ c. search rules)

@@ -4,7 +4,7 @@ use Rattle.sim_changes.proofs.Storing.{record_held, owner-is}
 use Rattle.sim_changes.proofs.owner_of.Statement.{statement}
 use Rattle.sim_changes.proofs.owner_of.Tie as tie
 
-server-head-requires : tie.Need-server-head-requires
+server-head-requires : tie.Need-server_head-h-requires
 server-head-requires c κs =
     let d = c.before in
     (server_in_lem d.args.w.now d.args.j.0 d.requires, record_held d.args.w.now d.args.j d.requires)
@@ -12,7 +12,7 @@ server-head-requires c κs =
 returns : tie.Need-returns
 returns c =
     let d = c.before.before.before in
-    owner-is d.args.w.now d.args.j d.requires _ c.before.server-head.ensures
+    owner-is d.args.w.now d.args.j d.requires _ c.server_head-h.ensures
 
-pub owner-of-spec : {M : Type 1} → statement M
-owner-of-spec = tie.close (tie.spec server-head-requires returns)
+pub owner_of_spec : {M : Type 1} → statement M
+owner_of_spec = tie.close (tie.spec server-head-requires returns)

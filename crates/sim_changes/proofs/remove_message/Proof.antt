@@ -7,50 +7,50 @@ use borrow.Author.Rules.{rules}
 use Rattle.sim_changes.proofs.remove_message.Statement.{statement}
 use Rattle.sim_changes.proofs.remove_message.Tie as tie
 
-slice-read-len : tie.Need-slice-read-len
+slice-read-len : tie.Need-bounds-w-4
 slice-read-len c =
     let d = c.before.before in
     let a = d.args in
-    omega (arith, words_long a.w.now d.requires.valid)
+    omega (arith, words_long a.w-1.now d.requires.valid)
 
-cast-len : tie.Need-overflow-cast-len
+cast-len : tie.Need-overflow_cast-len
 cast-len c =
     let d = c.before.before in
     let a = d.args in
-    record { fits = omega (arith, transit-count a.w.now d.requires.valid) }
+    record { fits = omega (arith, transit-count a.w-1.now d.requires.valid) }
 
-part-remove-end : tie.Need-slice-bounds-remove-end
+part-remove-end : tie.Need-slice_bounds-remove-end
 part-remove-end c =
     let d = c.before.before in
     let a = d.args in
-    omega (arith, words_long a.w.now d.requires.valid)
+    omega (arith, words_long a.w-1.now d.requires.valid)
 
 remove-requires : tie.Need-remove-requires
 remove-requires c κs =
     let d = c.before.before.before in
     let a = d.args in
-    (held-lent a.w.now d.requires.valid, d.requires.used)
+    (held-lent a.w-1.now d.requires.valid, d.requires.used)
 
-cast-w : tie.Need-overflow-cast-w
+cast-w : tie.Need-overflow_cast-w
 cast-w c =
     let d = c.before.before.before.before.before.before in
     let a = d.args in
-    record { fits = omega (arith, transit-count a.w.now d.requires.valid) }
+    record { fits = omega (arith, transit-count a.w-1.now d.requires.valid) }
 
-slice-write-w : tie.Need-slice-write-w
+slice-write-w : tie.Need-bounds-w-4-2
 slice-write-w c =
     let d = c.before.before.before.before.before.before in
     let a = d.args in
-    omega (arith, removed-long a.w.now d.requires.valid a.i _ c.before.before.remove.ensures)
+    omega (arith, removed-long a.w-1.now d.requires.valid a.i _ c.remove.ensures)
 
 returns : tie.Need-returns
 returns c =
     let d = c.before.before.before.before.before.before in
     let a = d.args in
-    remove_becomes a.w.now d.requires.valid a.i _ c.before.before.remove.ensures
+    remove_becomes a.w-1.now d.requires.valid a.i _ c.remove.ensures
 
-pub remove-message-spec : {M : Type 1} → statement M
-remove-message-spec =
+pub remove_message_spec : {M : Type 1} → statement M
+remove_message_spec =
     tie.close
     (tie.spec
     slice-read-len

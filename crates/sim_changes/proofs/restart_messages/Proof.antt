@@ -7,38 +7,38 @@ use borrow.Author.Rules.{rules}
 use Rattle.sim_changes.proofs.restart_messages.Statement.{statement}
 use Rattle.sim_changes.proofs.restart_messages.Tie as tie
 
-slice-read-len : tie.Need-slice-read-len
+slice-read-len : tie.Need-bounds-w-4
 slice-read-len c =
     let d = c.before.before in
     let a = d.args in
-    omega (arith, words_long a.w.now d.requires.valid)
+    omega (arith, words_long a.w-1.now d.requires.valid)
 
-cast-len : tie.Need-overflow-cast-len
+cast-len : tie.Need-overflow_cast-len
 cast-len c =
     let d = c.before.before in
     let a = d.args in
-    record { fits = omega (arith, transit-count a.w.now d.requires.valid) }
+    record { fits = omega (arith, transit-count a.w-1.now d.requires.valid) }
 
-part-restart-end : tie.Need-slice-bounds-restart-end
+part-restart-end : tie.Need-slice_bounds-restart-end
 part-restart-end c =
     let d = c.before.before in
     let a = d.args in
-    omega (arith, words_long a.w.now d.requires.valid)
+    omega (arith, words_long a.w-1.now d.requires.valid)
 
 restart-requires : tie.Need-restart-requires
 restart-requires c κs =
     let d = c.before.before.before in
     let a = d.args in
-    (held-lent a.w.now d.requires.valid, server-place a.w.now a.j d.requires)
+    (held-lent a.w-1.now d.requires.valid, server-place a.w-1.now a.j d.requires)
 
 returns : tie.Need-returns
 returns c =
     let d = c.before.before.before.before.before.before in
     let a = d.args in
-    restart-becomes a.w.now d.requires.valid a.j _ c.before.before.restart.ensures
+    restart-becomes a.w-1.now d.requires.valid a.j _ c.restart.ensures
 
-pub restart-messages-spec : {M : Type 1} → statement M
-restart-messages-spec =
+pub restart_messages_spec : {M : Type 1} → statement M
+restart_messages_spec =
     tie.close
     (tie.spec
     slice-read-len

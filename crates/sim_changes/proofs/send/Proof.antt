@@ -20,69 +20,69 @@ use Rattle.sim_changes.proofs.send.Tie as tie
 -- at entry
 module _ (d : tie.Start) where
   abbrev words : List ℕ
-  words = d.args.w.now
+  words = d.args.w-1.now
 
   abbrev new : List Message
   new = messages_in d.args.count d.args.bytes.now
 
   long : length words ≡ simulation_size
-  long = words_long words d.pre.valid
+  long = words_long words d.requires.valid
 
 -- the two counts are read
-module _ (c : tie.After-slice-known3) where
+module _ (c : tie.After-slice_known-3-1) where
   abbrev entry : tie.Start
   entry = c.before.before.before.before
 
   room : (length_of (words entry) + entry.args.count ≤ system_messages) × (sent_of (words entry) + entry.args.count ≤ last_number)
   room =
-      let p = entry.pre in
+      let p = entry.requires in
       room-left (words entry) entry.args.count (new entry) p.valid p.whole p.room p.named
-      (omega (arith, c.before.before.before.slice-known.given 5))
+      (omega (arith, c.slice_known-1.given 5))
 
 -- the messages are posted
-module _ (c : tie.After-slice-known4) where
-  abbrev read : tie.After-slice-known3
+module _ (c : tie.After-slice_known-4-1) where
+  abbrev read : tie.After-slice_known-3-1
   read = c.before.before.before.before
 
   done : Posts (length_of (words (entry read))) (sent_of (words (entry read))) (new (entry read)) (take indexed_size (drop transit_from (words (entry read))))
-      c.before.before.post.new.0
-  done = c.before.before.post.ensures
+      c.post.new.0
+  done = c.post.ensures
 
-slice-read-len : tie.Need-slice-read-len
+slice-read-len : tie.Need-bounds-w-4
 slice-read-len c = omega (arith, long c.before.before.before)
 
-cast-len : tie.Need-overflow-cast-len
+cast-len : tie.Need-overflow_cast-len
 cast-len c = let d = c.before.before.before in record { fits = omega (arith, transit-few (words d) d.requires.valid) }
 
 post-requires : tie.Need-post-requires
 post-requires c κs =
     let d = entry c.before in
-    let p = d.pre in
+    let p = d.requires in
     let r = room c.before in
     (can_post (words d) d.args.count (new d) p.valid p.whole p.room p.named r, p.whole)
 
-add-w : tie.Need-overflow-add-w
+add-w : tie.Need-overflow_add-w
 add-w c = let r = room (read c) in record { fits = omega (arith, r.0, r.1) }
 
-cast-w : tie.Need-overflow-cast-w
+cast-w : tie.Need-overflow_cast-w
 cast-w c = let r = room (read c) in record { fits = omega (arith, r.0, r.1) }
 
-slice-write-w : tie.Need-slice-write-w
+slice-write-w : tie.Need-bounds-w-4-2
 slice-write-w c =
     let d = entry (read c) in
-    let p = d.pre in
+    let p = d.requires in
     omega (arith, posted-long (words d) d.args.count (new d) p.valid p.whole p.room p.named _ (done c))
 
-cast-w-2 : tie.Need-overflow-cast-w-2
+cast-w-2 : tie.Need-overflow_cast-w-2
 cast-w-2 c = let r = room (read c) in record { fits = omega (arith, r.0, r.1) }
 
-add-w-2 : tie.Need-overflow-add-w-2
+add-w-2 : tie.Need-overflow_add-w-2
 add-w-2 c = let r = room (read c) in record { fits = omega (arith, r.0, r.1) }
 
-slice-write-w-2 : tie.Need-slice-write-w-2
+slice-write-w-2 : tie.Need-bounds-w-5-2
 slice-write-w-2 c =
     let d = entry (read c) in
-    let p = d.pre in
+    let p = d.requires in
     omega (
       arith,
       counted-long (words d) d.args.count (new d) p.valid p.whole p.room p.named _ (done c)
@@ -92,11 +92,11 @@ slice-write-w-2 c =
 returns : tie.Need-returns
 returns c =
     let d = entry (read c) in
-    let p = d.pre in
+    let p = d.requires in
     send_becomes (words d) d.args.count (new d) p.valid p.whole p.room p.named _ (done c)
 
-pub send-spec : {M : Type 1} → statement M
-send-spec =
+pub send_spec : {M : Type 1} → statement M
+send_spec =
     tie.close
     (tie.spec
     slice-read-len

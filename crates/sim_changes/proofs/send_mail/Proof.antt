@@ -5,24 +5,24 @@ use Rattle.sim_changes.proofs.send_mail.Statement.{statement}
 use Rattle.sim_changes.proofs.send_mail.Tie as tie
 
 -- there is a message
-module _ (c : tie.After-m) where
+module _ (c : tie.In-One-2) where
   abbrev entry : tie.Start
   entry = c.before.before.before
 
-send-message-requires : tie.Need-send-message-requires
-send-message-requires c κs = let m = c.before.before in mail_asked _ _ (entry m).requires _ m.m.given.1
+send-message-requires : tie.Need-send_message-requires
+send-message-requires c κs = let m = c.before.before in mail_asked _ _ (entry m).requires _ m.in-One.is
 
-returns : tie.Need-returns
-returns c = mail_none _ _ c.before.before.before.requires c.enum_told.given.1
+returns : tie.Need-returns-in-Nothing
+returns c = mail_none _ _ c.requires c.in-Nothing.is
 
-returns-2 : tie.Need-returns-2
+returns-2 : tie.Need-returns-in-One
 returns-2 c =
     let s = c.before.before in
     let m = s.before.before.before in
-    mail_sent _ _ (entry m).requires _ m.m.given.1 _ s.send-message.ensures
+    mail_sent _ _ (entry m).requires _ m.in-One.is _ s.send_message.ensures
 
-pub send-mail-spec : {M : Type 1} → statement M
-send-mail-spec =
+pub send_mail_spec : {M : Type 1} → statement M
+send_mail_spec =
     tie.close
     (tie.spec
     (λ c. search rules)

@@ -4,21 +4,21 @@ use borrow.Author.Rules.{rules}
 use Rattle.sim_changes.proofs.send_mails.Statement.{statement}
 use Rattle.sim_changes.proofs.send_mails.Tie as tie
 
-send-mail-requires : tie.Need-send-mail-requires
-send-mail-requires c κs = let d = c.before.before in first-asked d.args.w.now d.args.first d.args.second d.args.third d.requires
+send-mail-requires : tie.Need-send_mail-requires
+send-mail-requires c κs = let d = c.before.before in first-asked d.args.w-1.now d.args.first d.args.second d.args.third d.requires
 
-send-mail-requires-2 : tie.Need-send-mail-requires-2
+send-mail-requires-2 : tie.Need-send_mail-requires-2
 send-mail-requires-2 c κs =
     let one = c.before.before.before in
     let d = one.before.before.before in
-    second-asked d.args.w.now d.args.first d.args.second d.args.third d.requires _ one.send-mail.ensures
+    second-asked d.args.w-1.now d.args.first d.args.second d.args.third d.requires _ one.send_mail.ensures
 
-send-mail-requires-3 : tie.Need-send-mail-requires-3
+send-mail-requires-3 : tie.Need-send_mail-requires-3
 send-mail-requires-3 c κs =
     let two = c.before.before.before in
     let one = two.before.before.before.before in
     let d = one.before.before.before in
-    third-asked d.args.w.now d.args.first d.args.second d.args.third d.requires _ one.send-mail.ensures _ two.send-mail2.ensures
+    third-asked d.args.w-1.now d.args.first d.args.second d.args.third d.requires _ one.send_mail.ensures _ two.send_mail-2.ensures
 
 returns : tie.Need-returns
 returns c =
@@ -26,11 +26,11 @@ returns c =
     let two = three.before.before.before.before in
     let one = two.before.before.before.before in
     let d = one.before.before.before in
-    three_sent d.args.w.now d.args.first d.args.second d.args.third d.requires _ one.send-mail.ensures _ two.send-mail2.ensures _
-    three.send-mail3.ensures
+    three_sent d.args.w-1.now d.args.first d.args.second d.args.third d.requires _ one.send_mail.ensures _ two.send_mail-2.ensures _
+    three.send_mail-3.ensures
 
-pub send-mails-spec : {M : Type 1} → statement M
-send-mails-spec =
+pub send_mails_spec : {M : Type 1} → statement M
+send_mails_spec =
     tie.close
     (tie.spec
     send-mail-requires

@@ -22,66 +22,66 @@ use Rattle.sim_changes.proofs.send_message.Tie as tie
 -- at entry
 module _ (d : tie.Start) where
   abbrev words : List ℕ
-  words = d.args.w.now
+  words = d.args.w-1.now
 
   abbrev new : List Message
   new = d.args.m ∷ []
 
   long : length words ≡ simulation_size
-  long = words_long words d.pre.valid
+  long = words_long words d.requires.valid
 
 -- the two counts are read
-module _ (c : tie.After-slice-known3) where
+module _ (c : tie.After-slice_known-3-1) where
   abbrev entry : tie.Start
   entry = c.before.before.before
 
   room : (length_of (words entry) + 1 ≤ system_messages) × (sent_of (words entry) + 1 ≤ last_number)
   room =
-      let p = entry.pre in
+      let p = entry.requires in
       room-left (words entry) 1 (new entry) p.valid refl p.room p.named
-      (omega (arith, c.before.before.slice-known.given 5))
+      (omega (arith, c.slice_known-1.given 5))
 
 -- the message is posted
-module _ (c : tie.After-slice-known4) where
-  abbrev read : tie.After-slice-known3
+module _ (c : tie.After-slice_known-4-1) where
+  abbrev read : tie.After-slice_known-3-1
   read = c.before.before.before.before
 
   done : Posts (length_of (words (entry read))) (sent_of (words (entry read))) (new (entry read)) (take indexed_size (drop transit_from (words (entry read))))
-      c.before.before.post-message.new.0
-  done = c.before.before.post-message.ensures
+      c.post_message.new.0
+  done = c.post_message.ensures
 
-slice-read-len : tie.Need-slice-read-len
+slice-read-len : tie.Need-bounds-w-4
 slice-read-len c = omega (arith, long c.before.before)
 
-cast-len : tie.Need-overflow-cast-len
+cast-len : tie.Need-overflow_cast-len
 cast-len c = let d = c.before.before in record { fits = omega (arith, transit-few (words d) d.requires.valid) }
 
-post-message-requires : tie.Need-post-message-requires
+post-message-requires : tie.Need-post_message-requires
 post-message-requires c κs =
     let d = entry c.before in
-    let p = d.pre in
+    let p = d.requires in
     let r = room c.before in
     (can_post (words d) 1 (new d) p.valid refl p.room p.named r, (both (format.valid d.args.m) true p.range).0)
 
-add-w : tie.Need-overflow-add-w
+add-w : tie.Need-overflow_add-w
 add-w c = let r = room (read c) in record { fits = omega (arith, r.0, r.1) }
 
-cast-w : tie.Need-overflow-cast-w
+cast-w : tie.Need-overflow_cast-w
 cast-w c = let r = room (read c) in record { fits = omega (arith, r.0, r.1) }
 
-slice-write-w : tie.Need-slice-write-w
+slice-write-w : tie.Need-bounds-w-4-2
 slice-write-w c =
     let d = entry (read c) in
-    let p = d.pre in
+    let p = d.requires in
     omega (arith, posted-long (words d) 1 (new d) p.valid refl p.room p.named _ (done c))
 
-add-w-2 : tie.Need-overflow-add-w-2
+add-w-2 : tie.Need-overflow_add-w-2
 add-w-2 c = let r = room (read c) in record { fits = omega (arith, r.0, r.1) }
 
-slice-write-w-2 : tie.Need-slice-write-w-2
+slice-write-w-2 : tie.Need-bounds-w-5-2
 slice-write-w-2 c =
     let d = entry (read c) in
-    let p = d.pre in
+    let p = d.requires in
     omega (
       arith,
       counted-long (words d) 1 (new d) p.valid refl p.room p.named _ (done c)
@@ -91,11 +91,11 @@ slice-write-w-2 c =
 returns : tie.Need-returns
 returns c =
     let d = entry (read c) in
-    let p = d.pre in
+    let p = d.requires in
     send_becomes (words d) 1 (new d) p.valid refl p.room p.named _ (done c)
 
-pub send-message-spec : {M : Type 1} → statement M
-send-message-spec =
+pub send_message_spec : {M : Type 1} → statement M
+send_message_spec =
     tie.close
     (tie.spec
     slice-read-len

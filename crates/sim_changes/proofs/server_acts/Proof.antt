@@ -5,24 +5,24 @@ use borrow.Author.Rules.{rules}
 use Rattle.sim_changes.proofs.server_acts.Statement.{statement}
 use Rattle.sim_changes.proofs.server_acts.Tie as tie
 
-is-up-requires : tie.Need-is-up-requires
+is-up-requires : tie.Need-is_up-requires
 is-up-requires c κs =
     let d = c.before.before in
-    server_in_lem _ _ (act-server d.args.w.now d.args.j d.args.act d.requires)
+    server_in_lem _ _ (act-server d.args.w-1.now d.args.j d.args.act d.requires)
 
-returns : tie.Need-returns
+returns : tie.Need-returns-then-not-is_up
 returns c =
     let d = c.before.before.before.before in
-    server-down d.args.w.now d.args.j d.args.act d.requires _ c.before.is_up.ensures c.if1.true
+    server-down d.args.w-1.now d.args.j d.args.act d.requires _ c.is_up.ensures c.if-not-is_up.true
 
-server-steps-requires : tie.Need-server-steps-requires
+server-steps-requires : tie.Need-server_steps-requires
 server-steps-requires c κs =
     let t = c.before.before in
     let d = t.before.before.before in
-    (d.requires, server-runs d.args.w.now d.args.j d.args.act d.requires _ t.is_up.ensures c.before.if1.false)
+    (d.requires, server-runs d.args.w-1.now d.args.j d.args.act d.requires _ t.is_up.ensures c.if-not-is_up.false)
 
-pub server-acts-spec : {M : Type 1} → statement M
-server-acts-spec =
+pub server_acts_spec : {M : Type 1} → statement M
+server_acts_spec =
     tie.close
     (tie.spec
     is-up-requires

@@ -21,112 +21,112 @@ use Rattle.sim_changes.proofs.server_steps.Tie as tie
 -- at entry
 module _ (c : tie.Start) where
   abbrev words : List ℕ
-  words = c.args.w.now
+  words = c.args.w-1.now
 
   there : HasServer words c.args.j
   there = act-server words c.args.j c.args.act c.requires.0
 
 -- the row is read
-module _ (c : tie.After-server-row) where
+module _ (c : tie.After-server_row) where
   abbrev entry : tie.Start
   entry = c.before.before.before.before
 
 -- and the head
-module _ (c : tie.After-server-head) where
-  abbrev row_read : tie.After-server-row
+module _ (c : tie.After-server_head) where
+  abbrev row_read : tie.After-server_row
   row_read = c.before.before.before
 
-  read : server_of c.server-head.result row_read.server-row.last.1.1.0
+  read : server_of c.server_head.result row_read.server_row.last.1.1.0
       ≡ server_from (server_record (server_block_of (words (entry row_read)) (entry row_read).args.j))
-  read = server-read _ _ _ c.server-head.ensures row_read.server-row.ensures
+  read = server-read _ _ _ c.server_head.ensures row_read.server_row.ensures
 
 -- the call is made
-module _ (c : tie.After-call-server) where
-  abbrev loaded : tie.After-server-head
+module _ (c : tie.After-call_server-t) where
+  abbrev loaded : tie.After-server_head
   loaded = c.before.before
 
   abbrev start : tie.Start
   start = entry (row_read loaded)
 
-  called : ServerCalled (words start) start.args.j start.args.act c.call-server.result c.call-server.new.1.0
-  called = server-called (words start) start.args.j start.args.act start.pre.0 start.pre.1 _ _ (read loaded) _ _ c.call-server.ensures
+  called : ServerCalled (words start) start.args.j start.args.act c.call_server-t.result c.call_server-t.new.1.0
+  called = server-called (words start) start.args.j start.args.act start.requires.0 start.requires.1 _ _ (read loaded) _ _ c.call_server-t.ensures
 
 -- its messages are counted
-module _ (c : tie.After-counts) where
-  abbrev made : tie.After-call-server
+module _ (c : tie.After-counts-count) where
+  abbrev made : tie.After-call_server-t
   made = c.before.before.before.before
 
-  few : c.counts.result ≤ system_servers
-  few = ruled-few (called made).ruled _ c.counts.ensures
+  few : c.counts-count.result ≤ system_servers
+  few = ruled-few (called made).ruled _ c.counts-count.ensures
 
 -- there is room
-module _ (c : tie.Else1) where
-  abbrev counted : tie.After-counts
+module _ (c : tie.Else-not-has_room) where
+  abbrev counted : tie.After-counts-count
   counted = c.before.before.before
 
 -- the record is stored
-module _ (c : tie.After-store-server) where
-  abbrev roomy : tie.Else1
+module _ (c : tie.After-store_server) where
+  abbrev roomy : tie.Else-not-has_room
   roomy = c.before.before.before
 
 -- the messages are sent
-module _ (c : tie.After-send-mails) where
-  abbrev stored : tie.After-store-server
+module _ (c : tie.After-send_mails) where
+  abbrev stored : tie.After-store_server
   stored = c.before.before.before.before
 
-server-row-requires : tie.Need-server-row-requires
+server-row-requires : tie.Need-server_row-requires
 server-row-requires c κs = (server_in_lem _ _ (there c.before.before.before), search rules)
 
-server-head-requires : tie.Need-server-head-requires
+server-head-requires : tie.Need-server_head-requires
 server-head-requires c κs =
     let d = entry c.before.before in
     (server_in_lem _ _ (there d), record_held _ d.args.j (there d))
 
-call-server-requires : tie.Need-call-server-requires
+call-server-requires : tie.Need-call_server-t-requires
 call-server-requires c κs =
     let l = c.before in
     let d = entry (row_read l) in
     server-padded (words d) d.args.j (there d) _ _ (read l)
 
-has-room-requires : tie.Need-has-room-requires
+has-room-requires : tie.Need-has_room-requires
 has-room-requires c κs =
     let n = c.before in
     ((there (start (made n))).valid, zero-le, omega (arith, few n))
 
-returns : tie.Need-returns
+returns : tie.Need-returns-then-not-has_room
 returns c =
     let n = c.before.before.before in
-    ruled-full (called (made n)).ruled _ n.counts.ensures _ c.before.has_room.ensures c.if1.true
+    ruled-full (called (made n)).ruled _ n.counts-count.ensures _ c.has_room.ensures c.if-not-has_room.true
 
-store-server-requires : tie.Need-store-server-requires
+store-server-requires : tie.Need-store_server-requires
 store-server-requires c κs = ((called (made (counted c.before.before))).stores, search rules)
 
-send-mails-requires : tie.Need-send-mails-requires
+send-mails-requires : tie.Need-send_mails-requires
 send-mails-requires c κs =
     let p = c.before.before.before in
     let r = roomy p in
     let n = counted r in
-    server_sendable (called (made n)) _ n.counts.ensures _ r.before.has_room.ensures r.if1.left _ p.store-server.ensures
+    server_sendable (called (made n)) _ n.counts-count.ensures _ r.has_room.ensures r.if-not-has_room.false _ p.store_server.ensures
 
 cast-t35 : tie.Need-overflow-cast-t35
 cast-t35 c =
     let n = counted (roomy (stored c.before.before)) in
     record { fits = omega (arith, few n) }
 
-returns-2 : tie.Need-returns-2
-returns-2 c = ruled-refused (called c.before.before.before.before).ruled _ c.before.ruling.given.1
+returns-2 : tie.Need-returns-in-Refused
+returns-2 c = ruled-refused (called c.before.before.before.before).ruled _ c.in-Refused.is
 
-returns-3 : tie.Need-returns-3
+returns-3 : tie.Need-returns-else-not-has_room
 returns-3 c =
     let s = c.before.before in
     let p = stored s in
     let r = roomy p in
     let n = counted r in
-    server-sent (called (made n)) _ n.counts.ensures _ r.before.has_room.ensures r.if1.left _ p.store-server.ensures
-    _ s.send-mails.ensures
+    server-sent (called (made n)) _ n.counts-count.ensures _ r.has_room.ensures r.if-not-has_room.false _ p.store_server.ensures
+    _ s.send_mails.ensures
 
-pub server-steps-spec : {M : Type 1} → statement M
-server-steps-spec =
+pub server_steps_spec : {M : Type 1} → statement M
+server_steps_spec =
     tie.close
     (tie.spec
     (λ c. search rules)

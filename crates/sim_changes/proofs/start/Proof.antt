@@ -11,74 +11,74 @@ use Rattle.sim_changes.proofs.start.Statement.{statement}
 use Rattle.sim_changes.proofs.start.Tie as tie
 
 -- the words are cleared
-module _ (c : tie.After-clear-all) where
+module _ (c : tie.After-clear_all) where
   abbrev entry : tie.Start
   entry = c.before.before.before
 
   abbrev words : List ℕ
-  words = entry.args.w.now
+  words = entry.args.w-1.now
 
   abbrev chosen : Setting
   chosen = entry.args.s
 
   fits : (chosen.n ≤ system_servers) × (chosen.m ≤ system_servers) × (chosen.clients ≤ system_clients)
-  fits = start_fits chosen words _ entry.pre c.clear-all.ensures
+  fits = start_fits chosen words _ entry.requires c.clear_all.ensures
 
 -- the setting is stored
-module _ (c : tie.After-new-clients-arg) where
-  abbrev cleared : tie.After-clear-all
+module _ (c : tie.After-new_clients-arg-1) where
+  abbrev cleared : tie.After-clear_all
   cleared = c.before.before.before
 
 -- the clients are put
-module _ (c : tie.After-new-clients) where
-  abbrev blank : tie.After-clear-all
+module _ (c : tie.After-new_clients) where
+  abbrev blank : tie.After-clear_all
   blank = cleared c.before.before.before.before
 
 -- the servers are put
-module _ (c : tie.After-new-servers) where
-  abbrev peopled : tie.After-new-clients
+module _ (c : tie.After-new_servers) where
+  abbrev peopled : tie.After-new_clients
   peopled = c.before.before.before.before.before
 
-slice-write-w-3 : tie.Need-slice-write-w-3
-slice-write-w-3 c = let z = c.before.before in start-two (chosen z) (words z) _ (entry z).requires z.clear-all.ensures
+slice-write-w-3 : tie.Need-bounds-w-2
+slice-write-w-3 c = let z = c.before.before in start-two (chosen z) (words z) _ (entry z).requires z.clear_all.ensures
 
-slice-write-w-4 : tie.Need-slice-write-w-4
-slice-write-w-4 c = let z = c.before.before in start_three (chosen z) (words z) _ (entry z).requires z.clear-all.ensures
+slice-write-w-4 : tie.Need-bounds-w-3
+slice-write-w-4 c = let z = c.before.before in start_three (chosen z) (words z) _ (entry z).requires z.clear_all.ensures
 
-cast-new-clients : tie.Need-overflow-cast-new-clients
+cast-new-clients : tie.Need-overflow_cast-s
 cast-new-clients c = record { fits = omega (arith, (fits (cleared c.before)).0) }
 
-cast-new-clients-2 : tie.Need-overflow-cast-new-clients-2
+cast-new-clients-2 : tie.Need-overflow_cast-s-2
 cast-new-clients-2 c = record { fits = omega (arith, (fits (cleared c.before.before)).1) }
 
-cast-new-clients-3 : tie.Need-overflow-cast-new-clients-3
+cast-new-clients-3 : tie.Need-overflow_cast-s-3
 cast-new-clients-3 c = record { fits = omega (arith, (fits (cleared c.before.before.before)).2) }
 
-new-clients-requires : tie.Need-new-clients-requires
-new-clients-requires c κs = let z = cleared c.before.before.before in start-clients (chosen z) (words z) _ (entry z).pre z.clear-all.ensures
+new-clients-requires : tie.Need-new_clients-requires
+new-clients-requires c κs = let z = cleared c.before.before.before in start-clients (chosen z) (words z) _ (entry z).requires z.clear_all.ensures
 
-cast-new-servers : tie.Need-overflow-cast-new-servers
+cast-new-servers : tie.Need-overflow_cast-s-4
 cast-new-servers c = record { fits = omega (arith, (fits (blank c.before.before.before.before)).0) }
 
-new-servers-requires : tie.Need-new-servers-requires
+new-servers-requires : tie.Need-new_servers-requires
 new-servers-requires c κs =
     let p = c.before.before.before.before in
     let z = blank p in
-    start-servers (chosen z) (words z) _ (entry z).pre z.clear-all.ensures _ p.new_clients.ensures
+    start-servers (chosen z) (words z) _ (entry z).requires z.clear_all.ensures _ p.new_clients.ensures
 
-same_length : tie.Need-same-length
+same_length : tie.Need-shape_of-w
 same_length c =
     let q = c.before.before in
     let p = peopled q in
     let z = blank p in
-    start-same (chosen z) (words z) _ (entry z).pre z.clear-all.ensures _ p.new_clients.ensures _ q.new-servers.ensures
+    start-same (chosen z) (words z) _ (entry z).requires z.clear_all.ensures _ p.new_clients.ensures _ q.new_servers.ensures
 
 returns : tie.Need-returns
 returns c =
     let q = c.before.before in
     let p = peopled q in
     let z = blank p in
-    start-done (chosen z) (words z) _ (entry z).pre z.clear-all.ensures _ p.new_clients.ensures _ q.new-servers.ensures
+    start-done (chosen z) (words z) _ (entry z).requires z.clear_all.ensures _ p.new_clients.ensures _ q.new_servers.ensures
 
 pub start_spec : {M : Type 1} → statement M
 start_spec =

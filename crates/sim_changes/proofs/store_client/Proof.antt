@@ -5,14 +5,14 @@ use borrow.Author.Rules.{rules}
 use Rattle.sim_changes.proofs.store_client.Statement.{statement}
 use Rattle.sim_changes.proofs.store_client.Tie as tie
 
-begin-epoch-requires : tie.Need-begin-epoch-requires
+begin-epoch-requires : tie.Need-begin_epoch-requires
 begin-epoch-requires c κs =
     let p = c.before.before.before in
     let t = p.before.before in
-    epoch_begins t.before.before.before.before.requires.0 t.enum_told.given.1 p.put-client.ensures
+    epoch_begins t.requires.0 t.in-Try.is p.put_client.ensures
 
-pub store-client-spec : {M : Type 1} → statement M
-store-client-spec =
+pub store_client_spec : {M : Type 1} → statement M
+store_client_spec =
     tie.close
     (tie.spec
     (λ c. search rules)

@@ -4,8 +4,8 @@ use borrow.Author.Rules.{rules}
 use Rattle.sim_changes.proofs.store_server.Statement.{statement}
 use Rattle.sim_changes.proofs.store_server.Tie as tie
 
-pub store-server-spec : {M : Type 1} → statement M
-store-server-spec =
+pub store_server_spec : {M : Type 1} → statement M
+store_server_spec =
     tie.close
     (tie.spec
     (λ c. search rules)

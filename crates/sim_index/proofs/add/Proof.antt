@@ -9,23 +9,23 @@ use Rattle.sim_index.proofs.add.Statement.{statement}
 use Rattle.sim_index.proofs.add.Tie as tie
 
 -- where the receiver's entries end is known
-module _ (c : tie.After-start) where
+module _ (c : tie.After-start-at) where
   abbrev begun : tie.Start
   begun = c.before.before.before
 
-  within : c.start.result ≤ begun.args.len
-  within = next-within _ _ _ begun.pre.0 _ c.start.ensures
+  within : c.start-at.result ≤ begun.args.len
+  within = next-within _ _ _ begun.requires.0 _ c.start-at.ensures
 
 -- the card is put in
 module _ (c : tie.After-insert) where
-  abbrev started : tie.After-start
+  abbrev started : tie.After-start-at
   started = c.before.before
 
   abbrev start : tie.Start
   start = begun started
 
-  left : Left start.args.c.place start.args.x.now c.insert.new.0
-  left = put-left _ _ _ start.pre.0 _ _ _ _ (within started) start.pre.1 c.insert.ensures
+  left : Left start.args.c.place start.args.x-1.now c.insert.new.0
+  left = put-left _ _ _ start.requires.0 _ _ _ _ (within started) start.requires.1 c.insert.ensures
 
 pub add_spec : {M : Type 1} → statement M
 add_spec =
@@ -33,7 +33,7 @@ add_spec =
     (tie.spec
     (λ c. search rules)
     (λ c κs. search next-asked)
-    (λ c κs. let s = begun c.before in (within c.before, s.pre.1, s.pre.0.size))
+    (λ c κs. let s = begun c.before in (within c.before, s.requires.1, s.requires.0.size))
     (λ c. search rules)
     (λ c. let p = c.before.before.before in omega (arith, (left p).size, (start p).requires.0.size, (start p).requires.0.place))
     (λ c. let p = c.before.before.before in

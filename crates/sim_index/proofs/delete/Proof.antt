@@ -6,14 +6,14 @@ use borrow.Author.Rules.{rules}
 use Rattle.sim_index.proofs.delete.Statement.{statement}
 use Rattle.sim_index.proofs.delete.Tie as tie
 
-abbrev invariant-loop : tie.invariant-loop
+abbrev invariant-loop : tie.invariant-loop-i
 invariant-loop x₀ at last i₀ x i = Closed x₀ at last x i
 
-abbrev decreases-loop : tie.decreases-loop
+abbrev decreases-loop : tie.decreases-loop-i
 decreases-loop x₀ at last i₀ x i = last - i
 
-pub delete-spec : {M : Type 1} → statement M
-delete-spec =
+pub delete_spec : {M : Type 1} → statement M
+delete_spec =
     tie.close
     (tie.spec
     invariant-loop

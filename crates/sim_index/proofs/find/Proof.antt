@@ -6,10 +6,10 @@ use borrow.Author.Rules.{rules}
 use Rattle.sim_index.proofs.find.Statement.{statement}
 use Rattle.sim_index.proofs.find.Tie as tie
 
-abbrev invariant-loop : tie.invariant-loop
+abbrev invariant-loop : tie.invariant-loop-i
 invariant-loop x from to v i₀ i = Looking x from to v i
 
-abbrev decreases-loop : tie.decreases-loop
+abbrev decreases-loop : tie.decreases-loop-i
 decreases-loop x from to v i₀ i = to - i
 
 pub find_spec : {M : Type 1} → statement M

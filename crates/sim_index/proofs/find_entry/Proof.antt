@@ -8,15 +8,15 @@ use Rattle.sim_index.proofs.find_entry.Statement.{statement}
 use Rattle.sim_index.proofs.find_entry.Tie as tie
 
 -- where the receiver's entries begin is known
-module _ (c : tie.After-start) where
+module _ (c : tie.After-start-from) where
   abbrev begun : tie.Start
   begun = c.before.before
 
-  few : c.start.result + get_or begun.args.x.now begun.args.p 0 ≤ begun.args.len
-  few = omega (arith, entries_few _ _ _ begun.pre, c.start.ensures)
+  few : c.start-from.result + get_or begun.args.x.now begun.args.p 0 ≤ begun.args.len
+  few = omega (arith, entries_few _ _ _ begun.requires, c.start-from.ensures)
 
-pub find-entry-spec : {M : Type 1} → statement M
-find-entry-spec =
+pub find_entry_spec : {M : Type 1} → statement M
+find_entry_spec =
     tie.close
     (tie.spec
     (λ c κs. search start-asked)
@@ -26,6 +26,6 @@ find-entry-spec =
     (λ c. record { fits = omega (arith, few c.before) })
     (λ c. record { fits = omega (arith, few c.before) })
     (λ c. record { fits = omega (arith, few c.before) })
-    (λ c κs. (omega arith, omega (arith, few c.before, (begun c.before).pre.size)))
+    (λ c κs. (omega arith, omega (arith, few c.before, (begun c.before).requires.size)))
     (λ c. search rules)
     (λ c. search entry_found))

@@ -6,14 +6,14 @@ use borrow.Author.Rules.{rules}
 use Rattle.sim_index.proofs.insert.Statement.{statement}
 use Rattle.sim_index.proofs.insert.Tie as tie
 
-abbrev invariant-loop : tie.invariant-loop
+abbrev invariant-loop : tie.invariant-loop-i
 invariant-loop x₀ at end number mark i₀ x i = Opened x₀ at end x i
 
-abbrev decreases-loop : tie.decreases-loop
+abbrev decreases-loop : tie.decreases-loop-i
 decreases-loop x₀ at end number mark i₀ x i = i - at
 
-pub insert-spec : {M : Type 1} → statement M
-insert-spec =
+pub insert_spec : {M : Type 1} → statement M
+insert_spec =
     tie.close
     (tie.spec
     invariant-loop

@@ -6,10 +6,10 @@ use borrow.Author.Rules.{rules}
 use Rattle.sim_index.proofs.same.Statement.{statement}
 use Rattle.sim_index.proofs.same.Tie as tie
 
-abbrev invariant-loop : tie.invariant-loop
+abbrev invariant-loop : tie.invariant-loop-i
 invariant-loop x y n i₀ i = Comparing x y i
 
-abbrev decreases-loop : tie.decreases-loop
+abbrev decreases-loop : tie.decreases-loop-i
 decreases-loop x y n i₀ i = n - i
 
 pub same_spec : {M : Type 1} → statement M

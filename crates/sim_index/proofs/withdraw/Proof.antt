@@ -9,31 +9,31 @@ use Rattle.sim_index.proofs.withdraw.Statement.{statement}
 use Rattle.sim_index.proofs.withdraw.Tie as tie
 
 -- the entry is found
-module _ (c : tie.After-find-entry) where
+module _ (c : tie.After-find_entry-at) where
   abbrev begun : tie.Start
   begun = c.before.before.before
 
-  within : c.find-entry.result < begun.args.len
-  within = omega (arith, c.find-entry.ensures, begun.pre.1)
+  within : c.find_entry-at.result < begun.args.len
+  within = omega (arith, c.find_entry-at.ensures, begun.requires.1)
 
 -- it is taken out
 module _ (c : tie.After-delete) where
-  abbrev found : tie.After-find-entry
+  abbrev found : tie.After-find_entry-at
   found = c.before.before
 
   abbrev start : tie.Start
   start = begun found
 
-  left : Left start.args.p start.args.x.now c.delete.new.0
-  left = taken-left _ _ _ start.pre.0 _ _ (within found) c.delete.ensures
+  left : Left start.args.p start.args.x-1.now c.delete.new.0
+  left = taken-left _ _ _ start.requires.0 _ _ (within found) c.delete.ensures
 
-pub withdraw-spec : {M : Type 1} → statement M
-withdraw-spec =
+pub withdraw_spec : {M : Type 1} → statement M
+withdraw_spec =
     tie.close
     (tie.spec
     (λ c κs. search rules)
     (λ c. search rules)
-    (λ c κs. let f = c.before in let s = begun f in (omega (arith, within f), omega (arith, within f, s.pre.0.few), s.pre.0.size))
+    (λ c κs. let f = c.before in let s = begun f in (omega (arith, within f), omega (arith, within f, s.requires.0.few), s.requires.0.size))
     (λ c. search rules)
     (λ c. let p = c.before.before.before in omega (arith, (left p).size, (start p).requires.0.size, (start p).requires.0.place))
     (λ c. let p = c.before.before.before in omega (arith, (left p).count, (start p).requires.2))

@@ -4,8 +4,8 @@ use borrow.Author.Rules.{rules}
 use Rattle.sim_indexed.proofs.card_at.Statement.{statement}
 use Rattle.sim_indexed.proofs.card_at.Tie as tie
 
-pub card-at-spec : {M : Type 1} → statement M
-card-at-spec =
+pub card_at_spec : {M : Type 1} → statement M
+card_at_spec =
     tie.close
     (tie.spec
     (λ c. search rules)

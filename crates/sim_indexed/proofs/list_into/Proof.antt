@@ -4,11 +4,11 @@ use Rattle.sim_indexed.proofs.ListingLaws.{add_may, listed_next, listed-size}
 use Rattle.sim_indexed.proofs.list_into.Statement.{statement}
 use Rattle.sim_indexed.proofs.list_into.Tie as tie
 
-pub list-into-spec : {M : Type 1} → statement M
-list-into-spec =
+pub list_into_spec : {M : Type 1} → statement M
+list_into_spec =
     tie.close
     (tie.spec
     (λ c κs. search card_may)
-    (λ c κs. let d = c.before.before.before.before in add_may _ _ d.requires.0 _ _ d.requires.1 c.before.card-at.ensures)
+    (λ c κs. let d = c.before.before.before.before in add_may _ _ d.requires.0 _ _ d.requires.1 c.card_at-c.ensures)
     (λ c. search listed-size)
     (λ c. search listed_next))

@@ -4,8 +4,8 @@ use borrow.Author.Rules.{rules}
 use Rattle.sim_indexed.proofs.list_slot.Statement.{statement}
 use Rattle.sim_indexed.proofs.list_slot.Tie as tie
 
-pub list-slot-spec : {M : Type 1} → statement M
-list-slot-spec =
+pub list_slot_spec : {M : Type 1} → statement M
+list_slot_spec =
     tie.close
     (tie.spec
     (λ c. search rules)
@@ -15,6 +15,6 @@ list-slot-spec =
     (λ c. search rules)
     (λ c. search rules)
     (λ c. search rules)
-    (λ c κs. slot-may _ _ c.before.before.before.before.before.requires _ c.before.card-at.ensures)
+    (λ c κs. slot-may _ _ c.requires _ c.card_at-c.ensures)
     (λ c. search slot-size)
     (λ c. search slot-listed))

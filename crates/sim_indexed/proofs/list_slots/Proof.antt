@@ -6,14 +6,14 @@ use borrow.Author.Rules.{rules}
 use Rattle.sim_indexed.proofs.list_slots.Statement.{statement}
 use Rattle.sim_indexed.proofs.list_slots.Tie as tie
 
-abbrev invariant-loop : tie.invariant-loop
+abbrev invariant-loop : tie.invariant-loop-i
 invariant-loop t₀ from to i₀ t i = Joining from to t₀ t i
 
-abbrev decreases-loop : tie.decreases-loop
+abbrev decreases-loop : tie.decreases-loop-i
 decreases-loop t₀ from to i₀ t i = to - i
 
-pub list-slots-spec : {M : Type 1} → statement M
-list-slots-spec =
+pub list_slots_spec : {M : Type 1} → statement M
+list_slots_spec =
     tie.close
     (tie.spec
     invariant-loop

@@ -5,51 +5,51 @@ use Rattle.sim_indexed.proofs.mark.Statement.{statement}
 use Rattle.sim_indexed.proofs.mark.Tie as tie
 
 -- the card is read
-module _ (c : tie.After-card-at) where
+module _ (c : tie.After-card_at-c) where
   abbrev entry : tie.Start
   entry = c.before.before.before.before
 
 -- the entry is found
-module _ (c : tie.After-find-entry) where
-  abbrev read : tie.After-card-at
+module _ (c : tie.After-find_entry-at) where
+  abbrev read : tie.After-card_at-c
   read = c.before.before.before
 
 -- the entry is marked
-module _ (c : tie.After-put-mark) where
-  abbrev found : tie.After-find-entry
+module _ (c : tie.After-put_mark) where
+  abbrev found : tie.After-find_entry-at
   found = c.before.before
 
 -- the slot is marked
-module _ (c : tie.After-put-mark2) where
-  abbrev marked : tie.After-put-mark
+module _ (c : tie.After-put_mark-2) where
+  abbrev marked : tie.After-put_mark
   marked = c.before.before.before.before
 
-find-entry-requires : tie.Need-find-entry-requires
-find-entry-requires c κs = let r = c.before.before in let s = entry r in change_sized _ _ _ s.pre.0 s.pre.1 _ r.card-at.ensures
+find-entry-requires : tie.Need-find_entry-at-requires
+find-entry-requires c κs = let r = c.before.before in let s = entry r in change_sized _ _ _ s.requires.0 s.requires.1 _ r.card_at-c.ensures
 
-put-mark-requires : tie.Need-put-mark-requires
+put-mark-requires : tie.Need-put_mark-requires
 put-mark-requires c κs =
     let f = c.before in
     let r = read f in
     let s = entry r in
-    mark-entry _ _ _ s.pre.0 s.pre.1 _ r.card-at.ensures _ f.find-entry.ensures
+    mark-entry _ _ _ s.requires.0 s.requires.1 _ r.card_at-c.ensures _ f.find_entry-at.ensures
 
-put-mark-requires-2 : tie.Need-put-mark-requires-2
+put-mark-requires-2 : tie.Need-put_mark-requires-2
 put-mark-requires-2 c κs =
     let m = c.before.before.before in
     let f = found m in
     let r = read f in
     let s = entry r in
-    mark-slot _ _ _ s.pre.0 s.pre.1 _ r.card-at.ensures _ f.find-entry.ensures _ m.put-mark.ensures
+    mark-slot _ _ _ s.requires.0 s.requires.1 _ r.card_at-c.ensures _ f.find_entry-at.ensures _ m.put_mark.ensures
 
-same_length : tie.Need-same-length
+same_length : tie.Need-shape_of-t
 same_length c =
     let d = c.before.before in
     let m = marked d in
     let f = found m in
     let r = read f in
     let s = entry r in
-    marks_same _ _ _ s.pre.0 s.pre.1 _ r.card-at.ensures _ f.find-entry.ensures _ m.put-mark.ensures _ d.put-mark2.ensures
+    marks_same _ _ _ s.requires.0 s.requires.1 _ r.card_at-c.ensures _ f.find_entry-at.ensures _ m.put_mark.ensures _ d.put_mark-2.ensures
 
 returns : tie.Need-returns
 returns c =
@@ -58,7 +58,7 @@ returns c =
     let f = found m in
     let r = read f in
     let s = entry r in
-    marks_both _ _ _ s.pre.0 s.pre.1 _ r.card-at.ensures _ f.find-entry.ensures _ m.put-mark.ensures _ d.put-mark2.ensures
+    marks_both _ _ _ s.requires.0 s.requires.1 _ r.card_at-c.ensures _ f.find_entry-at.ensures _ m.put_mark.ensures _ d.put_mark-2.ensures
 
 pub mark_spec : {M : Type 1} → statement M
 mark_spec =

@@ -6,34 +6,34 @@ use Rattle.sim_indexed.proofs.pend.Statement.{statement}
 use Rattle.sim_indexed.proofs.pend.Tie as tie
 
 -- the slot is found
-module _ (c : tie.After-find-present) where
+module _ (c : tie.After-find_present-i) where
   abbrev entry : tie.Start
   entry = c.before.before.before.before.before.before.before.before.before.before.before
 
-  found : Looked entry.args.len entry.args.at entry.args.t.now c.find-present.result
-  found = record { entry = entry.pre; number = _; read = c.before.before.before.number_at.ensures; slot = c.find-present.ensures }
+  found : Looked entry.args.len entry.args.at entry.args.t-1.now c.find_present-i.result
+  found = record { entry = entry.requires; number = _; read = c.number_at-number.ensures; slot = c.find_present-i.ensures }
 
 -- the entry is marked
-module _ (c : tie.After-put-mark) where
-  abbrev looked : tie.After-find-present
+module _ (c : tie.After-put_mark) where
+  abbrev looked : tie.After-find_present-i
   looked = c.before.before
 
 -- the slot is marked
-module _ (c : tie.After-put-mark2) where
-  abbrev marked : tie.After-put-mark
+module _ (c : tie.After-put_mark-2) where
+  abbrev marked : tie.After-put_mark
   marked = c.before.before.before.before
 
-put-mark-requires-2 : tie.Need-put-mark-requires-2
-put-mark-requires-2 c κs = let m = c.before.before.before in slot-may (found (looked m)) m.put-mark.ensures
+put-mark-requires-2 : tie.Need-put_mark-requires-2
+put-mark-requires-2 c κs = let m = c.before.before.before in slot-may (found (looked m)) m.put_mark.ensures
 
-same-length-2 : tie.Need-same-length-2
-same-length-2 c = let d = c.before.before in let m = marked d in pends_size (found (looked m)) m.put-mark.ensures d.put-mark2.ensures
+same-length-2 : tie.Need-shape_of-t
+same-length-2 c = let d = c.before.before in let m = marked d in pends_size (found (looked m)) m.put_mark.ensures d.put_mark-2.ensures
 
-returns-2 : tie.Need-returns-2
-returns-2 c = let d = c.before.before in let m = marked d in pends (found (looked m)) m.put-mark.ensures d.put-mark2.ensures
+returns-2 : tie.Need-returns
+returns-2 c = let d = c.before.before in let m = marked d in pends (found (looked m)) m.put_mark.ensures d.put_mark-2.ensures
 
-pub pend-spec : {M : Type 1} → statement M
-pend-spec =
+pub pend_spec : {M : Type 1} → statement M
+pend_spec =
     tie.close
     (tie.spec
     (λ c. search rules)

@@ -4,8 +4,8 @@ use borrow.Author.Rules.{rules}
 use Rattle.sim_indexed.proofs.place_by.Statement.{statement}
 use Rattle.sim_indexed.proofs.place_by.Tie as tie
 
-pub place-by-spec : {M : Type 1} → statement M
-place-by-spec =
+pub place_by_spec : {M : Type 1} → statement M
+place_by_spec =
     tie.close
     (tie.spec
     (λ c. search rules)

@@ -21,15 +21,15 @@ module _ (c : tie.After-post) where
   abbrev entry : tie.Start
   entry = c.before.before.before.before
 
-  posted : Posts entry.args.len entry.args.sent (new entry) (table entry.args.t.now) c.post.new.0
+  posted : Posts entry.args.len entry.args.sent (new entry) (table entry.args.t-1.now) c.post.new.0
   posted =
       let s = entry in
-      let p = s.pre in
+      let p = s.requires in
       let m = post_may _ _ _ _ p.0 in
       posts_read _ _ _ _ _ _ (rw p.1 at m.0) p.1 c.post.ensures
 
 -- the index has them
-module _ (c : tie.After-list-slots) where
+module _ (c : tie.After-list_slots) where
   abbrev stored : tie.After-post
   stored = c.before.before.before.before
 
@@ -39,31 +39,31 @@ post-requires c κs =
     let m = post_may _ _ _ _ s.requires.0 in
     (rw s.requires.1 at m.0, rw s.requires.1 at m.1, s.requires.1)
 
-add-list-slots : tie.Need-overflow-add-list-slots
-add-list-slots c = let s = entry c.before.before.before in record { fits = omega (arith, s.pre.0.room, s.pre.1) }
+add-list-slots : tie.Need-overflow_add-len
+add-list-slots c = let s = entry c.before.before.before in record { fits = omega (arith, s.requires.0.room, s.requires.1) }
 
-list-slots-requires : tie.Need-list-slots-requires
+list-slots-requires : tie.Need-list_slots-requires
 list-slots-requires c κs =
     let p = c.before.before.before in
     let s = entry p in
-    rw s.pre.1 at (post_unlisted _ _ _ _ s.pre.0 _ (posted p))
+    rw s.requires.1 at (post_unlisted _ _ _ _ s.requires.0 _ (posted p))
 
-same_length : tie.Need-same-length
+same_length : tie.Need-shape_of-t
 same_length c =
     let q = c.before.before in
     let p = stored q in
     let s = entry p in
-    posts_same _ _ _ _ s.pre.0 _ (posted p) q.list-slots.new.0 (rw s.pre.1 q.list-slots.ensures)
+    posts_same _ _ _ _ s.requires.0 _ (posted p) q.list_slots.new.0 (rw s.requires.1 q.list_slots.ensures)
 
 returns : tie.Need-returns
 returns c =
     let q = c.before.before in
     let p = stored q in
     let s = entry p in
-    posts_both _ _ _ _ s.pre.0 _ (posted p) q.list-slots.new.0 (rw s.pre.1 q.list-slots.ensures)
+    posts_both _ _ _ _ s.requires.0 _ (posted p) q.list_slots.new.0 (rw s.requires.1 q.list_slots.ensures)
 
-pub post-spec : {M : Type 1} → statement M
-post-spec =
+pub post_spec : {M : Type 1} → statement M
+post_spec =
     tie.close
     (tie.spec
     (λ c. search rules)

@@ -10,34 +10,34 @@ use Rattle.sim_indexed.proofs.post_message.Statement.{statement}
 use Rattle.sim_indexed.proofs.post_message.Tie as tie
 
 -- a slot has the message
-module _ (c : tie.After-post-message) where
+module _ (c : tie.After-post_message) where
   abbrev entry : tie.Start
   entry = c.before.before.before
 
-  posted : Posts entry.args.len entry.args.sent (entry.args.m ∷ []) (table entry.args.t.now) c.post-message.new.0
-  posted = let p = entry.pre in posts_one _ _ _ _ _ (post_may _ _ _ _ p.0).0 p.1 c.post-message.ensures
+  posted : Posts entry.args.len entry.args.sent (entry.args.m ∷ []) (table entry.args.t-1.now) c.post_message.new.0
+  posted = let p = entry.requires in posts_one _ _ _ _ _ (post_may _ _ _ _ p.0).0 p.1 c.post_message.ensures
 
 -- the index has it
-module _ (c : tie.After-list-slot) where
-  abbrev stored : tie.After-post-message
+module _ (c : tie.After-list_slot) where
+  abbrev stored : tie.After-post_message
   stored = c.before.before.before.before
 
-post-message-requires : tie.Need-post-message-requires
-post-message-requires c κs = let p = c.before.before.requires in let m = post_may _ _ _ _ p.0 in (m.0, m.1, p.1)
+post-message-requires : tie.Need-post_message-requires
+post-message-requires c κs = let p = c.requires in let m = post_may _ _ _ _ p.0 in (m.0, m.1, p.1)
 
-list-slot-requires : tie.Need-list-slot-requires
+list-slot-requires : tie.Need-list_slot-requires
 list-slot-requires c κs =
     let p = c.before.before.before in
     joining-slot _ _ _ _ _ (joining-none _ _ _ (post_unlisted _ _ _ _ (entry p).requires.0 _ (posted p))) (omega arith)
 
-same_length : tie.Need-same-length
-same_length c = let q = c.before.before in let p = stored q in posts_same _ _ _ _ (entry p).pre.0 _ (posted p) _ q.list-slot.ensures
+same_length : tie.Need-shape_of-t
+same_length c = let q = c.before.before in let p = stored q in posts_same _ _ _ _ (entry p).requires.0 _ (posted p) _ q.list_slot.ensures
 
 returns : tie.Need-returns
-returns c = let q = c.before.before in let p = stored q in posts_both _ _ _ _ (entry p).pre.0 _ (posted p) _ q.list-slot.ensures
+returns c = let q = c.before.before in let p = stored q in posts_both _ _ _ _ (entry p).requires.0 _ (posted p) _ q.list_slot.ensures
 
-pub post-message-spec : {M : Type 1} → statement M
-post-message-spec =
+pub post_message_spec : {M : Type 1} → statement M
+post_message_spec =
     tie.close
     (tie.spec
     (λ c. search rules)

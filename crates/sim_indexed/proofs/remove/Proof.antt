@@ -5,13 +5,13 @@ use Rattle.sim_indexed.proofs.remove.Statement.{statement}
 use Rattle.sim_indexed.proofs.remove.Tie as tie
 
 -- the card is read
-module _ (c : tie.After-card-at) where
+module _ (c : tie.After-card_at-c) where
   abbrev entry : tie.Start
   entry = c.before.before.before.before
 
 -- the entry is withdrawn
 module _ (c : tie.After-withdraw) where
-  abbrev read : tie.After-card-at
+  abbrev read : tie.After-card_at-c
   read = c.before.before
 
 -- the slot is removed
@@ -20,22 +20,22 @@ module _ (c : tie.After-remove) where
   withdrawn = c.before.before.before.before
 
 withdraw-requires : tie.Need-withdraw-requires
-withdraw-requires c κs = let r = c.before in let s = entry r in withdraw_may _ _ _ s.pre.0 s.pre.1 _ r.card-at.ensures
+withdraw-requires c κs = let r = c.before in let s = entry r in withdraw_may _ _ _ s.requires.0 s.requires.1 _ r.card_at-c.ensures
 
 remove-requires : tie.Need-remove-requires
 remove-requires c κs =
     let w = c.before.before.before in
     let r = read w in
     let s = entry r in
-    remove_slot _ _ _ s.pre.0 s.pre.1 _ r.card-at.ensures _ w.withdraw.ensures
+    remove_slot _ _ _ s.requires.0 s.requires.1 _ r.card_at-c.ensures _ w.withdraw.ensures
 
-same_length : tie.Need-same-length
+same_length : tie.Need-shape_of-t
 same_length c =
     let d = c.before.before in
     let w = withdrawn d in
     let r = read w in
     let s = entry r in
-    removes_same _ _ _ s.pre.0 s.pre.1 _ r.card-at.ensures _ w.withdraw.ensures _ d.remove.ensures
+    removes_same _ _ _ s.requires.0 s.requires.1 _ r.card_at-c.ensures _ w.withdraw.ensures _ d.remove.ensures
 
 returns : tie.Need-returns
 returns c =
@@ -43,10 +43,10 @@ returns c =
     let w = withdrawn d in
     let r = read w in
     let s = entry r in
-    removes_both _ _ _ s.pre.0 s.pre.1 _ r.card-at.ensures _ w.withdraw.ensures _ d.remove.ensures
+    removes_both _ _ _ s.requires.0 s.requires.1 _ r.card_at-c.ensures _ w.withdraw.ensures _ d.remove.ensures
 
-pub remove-spec : {M : Type 1} → statement M
-remove-spec =
+pub remove_spec : {M : Type 1} → statement M
+remove_spec =
     tie.close
     (tie.spec
     (λ c. search rules)

@@ -8,14 +8,14 @@ use borrow.Author.Rules.{rules}
 use Rattle.sim_indexed.proofs.restart.Statement.{statement}
 use Rattle.sim_indexed.proofs.restart.Tie as tie
 
-abbrev invariant-loop : tie.invariant-loop
+abbrev invariant-loop : tie.invariant-loop-at
 invariant-loop t₀ len p at₀ end t at = Restarting len p end t₀ t at
 
-abbrev decreases-loop : tie.decreases-loop
+abbrev decreases-loop : tie.decreases-loop-at
 decreases-loop t₀ len p at₀ end t at = end - at
 
-pub restart-spec : {M : Type 1} → statement M
-restart-spec =
+pub restart_spec : {M : Type 1} → statement M
+restart_spec =
     tie.close
     (tie.spec
     invariant-loop

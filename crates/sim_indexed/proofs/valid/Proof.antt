@@ -9,21 +9,21 @@ use borrow.Author.Rules.{rules}
 use Rattle.sim_indexed.proofs.valid.Statement.{statement}
 use Rattle.sim_indexed.proofs.valid.Tie as tie
 
-abbrev invariant-loop : tie.invariant-loop
+abbrev invariant-loop : tie.invariant-loop-i
 invariant-loop t len sent n clients made₀ i₀ made i = Making n clients sent len (table t) made i
 
-abbrev decreases-loop : tie.decreases-loop
+abbrev decreases-loop : tie.decreases-loop-i
 decreases-loop t len sent n clients made₀ i₀ made i = len - i
 
-returns-3 : tie.Need-returns-3 invariant-loop decreases-loop
+returns-3 : tie.Need-returns invariant-loop decreases-loop
 returns-3 c =
     let l = c.before.before.before.before in
     let v = l.before.before in
-    index_decides _ _ _ _ _ v.before.before.if1.false _ v.valid.ensures l.before.if2.false
-    _ (making_all _ _ _ _ _ _ _ l.loop.invariant (omega arith)) _ c.same.ensures
+    index_decides _ _ _ _ _ v.if-t-ne-INDEXED_WORDS.false _ v.valid.ensures l.if-not-valid.false
+    _ (making_all _ _ _ _ _ _ _ l.loop-i.invariant (omega arith)) _ c.same.ensures
 
-pub valid-spec : {M : Type 1} → statement M
-valid-spec =
+pub valid_spec : {M : Type 1} → statement M
+valid_spec =
     tie.close
     (tie.spec
     invariant-loop
@@ -34,7 +34,7 @@ valid-spec =
     (λ c. search rules)
     (λ c κs. search rules)
     (λ c. search wrong-slots)
-    (λ c. making_none _ _ _ _ _ c.before.before.before.before.before.requires _ c.before.valid.ensures c.if2.false)
+    (λ c. making_none _ _ _ _ _ c.requires _ c.valid.ensures c.if-not-valid.false)
     (λ c. search rules)
     (λ c. search rules)
     (λ c. search rules)

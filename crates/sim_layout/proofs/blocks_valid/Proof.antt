@@ -4,8 +4,8 @@ use borrow.Author.Rules.{rules}
 use Rattle.sim_layout.proofs.blocks_valid.Statement.{statement}
 use Rattle.sim_layout.proofs.blocks_valid.Tie as tie
 
-pub blocks-valid-spec : {M : Type 1} → statement M
-blocks-valid-spec =
+pub blocks_valid_spec : {M : Type 1} → statement M
+blocks_valid_spec =
     tie.close
     (tie.spec
     (λ c κs. search rules)

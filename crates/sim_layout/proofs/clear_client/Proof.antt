@@ -10,10 +10,10 @@ returns : tie.Need-returns
 returns c =
     let d = c.before.before.before.before.before.before in
     let a = d.args in
-    client-written a.w.now a.k d.requires cleared _ (λ l. length-flags l) c.before.before.clear-flags.ensures
+    client-written a.w-1.now a.k d.requires cleared _ (λ l. length-flags l) c.clear_flags.ensures
 
-pub clear-client-spec : {M : Type 1} → statement M
-clear-client-spec =
+pub clear_client_spec : {M : Type 1} → statement M
+clear_client_spec =
     tie.close
     (tie.spec
     (λ c. search rules)

@@ -7,7 +7,7 @@ use borrow.Author.Rules.{rules}
 use Rattle.sim_layout.proofs.client_head.Statement.{statement}
 use Rattle.sim_layout.proofs.client_head.Tie as tie
 
-client-head-requires : tie.Need-client-head-requires
+client-head-requires : tie.Need-client_head-requires
 client-head-requires c κs =
     let d = c.before.before.before in
     let a = d.args in
@@ -19,10 +19,10 @@ client-head-requires c κs =
 returns : tie.Need-returns
 returns c =
     let d = c.before.before.before.before in
-    client-read d.args.w.now d.args.k d.requires.0 (λ b. client_head_from (client_record b)) _ c.client-head.ensures
+    client-read d.args.w.now d.args.k d.requires.0 (λ b. client_head_from (client_record b)) _ c.client_head.ensures
 
-pub client-head-spec : {M : Type 1} → statement M
-client-head-spec =
+pub client_head_spec : {M : Type 1} → statement M
+client_head_spec =
     tie.close
     (tie.spec
     (λ c. search rules)

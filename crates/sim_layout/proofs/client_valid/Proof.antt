@@ -7,12 +7,12 @@ use Rattle.sim_layout.proofs.client_valid.Tie as tie
 
 returns : tie.Need-returns
 returns c =
-    let a = c.before.before.before.before.args in
-    client-read a.w.now a.k c.before.before.before.before.requires (λ b. valid_client_block a.n a.m a.clients a.k b) _
-    c.valid-client-block.ensures
+    let a = c.args in
+    client-read a.w.now a.k c.requires (λ b. valid_client_block a.n a.m a.clients a.k b) _
+    c.valid_client_block.ensures
 
-pub client-valid-spec : {M : Type 1} → statement M
-client-valid-spec =
+pub client_valid_spec : {M : Type 1} → statement M
+client_valid_spec =
     tie.close
     (tie.spec
     (λ c. search rules)

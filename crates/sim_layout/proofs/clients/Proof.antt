@@ -4,13 +4,13 @@ use Rattle.sim_layout.proofs.ReadLaws.{clients-word, words_long, few-clients}
 use Rattle.sim_layout.proofs.clients.Statement.{statement}
 use Rattle.sim_layout.proofs.clients.Tie as tie
 
-cast-result : tie.Need-overflow-cast-result
+cast-result : tie.Need-overflow_cast-result
 cast-result c = let d = c.before in record { fits = omega (arith, clients-word d.args.w.now, few-clients _ d.requires) }
 
-pub clients-spec : {M : Type 1} → statement M
-clients-spec =
+pub clients_spec : {M : Type 1} → statement M
+clients_spec =
     tie.close
     (tie.spec
-    (λ c. omega (arith, words_long _ c.before.requires))
+    (λ c. omega (arith, words_long _ c.requires))
     cast-result
     (λ c. search clients-word))

@@ -8,14 +8,14 @@ use Rattle.sim_layout.proofs.clients_valid.Statement.{statement}
 use Rattle.sim_layout.proofs.clients_valid.Tie as tie
 use Rattle.system.specs.Numbered.{client_no}
 
-abbrev invariant-loop : tie.invariant-loop
+abbrev invariant-loop : tie.invariant-loop-i
 invariant-loop w n m clients i₀ i = Passed (λ (i : ℕ). valid_client_block n m clients (client_no i)) client_block clients (client_words w) i
 
-abbrev decreases-loop : tie.decreases-loop
+abbrev decreases-loop : tie.decreases-loop-i
 decreases-loop w n m clients i₀ i = clients - i
 
-pub clients-valid-spec : {M : Type 1} → statement M
-clients-valid-spec =
+pub clients_valid_spec : {M : Type 1} → statement M
+clients_valid_spec =
     tie.close
     (tie.spec
     invariant-loop

@@ -9,27 +9,27 @@ use borrow.Author.Rules.{rules}
 use Rattle.sim_layout.proofs.count_inside.Statement.{statement}
 use Rattle.sim_layout.proofs.count_inside.Tie as tie
 
-abbrev invariant-loop : tie.invariant-loop
+abbrev invariant-loop : tie.invariant-loop-i
 invariant-loop w clients found₀ i₀ found i = (i ≤ clients) × Found client_place (client_words w) i found
 
-abbrev decreases-loop : tie.decreases-loop
+abbrev decreases-loop : tie.decreases-loop-i
 decreases-loop w clients found₀ i₀ found i = clients - i
 
-loop-again : tie.Need-loop-preserved invariant-loop decreases-loop
+loop-again : tie.Need-loop-i-preserved invariant-loop decreases-loop
 loop-again c =
     let d = c.before.before.before in
-    let l = client_words d.before.before.args.w.now in
-    let more = found-one client_place l _ _ d.loop.invariant.1 _ c.before.is-inside.ensures in
-    let same = found-same client_place l _ _ d.loop.invariant.1 _ c.before.is-inside.ensures in
-    (omega (arith, c.before.before.loop-test.true), ⊎_elim (λ x. more _ x.0.taken x.1) (λ x. same _ x.0.left x.1) c.if1.branch)
+    let l = client_words d.args.w.now in
+    let more = found-one client_place l _ _ d.loop-i.invariant.1 _ c.is_inside.ensures in
+    let same = found-same client_place l _ _ d.loop-i.invariant.1 _ c.is_inside.ensures in
+    (omega (arith, c.loop-i-test.true), ⊎_elim (λ x. more _ x.0.true x.1) (λ x. same _ x.0.false x.1) c.if-is_inside.branch)
 
-pub count-inside-spec : {M : Type 1} → statement M
-count-inside-spec =
+pub count_inside_spec : {M : Type 1} → statement M
+count_inside_spec =
     tie.close
     (tie.spec
     invariant-loop
     decreases-loop
-    (λ c. (zero-le, found_none client_place (client_words c.before.args.w.now)))
+    (λ c. (zero-le, found_none client_place (client_words c.args.w.now)))
     (λ c. search rules)
     (λ c κs. search rules)
     (λ c. search rules)

@@ -8,11 +8,11 @@ use Rattle.sim_layout.proofs.downs_of.Tie as tie
 
 returns : tie.Need-returns
 returns c =
-    let a = c.before.before.before.before.args in
-    client-read a.w.now a.k c.before.before.before.before.requires (λ b. length (client_place b).downs) _ c.count-flags.ensures
+    let a = c.args in
+    client-read a.w.now a.k c.requires (λ b. length (client_place b).downs) _ c.count_flags.ensures
 
-pub downs-of-spec : {M : Type 1} → statement M
-downs-of-spec =
+pub downs_of_spec : {M : Type 1} → statement M
+downs_of_spec =
     tie.close
     (tie.spec
     (λ c. search rules)

@@ -6,14 +6,14 @@ use borrow.Author.Rules.{rules}
 use Rattle.sim_layout.proofs.entry_at.Statement.{statement}
 use Rattle.sim_layout.proofs.entry_at.Tie as tie
 
-pub entry-at-spec : {M : Type 1} → statement M
-entry-at-spec =
+pub entry_at_spec : {M : Type 1} → statement M
+entry_at_spec =
     tie.close
     (tie.spec
-    (λ c. omega (arith, words_long _ c.before.before.requires.0))
-    (λ c. record { fits = omega (arith, (lent-sized _ c.before.before.requires.0).few) })
+    (λ c. omega (arith, words_long _ c.requires.0))
+    (λ c. record { fits = omega (arith, (lent-sized _ c.requires.0).few) })
     (λ c. search rules)
     (λ c. search rules)
-    (λ c. omega (arith, words_long _ c.before.before.requires.0))
+    (λ c. omega (arith, words_long _ c.requires.0))
     (λ c κs. let d = c.before.before.before in (held-lent _ d.requires.0, d.requires.1))
-    (λ c. let d = c.before.before.before.before in entries_lent _ d.requires.0 _ _ _ c.read-entry.ensures))
+    (λ c. let d = c.before.before.before.before in entries_lent _ d.requires.0 _ _ _ c.read_entry.ensures))

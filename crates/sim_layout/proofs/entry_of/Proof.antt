@@ -5,71 +5,71 @@ use Rattle.sim_layout.proofs.entry_of.Statement.{statement}
 use Rattle.sim_layout.proofs.entry_of.Tie as tie
 
 -- the client is there
-module _ (c : tie.Else1) where
-  abbrev client-asked : tie.After-has-client
+module _ (c : tie.Else-not-has_client) where
+  abbrev client-asked : tie.After-has_client
   client-asked = c.before
 
 -- the server is there
-module _ (c : tie.Else2) where
-  abbrev server-asked : tie.After-has-server
+module _ (c : tie.Else-not-has_server) where
+  abbrev server-asked : tie.After-has_server
   server-asked = c.before
 
-sub-entry-at : tie.Need-overflow-sub-entry-at
+sub-entry-at : tie.Need-overflow_sub-k
 sub-entry-at c =
     let e = c.before in
     let a = client-asked e in
     let s = a.before.before.before.before.before in
-    (client-there _ s.pre _ s.args.i _ a.before.before.r.given.1 _ a.has-client.ensures e.if1.false).0
+    (client-there _ s.requires _ s.args.i _ a.in-Client.is _ a.has_client.ensures e.if-not-has_client.false).0
 
-entry-at-requires : tie.Need-entry-at-requires
+entry-at-requires : tie.Need-entry_at-requires
 entry-at-requires c κs =
     let e = c.before in
     let a = client-asked e in
     let s = a.before.before.before.before.before in
-    (s.pre, (client-there _ s.pre _ s.args.i _ a.before.before.r.given.1 _ a.has-client.ensures e.if1.false).1)
+    (s.requires, (client-there _ s.requires _ s.args.i _ a.in-Client.is _ a.has_client.ensures e.if-not-has_client.false).1)
 
-returns : tie.Need-returns
+returns : tie.Need-returns-then-not-has_client
 returns c =
     let a = c.before in
     let s = a.before.before.before.before.before in
-    client_lacking _ s.requires _ s.args.i _ a.before.before.r.given.1 _ a.has-client.ensures c.if1.true
+    client_lacking _ s.requires _ s.args.i _ a.in-Client.is _ a.has_client.ensures c.if-not-has_client.true
 
-returns-3 : tie.Need-returns-3
+returns-3 : tie.Need-returns-else-not-has_client
 returns-3 c =
     let e = c.before.before in
     let a = client-asked e in
     let s = a.before.before.before.before.before in
-    client-entry _ s.pre _ s.args.i _ a.before.before.r.given.1 _ a.has-client.ensures e.if1.false _ c.entry_at.ensures
+    client-entry _ s.requires _ s.args.i _ a.in-Client.is _ a.has_client.ensures e.if-not-has_client.false _ c.entry_at.ensures
 
-sub-entry-at-2 : tie.Need-overflow-sub-entry-at-2
+sub-entry-at-2 : tie.Need-overflow_sub-j
 sub-entry-at-2 c =
     let e = c.before in
     let a = server-asked e in
     let s = a.before.before.before.before.before in
-    (server-there _ s.pre _ s.args.i _ a.before.before.r2.given.1 _ a.has-server.ensures e.if2.false).0
+    (server-there _ s.requires _ s.args.i _ a.in-Server.is _ a.has_server.ensures e.if-not-has_server.false).0
 
-entry-at-requires-2 : tie.Need-entry-at-requires-2
+entry-at-requires-2 : tie.Need-entry_at-requires-in-Server
 entry-at-requires-2 c κs =
     let e = c.before in
     let a = server-asked e in
     let s = a.before.before.before.before.before in
-    (s.pre, (server-there _ s.pre _ s.args.i _ a.before.before.r2.given.1 _ a.has-server.ensures e.if2.false).1)
+    (s.requires, (server-there _ s.requires _ s.args.i _ a.in-Server.is _ a.has_server.ensures e.if-not-has_server.false).1)
 
-returns-2 : tie.Need-returns-2
+returns-2 : tie.Need-returns-then-not-has_server
 returns-2 c =
     let a = c.before in
     let s = a.before.before.before.before.before in
-    server_lacking _ s.requires _ s.args.i _ a.before.before.r2.given.1 _ a.has-server.ensures c.if2.true
+    server_lacking _ s.requires _ s.args.i _ a.in-Server.is _ a.has_server.ensures c.if-not-has_server.true
 
-returns-4 : tie.Need-returns-4
+returns-4 : tie.Need-returns-else-not-has_server
 returns-4 c =
     let e = c.before.before in
     let a = server-asked e in
     let s = a.before.before.before.before.before in
-    server-entry _ s.pre _ s.args.i _ a.before.before.r2.given.1 _ a.has-server.ensures e.if2.false _ c.entry-at2.ensures
+    server-entry _ s.requires _ s.args.i _ a.in-Server.is _ a.has_server.ensures e.if-not-has_server.false _ c.entry_at-in-Server.ensures
 
-pub entry-of-spec : {M : Type 1} → statement M
-entry-of-spec =
+pub entry_of_spec : {M : Type 1} → statement M
+entry_of_spec =
     tie.close
     (tie.spec
     (λ c. search rules)

@@ -11,10 +11,10 @@ returns : tie.Need-returns
 returns c =
     let d = c.before.before.before.before.before.before in
     let a = d.args in
-    client-written a.w.now a.k d.requires (λ b. cleared (set b 0 0)) _ (λ l. length-cleared l) c.before.before.fall.ensures
+    client-written a.w-1.now a.k d.requires (λ b. cleared (set b 0 0)) _ (λ l. length-cleared l) c.fall.ensures
 
-pub fall-client-spec : {M : Type 1} → statement M
-fall-client-spec =
+pub fall_client_spec : {M : Type 1} → statement M
+fall_client_spec =
     tie.close
     (tie.spec
     (λ c. search rules)

@@ -5,14 +5,14 @@ use borrow.Author.Rules.{rules}
 use Rattle.sim_layout.proofs.find_present.Statement.{statement}
 use Rattle.sim_layout.proofs.find_present.Tie as tie
 
-pub find-present-spec : {M : Type 1} → statement M
-find-present-spec =
+pub find_present_spec : {M : Type 1} → statement M
+find_present_spec =
     tie.close
     (tie.spec
-    (λ c. omega (arith, words_long _ c.before.before.requires))
-    (λ c. record { fits = omega (arith, (lent-sized _ c.before.before.requires).few) })
+    (λ c. omega (arith, words_long _ c.requires))
+    (λ c. record { fits = omega (arith, (lent-sized _ c.requires).few) })
     (λ c. search rules)
     (λ c. search rules)
-    (λ c. omega (arith, words_long _ c.before.before.requires))
+    (λ c. omega (arith, words_long _ c.requires))
     (λ c κs. search lent-ordered)
     (λ c. search found-lent))

@@ -8,16 +8,16 @@ use borrow.Author.Rules.{rules}
 use Rattle.sim_layout.proofs.has_server.Statement.{statement}
 use Rattle.sim_layout.proofs.has_server.Tie as tie
 
-shared-slice-read-within-limit : tie.Need-shared-slice-read-within-limit
-shared-slice-read-within-limit c = omega (arith, words_long _ c.before.before.before.requires)
+shared-slice-read-within-limit : tie.Need-bounds-w-0
+shared-slice-read-within-limit c = omega (arith, words_long _ c.requires)
 
 returns : tie.Need-returns
 returns c =
     let d = c.before.before.before.before in
-    c.within-limit.ensures ∙ ap (λ (x : ℕ). within d.args.j.0 x) (servers-word d.args.w.now)
+    c.within_limit.ensures ∙ ap (λ (x : ℕ). within d.args.j.0 x) (servers-word d.args.w.now)
 
-pub has-server-spec : {M : Type 1} → statement M
-has-server-spec =
+pub has_server_spec : {M : Type 1} → statement M
+has_server_spec =
     tie.close
     (tie.spec
     (λ c. search rules)

@@ -5,11 +5,11 @@ use borrow.Author.Rules.{rules}
 use Rattle.sim_layout.proofs.holders.Statement.{statement}
 use Rattle.sim_layout.proofs.holders.Tie as tie
 
-count-inside-requires : tie.Need-count-inside-requires
-count-inside-requires c κs = let d = c.before.before in (words_long _ d.requires, omega (arith, few-clients _ d.requires, c.clients.ensures))
+count-inside-requires : tie.Need-count_inside-requires
+count-inside-requires c κs = let d = c.before.before in (words_long _ d.requires, omega (arith, few-clients _ d.requires, c.clients-all.ensures))
 
-pub holders-spec : {M : Type 1} → statement M
-holders-spec =
+pub holders_spec : {M : Type 1} → statement M
+holders_spec =
     tie.close
     (tie.spec
     (λ c κs. search rules)

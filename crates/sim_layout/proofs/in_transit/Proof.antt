@@ -5,10 +5,10 @@ use borrow.Author.Rules.{rules}
 use Rattle.sim_layout.proofs.in_transit.Statement.{statement}
 use Rattle.sim_layout.proofs.in_transit.Tie as tie
 
-pub in-transit-spec : {M : Type 1} → statement M
-in-transit-spec =
+pub in_transit_spec : {M : Type 1} → statement M
+in_transit_spec =
     tie.close
     (tie.spec
-    (λ c. omega (arith, words_long _ c.before.requires))
-    (λ c. record { fits = omega (arith, (lent-sized _ c.before.requires).few) })
+    (λ c. omega (arith, words_long _ c.requires))
+    (λ c. record { fits = omega (arith, (lent-sized _ c.requires).few) })
     (λ c. search rules))

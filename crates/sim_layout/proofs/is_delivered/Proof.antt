@@ -6,18 +6,18 @@ use borrow.Author.Rules.{rules}
 use Rattle.sim_layout.proofs.is_delivered.Statement.{statement}
 use Rattle.sim_layout.proofs.is_delivered.Tie as tie
 
-is-delivered-requires : tie.Need-is-delivered-requires
+is-delivered-requires : tie.Need-is_delivered-requires
 is-delivered-requires c κs = let d = c.before.before in slot_lent _ d.requires.0 _ d.requires.1
 
 returns : tie.Need-returns
-returns c = let d = c.before.before.before in c.is-delivered.ensures ∙ delivered-said d.args.w.now d.args.i
+returns c = let d = c.before.before.before in c.is_delivered.ensures ∙ delivered-said d.args.w.now d.args.i
 
-pub is-delivered-spec : {M : Type 1} → statement M
-is-delivered-spec =
+pub is_delivered_spec : {M : Type 1} → statement M
+is_delivered_spec =
     tie.close
     (tie.spec
     (λ c. search rules)
     (λ c. search rules)
-    (λ c. omega (arith, words_long _ c.before.requires.0))
+    (λ c. omega (arith, words_long _ c.requires.0))
     is-delivered-requires
     returns)

@@ -8,11 +8,11 @@ use Rattle.sim_layout.proofs.is_inside.Tie as tie
 
 returns : tie.Need-returns
 returns c =
-    let a = c.before.before.before.before.args in
-    client-read a.w.now a.k c.before.before.before.before.requires (λ b. is_inside (client_place b)) _ c.is-inside.ensures
+    let a = c.args in
+    client-read a.w.now a.k c.requires (λ b. is_inside (client_place b)) _ c.is_inside.ensures
 
-pub is-inside-spec : {M : Type 1} → statement M
-is-inside-spec =
+pub is_inside_spec : {M : Type 1} → statement M
+is_inside_spec =
     tie.close
     (tie.spec
     (λ c. search rules)

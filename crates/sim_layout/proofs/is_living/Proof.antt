@@ -7,11 +7,11 @@ use Rattle.sim_layout.proofs.is_living.Tie as tie
 
 returns : tie.Need-returns
 returns c =
-    let a = c.before.before.before.before.args in
-    client-read a.w.now a.k c.before.before.before.before.requires (λ b. (client_place b).living) _ c.is-living.ensures
+    let a = c.args in
+    client-read a.w.now a.k c.requires (λ b. (client_place b).living) _ c.is_living.ensures
 
-pub is-living-spec : {M : Type 1} → statement M
-is-living-spec =
+pub is_living_spec : {M : Type 1} → statement M
+is_living_spec =
     tie.close
     (tie.spec
     (λ c. search rules)

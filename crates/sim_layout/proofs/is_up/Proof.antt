@@ -7,11 +7,11 @@ use Rattle.sim_layout.proofs.is_up.Tie as tie
 
 returns : tie.Need-returns
 returns c =
-    let a = c.before.before.before.before.args in
-    server-read a.w.now a.j c.before.before.before.before.requires (λ b. (server_place b).up) _ c.is_up.ensures
+    let a = c.args in
+    server-read a.w.now a.j c.requires (λ b. (server_place b).up) _ c.is_up.ensures
 
-pub is-up-spec : {M : Type 1} → statement M
-is-up-spec =
+pub is_up_spec : {M : Type 1} → statement M
+is_up_spec =
     tie.close
     (tie.spec
     (λ c. search rules)

@@ -20,11 +20,11 @@ returns : tie.Need-returns
 returns c =
     let d = c.before.before.before.before.before.before in
     let a = d.args in
-    client-written a.w.now a.k d.requires.0 (λ b. if in_epoch (client_place b) then set b (client_record_size + a.j.0) 1 else b) _
-    (λ l. length-either (in_epoch (client_place l)) l (client_record_size + a.j.0)) c.before.before.mark-down.ensures
+    client-written a.w-1.now a.k d.requires.0 (λ b. if in_epoch (client_place b) then set b (client_record_size + a.j.0) 1 else b) _
+    (λ l. length-either (in_epoch (client_place l)) l (client_record_size + a.j.0)) c.mark_down.ensures
 
-pub mark-client-spec : {M : Type 1} → statement M
-mark-client-spec =
+pub mark_client_spec : {M : Type 1} → statement M
+mark_client_spec =
     tie.close
     (tie.spec
     (λ c. search rules)

@@ -5,15 +5,15 @@ use borrow.Author.Rules.{rules}
 use Rattle.sim_layout.proofs.message_at.Statement.{statement}
 use Rattle.sim_layout.proofs.message_at.Tie as tie
 
-message-at-requires : tie.Need-message-at-requires
+message-at-requires : tie.Need-message_at-requires
 message-at-requires c κs = let d = c.before.before in slot_lent _ d.requires.0 _ d.requires.1
 
-pub message-at-spec : {M : Type 1} → statement M
-message-at-spec =
+pub message_at_spec : {M : Type 1} → statement M
+message_at_spec =
     tie.close
     (tie.spec
     (λ c. search rules)
     (λ c. search rules)
-    (λ c. omega (arith, words_long _ c.before.requires.0))
+    (λ c. omega (arith, words_long _ c.requires.0))
     message-at-requires
     (λ c. search message-read))

@@ -4,9 +4,9 @@ use Rattle.sim_layout.proofs.ReadLaws.{words_long, most-word}
 use Rattle.sim_layout.proofs.most_down.Statement.{statement}
 use Rattle.sim_layout.proofs.most_down.Tie as tie
 
-pub most-down-spec : {M : Type 1} → statement M
-most-down-spec =
+pub most_down_spec : {M : Type 1} → statement M
+most_down_spec =
     tie.close
     (tie.spec
-    (λ c. omega (arith, words_long _ c.before.requires))
+    (λ c. omega (arith, words_long _ c.requires))
     (λ c. search most-word))

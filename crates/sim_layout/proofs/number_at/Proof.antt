@@ -6,18 +6,18 @@ use borrow.Author.Rules.{rules}
 use Rattle.sim_layout.proofs.number_at.Statement.{statement}
 use Rattle.sim_layout.proofs.number_at.Tie as tie
 
-number-at-requires : tie.Need-number-at-requires
+number-at-requires : tie.Need-number_at-requires
 number-at-requires c κs = let d = c.before.before in slot_lent _ d.requires.0 _ d.requires.1
 
 returns : tie.Need-returns
 returns c = let d = c.before.before.before in c.number_at.ensures ∙ number-said d.args.w.now d.args.i
 
-pub number-at-spec : {M : Type 1} → statement M
-number-at-spec =
+pub number_at_spec : {M : Type 1} → statement M
+number_at_spec =
     tie.close
     (tie.spec
     (λ c. search rules)
     (λ c. search rules)
-    (λ c. omega (arith, words_long _ c.before.requires.0))
+    (λ c. omega (arith, words_long _ c.requires.0))
     number-at-requires
     returns)

@@ -4,16 +4,16 @@ use borrow.Author.Rules.{rules}
 use Rattle.sim_layout.proofs.parts_valid.Statement.{statement}
 use Rattle.sim_layout.proofs.parts_valid.Tie as tie
 
-returns-4 : tie.Need-returns-4
+returns-4 : tie.Need-returns
 returns-4 c =
     let d = c.before.before.before.before.before.before.before.before in
     let a = d.args in
-    most_noted a.n a.m a.clients a.w.now _ c.before.before.before.before.before.before.blocks-valid.ensures
-    c.before.before.before.before.before.if1.false _ c.before.before.before.before.transit-valid.ensures
-    c.before.before.before.if2.false _ c.before.if3.false c.worst-down.ensures
+    most_noted a.n a.m a.clients a.w.now _ c.blocks_valid.ensures
+    c.if-not-blocks_valid.false _ c.transit_valid.ensures
+    c.if-not-transit_valid.false _ c.if-n-most.false c.worst_down.ensures
 
-pub parts-valid-spec : {M : Type 1} → statement M
-parts-valid-spec =
+pub parts_valid_spec : {M : Type 1} → statement M
+parts_valid_spec =
     tie.close
     (tie.spec
     (λ c κs. search rules)

@@ -11,11 +11,11 @@ returns : tie.Need-returns
 returns c =
     let d = c.before.before.before.before.before.before.before in
     let a = d.args in
-    client-written a.w.now a.k d.requires.0 (λ b. sets b 1 (client_words (client_of a.h a.row.now))) _
-    (λ l. length-sets l 1 (client_words (client_of a.h a.row.now))) c.before.before.put-client.ensures
+    client-written a.w-1.now a.k d.requires.0 (λ b. sets b 1 (client_words (client_of a.h a.row.now))) _
+    (λ l. length-sets l 1 (client_words (client_of a.h a.row.now))) c.put_client.ensures
 
-pub put-client-spec : {M : Type 1} → statement M
-put-client-spec =
+pub put_client_spec : {M : Type 1} → statement M
+put_client_spec =
     tie.close
     (tie.spec
     (λ c. search rules)

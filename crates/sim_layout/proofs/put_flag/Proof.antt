@@ -11,10 +11,10 @@ returns : tie.Need-returns
 returns c =
     let d = c.before.before.before.before.before.before in
     let a = d.args in
-    client-written a.w.now a.k d.requires.0 (λ b. set b (client_record_size + a.j.0) a.x) _ (λ l. length-set l _ _) c.before.before.put-flag.ensures
+    client-written a.w-1.now a.k d.requires.0 (λ b. set b (client_record_size + a.j.0) a.x) _ (λ l. length-set l _ _) c.put_flag.ensures
 
-pub put-flag-spec : {M : Type 1} → statement M
-put-flag-spec =
+pub put_flag_spec : {M : Type 1} → statement M
+put_flag_spec =
     tie.close
     (tie.spec
     (λ c. search rules)

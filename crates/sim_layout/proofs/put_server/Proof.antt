@@ -11,11 +11,11 @@ returns : tie.Need-returns
 returns c =
     let d = c.before.before.before.before.before.before.before in
     let a = d.args in
-    server-written a.w.now a.j d.requires.0 (λ b. sets b 1 (server_words (server_of a.h a.row.now))) _
-    (λ l. length-sets l 1 (server_words (server_of a.h a.row.now))) c.before.before.put-server.ensures
+    server-written a.w-1.now a.j d.requires.0 (λ b. sets b 1 (server_words (server_of a.h a.row.now))) _
+    (λ l. length-sets l 1 (server_words (server_of a.h a.row.now))) c.put_server.ensures
 
-pub put-server-spec : {M : Type 1} → statement M
-put-server-spec =
+pub put_server_spec : {M : Type 1} → statement M
+put_server_spec =
     tie.close
     (tie.spec
     (λ c. search rules)

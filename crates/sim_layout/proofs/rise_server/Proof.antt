@@ -9,10 +9,10 @@ returns : tie.Need-returns
 returns c =
     let d = c.before.before.before.before.before.before in
     let a = d.args in
-    server-written a.w.now a.j d.requires (λ b. set b 0 1) _ (λ l. length-set l 0 1) c.before.before.rise.ensures
+    server-written a.w-1.now a.j d.requires (λ b. set b 0 1) _ (λ l. length-set l 0 1) c.rise.ensures
 
-pub rise-server-spec : {M : Type 1} → statement M
-rise-server-spec =
+pub rise_server_spec : {M : Type 1} → statement M
+rise_server_spec =
     tie.close
     (tie.spec
     (λ c. search rules)

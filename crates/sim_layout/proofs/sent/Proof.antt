@@ -4,9 +4,9 @@ use Rattle.sim_layout.proofs.ReadLaws.{words_long, sent_word}
 use Rattle.sim_layout.proofs.sent.Statement.{statement}
 use Rattle.sim_layout.proofs.sent.Tie as tie
 
-pub sent-spec : {M : Type 1} → statement M
-sent-spec =
+pub sent_spec : {M : Type 1} → statement M
+sent_spec =
     tie.close
     (tie.spec
-    (λ c. omega (arith, words_long _ c.before.requires))
+    (λ c. omega (arith, words_long _ c.requires))
     (λ c. search sent_word))

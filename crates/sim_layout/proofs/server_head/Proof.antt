@@ -7,7 +7,7 @@ use borrow.Author.Rules.{rules}
 use Rattle.sim_layout.proofs.server_head.Statement.{statement}
 use Rattle.sim_layout.proofs.server_head.Tie as tie
 
-server-head-requires : tie.Need-server-head-requires
+server-head-requires : tie.Need-server_head-requires
 server-head-requires c κs =
     let d = c.before.before.before in
     let a = d.args in
@@ -19,10 +19,10 @@ server-head-requires c κs =
 returns : tie.Need-returns
 returns c =
     let d = c.before.before.before.before in
-    server-read d.args.w.now d.args.j d.requires.0 (λ b. server_head_from (server_record b)) _ c.server-head.ensures
+    server-read d.args.w.now d.args.j d.requires.0 (λ b. server_head_from (server_record b)) _ c.server_head.ensures
 
-pub server-head-spec : {M : Type 1} → statement M
-server-head-spec =
+pub server_head_spec : {M : Type 1} → statement M
+server_head_spec =
     tie.close
     (tie.spec
     (λ c. search rules)

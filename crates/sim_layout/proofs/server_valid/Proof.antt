@@ -7,12 +7,12 @@ use Rattle.sim_layout.proofs.server_valid.Tie as tie
 
 returns : tie.Need-returns
 returns c =
-    let a = c.before.before.before.before.args in
-    server-read a.w.now a.j c.before.before.before.before.requires (λ b. valid_server_block a.n a.clients a.j b) _
-    c.valid-server-block.ensures
+    let a = c.args in
+    server-read a.w.now a.j c.requires (λ b. valid_server_block a.n a.clients a.j b) _
+    c.valid_server_block.ensures
 
-pub server-valid-spec : {M : Type 1} → statement M
-server-valid-spec =
+pub server_valid_spec : {M : Type 1} → statement M
+server_valid_spec =
     tie.close
     (tie.spec
     (λ c. search rules)

@@ -4,13 +4,13 @@ use Rattle.sim_layout.proofs.ReadLaws.{servers-word, words_long, few-servers}
 use Rattle.sim_layout.proofs.servers.Statement.{statement}
 use Rattle.sim_layout.proofs.servers.Tie as tie
 
-cast-result : tie.Need-overflow-cast-result
+cast-result : tie.Need-overflow_cast-result
 cast-result c = let d = c.before in record { fits = omega (arith, servers-word d.args.w.now, few-servers _ d.requires) }
 
-pub servers-spec : {M : Type 1} → statement M
-servers-spec =
+pub servers_spec : {M : Type 1} → statement M
+servers_spec =
     tie.close
     (tie.spec
-    (λ c. omega (arith, words_long _ c.before.requires))
+    (λ c. omega (arith, words_long _ c.requires))
     cast-result
     (λ c. search servers-word))

@@ -8,14 +8,14 @@ use Rattle.sim_layout.proofs.servers_valid.Statement.{statement}
 use Rattle.sim_layout.proofs.servers_valid.Tie as tie
 use Rattle.system.specs.Numbered.{server_no}
 
-abbrev invariant-loop : tie.invariant-loop
+abbrev invariant-loop : tie.invariant-loop-i
 invariant-loop w n clients i₀ i = Passed (λ (i : ℕ). valid_server_block n clients (server_no i)) server_block n (server_words w) i
 
-abbrev decreases-loop : tie.decreases-loop
+abbrev decreases-loop : tie.decreases-loop-i
 decreases-loop w n clients i₀ i = n - i
 
-pub servers-valid-spec : {M : Type 1} → statement M
-servers-valid-spec =
+pub servers_valid_spec : {M : Type 1} → statement M
+servers_valid_spec =
     tie.close
     (tie.spec
     invariant-loop

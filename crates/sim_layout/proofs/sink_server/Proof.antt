@@ -16,8 +16,8 @@ sink-requires c κs =
     let d = c.before.before.before in
     let a = d.args in
     let i = d.requires.0 in (
-      server-lent a.w.now a.j i length server_block (server_block-long a.w.now a.j.0 i.long i.first i.last),
-      server-lent a.w.now a.j i (λ b. holds_server_record (server_record b)) _ d.requires.1,
+      server-lent a.w-1.now a.j i length server_block (server_block-long a.w-1.now a.j.0 i.long i.first i.last),
+      server-lent a.w-1.now a.j i (λ b. holds_server_record (server_record b)) _ d.requires.1,
     )
 
 abbrev sunk : List ℕ → List ℕ
@@ -31,10 +31,10 @@ returns : tie.Need-returns
 returns c =
     let d = c.before.before.before.before.before.before in
     let a = d.args in
-    server-written a.w.now a.j d.requires.0 sunk _ length-sunk c.before.before.sink.ensures
+    server-written a.w-1.now a.j d.requires.0 sunk _ length-sunk c.sink.ensures
 
-pub sink-server-spec : {M : Type 1} → statement M
-sink-server-spec =
+pub sink_server_spec : {M : Type 1} → statement M
+sink_server_spec =
     tie.close
     (tie.spec
     (λ c. search rules)

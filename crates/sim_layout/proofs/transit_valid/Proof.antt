@@ -5,8 +5,8 @@ use borrow.Author.Rules.{rules}
 use Rattle.sim_layout.proofs.transit_valid.Statement.{statement}
 use Rattle.sim_layout.proofs.transit_valid.Tie as tie
 
-pub transit-valid-spec : {M : Type 1} → statement M
-transit-valid-spec =
+pub transit_valid_spec : {M : Type 1} → statement M
+transit_valid_spec =
     tie.close
     (tie.spec
     (λ c. search rules)
@@ -14,6 +14,6 @@ transit-valid-spec =
     (λ c. search rules)
     (λ c. search rules)
     (λ c. search rules)
-    (λ c. record { fits = omega (arith, c.before.shared-slice-known3.given 4) })
+    (λ c. record { fits = omega (arith, c.shared_slice_known-3-1.given 4) })
     (λ c κs. search rules)
     (λ c. search transit-part))

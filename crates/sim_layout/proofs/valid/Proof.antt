@@ -12,18 +12,18 @@ use Rattle.sim_layout.proofs.valid.Statement.{statement}
 use Rattle.sim_layout.proofs.valid.Tie as tie
 
 -- the setting and the clients are in range
-module _ (c : tie.Else3) where
+module _ (c : tie.Else-not-within_limit) where
   abbrev words : List ℕ
-  words = c.before.before.before.before.before.before.before.before.before.before.args.w.now
+  words = c.args.w.now
 
   inside : (length words ≡ simulation_size) × (get_or words 0 0 ≤ system_servers) × (get_or words 3 0 ≤ system_clients)
   inside =
       let r = c.before.before.before in
-      bounds words r.before.before.before.before.before.if1.false _ r.before.in-range-up-to.ensures r.if2.false
-      _ c.before.within-limit.ensures c.if3.false
+      bounds words r.if-w-ne-SIMULATION_WORDS.false _ r.in_range_up_to.ensures r.if-not-in_range_up_to.false
+      _ c.within_limit.ensures c.if-not-within_limit.false
 
-pub valid-spec : {M : Type 1} → statement M
-valid-spec =
+pub valid_spec : {M : Type 1} → statement M
+valid_spec =
     tie.close
     (tie.spec
     (λ c. search size-wrong)

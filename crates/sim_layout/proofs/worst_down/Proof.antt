@@ -11,26 +11,26 @@ use borrow.Author.Rules.{rules}
 use Rattle.sim_layout.proofs.worst_down.Statement.{statement}
 use Rattle.sim_layout.proofs.worst_down.Tie as tie
 
-abbrev invariant-loop : tie.invariant-loop
+abbrev invariant-loop : tie.invariant-loop-i
 invariant-loop w clients most₀ i₀ most i = (i ≤ clients) × (most ≡ worst (blocks client_block client_place i (client_words w)))
 
-abbrev decreases-loop : tie.decreases-loop
+abbrev decreases-loop : tie.decreases-loop-i
 decreases-loop w clients most₀ i₀ most i = clients - i
 
-loop-again : tie.Need-loop-preserved invariant-loop decreases-loop
+loop-again : tie.Need-loop-i-preserved invariant-loop decreases-loop
 loop-again c =
     let d = c.before.before.before in
-    let a = d.before.before.args in
-    let lt = c.before.before.loop-test.true in
-    (omega (arith, lt), worst-step client_place (client_words a.w.now) _ _ _ _ d.loop.invariant.1 c.before.downs-of.ensures c.larger.ensures)
+    let a = d.args in
+    let lt = c.loop-i-test.true in
+    (omega (arith, lt), worst-step client_place (client_words a.w.now) _ _ _ _ d.loop-i.invariant.1 c.downs_of-x.ensures c.larger-most.ensures)
 
-pub worst-down-spec : {M : Type 1} → statement M
-worst-down-spec =
+pub worst_down_spec : {M : Type 1} → statement M
+worst_down_spec =
     tie.close
     (tie.spec
     invariant-loop
     decreases-loop
-    (λ c. (zero-le, worst-start client_place (client_words c.before.args.w.now)))
+    (λ c. (zero-le, worst-start client_place (client_words c.args.w.now)))
     (λ c. search rules)
     (λ c κs. search rules)
     (λ c κs. search rules)

@@ -4,10 +4,10 @@ use borrow.Author.Rules.{rules}
 use Rattle.sim_run.proofs.counted.Statement.{statement}
 use Rattle.sim_run.proofs.counted.Tie as tie
 
-returns : tie.Need-returns
+returns : tie.Need-returns-in-Refused
 returns c = search (rules, counted-refused)
 
-returns-2 : tie.Need-returns-2
+returns-2 : tie.Need-returns-in-Accepted
 returns-2 c = search (rules, counted-accepted)
 
 pub counted_spec : {M : Type 1} → statement M

@@ -4,11 +4,11 @@ use borrow.Author.Rules.{rules}
 use Rattle.sim_run.proofs.event.Statement.{statement}
 use Rattle.sim_run.proofs.event.Tie as tie
 
-same_length : tie.Need-same-length
+same_length : tie.Need-shape_of-w
 same_length c = search (rules, event-same)
 
 returns : tie.Need-returns
 returns c = search (rules, goes)
 
-pub event-spec : {M : Type 1} → statement M
-event-spec = tie.close (tie.spec (λ c κs. search rules) (λ c κs. search rules) same_length returns)
+pub event_spec : {M : Type 1} → statement M
+event_spec = tie.close (tie.spec (λ c κs. search rules) (λ c κs. search rules) same_length returns)

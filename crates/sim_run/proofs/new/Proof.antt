@@ -4,17 +4,17 @@ use borrow.Author.Rules.{rules}
 use Rattle.sim_run.proofs.new.Statement.{statement}
 use Rattle.sim_run.proofs.new.Tie as tie
 
-same_length : tie.Need-same-length
+same_length : tie.Need-shape_of-w-in-Refused
 same_length c = search (rules, refused-same)
 
-returns : tie.Need-returns
-returns c = new_said _ _ _ _ (new_refused _ _ _ _ c.before.before.before.before.before.new.ensures.0 _ c.before.made.given.1)
+returns : tie.Need-returns-in-Refused
+returns c = new_said _ _ _ _ (new_refused _ _ _ _ c.new-made.ensures.0 _ c.in-Refused.is)
 
-same-length-2 : tie.Need-same-length-2
+same-length-2 : tie.Need-shape_of-w-in-Sent
 same-length-2 c = search (rules, run-same)
 
-returns-2 : tie.Need-returns-2
-returns-2 c = new_said _ _ _ _ (new_run _ _ _ _ c.before.before.before.before.new.ensures.0 _ c.enum_told.given.1)
+returns-2 : tie.Need-returns-in-Sent
+returns-2 c = new_said _ _ _ _ (new_run _ _ _ _ c.new-made.ensures.0 _ c.in-Sent.is)
 
 pub new_spec : {M : Type 1} → statement M
 new_spec =

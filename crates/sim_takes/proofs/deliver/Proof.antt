@@ -11,8 +11,8 @@ use Rattle.sim_takes.proofs.deliver.Tie as tie
 as-sent : {w : List ℕ} {i : ℕ} {m m' : Message} → m ≡ m' → Pends w i m → Pends w i m'
 as-sent e P = rw e at P
 
-pub deliver-spec : {M : Type 1} → statement M
-deliver-spec =
+pub deliver_spec : {M : Type 1} → statement M
+deliver_spec =
     tie.close
     (tie.spec
     (λ c. search rules)

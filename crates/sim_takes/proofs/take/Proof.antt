@@ -9,38 +9,38 @@ use Rattle.sim_takes.proofs.take.Statement.{statement}
 use Rattle.sim_takes.proofs.take.Tie as tie
 
 -- the message is found
-module _ (c : tie.Else1) where
+module _ (c : tie.Else-i-in_transit) where
   abbrev entry : tie.Start
   entry = c.before.before.before.before.before.before
 
   abbrev words : List ℕ
-  words = entry.args.w.now
+  words = entry.args.w-1.now
 
-  found : c.before.before.before.find-pending.result ≡ length_of words → ⊥
-  found e = c.if1.false (e ∙ sym c.before.in_transit_lem.ensures)
+  found : c.find_pending-i.result ≡ length_of words → ⊥
+  found e = c.if-i-in_transit.false (e ∙ sym c.before.in_transit_lem.ensures)
 
-returns : tie.Need-returns
+returns : tie.Need-returns-then-i-in_transit
 returns c =
     let d = c.before.before.before.before.before.before in
-    take-nothing d.args.w.now d.args.number d.requires _ c.before.before.before.find-pending.ensures
-    (c.if1.true ∙ c.before.in_transit_lem.ensures)
+    take-nothing d.args.w-1.now d.args.number d.requires _ c.find_pending-i.ensures
+    (c.if-i-in_transit.true ∙ c.before.in_transit_lem.ensures)
 
-message-at-requires : tie.Need-message-at-requires
+message-at-requires : tie.Need-message_at-m-requires
 message-at-requires c κs =
     let f = c.before in
-    ((entry f).requires, take-used (words f) (entry f).args.number (entry f).requires _ f.before.before.before.find-pending.ensures (found f))
+    ((entry f).requires, take-used (words f) (entry f).args.number (entry f).requires _ f.find_pending-i.ensures (found f))
 
 deliver-requires : tie.Need-deliver-requires
 deliver-requires c κs =
     let f = c.before.before.before in
-    take_pends (words f) (entry f).args.number (entry f).requires _ f.before.before.before.find-pending.ensures (found f) _
-    c.before.message-at.ensures _ refl
+    take_pends (words f) (entry f).args.number (entry f).requires _ f.find_pending-i.ensures (found f) _
+    c.message_at-m.ensures _ refl
 
-returns-2 : tie.Need-returns-2
+returns-2 : tie.Need-returns
 returns-2 c =
     let f = c.before.before.before.before.before.before in
-    take_leaves (words f) (entry f).args.number (entry f).requires _ f.before.before.before.find-pending.ensures (found f) _ _
-    c.before.before.deliver.ensures
+    take_leaves (words f) (entry f).args.number (entry f).requires _ f.find_pending-i.ensures (found f) _ _
+    c.deliver.ensures
 
 pub take_spec : {M : Type 1} → statement M
 take_spec =

@@ -4,8 +4,8 @@ use borrow.Author.Rules.{rules}
 use Rattle.sim_transit.proofs.find_pending.Statement.{statement}
 use Rattle.sim_transit.proofs.find_pending.Tie as tie
 
-pub find-pending-spec : {M : Type 1} → statement M
-find-pending-spec =
+pub find_pending_spec : {M : Type 1} → statement M
+find_pending_spec =
     tie.close
     (tie.spec
     (λ c κs. search rules)

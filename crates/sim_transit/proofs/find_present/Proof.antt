@@ -4,8 +4,8 @@ use borrow.Author.Rules.{rules}
 use Rattle.sim_transit.proofs.find_present.Statement.{statement}
 use Rattle.sim_transit.proofs.find_present.Tie as tie
 
-pub find-present-spec : {M : Type 1} → statement M
-find-present-spec =
+pub find_present_spec : {M : Type 1} → statement M
+find_present_spec =
     tie.close
     (tie.spec
     (λ c κs. search rules)

@@ -4,8 +4,8 @@ use borrow.Author.Rules.{rules}
 use Rattle.sim_transit.proofs.is_delivered.Statement.{statement}
 use Rattle.sim_transit.proofs.is_delivered.Tie as tie
 
-pub is-delivered-spec : {M : Type 1} → statement M
-is-delivered-spec =
+pub is_delivered_spec : {M : Type 1} → statement M
+is_delivered_spec =
     tie.close
     (tie.spec
     (λ c. search rules)

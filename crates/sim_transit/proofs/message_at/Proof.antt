@@ -4,8 +4,8 @@ use borrow.Author.Rules.{rules}
 use Rattle.sim_transit.proofs.message_at.Statement.{statement}
 use Rattle.sim_transit.proofs.message_at.Tie as tie
 
-pub message-at-spec : {M : Type 1} → statement M
-message-at-spec =
+pub message_at_spec : {M : Type 1} → statement M
+message_at_spec =
     tie.close
     (tie.spec
     (λ c. search rules)

@@ -6,10 +6,10 @@ use borrow.Author.Rules.{rules}
 use Rattle.sim_transit.proofs.move_up.Statement.{statement}
 use Rattle.sim_transit.proofs.move_up.Tie as tie
 
-abbrev invariant-loop : tie.invariant-loop
+abbrev invariant-loop : tie.invariant-loop-i
 invariant-loop t₀ from count i₀ t i = Moving t₀ from count t i
 
-abbrev decreases-loop : tie.decreases-loop
+abbrev decreases-loop : tie.decreases-loop-i
 decreases-loop t₀ from count i₀ t i = count - i
 
 pub move_up_spec : {M : Type 1} → statement M

@@ -4,14 +4,14 @@ use borrow.Author.Rules.{rules}
 use Rattle.sim_transit.proofs.named.Statement.{statement}
 use Rattle.sim_transit.proofs.named.Tie as tie
 
-returns-4 : tie.Need-returns-4
-returns-4 c = named-owner _ _ _ _ c.before.before.before.before.before.before.before.before.valid-fields.ensures
-    c.before.before.before.before.before.before.before.if1.false _
-    c.before.before.before.before.before.within-limit.ensures c.before.before.before.before.if2.false _
-    c.before.before.within-limit2.ensures c.before.if3.false
+returns-4 : tie.Need-returns
+returns-4 c = named-owner _ _ _ _ c.valid_fields.ensures
+    c.if-not-valid_fields.false _
+    c.within_limit.ensures c.if-not-within_limit.false _
+    c.within_limit-2.ensures c.if-not-within_limit-2.false
 
-pub named-spec : {M : Type 1} → statement M
-named-spec =
+pub named_spec : {M : Type 1} → statement M
+named_spec =
     tie.close
     (tie.spec
     (λ c κs. search rules)

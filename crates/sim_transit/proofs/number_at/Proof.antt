@@ -4,8 +4,8 @@ use borrow.Author.Rules.{rules}
 use Rattle.sim_transit.proofs.number_at.Statement.{statement}
 use Rattle.sim_transit.proofs.number_at.Tie as tie
 
-pub number-at-spec : {M : Type 1} → statement M
-number-at-spec =
+pub number_at_spec : {M : Type 1} → statement M
+number_at_spec =
     tie.close
     (tie.spec
     (λ c. search rules)

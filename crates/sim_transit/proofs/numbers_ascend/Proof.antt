@@ -6,14 +6,14 @@ use borrow.Author.Rules.{rules}
 use Rattle.sim_transit.proofs.numbers_ascend.Statement.{statement}
 use Rattle.sim_transit.proofs.numbers_ascend.Tie as tie
 
-abbrev invariant-loop : tie.invariant-loop
+abbrev invariant-loop : tie.invariant-loop-i
 invariant-loop t len sent last₀ i₀ last i = Climbing sent t len last i
 
-abbrev decreases-loop : tie.decreases-loop
+abbrev decreases-loop : tie.decreases-loop-i
 decreases-loop t len sent last₀ i₀ last i = len - i
 
-pub numbers-ascend-spec : {M : Type 1} → statement M
-numbers-ascend-spec =
+pub numbers_ascend_spec : {M : Type 1} → statement M
+numbers_ascend_spec =
     tie.close
     (tie.spec
     invariant-loop

@@ -6,14 +6,14 @@ use borrow.Author.Rules.{rules}
 use Rattle.sim_transit.proofs.post.Statement.{statement}
 use Rattle.sim_transit.proofs.post.Tie as tie
 
-abbrev invariant-loop : tie.invariant-loop
+abbrev invariant-loop : tie.invariant-loop-i
 invariant-loop t₀ len sent bytes count number₀ from₀ i₀ t number from i = Posting len sent count bytes t₀ t number from i
 
-abbrev decreases-loop : tie.decreases-loop
+abbrev decreases-loop : tie.decreases-loop-i
 decreases-loop t₀ len sent bytes count number₀ from₀ i₀ t number from i = count - i
 
-pub post-spec : {M : Type 1} → statement M
-post-spec =
+pub post_spec : {M : Type 1} → statement M
+post_spec =
     tie.close
     (tie.spec
     invariant-loop

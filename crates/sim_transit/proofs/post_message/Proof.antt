@@ -14,13 +14,13 @@ use Rattle.sim_transit.proofs.post_message.Tie as tie
 returns : tie.Need-returns
 returns c =
     let d = c.before.before.before.before.before.before in
-    let t = d.args.t.now in
+    let t = d.args.t-1.now in
     one_post d.args.len d.args.sent d.args.m t _
-    (c.before.before.put-slot.ensures ∙
-    ap (λ (f : Fields). sets t (slot_size * d.args.len) ((d.args.sent + 1) ∷ (0 ∷ words f))) c.before.before.before.before.fields-of.ensures)
+    (c.put_slot.ensures ∙
+    ap (λ (f : Fields). sets t (slot_size * d.args.len) ((d.args.sent + 1) ∷ (0 ∷ words f))) c.fields_of-f.ensures)
 
-pub post-message-spec : {M : Type 1} → statement M
-post-message-spec =
+pub post_message_spec : {M : Type 1} → statement M
+post_message_spec =
     tie.close
     (tie.spec
     (λ c κs. search rules)

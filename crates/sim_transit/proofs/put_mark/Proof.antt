@@ -3,8 +3,8 @@ use borrow.Author.Rules.{rules}
 use Rattle.sim_transit.proofs.put_mark.Statement.{statement}
 use Rattle.sim_transit.proofs.put_mark.Tie as tie
 
-pub put-mark-spec : {M : Type 1} → statement M
-put-mark-spec =
+pub put_mark_spec : {M : Type 1} → statement M
+put_mark_spec =
     tie.close
     (tie.spec
     (λ c. search rules)

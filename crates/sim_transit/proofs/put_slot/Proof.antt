@@ -6,8 +6,8 @@ use borrow.Author.Rules.{rules}
 use Rattle.sim_transit.proofs.put_slot.Statement.{statement}
 use Rattle.sim_transit.proofs.put_slot.Tie as tie
 
-pub put-slot-spec : {M : Type 1} → statement M
-put-slot-spec =
+pub put_slot_spec : {M : Type 1} → statement M
+put_slot_spec =
     tie.close
     (tie.spec
     (λ c. search rules)

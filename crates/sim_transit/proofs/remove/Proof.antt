@@ -4,8 +4,8 @@ use borrow.Author.Rules.{rules}
 use Rattle.sim_transit.proofs.remove.Statement.{statement}
 use Rattle.sim_transit.proofs.remove.Tie as tie
 
-pub remove-spec : {M : Type 1} → statement M
-remove-spec =
+pub remove_spec : {M : Type 1} → statement M
+remove_spec =
     tie.close
     (tie.spec
     (λ c. search rules)

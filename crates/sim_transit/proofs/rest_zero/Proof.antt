@@ -7,14 +7,14 @@ use Rattle.sim_transit.proofs.rest_zero.Statement.{statement}
 use Rattle.sim_transit.proofs.rest_zero.Tie as tie
 use Rattle.sim_transit.specs.Slots.{transit_size}
 
-abbrev invariant-loop : tie.invariant-loop
+abbrev invariant-loop : tie.invariant-loop-i
 invariant-loop t len i₀ i = Blank t len i
 
-abbrev decreases-loop : tie.decreases-loop
+abbrev decreases-loop : tie.decreases-loop-i
 decreases-loop t len i₀ i = transit_size - i
 
-pub rest-zero-spec : {M : Type 1} → statement M
-rest-zero-spec =
+pub rest_zero_spec : {M : Type 1} → statement M
+rest_zero_spec =
     tie.close
     (tie.spec
     invariant-loop

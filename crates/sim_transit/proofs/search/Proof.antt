@@ -7,20 +7,20 @@ use borrow.Author.Rules.{rules}
 use Rattle.sim_transit.proofs.search.Statement.{statement}
 use Rattle.sim_transit.proofs.search.Tie as tie
 
-abbrev invariant-loop : tie.invariant-loop
+abbrev invariant-loop : tie.invariant-loop-low
 invariant-loop t len number low₀ high₀ low high = Searching number len t low high
 
-abbrev decreases-loop : tie.decreases-loop
+abbrev decreases-loop : tie.decreases-loop-low
 decreases-loop t len number low₀ high₀ low high = high - low
 
-loop-again : tie.Need-loop-preserved invariant-loop decreases-loop
-loop-again c = searching_up _ _ _ _ _ c.before.before.before.loop.invariant _ (omega arith) (omega arith) c.if1.true
+loop-again : tie.Need-loop-low-preserved-then-t-middle invariant-loop decreases-loop
+loop-again c = searching_up _ _ _ _ _ c.loop-low.invariant _ (omega arith) (omega arith) c.if-t-middle.true
 
-loop-again-2 : tie.Need-loop-preserved-2 invariant-loop decreases-loop
-loop-again-2 c = searching_down _ _ _ _ _ c.before.before.before.loop.invariant _ (omega arith) (omega arith) c.if1.false
+loop-again-2 : tie.Need-loop-low-preserved invariant-loop decreases-loop
+loop-again-2 c = searching_down _ _ _ _ _ c.loop-low.invariant _ (omega arith) (omega arith) c.if-t-middle.false
 
-pub search-spec : {M : Type 1} → statement M
-search-spec =
+pub search_spec : {M : Type 1} → statement M
+search_spec =
     tie.close
     (tie.spec
     invariant-loop
@@ -36,4 +36,4 @@ search-spec =
     loop-again
     (λ c. omega arith)
     loop-again-2
-    (λ c. searching_all _ _ _ _ _ c.before.loop.invariant (omega arith)))
+    (λ c. searching_all _ _ _ _ _ c.loop-low.invariant (omega arith)))

@@ -4,8 +4,8 @@ use borrow.Author.Rules.{rules}
 use Rattle.sim_transit.proofs.slot_valid.Statement.{statement}
 use Rattle.sim_transit.proofs.slot_valid.Tie as tie
 
-pub slot-valid-spec : {M : Type 1} → statement M
-slot-valid-spec =
+pub slot_valid_spec : {M : Type 1} → statement M
+slot_valid_spec =
     tie.close
     (tie.spec
     (λ c. search rules)

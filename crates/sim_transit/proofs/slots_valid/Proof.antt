@@ -6,14 +6,14 @@ use borrow.Author.Rules.{rules}
 use Rattle.sim_transit.proofs.slots_valid.Statement.{statement}
 use Rattle.sim_transit.proofs.slots_valid.Tie as tie
 
-abbrev invariant-loop : tie.invariant-loop
+abbrev invariant-loop : tie.invariant-loop-i
 invariant-loop t len n clients i₀ i = Tested n clients t len i
 
-abbrev decreases-loop : tie.decreases-loop
+abbrev decreases-loop : tie.decreases-loop-i
 decreases-loop t len n clients i₀ i = len - i
 
-pub slots-valid-spec : {M : Type 1} → statement M
-slots-valid-spec =
+pub slots_valid_spec : {M : Type 1} → statement M
+slots_valid_spec =
     tie.close
     (tie.spec
     invariant-loop

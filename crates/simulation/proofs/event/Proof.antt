@@ -8,28 +8,28 @@ use Rattle.simulation.proofs.event.Tie as tie
 valid-requires : tie.Need-valid-requires
 valid-requires c κs = search rules
 
-same_length : tie.Need-same-length
+same_length : tie.Need-shape_of-w-then-not-valid
 same_length c = search rules
 
-returns : tie.Need-returns
+returns : tie.Need-returns-then-not-valid
 returns c =
     let d = c.before.before.before.before in
     let a = d.args in
-    event-said _ _ _ _ (event_invalid a.w.now a.e _ c.before.valid.ensures c.if1.true)
+    event-said _ _ _ _ (event_invalid a.w-1.now a.e _ c.valid.ensures c.if-not-valid.true)
 
 happen-requires : tie.Need-happen-requires
-happen-requires c κs = holds _ _ c.before.before.valid.ensures c.before.if1.false
+happen-requires c κs = holds _ _ c.valid.ensures c.if-not-valid.false
 
-same-length-2 : tie.Need-same-length-2
+same-length-2 : tie.Need-shape_of-w
 same-length-2 c = search rules
 
-returns-2 : tie.Need-returns-2
+returns-2 : tie.Need-returns
 returns-2 c =
     let d = c.before.before.before.before.before.before.before.before in
     let a = d.args in
-    event-said _ _ _ _ (event-valid a.w.now a.e _ c.before.before.before.before.before.valid.ensures
-    c.before.before.before.before.if1.false _ _ c.before.before.happen.ensures)
+    event-said _ _ _ _ (event-valid a.w-1.now a.e _ c.valid.ensures
+    c.if-not-valid.false _ _ c.happen.ensures)
 
-pub event-spec : {M : Type 1} → statement M
-event-spec =
+pub event_spec : {M : Type 1} → statement M
+event_spec =
     tie.close (tie.spec valid-requires same_length returns happen-requires same-length-2 returns-2)

@@ -4,15 +4,15 @@ use borrow.Author.Rules.{rules}
 use Rattle.simulation.proofs.happen.Statement.{statement}
 use Rattle.simulation.proofs.happen.Tie as tie
 
-returns : tie.Need-returns
-returns c = happened-refused _ _ _ _ c.before.before.before.before.before.work.ensures _ c.before.moved.given.1
+returns : tie.Need-returns-in-Refused
+returns c = happened-refused _ _ _ _ c.work-moved.ensures _ c.in-Refused.is
 
-returns-2 : tie.Need-returns-2
-returns-2 c = happened _ _ _ _ c.before.before.before.before.before.before.before.work.ensures _ _
-    c.before.before.before.moved2.given.1 c.holders.ensures
+returns-2 : tie.Need-returns-in-Sent
+returns-2 c = happened _ _ _ _ c.work-moved.ensures _ _
+    c.in-Sent.is c.holders-holders.ensures
 
-pub happen-spec : {M : Type 1} → statement M
-happen-spec =
+pub happen_spec : {M : Type 1} → statement M
+happen_spec =
     tie.close
     (tie.spec
     (λ c κs. search rules)

@@ -4,8 +4,8 @@ use borrow.Author.Rules.{rules}
 use Rattle.simulation.proofs.in_range.Statement.{statement}
 use Rattle.simulation.proofs.in_range.Tie as tie
 
-pub in-range-spec : {M : Type 1} → statement M
-in-range-spec =
+pub in_range_spec : {M : Type 1} → statement M
+in_range_spec =
     tie.close
     (tie.spec
     (λ c κs. search rules)

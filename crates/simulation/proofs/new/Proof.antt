@@ -4,41 +4,41 @@ use borrow.Author.Rules.{rules}
 use Rattle.simulation.proofs.new.Statement.{statement}
 use Rattle.simulation.proofs.new.Tie as tie
 
-returns : tie.Need-returns
+returns : tie.Need-returns-then-w-ne-SIMULATION_WORDS
 returns c =
     let d = c.before.before in
     let a = d.args in
-    new_said _ _ _ _ (new_size a.s a.w.now c.if1.true)
+    new_said _ _ _ _ (new_size a.s a.w-1.now c.if-w-ne-SIMULATION_WORDS.true)
 
-returns-2 : tie.Need-returns-2
+returns-2 : tie.Need-returns-then-not-in_range_up_to
 returns-2 c =
     let d = c.before.before.before.before in
     let a = d.args in
-    new_said _ _ _ _ (new_range a.s a.w.now c.before.before.if1.false _ c.before.in-range-up-to.ensures c.if2.true)
+    new_said _ _ _ _ (new_range a.s a.w-1.now c.if-w-ne-SIMULATION_WORDS.false _ c.in_range_up_to.ensures c.if-not-in_range_up_to.true)
 
-returns-3 : tie.Need-returns-3
+returns-3 : tie.Need-returns-then-not-within_limit
 returns-3 c =
     let d = c.before.before.before.before.before.before in
     let a = d.args in
-    new_said _ _ _ _ (new_clients a.s a.w.now c.before.before.before.before.if1.false _ c.before.before.before.in-range-up-to.ensures
-    c.before.before.if2.false _ c.before.within-limit.ensures c.if3.true)
+    new_said _ _ _ _ (new_clients a.s a.w-1.now c.if-w-ne-SIMULATION_WORDS.false _ c.in_range_up_to.ensures
+    c.if-not-in_range_up_to.false _ c.within_limit.ensures c.if-not-within_limit.true)
 
 start-requires : tie.Need-start-requires
 start-requires c κs =
     let d = c.before.before.before.before.before.before.before in
     let a = d.args in
-    new_asks a.s a.w.now c.before.before.before.before.before.if1.false _
-    c.before.before.before.before.in-range-up-to.ensures c.before.before.before.if2.false _
-    c.before.before.within-limit.ensures c.before.if3.false
+    new_asks a.s a.w-1.now c.if-w-ne-SIMULATION_WORDS.false _
+    c.in_range_up_to.ensures c.if-not-in_range_up_to.false _
+    c.within_limit.ensures c.if-not-within_limit.false
 
-returns-4 : tie.Need-returns-4
+returns-4 : tie.Need-returns
 returns-4 c =
     let d = c.before.before.before.before.before.before.before.before.before.before in
     let a = d.args in
-    new_said _ _ _ _ (new_starts a.s a.w.now c.before.before.before.before.before.before.before.before.if1.false _
-    c.before.before.before.before.before.before.before.in-range-up-to.ensures
-    c.before.before.before.before.before.before.if2.false _ c.before.before.before.before.before.within-limit.ensures
-    c.before.before.before.before.if3.false _ c.before.before.start.ensures)
+    new_said _ _ _ _ (new_starts a.s a.w-1.now c.if-w-ne-SIMULATION_WORDS.false _
+    c.in_range_up_to.ensures
+    c.if-not-in_range_up_to.false _ c.within_limit.ensures
+    c.if-not-within_limit.false _ c.start.ensures)
 
 pub new_spec : {M : Type 1} → statement M
 new_spec =

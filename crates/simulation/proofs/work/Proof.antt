@@ -4,35 +4,35 @@ use borrow.Author.Rules.{rules}
 use Rattle.simulation.proofs.work.Statement.{statement}
 use Rattle.simulation.proofs.work.Tie as tie
 
-returns : tie.Need-returns
-returns c = as_event c.before.before.before.before.before.e.given.1 c.before.before.try-enter.ensures
+returns : tie.Need-returns-in-Try
+returns c = as_event c.in-Try.is c.try_enter.ensures
 
-returns-2 : tie.Need-returns-2
-returns-2 c = as_event c.before.before.before.before.before.e2.given.1 c.before.before.exit.ensures
+returns-2 : tie.Need-returns-in-Exit
+returns-2 c = as_event c.in-Exit.is c.exit.ensures
 
-returns-3 : tie.Need-returns-3
-returns-3 c = as_event c.before.before.before.before.before.e3.given.1 c.before.before.fall.ensures
+returns-3 : tie.Need-returns-in-Fall
+returns-3 c = as_event c.in-Fall.is c.fall.ensures
 
-returns-4 : tie.Need-returns-4
-returns-4 c = as_event c.before.before.before.before.before.e4.given.1 c.before.before.down.ensures
+returns-4 : tie.Need-returns-in-Down
+returns-4 c = as_event c.in-Down.is c.down.ensures
 
-returns-5 : tie.Need-returns-5
-returns-5 c = as_event c.before.before.before.before.before.e5.given.1 c.before.before.up.ensures
+returns-5 : tie.Need-returns-in-Up
+returns-5 c = as_event c.in-Up.is c.up.ensures
 
-returns-6 : tie.Need-returns-6
-returns-6 c = as_event c.before.before.before.before.before.e6.given.1 c.before.before.take.ensures
+returns-6 : tie.Need-returns-in-Take
+returns-6 c = as_event c.in-Take.is c.take.ensures
 
-returns-7 : tie.Need-returns-7
-returns-7 c = as_event c.before.before.before.before.before.e7.given.1 c.before.before.drop.ensures
+returns-7 : tie.Need-returns-in-Drop
+returns-7 c = as_event c.in-Drop.is c.drop.ensures
 
-returns-8 : tie.Need-returns-8
-returns-8 c = as_event c.before.before.before.before.before.e8.given.1 c.before.before.miss.ensures
+returns-8 : tie.Need-returns-in-Miss
+returns-8 c = as_event c.in-Miss.is c.miss.ensures
 
-returns-9 : tie.Need-returns-9
-returns-9 c = as_event c.before.before.before.before.before.e9.given.1 c.before.before.check.ensures
+returns-9 : tie.Need-returns-in-Check
+returns-9 c = as_event c.in-Check.is c.check.ensures
 
-pub work-spec : {M : Type 1} → statement M
-work-spec =
+pub work_spec : {M : Type 1} → statement M
+work_spec =
     tie.close
     (tie.spec
     (λ c. search rules)

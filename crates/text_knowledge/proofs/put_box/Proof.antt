@@ -12,10 +12,10 @@ returns c =
     let d₃ = d₄.before.before.before.before.before in
     let d₂ = d₃.before.before.before.before in
     let d₁ = d₂.before.before.before.before.before in
-    then _ _ _ d₁.put-receiver.ensures (then _ _ _ d₂.put.ensures (then _ _ _ d₃.put_entries.ensures d₄.put2.ensures))
+    then _ _ _ d₁.put_receiver-p.ensures (then _ _ _ d₂.put-q.ensures (then _ _ _ d₃.put_entries-e.ensures d₄.put.ensures))
 
-pub put-box-spec : {M : Type 1} → statement M
-put-box-spec =
+pub put_box_spec : {M : Type 1} → statement M
+put_box_spec =
     tie.close
     (tie.spec
     (λ c κs. search rules)

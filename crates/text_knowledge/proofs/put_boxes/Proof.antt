@@ -5,8 +5,8 @@ use Rattle.text_knowledge.proofs.put_boxes.Statement.{statement}
 use Rattle.text_knowledge.proofs.put_boxes.Tie as tie
 
 -- the servers' boxes are put
-module _ (c : tie.After-put-server-boxes) where
-  abbrev counted : tie.After-clients
+module _ (c : tie.After-put_server_boxes-p) where
+  abbrev counted : tie.After-clients-clients
   counted = c.before.before
 
 returns : tie.Need-returns
@@ -14,10 +14,10 @@ returns c =
     let d₂ = c.before.before in
     let d₁ = d₂.before.before.before.before in
     let k = counted d₁ in
-    rw (← k.before.servers.ensures, ← k.clients.ensures) (then _ _ _ d₁.put-server-boxes.ensures d₂.put-client-boxes.ensures)
+    rw (← k.servers-n.ensures, ← k.clients-clients.ensures) (then _ _ _ d₁.put_server_boxes-p.ensures d₂.put_client_boxes.ensures)
 
-pub put-boxes-spec : {M : Type 1} → statement M
-put-boxes-spec =
+pub put_boxes_spec : {M : Type 1} → statement M
+put_boxes_spec =
     tie.close
     (tie.spec
     (λ c κs. search rules)

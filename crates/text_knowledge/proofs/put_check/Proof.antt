@@ -10,10 +10,10 @@ unfolding message_text
 returns c =
     let d₂ = c.before.before in
     let d₁ = d₂.before.before.before.before.before in
-    then _ _ _ d₁.put-to-client.ensures d₂.put-with.ensures
+    then _ _ _ d₁.put_to_client-p.ensures d₂.put_with.ensures
 
-pub put-check-spec : {M : Type 1} → statement M
-put-check-spec =
+pub put_check_spec : {M : Type 1} → statement M
+put_check_spec =
     tie.close
     (tie.spec
     (λ c. search rules)

@@ -15,22 +15,22 @@ use Rattle.text_knowledge.proofs.put_client.Statement.{statement}
 use Rattle.text_knowledge.proofs.put_client.Tie as tie
 
 -- the record is read
-module _ (c : tie.After-client-head) where
-  abbrev tested : tie.After-is-living
+module _ (c : tie.After-client_head-h) where
+  abbrev tested : tie.After-is_living-living
   tested = c.before.before.before.before
 
   abbrev entry : tie.Start
   entry = tested.before.before.before
 
   abbrev row : List ℕ
-  row = c.before.before.client-row.new.1.1.0
+  row = c.client_row.new.1.1.0
 
-  read : client_of c.client-head.result row ≡ client_from (client_record (client_block_of entry.args.w.now entry.args.k))
-  read = client-read _ _ _ c.client-head.ensures c.before.before.client-row.ensures
+  read : client_of c.client_head-h.result row ≡ client_from (client_record (client_block_of entry.args.w.now entry.args.k))
+  read = client-read _ _ _ c.client_head-h.ensures c.client_row.ensures
 
 -- and what it says is put behind the number
-module _ (c : tie.After-put-with) where
-  abbrev known : tie.After-client-head
+module _ (c : tie.After-put_with-p) where
+  abbrev known : tie.After-client_head-h
   known = c.before.before.before.before
 
 returns : tie.Need-returns
@@ -39,22 +39,22 @@ returns c =
     let d₂ = d₃.before.before.before.before.before in
     let d₁ = d₂.before.before.before.before.before in
     let m = known d₁ in
-    rw (client-text _ _ (entry m).pre _ _ (read m) _ (tested m).is-living.ensures)
-    (then _ _ _ (then _ _ _ d₁.put-with.ensures d₂.put-life.ensures) d₃.put.ensures)
+    rw (client-text _ _ (entry m).requires _ _ (read m) _ (tested m).is_living-living.ensures)
+    (then _ _ _ (then _ _ _ d₁.put_with-p.ensures d₂.put_life-e.ensures) d₃.put.ensures)
 
-pub put-client-spec : {M : Type 1} → statement M
-put-client-spec =
+pub put_client_spec : {M : Type 1} → statement M
+put_client_spec =
     tie.close
     (tie.spec
-    (λ c κs. client_in_lem _ _ c.before.before.requires)
+    (λ c κs. client_in_lem _ _ c.requires)
     (λ c. search rules)
-    (λ c κs. (client_in_lem _ _ c.before.before.before.before.requires, search rules))
+    (λ c κs. (client_in_lem _ _ c.requires, search rules))
     (λ c κs. let d = c.before.before.before.before.before.before in (client_in_lem _ _ d.requires, client-held _ d.args.k d.requires))
     (λ c. search rules)
     (λ c. search rules)
     (λ c κs. search rules)
     (λ c. search rules)
-    (λ c κs. let m = known c.before.before.before.before in responses-padded _ _ (entry m).pre _ _ (read m))
+    (λ c κs. let m = known c.before.before.before.before in responses-padded _ _ (entry m).requires _ _ (read m))
     (λ c. search rules)
     (λ c κs. search rules)
     (λ c. search rules)

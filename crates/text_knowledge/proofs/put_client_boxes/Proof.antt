@@ -11,26 +11,26 @@ use borrow.Author.Rules.{rules}
 use Rattle.text_knowledge.proofs.put_client_boxes.Statement.{statement}
 use Rattle.text_knowledge.proofs.put_client_boxes.Tie as tie
 
-abbrev invariant-loop : tie.invariant-loop
+abbrev invariant-loop : tie.invariant-loop-k
 invariant-loop out₀ at w clients end₀ k₀ out end k =
     (sheet out end ≡ puts (client_boxes_text (view w) k) (sheet out₀ end₀)) × (k ≤ clients) × (length out ≡ length out₀)
 
-abbrev decreases-loop : tie.decreases-loop
+abbrev decreases-loop : tie.decreases-loop-k
 decreases-loop out₀ at w clients end₀ k₀ out end k = clients - k
 
-loop-again : tie.Need-loop-preserved invariant-loop decreases-loop
+loop-again : tie.Need-loop-k-preserved invariant-loop decreases-loop
 loop-again c =
-    let l = c.before.before.before.before.before.loop in
-    (boxes_more _ _ l.k _ l.invariant.0 c.before.before.put-box.ensures, omega arith, omega arith)
+    let l = c.loop-k in
+    (boxes_more _ _ l.k _ l.invariant.0 c.put_box-end.ensures, omega arith, omega arith)
 
 returns : tie.Need-returns invariant-loop decreases-loop
 returns c =
-    let l = c.before.loop in
-    let e : l.k ≡ c.before.before.before.before.args.clients = omega arith in
+    let l = c.loop-k in
+    let e : l.k ≡ c.args.clients = omega arith in
     rw (← e) l.invariant.0
 
-pub put-client-boxes-spec : {M : Type 1} → statement M
-put-client-boxes-spec =
+pub put_client_boxes_spec : {M : Type 1} → statement M
+put_client_boxes_spec =
     tie.close
     (tie.spec
     invariant-loop

@@ -11,30 +11,30 @@ use borrow.Author.Rules.{rules}
 use Rattle.text_knowledge.proofs.put_clients.Statement.{statement}
 use Rattle.text_knowledge.proofs.put_clients.Tie as tie
 
-abbrev invariant-loop : tie.invariant-loop
+abbrev invariant-loop : tie.invariant-loop-k
 invariant-loop out₀ at w clients end₀ k₀ out end k = (sheet out end ≡ puts (clients_text (view w) k) (sheet out₀ end₀)) × (k ≤ clients) × (length out ≡ length out₀)
 
-abbrev decreases-loop : tie.decreases-loop
+abbrev decreases-loop : tie.decreases-loop-k
 decreases-loop out₀ at w clients end₀ k₀ out end k = clients - k
 
-put-client-requires : tie.Need-put-client-requires invariant-loop decreases-loop
+put-client-requires : tie.Need-put_client-end-requires invariant-loop decreases-loop
 put-client-requires c κs =
-    let p = c.before.before.before.before.before.requires in
+    let p = c.requires in
     record { valid = p.0; first = omega arith; last = omega (arith, p.1) }
 
-loop-again : tie.Need-loop-preserved invariant-loop decreases-loop
+loop-again : tie.Need-loop-k-preserved invariant-loop decreases-loop
 loop-again c =
-    let l = c.before.before.before.before.before.loop in
-    (clients-more _ l.k _ l.invariant.0 c.before.before.put-client.ensures, omega arith, omega arith)
+    let l = c.loop-k in
+    (clients-more _ l.k _ l.invariant.0 c.put_client-end.ensures, omega arith, omega arith)
 
 returns : tie.Need-returns invariant-loop decreases-loop
 returns c =
-    let l = c.before.loop in
-    let e : l.k ≡ c.before.before.before.before.args.clients = omega arith in
+    let l = c.loop-k in
+    let e : l.k ≡ c.args.clients = omega arith in
     rw (← e) l.invariant.0
 
-pub put-clients-spec : {M : Type 1} → statement M
-put-clients-spec =
+pub put_clients_spec : {M : Type 1} → statement M
+put_clients_spec =
     tie.close
     (tie.spec
     invariant-loop

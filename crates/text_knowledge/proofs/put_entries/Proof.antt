@@ -17,11 +17,11 @@ use borrow.Author.Rules.{rules}
 use Rattle.text_knowledge.proofs.put_entries.Statement.{statement}
 use Rattle.text_knowledge.proofs.put_entries.Tie as tie
 
-abbrev invariant-loop : tie.invariant-loop
+abbrev invariant-loop : tie.invariant-loop-i
 invariant-loop out₀ at w r len end₀ i₀ out end i =
     (sheet out end ≡ puts (entries_text (take i (index_of r (view w).transit))) (sheet out₀ end₀)) × (i ≤ len) × (length out ≡ length out₀)
 
-abbrev decreases-loop : tie.decreases-loop
+abbrev decreases-loop : tie.decreases-loop-i
 decreases-loop out₀ at w r len end₀ i₀ out end i = len - i
 
 -- at entry the simulation is valid
@@ -36,42 +36,42 @@ module _ (c : tie.Start invariant-loop decreases-loop) where
   few = transit-count words c.requires
 
 -- at the head of the loop
-module _ (c : tie.At-loop invariant-loop decreases-loop) where
+module _ (c : tie.At-loop-i invariant-loop decreases-loop) where
   abbrev entry : tie.Start invariant-loop decreases-loop
   entry = c.before.before.before.before
 
 -- a turn's entry is read
-module _ (c : tie.After-entry-of invariant-loop decreases-loop) where
-  abbrev turn : tie.At-loop invariant-loop decreases-loop
+module _ (c : tie.After-entry_of invariant-loop decreases-loop) where
+  abbrev turn : tie.At-loop-i invariant-loop decreases-loop
   turn = c.before.before
 
 -- and put
-module _ (c : tie.After-put-entry invariant-loop decreases-loop) where
-  abbrev read : tie.After-entry-of invariant-loop decreases-loop
+module _ (c : tie.After-put_entry-end invariant-loop decreases-loop) where
+  abbrev read : tie.After-entry_of invariant-loop decreases-loop
   read = c.before.before.before.before.before
 
-returns : tie.Need-returns invariant-loop decreases-loop
+returns : tie.Need-returns-in_default invariant-loop decreases-loop
 returns c =
     let d = c.before.before in
-    let l = (turn d).loop in
-    let nothing = sym c.enum_told.given.1 ∙ d.entry_of.ensures in
-    entries_all (entries (entry (turn d))) _ l.i (none_past _ _ nothing) l.inv.0
+    let l = (turn d).loop-i in
+    let nothing = sym c.in_default.is ∙ d.entry_of.ensures in
+    entries_all (entries (entry (turn d))) _ l.i (none_past _ _ nothing) l.invariant.0
 
-loop-again : tie.Need-loop-preserved invariant-loop decreases-loop
+loop-again : tie.Need-loop-i-preserved invariant-loop decreases-loop
 loop-again c =
     let d = c.before.before in
-    let l = (turn (read d)).loop in
-    let there = sym d.before.before.before.number.given.1 ∙ (read d).entry_of.ensures in
-    (entries_more (entries (entry (turn (read d)))) _ l.i _ _ there l.inv.0 d.put-entry.ensures, omega arith, omega arith)
+    let l = (turn (read d)).loop-i in
+    let there = sym d.in-Entry.is ∙ (read d).entry_of.ensures in
+    (entries_more (entries (entry (turn (read d)))) _ l.i _ _ there l.invariant.0 d.put_entry-end.ensures, omega arith, omega arith)
 
-returns-2 : tie.Need-returns-2 invariant-loop decreases-loop
+returns-2 : tie.Need-returns invariant-loop decreases-loop
 returns-2 c =
-    let l = c.before.loop in
+    let l = c.loop-i in
     let start = entry c.before in
     entries_all (entries start) _ l.i (omega (arith, entries_few (words start) start.args.r)) l.invariant.0
 
-pub put-entries-spec : {M : Type 1} → statement M
-put-entries-spec =
+pub put_entries_spec : {M : Type 1} → statement M
+put_entries_spec =
     tie.close
     (tie.spec
     invariant-loop

@@ -8,7 +8,7 @@ returns : tie.Need-returns
 returns c =
     let d₂ = c.before.before in
     let d₁ = d₂.before.before.before.before in
-    then _ _ _ d₁.put-with.ensures d₂.put-standing.ensures
+    then _ _ _ d₁.put_with-p.ensures d₂.put_standing.ensures
 
-pub put-entry-spec : {M : Type 1} → statement M
-put-entry-spec = tie.close (tie.spec (λ c. search rules) (λ c κs. search rules) (λ c κs. search rules) (λ c. search rules) returns)
+pub put_entry_spec : {M : Type 1} → statement M
+put_entry_spec = tie.close (tie.spec (λ c. search rules) (λ c κs. search rules) (λ c κs. search rules) (λ c. search rules) returns)

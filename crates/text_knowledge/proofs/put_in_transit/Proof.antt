@@ -10,16 +10,16 @@ use Rattle.text_knowledge.proofs.put_in_transit.Statement.{statement}
 use Rattle.text_knowledge.proofs.put_in_transit.Tie as tie
 
 -- the slot is read
-module _ (c : tie.After-message-at) where
+module _ (c : tie.After-message_at-m) where
   abbrev entry : tie.Start
   entry = c.before.before.before.before.before
 
   its-slot : slot_in (transit_words entry.args.w.now) entry.args.i
-      ≡ record { number = c.before.before.number_at.result.0; delivered = c.before.is-delivered.result; message = c.message-at.result }
+      ≡ record { number = c.number_at-number.result.0; delivered = c.is_delivered-delivered.result; message = c.message_at-m.result }
   its-slot =
-      let e = c.before.before.number_at.ensures in
-      let f = c.before.is-delivered.ensures in
-      let g = c.message-at.ensures in
+      let e = c.number_at-number.ensures in
+      let f = c.is_delivered-delivered.ensures in
+      let g = c.message_at-m.ensures in
       λ j. record { number = sym e j; delivered = sym f j; message = sym g j }
 
 returns : tie.Need-returns
@@ -29,11 +29,11 @@ returns c =
     let d₃ = d₄.before.before.before.before.before in
     let d₂ = d₃.before.before.before.before in
     let d₁ = d₂.before.before.before.before in
-    let marked = then _ _ _ d₃.put-standing.ensures d₄.put.ensures in
-    rw (its-slot d₁.before.before.before) (then _ _ _ d₁.put-with.ensures (then _ _ _ d₂.put-message.ensures marked))
+    let marked = then _ _ _ d₃.put_standing-e.ensures d₄.put.ensures in
+    rw (its-slot d₁.before.before.before) (then _ _ _ d₁.put_with-p.ensures (then _ _ _ d₂.put_message-q.ensures marked))
 
-pub put-in-transit-spec : {M : Type 1} → statement M
-put-in-transit-spec =
+pub put_in_transit_spec : {M : Type 1} → statement M
+put_in_transit_spec =
     tie.close
     (tie.spec
     (λ c κs. search rules)

@@ -3,14 +3,14 @@ use borrow.Author.Rules.{rules}
 use Rattle.text_knowledge.proofs.put_knowledge.Statement.{statement}
 use Rattle.text_knowledge.proofs.put_knowledge.Tie as tie
 
-pub put-knowledge-spec : {M : Type 1} → statement M
-put-knowledge-spec =
+pub put_knowledge_spec : {M : Type 1} → statement M
+put_knowledge_spec =
     tie.close
     (tie.spec
     (λ c κs. search rules)
     (λ c. search rules)
-    (λ c. rw c.before.before.before.before.if1.true c.before.before.put-votes.ensures)
+    (λ c. rw c.if-up.true c.put_votes.ensures)
     (λ c. search rules)
     (λ c κs. search rules)
     (λ c. search rules)
-    (λ c. rw c.before.before.before.before.before.if1.false c.before.before.put.ensures))
+    (λ c. rw c.if-up.false c.put.ensures))

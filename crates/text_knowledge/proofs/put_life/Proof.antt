@@ -3,14 +3,14 @@ use borrow.Author.Rules.{rules}
 use Rattle.text_knowledge.proofs.put_life.Statement.{statement}
 use Rattle.text_knowledge.proofs.put_life.Tie as tie
 
-pub put-life-spec : {M : Type 1} → statement M
-put-life-spec =
+pub put_life_spec : {M : Type 1} → statement M
+put_life_spec =
     tie.close
     (tie.spec
     (λ c κs. search rules)
     (λ c. search rules)
-    (λ c. rw c.before.before.before.before.if1.true c.before.before.put-state.ensures)
+    (λ c. rw c.if-living.true c.put_state.ensures)
     (λ c. search rules)
     (λ c κs. search rules)
     (λ c. search rules)
-    (λ c. rw c.before.before.before.before.before.if1.false c.before.before.put.ensures))
+    (λ c. rw c.if-living.false c.put.ensures))

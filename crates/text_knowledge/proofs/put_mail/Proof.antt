@@ -16,11 +16,11 @@ use Rattle.text_knowledge.proofs.put_mail.Statement.{statement}
 use Rattle.text_knowledge.proofs.put_mail.Tie as tie
 use Rattle.system.specs.Limits.{system_messages}
 
-abbrev invariant-loop : tie.invariant-loop
+abbrev invariant-loop : tie.invariant-loop-i
 invariant-loop out₀ at w len end₀ i₀ out end i =
     (sheet out end ≡ puts (mail_text (in_transit i (transit_words w))) (sheet out₀ end₀)) × (i ≤ len) × (length out ≡ length out₀)
 
-abbrev decreases-loop : tie.decreases-loop
+abbrev decreases-loop : tie.decreases-loop-i
 decreases-loop out₀ at w len end₀ i₀ out end i = len - i
 
 -- at entry the simulation is valid
@@ -32,37 +32,37 @@ module _ (c : tie.Start invariant-loop decreases-loop) where
   few = transit-count words c.requires
 
 -- at the head of the loop
-module _ (c : tie.At-loop invariant-loop decreases-loop) where
+module _ (c : tie.At-loop-i invariant-loop decreases-loop) where
   abbrev entry : tie.Start invariant-loop decreases-loop
   entry = c.before.before.before.before
 
 -- a turn's message is put
-module _ (c : tie.After-put-in-transit invariant-loop decreases-loop) where
-  abbrev turn : tie.At-loop invariant-loop decreases-loop
+module _ (c : tie.After-put_in_transit-end invariant-loop decreases-loop) where
+  abbrev turn : tie.At-loop-i invariant-loop decreases-loop
   turn = c.before.before.before
 
-loop-again : tie.Need-loop-preserved invariant-loop decreases-loop
+loop-again : tie.Need-loop-i-preserved invariant-loop decreases-loop
 loop-again c =
     let d = c.before.before in
-    let l = (turn d).loop in
-    (mail_more _ l.i _ l.inv.0 d.put-in-transit.ensures, omega arith, omega arith)
+    let l = (turn d).loop-i in
+    (mail_more _ l.i _ l.invariant.0 d.put_in_transit-end.ensures, omega arith, omega arith)
 
 returns : tie.Need-returns invariant-loop decreases-loop
 returns c =
-    let l = c.before.loop in
+    let l = c.loop-i in
     let start = entry c.before in
     let e : l.i ≡ length_of (words start) = omega arith in
     rw (← its-transit (words start), ← e) l.invariant.0
 
-pub put-mail-spec : {M : Type 1} → statement M
-put-mail-spec =
+pub put_mail_spec : {M : Type 1} → statement M
+put_mail_spec =
     tie.close
     (tie.spec
     invariant-loop
     decreases-loop
     (λ c κs. search rules)
     (λ c. (mail_none _ _, omega arith, refl))
-    (λ c κs. ((entry c.before.before).pre, omega arith))
+    (λ c κs. ((entry c.before.before).requires, omega arith))
     (λ c. record { fits = omega (arith, few (entry (turn c.before.before))) })
     (λ c. omega arith)
     loop-again

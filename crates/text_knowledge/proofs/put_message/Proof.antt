@@ -4,32 +4,32 @@ use borrow.Author.Rules.{rules}
 use Rattle.text_knowledge.proofs.put_message.Statement.{statement}
 use Rattle.text_knowledge.proofs.put_message.Tie as tie
 
-returns : tie.Need-returns
+returns : tie.Need-returns-in-Request
 unfolding message_text
-returns c = let d = c.before.before in rw d.before.before.before.before.m.given.1 d.put-to-server.ensures
+returns c = let d = c.before.before in rw d.in-Request.is d.put_to_server.ensures
 
-returns-2 : tie.Need-returns-2
+returns-2 : tie.Need-returns-in-Yield
 unfolding message_text
-returns-2 c = let d = c.before.before in rw d.before.before.before.before.m2.given.1 d.put-to-server2.ensures
+returns-2 c = let d = c.before.before in rw d.in-Yield.is d.put_to_server-in-Yield.ensures
 
-returns-3 : tie.Need-returns-3
+returns-3 : tie.Need-returns-in-Release
 unfolding message_text
-returns-3 c = let d = c.before.before in rw d.before.before.before.before.m3.given.1 d.put-to-server3.ensures
+returns-3 c = let d = c.before.before in rw d.in-Release.is d.put_to_server-in-Release.ensures
 
-returns-4 : tie.Need-returns-4
+returns-4 : tie.Need-returns-in-Inquiry
 unfolding message_text
-returns-4 c = let d = c.before.before in rw d.before.before.before.before.m4.given.1 d.put-to-server4.ensures
+returns-4 c = let d = c.before.before in rw d.in-Inquiry.is d.put_to_server-in-Inquiry.ensures
 
-returns-5 : tie.Need-returns-5
+returns-5 : tie.Need-returns-in-Response
 unfolding message_text
-returns-5 c = let d = c.before.before in rw d.before.before.before.m5.given.1 d.put-response.ensures
+returns-5 c = let d = c.before.before in rw d.in-Response.is d.put_response.ensures
 
-returns-6 : tie.Need-returns-6
+returns-6 : tie.Need-returns-in-Check
 unfolding message_text
-returns-6 c = let d = c.before.before in rw d.before.before.before.m6.given.1 d.put-check.ensures
+returns-6 c = let d = c.before.before in rw d.in-Check.is d.put_check.ensures
 
-pub put-message-spec : {M : Type 1} → statement M
-put-message-spec =
+pub put_message_spec : {M : Type 1} → statement M
+put_message_spec =
     tie.close
     (tie.spec
     (λ c. search rules)

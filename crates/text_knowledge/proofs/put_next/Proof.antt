@@ -10,10 +10,10 @@ unfolding requests_text
 returns c =
     let d₂ = c.before.before in
     let d₁ = d₂.before.before.before.before in
-    then _ _ _ d₁.put.ensures d₂.put-request.ensures
+    then _ _ _ d₁.put-p.ensures d₂.put_request.ensures
 
-pub put-next-spec : {M : Type 1} → statement M
-put-next-spec =
+pub put_next_spec : {M : Type 1} → statement M
+put_next_spec =
     tie.close
     (tie.spec
     (λ c. search rules)

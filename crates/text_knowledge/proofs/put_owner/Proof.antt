@@ -5,20 +5,20 @@ use borrow.Author.Rules.{rules}
 use Rattle.text_knowledge.proofs.put_owner.Statement.{statement}
 use Rattle.text_knowledge.proofs.put_owner.Tie as tie
 
-returns : tie.Need-returns
+returns : tie.Need-returns-in-Nobody
 unfolding owner_text
-returns c = let d = c.before.before in rw d.before.before.before.enum_told.given.1 d.put.ensures
+returns c = let d = c.before.before in rw d.in-Nobody.is d.put.ensures
 
-returns-2 : tie.Need-returns-2
+returns-2 : tie.Need-returns-in-Of
 unfolding owner_text
 returns-2 c =
     let d₂ = c.before.before in
     let d₁ = d₂.before.before.before.before in
     let told = d₁.before.before.before.before in
-    rw told.o.given.1 (then _ _ _ d₁.put2.ensures d₂.put-request.ensures)
+    rw told.in-Of.is (then _ _ _ d₁.put-p.ensures d₂.put_request.ensures)
 
-pub put-owner-spec : {M : Type 1} → statement M
-put-owner-spec =
+pub put_owner_spec : {M : Type 1} → statement M
+put_owner_spec =
     tie.close
     (tie.spec
     (λ c. search rules)

@@ -3,8 +3,8 @@ use borrow.Author.Rules.{rules}
 use Rattle.text_knowledge.proofs.put_receiver.Statement.{statement}
 use Rattle.text_knowledge.proofs.put_receiver.Tie as tie
 
-pub put-receiver-spec : {M : Type 1} → statement M
-put-receiver-spec =
+pub put_receiver_spec : {M : Type 1} → statement M
+put_receiver_spec =
     tie.close
     (tie.spec
     (λ c. search rules)
@@ -16,6 +16,6 @@ put-receiver-spec =
     (λ c. search rules)
     (λ c κs. search rules)
     (λ c. search rules)
-    (λ c. rw c.before.before.before.before.before.before.before.r.given.1 c.before.before.put-with.ensures)
+    (λ c. rw c.in-Client.is c.put_with.ensures)
     (λ c. search rules)
-    (λ c. rw c.before.before.before.before.before.before.before.r2.given.1 c.before.before.put-with2.ensures))
+    (λ c. rw c.in-Server.is c.put_with-in-Server.ensures))

@@ -8,10 +8,10 @@ returns : tie.Need-returns
 returns c =
     let d₂ = c.before.before in
     let d₁ = d₂.before.before.before.before.before in
-    then _ _ _ d₁.put-number.ensures d₂.put-with.ensures
+    then _ _ _ d₁.put_number-p.ensures d₂.put_with.ensures
 
-pub put-request-spec : {M : Type 1} → statement M
-put-request-spec =
+pub put_request_spec : {M : Type 1} → statement M
+put_request_spec =
     tie.close
     (tie.spec
     (λ c. search rules)

@@ -11,38 +11,38 @@ use borrow.Author.Rules.{rules}
 use Rattle.text_knowledge.proofs.put_requests.Statement.{statement}
 use Rattle.text_knowledge.proofs.put_requests.Tie as tie
 
-abbrev invariant-loop : tie.invariant-loop
+abbrev invariant-loop : tie.invariant-loop-i
 invariant-loop out₀ at row len end₀ i₀ out end i =
     (sheet out end ≡ puts (requests_text (queue_of row i)) (sheet out₀ end₀)) × (i ≤ len) × (length out ≡ length out₀)
 
-abbrev decreases-loop : tie.decreases-loop
+abbrev decreases-loop : tie.decreases-loop-i
 decreases-loop out₀ at row len end₀ i₀ out end i = len - i
 
-loop-again : tie.Need-loop-preserved invariant-loop decreases-loop
+loop-again : tie.Need-loop-i-preserved invariant-loop decreases-loop
 loop-again c =
     let p = c.before.before in
     let q = p.before in
     let t = q.before.before.before in
-    let l = t.loop in (
-      requests-more _ _ t.before.before.before.requires l.i (omega arith) _ _ q.request-at.ensures l.invariant.0 p.put_next.ensures,
+    let l = t.loop-i in (
+      requests-more _ _ t.requires l.i (omega arith) _ _ q.request_at.ensures l.invariant.0 p.put_next-end.ensures,
       omega arith,
       omega arith,
     )
 
 returns : tie.Need-returns invariant-loop decreases-loop
 returns c =
-    let l = c.before.loop in
-    let e : l.i ≡ c.before.before.before.before.args.len = omega arith in
+    let l = c.loop-i in
+    let e : l.i ≡ c.args.len = omega arith in
     rw (← e) l.invariant.0
 
-pub put-requests-spec : {M : Type 1} → statement M
-put-requests-spec =
+pub put_requests_spec : {M : Type 1} → statement M
+put_requests_spec =
     tie.close
     (tie.spec
     invariant-loop
     decreases-loop
     (λ c. (requests-none _, omega arith, refl))
-    (λ c κs. place-there _ _ c.before.before.before.before.before.requires _ (omega arith))
+    (λ c κs. place-there _ _ c.requires _ (omega arith))
     (λ c κs. search rules)
     (λ c. search rules)
     (λ c. omega arith)

@@ -10,8 +10,8 @@ unfolding message_text
 returns c =
     let d₂ = c.before.before in
     let d₁ = d₂.before.before.before.before in
-    then _ _ _ d₁.put-to-client.ensures d₂.put-owner.ensures
+    then _ _ _ d₁.put_to_client-p.ensures d₂.put_owner.ensures
 
-pub put-response-spec : {M : Type 1} → statement M
-put-response-spec =
+pub put_response_spec : {M : Type 1} → statement M
+put_response_spec =
     tie.close (tie.spec (λ c. search rules) (λ c κs. search rules) (λ c κs. search rules) (λ c. search rules) returns)

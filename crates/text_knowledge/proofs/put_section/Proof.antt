@@ -3,8 +3,8 @@ use borrow.Author.Rules.{rules}
 use Rattle.text_knowledge.proofs.put_section.Statement.{statement}
 use Rattle.text_knowledge.proofs.put_section.Tie as tie
 
-pub put-section-spec : {M : Type 1} → statement M
-put-section-spec =
+pub put_section_spec : {M : Type 1} → statement M
+put_section_spec =
     tie.close
     (tie.spec
     (λ c. search rules)
@@ -17,8 +17,8 @@ put-section-spec =
     (λ c. search rules)
     (λ c κs. search rules)
     (λ c. search rules)
-    (λ c. rw c.before.before.before.before.before.enum_told.given.1 c.before.before.put-with.ensures)
+    (λ c. rw c.in-Remainder.is c.put_with.ensures)
     (λ c. search rules)
-    (λ c. rw c.before.before.before.before.before.enum-told2.given.1 c.before.before.put-with2.ensures)
+    (λ c. rw c.in-Trying.is c.put_with-in-Trying.ensures)
     (λ c. search rules)
-    (λ c. rw c.before.before.before.before.before.enum-told3.given.1 c.before.before.put-with3.ensures))
+    (λ c. rw c.in-Critical.is c.put_with-in-Critical.ensures))

@@ -15,22 +15,22 @@ use Rattle.text_knowledge.proofs.put_server.Statement.{statement}
 use Rattle.text_knowledge.proofs.put_server.Tie as tie
 
 -- the record is read
-module _ (c : tie.After-server-head) where
-  abbrev tested : tie.After-is-up
+module _ (c : tie.After-server_head-h) where
+  abbrev tested : tie.After-is_up-up
   tested = c.before.before.before.before
 
   abbrev entry : tie.Start
   entry = tested.before.before.before
 
   abbrev row : List ℕ
-  row = c.before.before.server-row.new.1.1.0
+  row = c.server_row.new.1.1.0
 
-  read : server_of c.server-head.result row ≡ server_from (server_record (server_block_of entry.args.w.now entry.args.j))
-  read = server-read _ _ _ c.server-head.ensures c.before.before.server-row.ensures
+  read : server_of c.server_head-h.result row ≡ server_from (server_record (server_block_of entry.args.w.now entry.args.j))
+  read = server-read _ _ _ c.server_head-h.ensures c.server_row.ensures
 
 -- and what it says is put behind the number
-module _ (c : tie.After-put-with) where
-  abbrev known : tie.After-server-head
+module _ (c : tie.After-put_with-p) where
+  abbrev known : tie.After-server_head-h
   known = c.before.before.before.before
 
 returns : tie.Need-returns
@@ -39,22 +39,22 @@ returns c =
     let d₂ = d₃.before.before.before.before.before in
     let d₁ = d₂.before.before.before.before.before in
     let m = known d₁ in
-    rw (server-text _ _ (entry m).pre _ _ (read m) _ (tested m).is_up.ensures)
-    (then _ _ _ (then _ _ _ d₁.put-with.ensures d₂.put-knowledge.ensures) d₃.put.ensures)
+    rw (server-text _ _ (entry m).requires _ _ (read m) _ (tested m).is_up-up.ensures)
+    (then _ _ _ (then _ _ _ d₁.put_with-p.ensures d₂.put_knowledge-e.ensures) d₃.put.ensures)
 
-pub put-server-spec : {M : Type 1} → statement M
-put-server-spec =
+pub put_server_spec : {M : Type 1} → statement M
+put_server_spec =
     tie.close
     (tie.spec
-    (λ c κs. server_in_lem _ _ c.before.before.requires)
+    (λ c κs. server_in_lem _ _ c.requires)
     (λ c. search rules)
-    (λ c κs. (server_in_lem _ _ c.before.before.before.before.requires, search rules))
+    (λ c κs. (server_in_lem _ _ c.requires, search rules))
     (λ c κs. let d = c.before.before.before.before.before.before in (server_in_lem _ _ d.requires, server-held _ d.args.j d.requires))
     (λ c. search rules)
     (λ c. search rules)
     (λ c κs. search rules)
     (λ c. search rules)
-    (λ c κs. let m = known c.before.before.before.before in queue-padded _ _ (entry m).pre _ _ (read m))
+    (λ c κs. let m = known c.before.before.before.before in queue-padded _ _ (entry m).requires _ _ (read m))
     (λ c. search rules)
     (λ c κs. search rules)
     (λ c. search rules)

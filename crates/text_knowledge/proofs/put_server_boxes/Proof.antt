@@ -11,26 +11,26 @@ use borrow.Author.Rules.{rules}
 use Rattle.text_knowledge.proofs.put_server_boxes.Statement.{statement}
 use Rattle.text_knowledge.proofs.put_server_boxes.Tie as tie
 
-abbrev invariant-loop : tie.invariant-loop
+abbrev invariant-loop : tie.invariant-loop-j
 invariant-loop out₀ at w n end₀ j₀ out end j =
     (sheet out end ≡ puts (server_boxes_text (view w) j) (sheet out₀ end₀)) × (j ≤ n) × (length out ≡ length out₀)
 
-abbrev decreases-loop : tie.decreases-loop
+abbrev decreases-loop : tie.decreases-loop-j
 decreases-loop out₀ at w n end₀ j₀ out end j = n - j
 
-loop-again : tie.Need-loop-preserved invariant-loop decreases-loop
+loop-again : tie.Need-loop-j-preserved invariant-loop decreases-loop
 loop-again c =
-    let l = c.before.before.before.before.before.loop in
-    (boxes_more _ _ l.j _ l.invariant.0 c.before.before.put-box.ensures, omega arith, omega arith)
+    let l = c.loop-j in
+    (boxes_more _ _ l.j _ l.invariant.0 c.put_box-end.ensures, omega arith, omega arith)
 
 returns : tie.Need-returns invariant-loop decreases-loop
 returns c =
-    let l = c.before.loop in
-    let e : l.j ≡ c.before.before.before.before.args.n = omega arith in
+    let l = c.loop-j in
+    let e : l.j ≡ c.args.n = omega arith in
     rw (← e) l.invariant.0
 
-pub put-server-boxes-spec : {M : Type 1} → statement M
-put-server-boxes-spec =
+pub put_server_boxes_spec : {M : Type 1} → statement M
+put_server_boxes_spec =
     tie.close
     (tie.spec
     invariant-loop

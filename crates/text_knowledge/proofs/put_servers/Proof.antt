@@ -11,30 +11,30 @@ use borrow.Author.Rules.{rules}
 use Rattle.text_knowledge.proofs.put_servers.Statement.{statement}
 use Rattle.text_knowledge.proofs.put_servers.Tie as tie
 
-abbrev invariant-loop : tie.invariant-loop
+abbrev invariant-loop : tie.invariant-loop-j
 invariant-loop out₀ at w n end₀ j₀ out end j = (sheet out end ≡ puts (servers_text (view w) j) (sheet out₀ end₀)) × (j ≤ n) × (length out ≡ length out₀)
 
-abbrev decreases-loop : tie.decreases-loop
+abbrev decreases-loop : tie.decreases-loop-j
 decreases-loop out₀ at w n end₀ j₀ out end j = n - j
 
-put-server-requires : tie.Need-put-server-requires invariant-loop decreases-loop
+put-server-requires : tie.Need-put_server-end-requires invariant-loop decreases-loop
 put-server-requires c κs =
-    let p = c.before.before.before.before.before.requires in
+    let p = c.requires in
     record { valid = p.0; first = omega arith; last = omega (arith, p.1) }
 
-loop-again : tie.Need-loop-preserved invariant-loop decreases-loop
+loop-again : tie.Need-loop-j-preserved invariant-loop decreases-loop
 loop-again c =
-    let l = c.before.before.before.before.before.loop in
-    (servers-more _ l.j _ l.invariant.0 c.before.before.put-server.ensures, omega arith, omega arith)
+    let l = c.loop-j in
+    (servers-more _ l.j _ l.invariant.0 c.put_server-end.ensures, omega arith, omega arith)
 
 returns : tie.Need-returns invariant-loop decreases-loop
 returns c =
-    let l = c.before.loop in
-    let e : l.j ≡ c.before.before.before.before.args.n = omega arith in
+    let l = c.loop-j in
+    let e : l.j ≡ c.args.n = omega arith in
     rw (← e) l.invariant.0
 
-pub put-servers-spec : {M : Type 1} → statement M
-put-servers-spec =
+pub put_servers_spec : {M : Type 1} → statement M
+put_servers_spec =
     tie.close
     (tie.spec
     invariant-loop

@@ -6,8 +6,8 @@ use Rattle.text_knowledge.proofs.put_slips.Statement.{statement}
 use Rattle.text_knowledge.proofs.put_slips.Tie as tie
 
 -- the servers' slips are put
-module _ (c : tie.After-put-servers) where
-  abbrev counted : tie.After-clients
+module _ (c : tie.After-put_servers-p) where
+  abbrev counted : tie.After-clients-clients
   counted = c.before.before
 
 returns : tie.Need-returns
@@ -15,15 +15,15 @@ returns c =
     let d₂ = c.before.before in
     let d₁ = d₂.before.before.before.before in
     let k = counted d₁ in
-    rw (← k.before.servers.ensures, ← k.clients.ensures) (then _ _ _ d₁.put-servers.ensures d₂.put-clients.ensures)
+    rw (← k.servers-n.ensures, ← k.clients-clients.ensures) (then _ _ _ d₁.put_servers-p.ensures d₂.put_clients.ensures)
 
-pub put-slips-spec : {M : Type 1} → statement M
-put-slips-spec =
+pub put_slips_spec : {M : Type 1} → statement M
+put_slips_spec =
     tie.close
     (tie.spec
     (λ c κs. search rules)
     (λ c κs. search rules)
-    (λ c κs. (c.before.before.before.before.before.requires, omega (arith, c.before.before.servers.ensures)))
-    (λ c κs. let k = counted c.before.before.before in (k.before.before.before.before.pre, omega (arith, k.clients.ensures)))
+    (λ c κs. (c.requires, omega (arith, c.servers-n.ensures)))
+    (λ c κs. let k = counted c.before.before.before in (k.requires, omega (arith, k.clients-clients.ensures)))
     (λ c. search rules)
     returns)

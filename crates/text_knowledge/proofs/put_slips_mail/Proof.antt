@@ -8,7 +8,7 @@ returns : tie.Need-returns
 returns c =
     let d₂ = c.before.before in
     let d₁ = d₂.before.before.before.before in
-    then _ _ _ d₁.put-slips.ensures d₂.put-mail.ensures
+    then _ _ _ d₁.put_slips-p.ensures d₂.put_mail.ensures
 
-pub put-slips-mail-spec : {M : Type 1} → statement M
-put-slips-mail-spec = tie.close (tie.spec (λ c κs. search rules) (λ c κs. search rules) (λ c. search rules) returns)
+pub put_slips_mail_spec : {M : Type 1} → statement M
+put_slips_mail_spec = tie.close (tie.spec (λ c κs. search rules) (λ c κs. search rules) (λ c. search rules) returns)

@@ -3,15 +3,15 @@ use borrow.Author.Rules.{rules}
 use Rattle.text_knowledge.proofs.put_standing.Statement.{statement}
 use Rattle.text_knowledge.proofs.put_standing.Tie as tie
 
-pub put-standing-spec : {M : Type 1} → statement M
-put-standing-spec =
+pub put_standing_spec : {M : Type 1} → statement M
+put_standing_spec =
     tie.close
     (tie.spec
     (λ c. search rules)
     (λ c κs. search rules)
     (λ c. search rules)
-    (λ c. let d = c.before.before in rw d.before.before.before.if1.true d.put.ensures)
+    (λ c. let d = c.before.before in rw d.if-delivered.true d.put.ensures)
     (λ c. search rules)
     (λ c κs. search rules)
     (λ c. search rules)
-    (λ c. let d = c.before.before in rw d.before.before.before.if1.false d.put2.ensures))
+    (λ c. let d = c.before.before in rw d.if-delivered.false d.put-2.ensures))

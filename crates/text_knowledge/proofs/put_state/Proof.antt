@@ -12,10 +12,10 @@ returns c =
     let d₃ = c.before.before in
     let d₂ = d₃.before.before.before.before in
     let d₁ = d₂.before.before.before.before.before in
-    then _ _ _ (then _ _ _ d₁.put-section.ensures d₂.put-with.ensures) d₃.put-supporters-of.ensures
+    then _ _ _ (then _ _ _ d₁.put_section-p.ensures d₂.put_with-q.ensures) d₃.put_supporters_of.ensures
 
-pub put-state-spec : {M : Type 1} → statement M
-put-state-spec =
+pub put_state_spec : {M : Type 1} → statement M
+put_state_spec =
     tie.close
     (tie.spec
     (λ c κs. search rules)

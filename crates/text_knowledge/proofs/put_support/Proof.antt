@@ -5,17 +5,17 @@ use borrow.Author.Rules.{rules}
 use Rattle.text_knowledge.proofs.put_support.Statement.{statement}
 use Rattle.text_knowledge.proofs.put_support.Tie as tie
 
-returns : tie.Need-returns
+returns : tie.Need-returns-then-is_own
 returns c =
-    rw (support_own _ _ _ _ c.before.before.before.before.before.before.before.is-own.ensures
-    c.before.before.before.before.before.before.if1.true) c.before.before.put-with.ensures
+    rw (support_own _ _ _ _ c.is_own.ensures
+    c.if-is_own.true) c.put_with.ensures
 
-returns-2 : tie.Need-returns-2
+returns-2 : tie.Need-returns
 unfolding puts
-returns-2 c = rw (support_other _ _ _ _ c.before.is-own.ensures c.if1.false)
+returns-2 c = rw (support_other _ _ _ _ c.is_own.ensures c.if-is_own.false)
 
-pub put-support-spec : {M : Type 1} → statement M
-put-support-spec =
+pub put_support_spec : {M : Type 1} → statement M
+put_support_spec =
     tie.close
     (tie.spec
     (λ c κs. search rules)

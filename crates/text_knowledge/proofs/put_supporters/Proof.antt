@@ -8,10 +8,10 @@ returns : tie.Need-returns
 returns c =
     let d₂ = c.before.before in
     let d₁ = d₂.before.before.before.before in
-    then _ _ _ d₁.put.ensures d₂.put-supports.ensures
+    then _ _ _ d₁.put-p.ensures d₂.put_supports.ensures
 
-pub put-supporters-spec : {M : Type 1} → statement M
-put-supporters-spec =
+pub put_supporters_spec : {M : Type 1} → statement M
+put_supporters_spec =
     tie.close
     (tie.spec
     (λ c. search rules)

@@ -12,39 +12,39 @@ use borrow.Author.Rules.{rules}
 use Rattle.text_knowledge.proofs.put_supports.Statement.{statement}
 use Rattle.text_knowledge.proofs.put_supports.Tie as tie
 
-abbrev invariant-loop : tie.invariant-loop
+abbrev invariant-loop : tie.invariant-loop-i
 invariant-loop out₀ at r row n end₀ i₀ out end i =
     (sheet out end ≡ puts (support_text r (server_no 1) (responses_in row i)) (sheet out₀ end₀)) × (i ≤ n) × (length out ≡ length out₀)
 
-abbrev decreases-loop : tie.decreases-loop
+abbrev decreases-loop : tie.decreases-loop-i
 decreases-loop out₀ at r row n end₀ i₀ out end i = n - i
 
-loop-again : tie.Need-loop-preserved invariant-loop decreases-loop
+loop-again : tie.Need-loop-i-preserved invariant-loop decreases-loop
 loop-again c =
     let p = c.before.before in
     let q = p.before.before in
     let t = q.before.before in
-    let l = t.loop in (
-      support_more _ _ _ t.before.before.before.requires l.i (omega arith) _ _ q.request-at.ensures l.invariant.0 p.put-support.ensures,
+    let l = t.loop-i in (
+      support_more _ _ _ t.requires l.i (omega arith) _ _ q.request_at-q.ensures l.invariant.0 p.put_support-end.ensures,
       omega arith,
       omega arith,
     )
 
 returns : tie.Need-returns invariant-loop decreases-loop
 returns c =
-    let l = c.before.loop in
-    let e : l.i ≡ c.before.before.before.before.args.n = omega arith in
+    let l = c.loop-i in
+    let e : l.i ≡ c.args.n = omega arith in
     rw (← e) l.invariant.0
 
-pub put-supports-spec : {M : Type 1} → statement M
-put-supports-spec =
+pub put_supports_spec : {M : Type 1} → statement M
+put_supports_spec =
     tie.close
     (tie.spec
     invariant-loop
     decreases-loop
     (λ c. (support_none _ _, omega arith, refl))
     (λ c. search rules)
-    (λ c κs. place-there _ _ c.before.before.before.before.requires _ (omega arith))
+    (λ c κs. place-there _ _ c.requires _ (omega arith))
     (λ c. search rules)
     (λ c κs. search rules)
     (λ c. omega arith)

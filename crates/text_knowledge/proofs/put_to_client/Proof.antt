@@ -9,10 +9,10 @@ returns c =
     let d₃ = c.before.before in
     let d₂ = d₃.before.before.before.before.before.before in
     let d₁ = d₂.before.before.before.before.before.before in
-    then _ _ _ d₁.put.ensures (then _ _ _ d₂.put-with.ensures d₃.put-with2.ensures)
+    then _ _ _ d₁.put-p.ensures (then _ _ _ d₂.put_with-q.ensures d₃.put_with.ensures)
 
-pub put-to-client-spec : {M : Type 1} → statement M
-put-to-client-spec =
+pub put_to_client_spec : {M : Type 1} → statement M
+put_to_client_spec =
     tie.close
     (tie.spec
     (λ c κs. search rules)

@@ -10,10 +10,10 @@ returns c =
     let d₃ = d₄.before.before.before.before.before in
     let d₂ = d₃.before.before.before.before.before.before in
     let d₁ = d₂.before.before.before.before.before.before in
-    then _ _ _ d₁.put.ensures (then _ _ _ d₂.put-with.ensures (then _ _ _ d₃.put-with2.ensures d₄.put-with3.ensures))
+    then _ _ _ d₁.put-p.ensures (then _ _ _ d₂.put_with-q.ensures (then _ _ _ d₃.put_with-e.ensures d₄.put_with.ensures))
 
-pub put-to-server-spec : {M : Type 1} → statement M
-put-to-server-spec =
+pub put_to_server_spec : {M : Type 1} → statement M
+put_to_server_spec =
     tie.close
     (tie.spec
     (λ c κs. search rules)

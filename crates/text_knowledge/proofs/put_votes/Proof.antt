@@ -5,17 +5,17 @@ use borrow.Author.Rules.{rules}
 use Rattle.text_knowledge.proofs.put_votes.Statement.{statement}
 use Rattle.text_knowledge.proofs.put_votes.Tie as tie
 
-returns-2 : tie.Need-returns-2
+returns-2 : tie.Need-returns-in-Of
 unfolding votes_text
 returns-2 c =
     let d₃ = c.before.before in
     let d₂ = d₃.before.before.before.before in
     let d₁ = d₂.before.before.before.before in
-    rw d₁.before.before.before.before.owner.given.1 (then _ _ _ (then _ _ _ d₁.put2.ensures d₂.put-request.ensures) d₃.put-queue.ensures)
+    rw d₁.in-Of.is (then _ _ _ (then _ _ _ d₁.put-p.ensures d₂.put_request-e.ensures) d₃.put_queue.ensures)
 
-pub put-votes-spec : {M : Type 1} → statement M
+pub put_votes_spec : {M : Type 1} → statement M
 unfolding votes_text
-put-votes-spec =
+put_votes_spec =
     tie.close
     (tie.spec
     (λ c. search rules)
@@ -27,6 +27,6 @@ put-votes-spec =
     (λ c κs. search rules)
     (λ c κs. search rules)
     (λ c. search rules)
-    (λ c. rw c.before.before.before.before.before.enum_told.given.1 c.before.before.put.ensures)
+    (λ c. rw c.in-Nobody.is c.put.ensures)
     (λ c. search rules)
     returns-2)

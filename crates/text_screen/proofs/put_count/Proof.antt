@@ -4,12 +4,12 @@ use borrow.Author.Rules.{rules}
 use Rattle.text_screen.proofs.put_count.Statement.{statement}
 use Rattle.text_screen.proofs.put_count.Tie as tie
 
-pub put-count-spec : {M : Type 1} → statement M
-put-count-spec =
+pub put_count_spec : {M : Type 1} → statement M
+put_count_spec =
     tie.close
     (tie.spec
     (λ c κs. search rules)
     (λ c. search rules)
     (λ c κs. search rules)
     (λ c. search rules)
-    (λ c. then _ _ _ c.before.before.before.before.before.before.before.put-with.ensures c.before.before.put.ensures))
+    (λ c. then _ _ _ c.put_with-p.ensures c.put.ensures))

@@ -8,10 +8,10 @@ returns : tie.Need-returns
 returns c =
     let d₂ = c.before.before in
     let d₁ = d₂.before.before.before.before in
-    then _ _ _ d₁.put-with.ensures d₂.put_count.ensures
+    then _ _ _ d₁.put_with-p.ensures d₂.put_count.ensures
 
-pub put-counts-spec : {M : Type 1} → statement M
-put-counts-spec =
+pub put_counts_spec : {M : Type 1} → statement M
+put_counts_spec =
     tie.close
     (tie.spec
     (λ c κs. search rules)

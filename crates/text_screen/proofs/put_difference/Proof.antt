@@ -5,20 +5,20 @@ use borrow.Author.Rules.{rules}
 use Rattle.text_screen.proofs.put_difference.Statement.{statement}
 use Rattle.text_screen.proofs.put_difference.Tie as tie
 
-returns : tie.Need-returns
+returns : tie.Need-returns-then-a-b
 returns c =
     let d₂ = c.before.before in
     let t = d₂.before.before.before in
-    rw (signed_below _ _ t.if1.true) (then _ _ _ t.before.before.before.put.ensures d₂.put-with.ensures)
+    rw (signed_below _ _ t.if-a-b.true) (then _ _ _ t.put-p.ensures d₂.put_with.ensures)
 
-returns-2 : tie.Need-returns-2
+returns-2 : tie.Need-returns
 returns-2 c =
     let d₂ = c.before.before in
     let t = d₂.before.before in
-    rw (signed-from _ _ t.if1.false) (then _ _ _ t.before.before.before.put.ensures d₂.put-number.ensures)
+    rw (signed-from _ _ t.if-a-b.false) (then _ _ _ t.put-p.ensures d₂.put_number.ensures)
 
-pub put-difference-spec : {M : Type 1} → statement M
-put-difference-spec =
+pub put_difference_spec : {M : Type 1} → statement M
+put_difference_spec =
     tie.close
     (tie.spec
     (λ c. search rules)

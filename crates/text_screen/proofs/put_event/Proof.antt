@@ -10,7 +10,7 @@ use Rattle.text_screen.proofs.put_event.Statement.{statement}
 use Rattle.text_screen.proofs.put_event.Tie as tie
 
 -- the event's number has 32 bits
-module _ (c : tie.After-number-of) where
+module _ (c : tie.After-number_of) where
   abbrev entry : tie.Start
   entry = c.before.before
 
@@ -23,10 +23,10 @@ returns c =
     let d₂ = d₃.before.before.before.before.before in
     let d₁ = d₂.before.before.before.before.before in
     let n = d₁.before.before in
-    then _ _ _ (put_front _ _ (event_line (entry n).args.e) _ (short n) d₁.put-event.ensures _ _ d₂.put.ensures) d₃.put2.ensures
+    then _ _ _ (put_front _ _ (event_line (entry n).args.e) _ (short n) d₁.put_event-n.ensures _ _ d₂.put-p.ensures) d₃.put.ensures
 
-pub put-event-spec : {M : Type 1} → statement M
-put-event-spec =
+pub put_event_spec : {M : Type 1} → statement M
+put_event_spec =
     tie.close
     (tie.spec
     (λ c κs. search rules)
@@ -34,7 +34,7 @@ put-event-spec =
     (λ c κs. omega (arith, short c.before))
     (λ c. search rules)
     (λ c. search rules)
-    (λ c. let d = c.before.before.before in omega (arith, short d.before.before, d.put-event.ensures.0))
+    (λ c. let d = c.before.before.before in omega (arith, short d.before.before, d.put_event-n.ensures.0))
     (λ c κs. search rules)
     (λ c. search rules)
     (λ c κs. search rules)

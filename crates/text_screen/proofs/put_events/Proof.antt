@@ -5,15 +5,15 @@ use borrow.Author.Rules.{rules}
 use Rattle.text_screen.proofs.put_events.Statement.{statement}
 use Rattle.text_screen.proofs.put_events.Tie as tie
 
-returns : tie.Need-returns
+returns : tie.Need-returns-in-Unsafe
 unfolding events_text
 returns c =
     let d = c.before.before in
-    rw d.before.before.before.before.v.given.1 d.put_count.ensures
+    rw d.in-Unsafe.is d.put_count.ensures
 
-pub put-events-spec : {M : Type 1} → statement M
+pub put_events_spec : {M : Type 1} → statement M
 unfolding events_text puts
-put-events-spec =
+put_events_spec =
     tie.close
     (tie.spec
     (λ c. search rules)
@@ -24,6 +24,6 @@ put-events-spec =
     (λ c. search rules)
     (λ c. search rules)
     returns
-    (λ c. rw c.enum_told.given.1)
-    (λ c. rw c.enum-told2.given.1)
-    (λ c. rw c.enum-told3.given.1))
+    (λ c. rw c.in-Accepted.is)
+    (λ c. rw c.in-Stalls.is)
+    (λ c. rw c.in-OutOfRange.is))

@@ -5,15 +5,15 @@ use borrow.Author.Rules.{rules}
 use Rattle.text_screen.proofs.put_fits.Statement.{statement}
 use Rattle.text_screen.proofs.put_fits.Tie as tie
 
-returns : tie.Need-returns
+returns : tie.Need-returns-in-Unsafe
 unfolding fits_text
 returns c =
     let d = c.before.before in
-    rw d.before.before.enum_told.given.1 d.put-limit.ensures
+    rw d.in-Unsafe.is d.put_limit.ensures
 
-pub put-fits-spec : {M : Type 1} → statement M
+pub put_fits_spec : {M : Type 1} → statement M
 unfolding fits_text puts
-put-fits-spec =
+put_fits_spec =
     tie.close
     (tie.spec
     (λ c. search rules)
@@ -23,6 +23,6 @@ put-fits-spec =
     (λ c. search rules)
     (λ c. search rules)
     returns
-    (λ c. rw c.enum-told2.given.1)
-    (λ c. rw c.enum-told3.given.1)
-    (λ c. rw c.enum-told4.given.1))
+    (λ c. rw c.in-Accepted.is)
+    (λ c. rw c.in-Stalls.is)
+    (λ c. rw c.in-OutOfRange.is))

@@ -6,20 +6,20 @@ use borrow.Author.Rules.{rules}
 use Rattle.text_screen.proofs.put_limit.Statement.{statement}
 use Rattle.text_screen.proofs.put_limit.Tie as tie
 
-returns : tie.Need-returns
+returns : tie.Need-returns-then-n-le-MAX_SERVERS
 unfolding puts
-returns c = rw (limit_none _ c.if1.true)
+returns c = rw (limit_none _ c.if-n-le-MAX_SERVERS.true)
 
-returns-2 : tie.Need-returns-2
+returns-2 : tie.Need-returns
 returns-2 c =
     let d₃ = c.before.before in
     let d₂ = d₃.before.before.before.before.before in
     let d₁ = d₂.before.before.before.before.before in
     let t = d₁.before.before.before in
-    rw (limit_said _ t.if1.false) (then _ _ _ (then _ _ _ d₁.put-with.ensures d₂.put.ensures) d₃.put2.ensures)
+    rw (limit_said _ t.if-n-le-MAX_SERVERS.false) (then _ _ _ (then _ _ _ d₁.put_with-p.ensures d₂.put-q.ensures) d₃.put.ensures)
 
-pub put-limit-spec : {M : Type 1} → statement M
-put-limit-spec =
+pub put_limit_spec : {M : Type 1} → statement M
+put_limit_spec =
     tie.close
     (tie.spec
     returns

@@ -5,18 +5,18 @@ use borrow.Author.Rules.{rules}
 use Rattle.text_screen.proofs.put_numbered.Statement.{statement}
 use Rattle.text_screen.proofs.put_numbered.Tie as tie
 
-returns : tie.Need-returns
+returns : tie.Need-returns-in-Event
 unfolding asked_text
 returns c =
-    rw (← c.before.before.before.before.before.before.before.run-event.ensures.0, c.before.before.before.before.before.a.given.1)
-    c.before.before.put-event.ensures
+    rw (← c.run_event-a.ensures.0, c.in-Event.is)
+    c.put_event.ensures
 
-returns-2 : tie.Need-returns-2
+returns-2 : tie.Need-returns-in-Refused
 unfolding asked_text puts
-returns-2 c = rw (← c.before.before.run-event.ensures.0, c.enum_told.given.1)
+returns-2 c = rw (← c.run_event-a.ensures.0, c.in-Refused.is)
 
-pub put-numbered-spec : {M : Type 1} → statement M
-put-numbered-spec =
+pub put_numbered_spec : {M : Type 1} → statement M
+put_numbered_spec =
     tie.close
     (tie.spec
     (λ c κs. search rules)

@@ -25,17 +25,17 @@ returns c =
     let d₂ = d₃.before.before.before.before.before in
     let d₁ = d₂.before.before.before.before.before in
     let s = d₁.before.before.before in
-    then _ _ _ (put_front _ _ (setting_line (first s)) _ (short s) d₁.put-setting.ensures _ _ d₂.put.ensures) d₃.put2.ensures
+    then _ _ _ (put_front _ _ (setting_line (first s)) _ (short s) d₁.put_setting-k.ensures _ _ d₂.put-p.ensures) d₃.put.ensures
 
-pub put-opening-spec : {M : Type 1} → statement M
-put-opening-spec =
+pub put_opening_spec : {M : Type 1} → statement M
+put_opening_spec =
     tie.close
     (tie.spec
     (λ c. search rules)
     (λ c κs. omega (arith, short c.before.before))
     (λ c. search rules)
     (λ c. search rules)
-    (λ c. let d = c.before.before.before in omega (arith, short d.before.before.before, d.put-setting.ensures.0))
+    (λ c. let d = c.before.before.before in omega (arith, short d.before.before.before, d.put_setting-k.ensures.0))
     (λ c κs. search rules)
     (λ c. search rules)
     (λ c κs. search rules)

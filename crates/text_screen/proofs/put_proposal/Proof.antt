@@ -8,11 +8,11 @@ returns : tie.Need-returns
 returns c =
     let d₂ = c.before.before in
     let d₁ = d₂.before.before.before.before.before in
-    rw (← d₁.before.propose.ensures.0.0, ← d₂.before.default-threshold.ensures.0)
-    (then _ _ _ d₁.put-thresholds.ensures d₂.put-threshold.ensures)
+    rw (← d₁.propose.ensures.0.0, ← d₂.default_threshold.ensures.0)
+    (then _ _ _ d₁.put_thresholds-p.ensures d₂.put_threshold.ensures)
 
-pub put-proposal-spec : {M : Type 1} → statement M
-put-proposal-spec =
+pub put_proposal_spec : {M : Type 1} → statement M
+put_proposal_spec =
     tie.close
     (tie.spec
     (λ c κs. search rules)

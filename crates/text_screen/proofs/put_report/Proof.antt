@@ -12,12 +12,12 @@ returns c =
     let d₃ = d₄.before.before.before.before in
     let d₂ = d₃.before.before.before.before in
     let d₁ = d₂.before.before in
-    let three = then _ _ _ (then _ _ _ d₂.put-verdict.ensures d₃.put-margin.ensures) d₄.put-events.ensures in
-    let four = then _ _ _ three d₅.put-fits.ensures in
-    rw (← d₁.check.ensures.0.0, ← d₆.before.default-threshold.ensures.0) (then _ _ _ four d₆.put-threshold.ensures)
+    let three = then _ _ _ (then _ _ _ d₂.put_verdict-p.ensures d₃.put_margin-q.ensures) d₄.put_events-t.ensures in
+    let four = then _ _ _ three d₅.put_fits-u.ensures in
+    rw (← d₁.check-v.ensures.0.0, ← d₆.default_threshold.ensures.0) (then _ _ _ four d₆.put_threshold.ensures)
 
-pub put-report-spec : {M : Type 1} → statement M
-put-report-spec =
+pub put_report_spec : {M : Type 1} → statement M
+put_report_spec =
     tie.close
     (tie.spec
     (λ c κs. search rules)

@@ -11,29 +11,29 @@ use borrow.Author.Rules.{rules}
 use Rattle.text_screen.proofs.put_script.Statement.{statement}
 use Rattle.text_screen.proofs.put_script.Tie as tie
 
-abbrev invariant-loop : tie.invariant-loop
+abbrev invariant-loop : tie.invariant-loop-i
 invariant-loop out₀ n m f events at₀ i₀ out at i = (sheet out at ≡ puts (run_text n m f i) (sheet out₀ at₀)) × (i ≤ events) × (length out ≡ length out₀)
 
-abbrev decreases-loop : tie.decreases-loop
+abbrev decreases-loop : tie.decreases-loop-i
 decreases-loop out₀ n m f events at₀ i₀ out at i = events - i
 
-loop-holds : tie.Need-loop-init invariant-loop decreases-loop
+loop-holds : tie.Need-loop-i-init invariant-loop decreases-loop
 unfolding run_text puts
 loop-holds c = (refl, omega arith, refl)
 
-loop-again : tie.Need-loop-preserved invariant-loop decreases-loop
+loop-again : tie.Need-loop-i-preserved invariant-loop decreases-loop
 loop-again c =
-    let l = c.before.before.before.before.before.loop in
-    (one_more _ _ _ l.i _ l.invariant.0 c.before.before.put-numbered.ensures, omega arith, omega arith)
+    let l = c.loop-i in
+    (one_more _ _ _ l.i _ l.invariant.0 c.put_numbered-at.ensures, omega arith, omega arith)
 
 returns : tie.Need-returns invariant-loop decreases-loop
 returns c =
-    let l = c.before.loop in
-    let e : l.i ≡ c.before.before.before.before.before.before.before.args.events = omega arith in
-    rw (← e) (then _ _ _ c.before.before.before.before.put-opening.ensures l.invariant.0)
+    let l = c.loop-i in
+    let e : l.i ≡ c.args.events = omega arith in
+    rw (← e) (then _ _ _ c.put_opening-at.ensures l.invariant.0)
 
-pub put-script-spec : {M : Type 1} → statement M
-put-script-spec =
+pub put_script_spec : {M : Type 1} → statement M
+put_script_spec =
     tie.close
     (tie.spec
     invariant-loop

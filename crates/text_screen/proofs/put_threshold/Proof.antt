@@ -5,16 +5,16 @@ use borrow.Author.Rules.{rules}
 use Rattle.text_screen.proofs.put_threshold.Statement.{statement}
 use Rattle.text_screen.proofs.put_threshold.Tie as tie
 
-returns : tie.Need-returns
+returns : tie.Need-returns-in-Default
 unfolding threshold_text
 returns c =
     let d = c.before.before in
     let t = d.before.before.before.before.before.before in
-    rw (t.t.given.1, ← d.before.most-faults.ensures.0) d.put-counts.ensures
+    rw (t.in-Default.is, ← d.most_faults.ensures.0) d.put_counts.ensures
 
-pub put-threshold-spec : {M : Type 1} → statement M
+pub put_threshold_spec : {M : Type 1} → statement M
 unfolding threshold_text puts
-put-threshold-spec =
+put_threshold_spec =
     tie.close
     (tie.spec
     (λ c. search rules)
@@ -25,4 +25,4 @@ put-threshold-spec =
     (λ c. search rules)
     (λ c. search rules)
     returns
-    (λ c. rw c.enum_told.given.1))
+    (λ c. rw c.in-OutOfRange.is))

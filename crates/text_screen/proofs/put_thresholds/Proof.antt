@@ -4,22 +4,22 @@ use borrow.Author.Rules.{rules}
 use Rattle.text_screen.proofs.put_thresholds.Statement.{statement}
 use Rattle.text_screen.proofs.put_thresholds.Tie as tie
 
-returns : tie.Need-returns
+returns : tie.Need-returns-in-Thresholds
 unfolding thresholds_text
 returns c =
     let d = c.before.before in
-    rw d.before.before.before.before.before.p.given.1 d.put-counts.ensures
+    rw d.in-Thresholds.is d.put_counts.ensures
 
-returns-2 : tie.Need-returns-2
+returns-2 : tie.Need-returns-in-NoThreshold
 unfolding thresholds_text
-returns-2 c = rw c.before.before.before.before.before.enum_told.given.1 c.before.before.put.ensures
+returns-2 c = rw c.in-NoThreshold.is c.put.ensures
 
-returns-3 : tie.Need-returns-3
+returns-3 : tie.Need-returns-in-OutOfRange
 unfolding thresholds_text
-returns-3 c = rw c.before.before.before.before.before.enum-told2.given.1 c.before.before.Put-refused.ensures
+returns-3 c = rw c.in-OutOfRange.is c.before.before.Put-refused.ensures
 
-pub put-thresholds-spec : {M : Type 1} → statement M
-put-thresholds-spec =
+pub put_thresholds_spec : {M : Type 1} → statement M
+put_thresholds_spec =
     tie.close
     (tie.spec
     (λ c. search rules)

@@ -4,24 +4,24 @@ use borrow.Author.Rules.{rules}
 use Rattle.text_screen.proofs.put_verdict.Statement.{statement}
 use Rattle.text_screen.proofs.put_verdict.Tie as tie
 
-returns : tie.Need-returns
+returns : tie.Need-returns-in-Accepted
 unfolding verdict_text
-returns c = rw c.before.before.before.before.before.enum_told.given.1 c.before.before.put.ensures
+returns c = rw c.in-Accepted.is c.put.ensures
 
-returns-2 : tie.Need-returns-2
+returns-2 : tie.Need-returns-in-Unsafe
 unfolding verdict_text
-returns-2 c = rw c.before.before.before.before.before.enum-told2.given.1 c.before.before.Put-refused.ensures
+returns-2 c = rw c.in-Unsafe.is c.before.before.Put-refused.ensures
 
-returns-3 : tie.Need-returns-3
+returns-3 : tie.Need-returns-in-Stalls
 unfolding verdict_text
-returns-3 c = rw c.before.before.before.before.before.enum-told3.given.1 c.before.before.put-refused2.ensures
+returns-3 c = rw c.in-Stalls.is c.put_refused-in-Stalls.ensures
 
-returns-4 : tie.Need-returns-4
+returns-4 : tie.Need-returns-in-OutOfRange
 unfolding verdict_text
-returns-4 c = rw c.before.before.before.before.before.enum-told4.given.1 c.before.before.put-refused3.ensures
+returns-4 c = rw c.in-OutOfRange.is c.put_refused-in-OutOfRange.ensures
 
-pub put-verdict-spec : {M : Type 1} → statement M
-put-verdict-spec =
+pub put_verdict_spec : {M : Type 1} → statement M
+put_verdict_spec =
     tie.close
     (tie.spec
     (λ c. search rules)

@@ -6,10 +6,10 @@ use borrow.Author.Rules.{rules}
 use Rattle.text_sheet.proofs.copy.Statement.{statement}
 use Rattle.text_sheet.proofs.copy.Tie as tie
 
-abbrev invariant-loop : tie.invariant-loop
+abbrev invariant-loop : tie.invariant-loop-i
 invariant-loop out₀ at text i₀ out i = Copied out₀ out at text i
 
-abbrev decreases-loop : tie.decreases-loop
+abbrev decreases-loop : tie.decreases-loop-i
 decreases-loop out₀ at text i₀ out i = length text - i
 
 pub copy_spec : {M : Type 1} → statement M
@@ -27,4 +27,4 @@ copy_spec =
     (λ c. search copied_more)
     (λ c. search rules)
     (λ c. search rules)
-    (λ c. copied_all _ _ _ _ _ c.before.loop.invariant c.loop-test.false))
+    (λ c. copied_all _ _ _ _ _ c.loop-i.invariant c.loop-i-test.false))

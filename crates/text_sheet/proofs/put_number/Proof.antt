@@ -18,17 +18,17 @@ returns : tie.Need-returns
 returns c =
     let d = c.before.before.before.before.before.before.before in
     let s = d.before.before.before in
-    put_front _ _ (decimal s.args.x) _ (short s) d.put-decimal.ensures _ _ c.before.before.put.ensures
+    put_front _ _ (decimal s.args.x) _ (short s) d.put_decimal-n.ensures _ _ c.put.ensures
 
-pub put-number-spec : {M : Type 1} → statement M
-put-number-spec =
+pub put_number_spec : {M : Type 1} → statement M
+put_number_spec =
     tie.close
     (tie.spec
     (λ c. search rules)
     (λ c κs. omega (arith, short c.before.before))
     (λ c. search rules)
     (λ c. search rules)
-    (λ c. omega (arith, short c.before.before.before.before.before.before, c.before.before.before.put-decimal.ensures.0))
+    (λ c. omega (arith, short c.before.before.before.before.before.before, c.put_decimal-n.ensures.0))
     (λ c κs. search rules)
     (λ c. search rules)
     returns)

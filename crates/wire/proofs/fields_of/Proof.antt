@@ -4,9 +4,9 @@ use borrow.Author.Rules.{rules}
 use Rattle.wire.proofs.fields_of.Statement.{statement}
 use Rattle.wire.proofs.fields_of.Tie as tie
 
-pub fields-of-spec : {M : Type 1} → statement M
+pub fields_of_spec : {M : Type 1} → statement M
 unfolding fields_of
-fields-of-spec =
+fields_of_spec =
     tie.close
     (tie.spec
     (λ c. search rules)
@@ -21,9 +21,9 @@ fields-of-spec =
     (λ c κs. search rules)
     (λ c. search rules)
     (λ c κs. search rules)
-    (λ c. rw c.before.before.m.given.1 c.plain-fields.ensures)
-    (λ c. rw c.before.before.m2.given.1 c.plain-fields2.ensures)
-    (λ c. rw c.before.before.m3.given.1 c.plain-fields3.ensures)
-    (λ c. rw c.before.before.m4.given.1 c.plain-fields4.ensures)
-    (λ c. rw c.before.before.m5.given.1 c.response-fields.ensures)
-    (λ c. rw c.before.before.m6.given.1 c.plain-fields5.ensures))
+    (λ c. rw c.in-Request.is c.plain_fields.ensures)
+    (λ c. rw c.in-Yield.is c.plain_fields-in-Yield.ensures)
+    (λ c. rw c.in-Release.is c.plain_fields-in-Release.ensures)
+    (λ c. rw c.in-Inquiry.is c.plain_fields-in-Inquiry.ensures)
+    (λ c. rw c.in-Response.is c.response_fields.ensures)
+    (λ c. rw c.in-Check.is c.plain_fields-in-Check.ensures))

@@ -4,8 +4,8 @@ use borrow.Author.Rules.{rules}
 use Rattle.wire.proofs.get16.Statement.{statement}
 use Rattle.wire.proofs.get16.Tie as tie
 
-pub get16-spec : {M : Type 1} → statement M
-get16-spec =
+pub get16_spec : {M : Type 1} → statement M
+get16_spec =
     tie.close
     (tie.spec
     (λ c. search rules)

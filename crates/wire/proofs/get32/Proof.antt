@@ -4,8 +4,8 @@ use borrow.Author.Rules.{rules}
 use Rattle.wire.proofs.get32.Statement.{statement}
 use Rattle.wire.proofs.get32.Tie as tie
 
-pub get32-spec : {M : Type 1} → statement M
-get32-spec =
+pub get32_spec : {M : Type 1} → statement M
+get32_spec =
     tie.close
     (tie.spec
     (λ c κs. search rules)

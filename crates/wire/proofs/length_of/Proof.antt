@@ -3,8 +3,8 @@ use Rattle.wire.proofs.FormatLaws.{length-response, length-plain}
 use Rattle.wire.proofs.length_of.Statement.{statement}
 use Rattle.wire.proofs.length_of.Tie as tie
 
-pub length-of-spec : {M : Type 1} → statement M
-length-of-spec =
+pub length_of_spec : {M : Type 1} → statement M
+length_of_spec =
     tie.close
     (tie.spec
     (λ c. search length-response)

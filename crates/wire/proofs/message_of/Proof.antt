@@ -4,8 +4,8 @@ use borrow.Author.Rules.{rules}
 use Rattle.wire.proofs.message_of.Statement.{statement}
 use Rattle.wire.proofs.message_of.Tie as tie
 
-pub message-of-spec : {M : Type 1} → statement M
-message-of-spec =
+pub message_of_spec : {M : Type 1} → statement M
+message_of_spec =
     tie.close
     (tie.spec
     (λ c. search message-request)

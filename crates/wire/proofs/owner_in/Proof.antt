@@ -4,10 +4,10 @@ use native.Mathlib.Omega.{arith}
 use Rattle.wire.proofs.owner_in.Statement.{statement}
 use Rattle.wire.proofs.owner_in.Tie as tie
 
-pub owner-in-spec : {M : Type 1} → statement M
-owner-in-spec =
+pub owner_in_spec : {M : Type 1} → statement M
+owner_in_spec =
     tie.close
     (tie.spec
-    (λ c κs. omega (arith, length-response _ c.if1.true))
+    (λ c κs. omega (arith, length-response _ c.if-kind-eq5.true))
     (λ c. search owner_in)
     (λ c. search no_owner_in))

@@ -4,13 +4,13 @@ use borrow.Author.Rules.{rules}
 use Rattle.wire.proofs.put.Statement.{statement}
 use Rattle.wire.proofs.put.Tie as tie
 
-put-fields-requires : tie.Need-put-fields-requires
+put-fields-requires : tie.Need-put_fields-requires
 unfolding size_of
-put-fields-requires c κs = rw c.fields-of.ensures c.before.before.before.requires
+put-fields-requires c κs = rw c.fields_of.ensures c.requires
 
 returns : tie.Need-returns
 unfolding size_of bytes_of
-returns c = rw c.before.before.before.fields-of.ensures at c.before.before.put-fields.ensures
+returns c = rw c.fields_of.ensures at c.put_fields.ensures
 
 pub put_spec : {M : Type 1} → statement M
 put_spec =

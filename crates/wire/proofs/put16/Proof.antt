@@ -6,8 +6,8 @@ use borrow.Author.Rules.{rules}
 use Rattle.wire.proofs.put16.Statement.{statement}
 use Rattle.wire.proofs.put16.Tie as tie
 
-pub put16-spec : {M : Type 1} → statement M
-put16-spec =
+pub put16_spec : {M : Type 1} → statement M
+put16_spec =
     tie.close
     (tie.spec
     (λ c. search rules)

@@ -15,8 +15,8 @@ returns c =
     let three : x / 16777216 ≡ x / 256 / 256 / 256 = omega arith in
     rw (add-one, add-two, add-three, two, three)
 
-pub put32-spec : {M : Type 1} → statement M
-put32-spec =
+pub put32_spec : {M : Type 1} → statement M
+put32_spec =
     tie.close
     (tie.spec
     (λ c. search rules)

@@ -11,11 +11,11 @@ returns c =
     let p₃ = p₄.before.before.before.before in
     let p₂ = p₃.before.before.before.before in
     let p₁ = p₂.before.before.before.before in
-    front-stored p₁.before.before.before.before.args.f _ _ _ _ _ _ _ _ p₁.before.length-of.ensures p₁.put16.ensures
-    p₂.put162.ensures p₃.put163.ensures p₄.put164.ensures p₅.put32.ensures
+    front-stored p₁.args.f _ _ _ _ _ _ _ _ p₁.length_of.ensures p₁.put16.ensures
+    p₂.put16-2.ensures p₃.put16-3.ensures p₄.put16-4.ensures p₅.put32.ensures
 
-pub put-front-spec : {M : Type 1} → statement M
-put-front-spec =
+pub put_front_spec : {M : Type 1} → statement M
+put_front_spec =
     tie.close
     (tie.spec
     (λ c κs. search rules)

@@ -8,13 +8,13 @@ use Rattle.wire.proofs.read_fields.Statement.{statement}
 use Rattle.wire.proofs.read_fields.Tie as tie
 
 -- the bytes are long enough for the kind's fields
-fields-in-requires : tie.Need-fields-in-requires
+fields-in-requires : tie.Need-fields_in-f-requires
 fields-in-requires c κs =
     let size = c.before.before.before in
-    (rw size.length-of.ensures at c.if4.false, size.before.before.before.get16.ensures ∙ kind_in_lem _)
+    (rw size.length_of-size.ensures at c.if-bytes-size.false, size.get16-kind.ensures ∙ kind_in_lem _)
 
-pub read-fields-spec : {M : Type 1} → statement M
-read-fields-spec =
+pub read_fields_spec : {M : Type 1} → statement M
+read_fields_spec =
     tie.close
     (tie.spec
     (λ c. numbers-said _ _ (search read_short))

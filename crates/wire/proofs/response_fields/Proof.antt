@@ -3,12 +3,12 @@ use borrow.Author.Rules.{rules}
 use Rattle.wire.proofs.response_fields.Statement.{statement}
 use Rattle.wire.proofs.response_fields.Tie as tie
 
-pub response-fields-spec : {M : Type 1} → statement M
-response-fields-spec =
+pub response_fields_spec : {M : Type 1} → statement M
+response_fields_spec =
     tie.close
     (tie.spec
     (λ c. search rules)
     (λ c κs. search rules)
     (λ c. search rules)
-    (λ c. rw c.before.enum_told.given.1 c.plain-fields.ensures)
-    (λ c. rw c.before.o.given.1))
+    (λ c. rw c.in-Nobody.is c.plain_fields.ensures)
+    (λ c. rw c.in-Of.is))

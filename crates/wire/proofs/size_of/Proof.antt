@@ -4,12 +4,12 @@ use borrow.Author.Rules.{rules}
 use Rattle.wire.proofs.size_of.Statement.{statement}
 use Rattle.wire.proofs.size_of.Tie as tie
 
-pub size-of-spec : {M : Type 1} → statement M
+pub size_of_spec : {M : Type 1} → statement M
 unfolding size_of
-size-of-spec =
+size_of_spec =
     tie.close
     (tie.spec
     (λ c κs. search rules)
     (λ c κs. search rules)
     (λ c. search rules)
-    (λ c. rw c.before.fields-of.ensures at c.length-of.ensures))
+    (λ c. rw c.fields_of-f.ensures at c.length_of.ensures))

@@ -5,9 +5,9 @@ use borrow.Author.Rules.{rules}
 use Rattle.wire.proofs.valid_fields.Statement.{statement}
 use Rattle.wire.proofs.valid_fields.Tie as tie
 
-pub valid-fields-spec : {M : Type 1} → statement M
+pub valid_fields_spec : {M : Type 1} → statement M
 unfolding valid_fields_up_to
-valid-fields-spec =
+valid_fields_spec =
     tie.close
     (tie.spec
     (λ c κs. search rules)

@@ -4,9 +4,9 @@ use borrow.Author.Rules.{rules}
 use Rattle.wire.proofs.valid_message.Statement.{statement}
 use Rattle.wire.proofs.valid_message.Tie as tie
 
-pub valid-message-spec : {M : Type 1} → statement M
+pub valid_message_spec : {M : Type 1} → statement M
 unfolding valid_up_to
-valid-message-spec =
+valid_message_spec =
     tie.close
     (tie.spec
     (λ c. search rules)
@@ -21,9 +21,9 @@ valid-message-spec =
     (λ c κs. search rules)
     (λ c. search rules)
     (λ c κs. search rules)
-    (λ c. rw c.before.before.m.given.1 c.valid-stamped.ensures)
-    (λ c. rw c.before.before.m2.given.1 c.valid-stamped2.ensures)
-    (λ c. rw c.before.before.m3.given.1 c.valid-stamped3.ensures)
-    (λ c. rw c.before.before.m4.given.1 c.valid-stamped4.ensures)
-    (λ c. rw c.before.before.m5.given.1 c.valid-response.ensures)
-    (λ c. rw c.before.before.m6.given.1 c.valid-stamped5.ensures))
+    (λ c. rw c.in-Request.is c.valid_stamped.ensures)
+    (λ c. rw c.in-Yield.is c.valid_stamped-in-Yield.ensures)
+    (λ c. rw c.in-Release.is c.valid_stamped-in-Release.ensures)
+    (λ c. rw c.in-Inquiry.is c.valid_stamped-in-Inquiry.ensures)
+    (λ c. rw c.in-Response.is c.valid_response.ensures)
+    (λ c. rw c.in-Check.is c.valid_stamped-in-Check.ensures))

@@ -5,9 +5,9 @@ use borrow.Author.Rules.{rules}
 use Rattle.wire.proofs.valid_numbers.Statement.{statement}
 use Rattle.wire.proofs.valid_numbers.Tie as tie
 
-pub valid-numbers-spec : {M : Type 1} → statement M
+pub valid_numbers_spec : {M : Type 1} → statement M
 unfolding valid_numbers_up_to
-valid-numbers-spec =
+valid_numbers_spec =
     tie.close
     (tie.spec
     (λ c κs. search rules)

@@ -5,9 +5,9 @@ use Rattle.wire.specs.Format.{valid_response_up_to}
 use Rattle.wire.proofs.valid_response.Statement.{statement}
 use Rattle.wire.proofs.valid_response.Tie as tie
 
-pub valid-response-spec : {M : Type 1} → statement M
+pub valid_response_spec : {M : Type 1} → statement M
 unfolding valid_response_up_to
-valid-response-spec =
+valid_response_spec =
     tie.close
     (tie.spec
     (λ c κs. search rules)

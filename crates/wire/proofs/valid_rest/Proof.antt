@@ -5,8 +5,8 @@ use borrow.Author.Rules.{rules}
 use Rattle.wire.proofs.valid_rest.Statement.{statement}
 use Rattle.wire.proofs.valid_rest.Tie as tie
 
-pub valid-rest-spec : {M : Type 1} → statement M
-valid-rest-spec =
+pub valid_rest_spec : {M : Type 1} → statement M
+valid_rest_spec =
     tie.close
     (tie.spec
     (λ c κs. search rules)

@@ -6,18 +6,18 @@ use borrow.Author.Rules.{rules}
 use Rattle.wire.proofs.write_fields.Statement.{statement}
 use Rattle.wire.proofs.write_fields.Tie as tie
 
-returns-2 : tie.Need-returns-2
+returns-2 : tie.Need-returns
 returns-2 c =
     let b = c.before.before.before.before in
-    fields_said _ _ _ _ (numbers_laid _ _ _ b.before.valid-fields.ensures (not-false _ b.if1.false) _ _ c.before.before.lay.ensures.0
-    c.before.before.lay.ensures.1)
+    fields_said _ _ _ _ (numbers_laid _ _ _ b.valid_fields.ensures (not-false _ b.if-not-valid_fields.false) _ _ c.lay.ensures.0
+    c.lay.ensures.1)
 
-pub write-fields-spec : {M : Type 1} → statement M
-write-fields-spec =
+pub write_fields_spec : {M : Type 1} → statement M
+write_fields_spec =
     tie.close
     (tie.spec
     (λ c κs. search rules)
-    (λ c. fields_said _ _ _ _ (numbers_invalid _ _ _ c.before.valid-fields.ensures (not-true _ c.if1.true)))
+    (λ c. fields_said _ _ _ _ (numbers_invalid _ _ _ c.valid_fields.ensures (not-true _ c.if-not-valid_fields.true)))
     (λ c κs. search rules)
     (λ c. search rules)
     returns-2)

@@ -5,17 +5,17 @@ use Rattle.words.proofs.RecordsLaws.{headed-small, client-headed}
 use Rattle.words.proofs.client_head.Statement.{statement}
 use Rattle.words.proofs.client_head.Tie as tie
 
-cast-id : tie.Need-overflow-cast-t13
+cast-id : tie.Need-overflow_cast-id
 cast-id c = let e = c.before.before.before.before.before.before in omega (arith, headed-small e.args.words.now e.requires)
 
-cast-m : tie.Need-overflow-cast-m
+cast-m : tie.Need-overflow_cast-m
 cast-m c = let e = c.before.before.before.before.before.before.before in omega (arith, headed-small e.args.words.now e.requires)
 
-cast-n : tie.Need-overflow-cast-n
+cast-n : tie.Need-overflow_cast-n
 cast-n c = let e = c.before.before.before.before.before.before.before.before in omega (arith, headed-small e.args.words.now e.requires)
 
-pub client-head-spec : {M : Type 1} → statement M
-client-head-spec =
+pub client_head_spec : {M : Type 1} → statement M
+client_head_spec =
     tie.close
     (tie.spec
     (λ c. search rules)

@@ -4,12 +4,12 @@ use borrow.Author.Rules.{rules}
 use Rattle.words.proofs.cross.Statement.{statement}
 use Rattle.words.proofs.cross.Tie as tie
 
-fields-of-words-requires : tie.Need-fields-of-words-requires
-fields-of-words-requires c κs = cross_small c.before.before.before.before.before.before.before.before.before.args.words.now
-    c.before.before.before.before.before.before.before.if1.false _ c.before.before.fit.ensures c.before.if2.false
+fields-of-words-requires : tie.Need-fields_of_words-f-requires
+fields-of-words-requires c κs = cross_small c.args.words.now
+    c.if-words-ne5.false _ c.fit.ensures c.if-not-fit.false
 
-pub cross-spec : {M : Type 1} → statement M
-cross-spec =
+pub cross_spec : {M : Type 1} → statement M
+cross_spec =
     tie.close
     (tie.spec
     (λ c. cross_said _ _ (search cross_length))

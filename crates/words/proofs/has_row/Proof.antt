@@ -4,5 +4,5 @@ use Rattle.words.proofs.RecordsLaws.{no_head, row-behind}
 use Rattle.words.proofs.has_row.Statement.{statement}
 use Rattle.words.proofs.has_row.Tie as tie
 
-pub has-row-spec : {M : Type 1} → statement M
-has-row-spec = tie.close (tie.spec (λ c. search no_head) (λ c. search rules) (λ c. search row-behind))
+pub has_row_spec : {M : Type 1} → statement M
+has_row_spec = tie.close (tie.spec (λ c. search no_head) (λ c. search rules) (λ c. search row-behind))

@@ -4,8 +4,8 @@ use Rattle.words.proofs.RecordsLaws.{client-length, client-section, client-fits,
 use Rattle.words.proofs.holds_client_of.Statement.{statement}
 use Rattle.words.proofs.holds_client_of.Tie as tie
 
-pub holds-client-of-spec : {M : Type 1} → statement M
-holds-client-of-spec =
+pub holds_client_of_spec : {M : Type 1} → statement M
+holds_client_of_spec =
     tie.close
     (tie.spec
     (λ c κs. search rules)

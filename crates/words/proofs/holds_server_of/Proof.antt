@@ -4,8 +4,8 @@ use Rattle.words.proofs.RecordsLaws.{server-length, server-fits, word-there}
 use Rattle.words.proofs.holds_server_of.Statement.{statement}
 use Rattle.words.proofs.holds_server_of.Tie as tie
 
-pub holds-server-of-spec : {M : Type 1} → statement M
-holds-server-of-spec =
+pub holds_server_of_spec : {M : Type 1} → statement M
+holds_server_of_spec =
     tie.close
     (tie.spec
     (λ c κs. search rules)

@@ -4,8 +4,8 @@ use borrow.Author.Rules.{rules}
 use Rattle.words.proofs.message_in.Statement.{statement}
 use Rattle.words.proofs.message_in.Tie as tie
 
-pub message-in-spec : {M : Type 1} → statement M
-message-in-spec =
+pub message_in_spec : {M : Type 1} → statement M
+message_in_spec =
     tie.close
     (tie.spec
     (λ c κs. search rules)

@@ -4,8 +4,8 @@ use Rattle.words.proofs.RecordsLaws.{client_head-put}
 use Rattle.words.proofs.put_client_head.Statement.{statement}
 use Rattle.words.proofs.put_client_head.Tie as tie
 
-pub put-client-head-spec : {M : Type 1} → statement M
-put-client-head-spec =
+pub put_client_head_spec : {M : Type 1} → statement M
+put_client_head_spec =
     tie.close
     (tie.spec
     (λ c. search rules)

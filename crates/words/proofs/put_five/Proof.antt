@@ -5,8 +5,8 @@ use borrow.Author.Rules.{rules}
 use Rattle.words.proofs.put_five.Statement.{statement}
 use Rattle.words.proofs.put_five.Tie as tie
 
-pub put-five-spec : {M : Type 1} → statement M
-put-five-spec =
+pub put_five_spec : {M : Type 1} → statement M
+put_five_spec =
     tie.close
     (tie.spec
     (λ c. search rules)

@@ -4,8 +4,8 @@ use Rattle.words.proofs.RecordsLaws.{server_head-put}
 use Rattle.words.proofs.put_server_head.Statement.{statement}
 use Rattle.words.proofs.put_server_head.Tie as tie
 
-pub put-server-head-spec : {M : Type 1} → statement M
-put-server-head-spec =
+pub put_server_head_spec : {M : Type 1} → statement M
+put_server_head_spec =
     tie.close
     (tie.spec
     (λ c κs. search rules)

@@ -3,10 +3,10 @@ use borrow.Author.Tests.{ne_eqb}
 use Rattle.words.proofs.section_of.Statement.{statement}
 use Rattle.words.proofs.section_of.Tie as tie
 
-pub section-of-spec : {M : Type 1} → statement M
-section-of-spec =
+pub section_of_spec : {M : Type 1} → statement M
+section_of_spec =
     tie.close
     (tie.spec
-    (λ c. rw c.if1.true)
-    (λ c. rw c.if2.true)
-    (λ c. rw (ne_eqb _ 0 c.before.if1.false, ne_eqb _ 1 c.if2.false)))
+    (λ c. rw c.if-w-eq0.true)
+    (λ c. rw c.if-w-eq1.true)
+    (λ c. rw (ne_eqb _ 0 c.if-w-eq0.false, ne_eqb _ 1 c.if-w-eq1.false)))

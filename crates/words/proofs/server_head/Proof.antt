@@ -5,17 +5,17 @@ use Rattle.words.proofs.RecordsLaws.{headed-small, server-headed}
 use Rattle.words.proofs.server_head.Statement.{statement}
 use Rattle.words.proofs.server_head.Tie as tie
 
-cast-client : tie.Need-overflow-cast-t9
+cast-client : tie.Need-overflow_cast-words
 cast-client c = let e = c.before.before in omega (arith, headed-small e.args.words.now e.requires)
 
-cast-id : tie.Need-overflow-cast-t9-2
+cast-id : tie.Need-overflow_cast-id
 cast-id c = let e = c.before.before.before.before.before.before in omega (arith, headed-small e.args.words.now e.requires)
 
-cast-n : tie.Need-overflow-cast-n
+cast-n : tie.Need-overflow_cast-n
 cast-n c = let e = c.before.before.before.before.before.before.before in omega (arith, headed-small e.args.words.now e.requires)
 
-pub server-head-spec : {M : Type 1} → statement M
-server-head-spec =
+pub server_head_spec : {M : Type 1} → statement M
+server_head_spec =
     tie.close
     (tie.spec
     (λ c. search rules)
@@ -23,7 +23,7 @@ server-head-spec =
     (λ c. search rules)
     (λ c κs. search rules)
     (λ c. search rules)
-    (λ c. omega (arith, c.shared-slice-known4.given 4))
+    (λ c. omega (arith, c.shared_slice_known-4-1.given 4))
     (λ c. search rules)
     cast-id
     (λ c. search rules)

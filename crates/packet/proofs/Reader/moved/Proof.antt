@@ -95,9 +95,9 @@ moved-meets : {M : Type 1} {𝓤 : Ura M} (𝓛 : Logic 𝓤) → (mem : Memory 
     → Meets 𝓛 moved.signature (WpFn 𝓤 𝓛.H 𝓣.C 𝓣.Λ code.function) (moved.spec 𝓛 mem run)
 moved-meets {𝓤 = 𝓤} 𝓛 mem run 𝓣 = walk_Meets 𝓛 moved.ended stayed (Goes-none 𝓛 1 B yes (λ κs x f. refl), (Goes-none 𝓛 1 (λ _. usize) yes (λ κs x f. refl), tt)) (moved.clauses 𝓛 mem run) (WpFn 𝓤 𝓛.H 𝓣.C 𝓣.Λ code.function) (WpFn-mono 𝓤 𝓛.H 𝓛.laws 𝓣 code.function) (moved-walks 𝓛 mem run 𝓣.C 𝓣.Λ)
 
-pub moved-spec : {M : Type 1} → stated.statement M
+pub moved_spec : {M : Type 1} → stated.statement M
 unfolding code.routine tables_of
-moved-spec 𝓤 𝓛 𝓜 𝓡 =
+moved_spec 𝓤 𝓛 𝓜 𝓡 =
     entered 𝓤 𝓛.H (triple_of 𝓛 moved.signature (moved.spec 𝓛 𝓜.mem 𝓡.run))
     (tables 𝓤 𝓛.H 𝓜 𝓡 code.env).C (tables 𝓤 𝓛.H 𝓜 𝓡 code.env).Λ #packet·moved code.function (code.unfolded 𝓤 𝓛.H 𝓜 𝓡)
     (moved-meets 𝓛 𝓜.mem 𝓡.run (tables_of 𝓤 𝓛.H 𝓜 (tables 𝓤 𝓛.H 𝓜 𝓡 code.env)))

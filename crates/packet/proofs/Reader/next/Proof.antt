@@ -136,18 +136,18 @@ module _ {M : Type 1} {𝓤 : Ura M} (𝓛 : Logic 𝓤) (W : Logic 𝓤) (mem :
   abbrev to : (NextAt 𝓛 mem run).Ghost
   to = (((κ, tt), (q, tt), tt, (d.packet, (d.at, tt)), passed), tt)
 
-  asked : ent 𝓤 (on_entry 𝓛 step.signature (κ, tt) (q, tt) (d.packet, (d.at, tt)) passed) ((NextAt 𝓛 mem run).pre to)
+  asked : ent 𝓤 (on_entry 𝓛 step.signature (κ, tt) (q, tt) (d.packet, (d.at, tt)) passed) ((NextAt 𝓛 mem run).requires to)
   asked = qed W ((‵ (flft κ q) ⊛ ‵ ftrue) ∷ ‵ (owns (ShrSlice (named 0) κ u8 ∷ usize ∷ []) (d.packet, (d.at, tt)) passed) ∷ []) ∵ join ! $ frame ! $ done !
 
   -- what the struct owns gives what the callee asks, and is kept
-  apart : d.at < 2 ^ 64 → ent 𝓤 (on_entry 𝓛 next.signature (κ, tt) (q, tt) (d, tt) (mach ∷ [], tt)) (sep 𝓤 ((NextAt 𝓛 mem run).pre to) (sem 𝓛 Own))
+  apart : d.at < 2 ^ 64 → ent 𝓤 (on_entry 𝓛 next.signature (κ, tt) (q, tt) (d, tt) (mach ∷ [], tt)) (sep 𝓤 ((NextAt 𝓛 mem run).requires to) (sem 𝓛 Own))
   apart fits =
       qed W ((‵ (flft κ q) ⊛ ‵ ftrue) ∷ ‵ (owns (B (κ, tt) ∷ []) (d, tt) (mach ∷ [], tt)) ∷ []) ∵
       move ! (1 ∷ []) $ fsplit ! $ move ! (1 ∷ []) $ drop ! $ use1 W (‵ Own ⊛ ‵ Own) ((LL.copy D (T'.the_copy (named_lft 1 0 tt (κ, tt))) 𝓛 W).twice d (mach ∷ [])) $ split ! $
       use1 W (given (mach ∷ [] ≡ mach ∷ []) (‵ (all_own D.parts L vd))) (own_open 𝓛 W D L vd mach) $ learn ! (λ _. use1 W (‵ (field_own D.parts L 0 d.packet) ⊛ ‵ (rest D.parts L 0 vd)) (own_out 𝓛 W D.parts L 0 vd) $ split ! $
       -- [what the packet owns; what at owns; what the struct owns; the token]
       move ! (1 ∷ []) $ drop ! $ nothing ! $ owned ! usize (Is usize) (uint_Makes 𝓛 W w64) d.at _ (refl, fits) $ fjoin ! $ move ! (1 ∷ 0 ∷ []) $ fjoin ! $
-      move ! (2 ∷ 0 ∷ []) $ use2 W (raw ((NextAt 𝓛 mem run).pre to)) asked $ frame ! $ done !)
+      move ! (2 ∷ 0 ∷ []) $ use2 W (raw ((NextAt 𝓛 mem run).requires to)) asked $ frame ! $ done !)
 
   -- of the callee's `ensured`, the first clause alone: it has no `&mut`, so what is said of last values is dropped
   said : (r : Next) → ent 𝓤 (ensured 𝓛 step.ended (step.clauses 𝓛 mem run) (κ, tt) (d.packet, (d.at, tt)) tt r) (fact 𝓤 (r ≡ found))
@@ -165,17 +165,17 @@ module _ {M : Type 1} {𝓤 : Ura M} (𝓛 : Logic 𝓤) (W : Logic 𝓤) (mem :
   abbrev Entry' : Next → Val → SProp 𝓤
   Entry' r u = on_entry 𝓛 showing.signature (κ, tt) (q, tt) (d.packet, (d.at, (r, tt))) (passed' u)
 
-  asked' : (r : Next) (u : Val) → r ≡ found → ent 𝓤 (Entry' r u) ((PartOf 𝓛 mem run).pre (to' r u))
+  asked' : (r : Next) (u : Val) → r ≡ found → ent 𝓤 (Entry' r u) ((PartOf 𝓛 mem run).requires (to' r u))
   asked' r u e = qed W (raw (Entry' r u) ∷ []) ∵ says ! {P = Entry' r u} e $ by ! (id⊢ 𝓤 (Entry' r u))
 
-  apart' : (r : Next) (u : Val) → r ≡ found → d.at < 2 ^ 64 → ent 𝓤 (⋆ 𝓛 (‵ ((S.the_row).own_val r (u ∷ [])) ∷ (‵ (flft κ q) ⊛ ‵ ftrue) ∷ ‵ Own ∷ [])) (sep 𝓤 ((PartOf 𝓛 mem run).pre (to' r u)) (sem 𝓛 Own))
+  apart' : (r : Next) (u : Val) → r ≡ found → d.at < 2 ^ 64 → ent 𝓤 (⋆ 𝓛 (‵ ((S.the_row).own_val r (u ∷ [])) ∷ (‵ (flft κ q) ⊛ ‵ ftrue) ∷ ‵ Own ∷ [])) (sep 𝓤 ((PartOf 𝓛 mem run).requires (to' r u)) (sem 𝓛 Own))
   apart' r u e fits =
       qed W (‵ ((S.the_row).own_val r (u ∷ [])) ∷ (‵ (flft κ q) ⊛ ‵ ftrue) ∷ ‵ Own ∷ []) ∵
       move ! (2 ∷ []) $ use1 W (‵ Own ⊛ ‵ Own) ((LL.copy D (T'.the_copy (named_lft 1 0 tt (κ, tt))) 𝓛 W).twice d (mach ∷ [])) $ split ! $
       use1 W (given (mach ∷ [] ≡ mach ∷ []) (‵ (all_own D.parts L vd))) (own_open 𝓛 W D L vd mach) $ learn ! (λ _. use1 W (‵ (field_own D.parts L 0 d.packet) ⊛ ‵ (rest D.parts L 0 vd)) (own_out 𝓛 W D.parts L 0 vd) $ split ! $
       -- [what the packet owns; what at owns; what the struct owns; what r owns; the token]
       move ! (1 ∷ []) $ drop ! $ nothing ! $ move ! (3 ∷ 0 ∷ []) $ fjoin ! $ owned ! usize (Is usize) (uint_Makes 𝓛 W w64) d.at _ (refl, fits) $ fjoin ! $ move ! (1 ∷ 0 ∷ []) $ fjoin ! $
-      move ! (2 ∷ 0 ∷ []) $ use2 W (raw ((PartOf 𝓛 mem run).pre (to' r u))) (asked' r u e) $ frame ! $ done !)
+      move ! (2 ∷ 0 ∷ []) $ use2 W (raw ((PartOf 𝓛 mem run).requires (to' r u))) (asked' r u e) $ frame ! $ done !)
 
   said' : (r : Next) (p : Bor (List ℕ)) → ent 𝓤 (ensured 𝓛 showing.ended (showing.clauses 𝓛 mem run) (κ, tt) (d.packet, (d.at, (r, tt))) tt p) (fact 𝓤 (p.now ≡ shown))
   said' r p = ex_e 𝓤 _ (λ ws. snd∗ 𝓤 (sem 𝓛 (lasts showing.ended (κ, tt) (d.packet, (d.at, (r, tt))) ws)) (fact 𝓤 (p.now ≡ shown)))
@@ -214,7 +214,7 @@ module _ {M : Type 1} {𝓤 : Ura M} (𝓛 : Logic 𝓤) (W : Logic 𝓤) (mem :
         alloc1 ! (λ l₀. alloc1 ! (λ l₁. alloc1 ! (λ l₂. alloc1 ! (λ l₃. alloc1 ! (λ l₄. alloc1 ! (λ l₅. alloc1 ! (λ l₆. alloc1 ! (λ l₇. alloc0 ! $ params1 ! $ pass1 ! (init ! 12 refl wt) $ pass0 ! $
         assigns ! (of_opd ! (load ! (from ! (fld ! refl (stop !))) (look_in ! 12 (sub ! 0 refl (whole !))))) (from ! (stop !)) (init ! 6 refl (tt, wt.1.0)) $
         assigns ! (of_opd ! (load ! (from ! (fld ! refl (stop !))) (look_in ! 12 (sub ! 1 refl (whole !))))) (from ! (stop !)) (init ! 4 refl (tt, wt.1.1.0)) $
-        move ! (16 ∷ []) $ use1 W (raw ((NextAt 𝓛 mem run).pre to) ⊛ ‵ Own) (apart wt.1.1.0.fits) $ split ! $
+        move ! (16 ∷ []) $ use1 W (raw ((NextAt 𝓛 mem run).requires to) ⊛ ‵ Own) (apart wt.1.1.0.fits) $ split ! $
         calls_at ! fm (NextAt 𝓛 mem run) known to (and_then ! (load ! (from ! (stop !)) (look ! 8 refl)) (and_then ! (load ! (from ! (stop !)) (look ! 6 refl)) (no_more !))) (λ u.
         use1 W (later (some (λ (r : Next). ((‵ (flft κ q) ⊛ ‵ ftrue) ⊛ ‵ ((S.the_row).own_val r (u ∷ []))) ⊛ raw (ensured 𝓛 step.ended (step.clauses 𝓛 mem run) (κ, tt) (d.packet, (d.at, tt)) tt r)))) (id⊢ 𝓤 _) $ await ! tt $ pick ! (λ r.
         split ! $ move ! (1 ∷ []) $ use1 W (raw (fact 𝓤 (r ≡ found))) (said r) $ heard ! (r ≡ found) (λ e. split ! $ move ! (1 ∷ []) $
@@ -223,7 +223,7 @@ module _ {M : Type 1} {𝓤 : Ura M} (𝓛 : Logic 𝓤) (W : Logic 𝓤) (mem :
         land ! (from ! (stop !)) (init ! 13 refl ((EL.lawful S.the_type S'.the_laws 𝓛 W tt).typed r _ is).0) $
         assigns ! (of_opd ! (load ! (from ! (fld ! refl (stop !))) (look_in ! 15 (sub ! 0 refl (whole !))))) (from ! (stop !)) (init ! 5 refl (tt, wt.1.0)) $
         assigns ! (of_opd ! (load ! (from ! (fld ! refl (stop !))) (look_in ! 15 (sub ! 1 refl (whole !))))) (from ! (stop !)) (init ! 3 refl (tt, wt.1.1.0)) $
-        use3 W (raw ((PartOf 𝓛 mem run).pre (to' r u)) ⊛ ‵ Own) (apart' r u e wt.1.1.0.fits) $ split ! $
+        use3 W (raw ((PartOf 𝓛 mem run).requires (to' r u)) ⊛ ‵ Own) (apart' r u e wt.1.1.0.fits) $ split ! $
         calls_at ! fm (PartOf 𝓛 mem run) known' (to' r u) (and_then ! (load ! (from ! (stop !)) (look ! 4 refl)) (and_then ! (load ! (from ! (stop !)) (look ! 2 refl)) (and_then ! (load ! (from ! (stop !)) (look ! 12 refl)) (no_more !)))) (λ w.
         use1 W (later (some (λ (p : Bor (List ℕ)). ((‵ (flft κ q) ⊛ ‵ ftrue) ⊛ ‵ (R.own p (w ∷ []))) ⊛ raw (ensured 𝓛 showing.ended (showing.clauses 𝓛 mem run) (κ, tt) (d.packet, (d.at, (r, tt))) tt p)))) (id⊢ 𝓤 _) $ await ! tt $ pick ! (λ p.
         split ! $ move ! (1 ∷ []) $ use1 W (raw (fact 𝓤 (p.now ≡ shown))) (said' r p) $ heard ! (p.now ≡ shown) (λ e'. split ! $ move ! (1 ∷ []) $
@@ -258,9 +258,9 @@ next-meets : {M : Type 1} {𝓤 : Ura M} (𝓛 : Logic 𝓤) (W : Logic 𝓤) (m
 next-meets {𝓤 = 𝓤} 𝓛 W mem run 𝓣 known known' = walk_Meets 𝓛 next.ended stayed W (Goes-none 𝓛 W 1 B yes (λ κs x f. refl), tt) (next.clauses 𝓛 mem run) (WpFn 𝓤 𝓛.H 𝓣.C 𝓣.Λ code.function) (WpFn-mono 𝓤 𝓛.H W.laws 𝓣 code.function)
     (next-walks 𝓛 W mem run 𝓣.C 𝓣.Λ (fm_of 𝓤 𝓛.H W.laws 𝓣) known known')
 
-pub next-spec : {M : Type 1} → stated.statement M
+pub next_spec : {M : Type 1} → stated.statement M
 unfolding code.routine tables_of
-next-spec 𝓤 𝓛 𝓜 𝓡 =
+next_spec 𝓤 𝓛 𝓜 𝓡 =
     entered 𝓤 𝓛.H (triple_of 𝓛 next.signature (next.spec 𝓛 𝓜.mem 𝓡.run))
     (tables 𝓤 𝓛.H 𝓜 𝓡 code.env).C (tables 𝓤 𝓛.H 𝓜 𝓡 code.env).Λ #packet·next code.function (code.unfolded 𝓤 𝓛.H 𝓜 𝓡)
     (next-meets 𝓛 𝓛 𝓜.mem 𝓡.run (tables_of 𝓤 𝓛.H 𝓜 (tables 𝓤 𝓛.H 𝓜 𝓡 code.env))
