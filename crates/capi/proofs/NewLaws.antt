@@ -49,11 +49,11 @@ module _ (n j : ℕ) (ws : List ℕ) where
     unfolding server_new
     server_new_not r v c = rw (le-leb _ _ room, v) (c, refl)
 
-    pub server_new-wide : (r : ℕ) (x : Bool) → x ≡ fits_head n j 0 → not x ≡ true → r ≡ code ParameterOutOfRange → ServerMade r ws
+    pub server_new-wide : (r : ℕ) (x : Bool) → x ≡ fits_head n j 0 → x ≡ false → r ≡ code ParameterOutOfRange → ServerMade r ws
     server_new-wide r x e m c =
         ⊎_elim
         (λ (v : server.valid_sizes n (record { 0 = j }) ≡ true). let z : true ≡ false = sym (server_sizes_small v) ∙ sym e ∙
-        not-true x m in let y : ◌≡◌ {A = ℕ} 0 1 = cc in absurd (omega arith))
+        m in let y : ◌≡◌ {A = ℕ} 0 1 = cc in absurd (omega arith))
         (λ (v : server.valid_sizes n (record { 0 = j }) ≡ false). server_new_not r v c)
         (decided (server.valid_sizes n (record { 0 = j })))
 
@@ -94,11 +94,11 @@ module _ (n m k : ℕ) (ws : List ℕ) where
     unfolding client_new
     client_new_not r v c = rw (le-leb _ _ room, v) (c, refl)
 
-    pub client_new-wide : (r : ℕ) (x : Bool) → x ≡ fits_head n m k → not x ≡ true → r ≡ code ParameterOutOfRange → ClientMade r ws
+    pub client_new-wide : (r : ℕ) (x : Bool) → x ≡ fits_head n m k → x ≡ false → r ≡ code ParameterOutOfRange → ClientMade r ws
     client_new-wide r x e u c =
         ⊎_elim
         (λ (v : client.valid_sizes n m && valid_client (record { 0 = k }) ≡ true). let z : true ≡ false = sym (client_sizes_small v) ∙ sym e ∙
-        not-true x u in let y : ◌≡◌ {A = ℕ} 0 1 = cc in absurd (omega arith))
+        u in let y : ◌≡◌ {A = ℕ} 0 1 = cc in absurd (omega arith))
         (λ (v : client.valid_sizes n m && valid_client (record { 0 = k }) ≡ false). client_new_not r v c)
         (decided (client.valid_sizes n m && valid_client (record { 0 = k })))
 

@@ -180,14 +180,14 @@ turned-words h row after (refused e) t T = rw T.ruled
 turned-words h row after (stepped p) t T = rw (T.ruled, T.head, T.row, T.sent)
 
 module _ (ws : List ℕ) (b : Bool) (e : b ≡ holds_server ws) where
-  pub is-server : not b ≡ false → holds_server ws ≡ true
-  is-server n = sym e ∙ not-false b n
+  pub is-server : b ≡ true → holds_server ws ≡ true
+  is-server n = sym e ∙ n
 
-  pub no_server_lem : (f : Server → Outcome votes.State) → not b ≡ true → on_server ws f ≡ refused InvalidRecord
+  pub no_server_lem : (f : Server → Outcome votes.State) → b ≡ false → on_server ws f ≡ refused InvalidRecord
   unfolding on_server
-  no_server_lem f n = let u : holds_server ws ≡ false = sym e ∙ not-true b n in rw u
+  no_server_lem f n = let u : holds_server ws ≡ false = sym e ∙ n in rw u
 
-  module _ (n : not b ≡ false) where
+  module _ (n : b ≡ true) where
     pub server-long : length ws ≡ server_size
     server-long = (server-held server.row_words ws (is-server n)).size
 
@@ -271,14 +271,14 @@ module _ (ws : List ℕ) (l : length ws ≡ client_size) (h : ClientHead) where
       (decided (ltb (length out) (size_of_all p.sent)))
 
 module _ (ws : List ℕ) (b : Bool) (e : b ≡ holds_client ws) where
-  pub is-client : not b ≡ false → holds_client ws ≡ true
-  is-client n = sym e ∙ not-false b n
+  pub is-client : b ≡ true → holds_client ws ≡ true
+  is-client n = sym e ∙ n
 
-  pub no_client_lem : (f : Client → Outcome client-state.State) → not b ≡ true → on_client ws f ≡ refused InvalidRecord
+  pub no_client_lem : (f : Client → Outcome client-state.State) → b ≡ false → on_client ws f ≡ refused InvalidRecord
   unfolding on_client
-  no_client_lem f n = let u : holds_client ws ≡ false = sym e ∙ not-true b n in rw u
+  no_client_lem f n = let u : holds_client ws ≡ false = sym e ∙ n in rw u
 
-  module _ (n : not b ≡ false) where
+  module _ (n : b ≡ true) where
     pub client-long : length ws ≡ client_size
     client-long = (client-held client.row_words ws (is-client n)).size
 

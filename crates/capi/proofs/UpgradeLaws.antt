@@ -16,11 +16,11 @@ module _ (sound : Bool) (size : ℕ) (ws s : List ℕ) (x : Bool) (p : x ≡ sou
   abbrev Gives : ℕ → List ℕ → Type 0
   Gives r s' = (r ≡ code_of (upgrade sound size (length s) ws)) × (s' ≡ record_into s (upgrade sound size (length s) ws))
 
-  pub upgrade_broken : not x ≡ true → r ≡ code InvalidRecord → Gives r s
+  pub upgrade_broken : x ≡ false → r ≡ code InvalidRecord → Gives r s
   unfolding upgrade
   upgrade_broken t c = rw (fails x sound p t) (c, refl)
 
-  module _ (t : not x ≡ false) where
+  module _ (t : x ≡ true) where
     pub upgrade-short : length s < size → r ≡ code RoomShort → Gives r s
     unfolding upgrade
     upgrade-short h c = rw (holds x sound p t, lt-ltb (length s) size h) (c, refl)

@@ -152,21 +152,21 @@ module _ (h : Head) (row : List ℕ) (o : List ℕ) (r : Turned) where
 
 -- `begin_row`, `exit_row` and `message_row`: which test decides the outcome
 module _ (h : Head) (row : List ℕ) (x : Bool) (p : x ≡ valid (client_of h row)) where
-  pub begin_invalid : not x ≡ true → begin_outcome (client_of h row) ≡ refused InvalidRecord
+  pub begin_invalid : x ≡ false → begin_outcome (client_of h row) ≡ refused InvalidRecord
   unfolding begin_outcome
   begin_invalid t = rw (fails x (valid (client_of h row)) p t)
 
-  pub exit_invalid : not x ≡ true → exit_outcome (client_of h row) ≡ refused InvalidRecord
+  pub exit_invalid : x ≡ false → exit_outcome (client_of h row) ≡ refused InvalidRecord
   unfolding exit_outcome
   exit_invalid t = rw (fails x (valid (client_of h row)) p t)
 
-  module _ (y : Bool) (t : not x ≡ false) where
+  module _ (y : Bool) (t : x ≡ true) where
     module _ (q : y ≡ is_remainder h.section) where
-      pub begin_elsewhere : not y ≡ true → begin_outcome (client_of h row) ≡ refused WrongSection
+      pub begin_elsewhere : y ≡ false → begin_outcome (client_of h row) ≡ refused WrongSection
       unfolding begin_outcome view
       begin_elsewhere u = rw (holds x (valid (client_of h row)) p t, fails y (is_remainder h.section) q u)
 
-      module _ (last : Timestamp) (l : last ≡ later h.timestamp h.seen) (u : not y ≡ false) where
+      module _ (last : Timestamp) (l : last ≡ later h.timestamp h.seen) (u : y ≡ true) where
         pub begin_spent : last_try < last.0 → begin_outcome (client_of h row) ≡ refused TimestampsSpent
         unfolding begin_outcome view
         begin_spent g =
@@ -180,33 +180,33 @@ module _ (h : Head) (row : List ℕ) (x : Bool) (p : x ≡ valid (client_of h ro
             rw (holds x (valid (client_of h row)) p t, holds y (is_remainder h.section) q u, le-leb (later h.timestamp h.seen).0 last_try k)
 
     module _ (q : y ≡ is_critical h.section) where
-      pub exit_elsewhere : not y ≡ true → exit_outcome (client_of h row) ≡ refused WrongSection
+      pub exit_elsewhere : y ≡ false → exit_outcome (client_of h row) ≡ refused WrongSection
       unfolding exit_outcome view
       exit_elsewhere u = rw (holds x (valid (client_of h row)) p t, fails y (is_critical h.section) q u)
 
-      pub exit_leaves : not y ≡ false → exit_outcome (client_of h row) ≡ stepped (exits h.n h.id (view (client_of h row)))
+      pub exit_leaves : y ≡ true → exit_outcome (client_of h row) ≡ stepped (exits h.n h.id (view (client_of h row)))
       unfolding exit_outcome view
       exit_leaves u = rw (holds x (valid (client_of h row)) p t, holds y (is_critical h.section) q u)
 
-      pub critical_timestamp : not y ≡ false → h.timestamp.0 < max_timestamp
+      pub critical_timestamp : y ≡ true → h.timestamp.0 < max_timestamp
       critical_timestamp u = critical_below h.section h.timestamp (holds y (is_critical h.section) q u)
           (valid-known (client_of h row) (holds x (valid (client_of h row)) p t)).timestamp
 
   -- what the inner steps ask
-  pub tested_padded : not x ≡ false → Padded row h.n
+  pub tested_padded : x ≡ true → Padded row h.n
   tested_padded t = valid-padded (client_of h row) (holds x (valid (client_of h row)) p t)
 
   module _ (m : Message) where
-    pub message_invalid : not x ≡ true → message_outcome (client_of h row) m ≡ refused InvalidRecord
+    pub message_invalid : x ≡ false → message_outcome (client_of h row) m ≡ refused InvalidRecord
     unfolding message_outcome_up_to
     message_invalid t = rw (fails x (valid (client_of h row)) p t)
 
-    module _ (y : Bool) (t : not x ≡ false) (q : y ≡ format.valid m) where
-      pub message_bad : not y ≡ true → message_outcome (client_of h row) m ≡ refused NumberOutOfRange
+    module _ (y : Bool) (t : x ≡ true) (q : y ≡ format.valid m) where
+      pub message_bad : y ≡ false → message_outcome (client_of h row) m ≡ refused NumberOutOfRange
       unfolding message_outcome_up_to
       message_bad u = rw (holds x (valid (client_of h row)) p t, fails y (format.valid m) q u)
 
-      pub message-received : not y ≡ false → message_outcome (client_of h row) m ≡ received (client_of h row) m
+      pub message-received : y ≡ true → message_outcome (client_of h row) m ≡ received (client_of h row) m
       unfolding message_outcome_up_to
       message-received u = rw (holds x (valid (client_of h row)) p t, holds y (format.valid m) q u)
 
@@ -246,7 +246,7 @@ module _ (full mine : Bool) (h : Head) (row : List ℕ) (good : Padded row h.n) 
   abbrev decided : Step State
   decided = decide full mine h.n h.id (view (client_of h row)) (responses_in row h.n)
 
-  pub decide-waits : (o : List ℕ) (r : Turned) → not full ≡ true → r ≡ record { head = head_with h Trying h.timestamp; answer = Sent 0 0 }
+  pub decide-waits : (o : List ℕ) (r : Turned) → full ≡ false → r ≡ record { head = head_with h Trying h.timestamp; answer = Sent 0 0 }
       → Answers h row (stepped decided) o r row o
   unfolding view
   decide-waits o r t p =
@@ -255,7 +255,7 @@ module _ (full mine : Bool) (h : Head) (row : List ℕ) (good : Padded row h.n) 
       (record { section = Trying; timestamp = h.timestamp; seen = h.seen; responses = responses_in row h.n })
       (rw e) (row-again row h.n good) p
 
-  module _ (t : not full ≡ false) where
+  module _ (t : full ≡ true) where
     pub decide-enters : (o : List ℕ) (r : Turned) → mine ≡ true
         → r ≡ record { head = head_with h Critical h.timestamp; answer = Sent 0 0 } → Answers h row (stepped decided) o r row o
     unfolding view
@@ -291,17 +291,17 @@ module _ (h : Head) (row : List ℕ) (v : valid (client_of h row) ≡ true) (j :
   good = valid-padded (client_of h row) v
 
   -- outside the trying section nothing changes
-  elsewhere : not x ≡ true → responded h row j o ≡ stepped (stay (view (client_of h row)))
+  elsewhere : x ≡ false → responded h row j o ≡ stepped (stay (view (client_of h row)))
   unfolding upon_response view
   elsewhere t = rw (fails x (is_trying h.section) p t)
 
-  pub respond_elsewhere : (b : List ℕ) (r : Turned) → not x ≡ true
+  pub respond_elsewhere : (b : List ℕ) (r : Turned) → x ≡ false
       → r ≡ record { head = head_with h h.section h.timestamp; answer = Sent 0 0 } → Answers h row (responded h row j o) b r row b
   unfolding view
   respond_elsewhere b r t e = answers_stay h row (responded h row j o) b r (view (client_of h row)) (elsewhere t) (row-again row h.n good) e
 
   -- else the response is heard
-  module _ (low : 1 ≤ j.0) (high : j.0 ≤ h.n) (w : valid_owner o ≡ true) (t : not x ≡ false) where
+  module _ (low : 1 ≤ j.0) (high : j.0 ≤ h.n) (w : valid_owner o ≡ true) (t : x ≡ true) where
     its-judgement : responded h row j o
         ≡ stepped (judge (enough h.m) h.n h.id (view (client_of h (heard_row (request h) row j o))) (responses_in (heard_row (request h) row j o) h.n))
     unfolding upon_response judge view
@@ -419,13 +419,13 @@ module _ (t : Timestamp) (h : Head) (row : List ℕ) (g : Head) (p : g ≡ saw_i
 
 -- `receive`: whom the message is for
 module _ (h : Head) (row : List ℕ) (k : ClientId) (j : ServerId) (x : Bool) (p : x ≡ for_client h k j) where
-  pub response_elsewhere : (o : Owner) → not x ≡ true → received (client_of h row) (Response k j o) ≡ refused NotForClient
+  pub response_elsewhere : (o : Owner) → x ≡ false → received (client_of h row) (Response k j o) ≡ refused NotForClient
   response_elsewhere o t = rw (fails x (for_client h k j) p t)
 
-  pub check_elsewhere : (s : Timestamp) → not x ≡ true → received (client_of h row) (Check k j s) ≡ refused NotForClient
+  pub check_elsewhere : (s : Timestamp) → x ≡ false → received (client_of h row) (Check k j s) ≡ refused NotForClient
   check_elsewhere s t = rw (fails x (for_client h k j) p t)
 
-  module _ (t : not x ≡ false) where
+  module _ (t : x ≡ true) where
     its-parts : (eqb k.0 h.id.0 ≡ true) × (leb j.0 h.n ≡ true)
     its-parts = both (eqb k.0 h.id.0) (leb j.0 h.n) (holds x (for_client h k j) p t)
 
@@ -457,19 +457,19 @@ module _ (n m : ℕ) (k : ClientId) (x : Bool) (p : x ≡ valid_sizes n m) where
   said_new : (r : Stepped) → r ≡ new_result n m k → NewGives n m k r
   said_new r e = (e, ap (λ (s : Stepped). answer_says s.answer) e ∙ new_row)
 
-  pub new_sizes : (r : Stepped) → not x ≡ true → r ≡ refused_new → NewGives n m k r
+  pub new_sizes : (r : Stepped) → x ≡ false → r ≡ refused_new → NewGives n m k r
   unfolding new_result
   new_sizes r t e = said_new r (rw (fails x (valid_sizes n m) p t) e)
 
-  module _ (y : Bool) (t : not x ≡ false) (q : y ≡ valid_client k) where
-    pub new_id : (r : Stepped) → not y ≡ true → r ≡ refused_new → NewGives n m k r
+  module _ (y : Bool) (t : x ≡ true) (q : y ≡ valid_client k) where
+    pub new_id : (r : Stepped) → y ≡ false → r ≡ refused_new → NewGives n m k r
     unfolding new_result
     new_id r u e = said_new r (rw (holds x (valid_sizes n m) p t, fails y (valid_client k) q u) e)
 
     stored-fresh : store n m k (fresh n) ≡ client_of (head_in n m k (fresh n)) (replicate row_words 0)
     stored-fresh = sym (fresh-stored max_places n m k (sizes_range n m (holds x (valid_sizes n m) p t)).1)
 
-    pub new_done : (c : Client) → not y ≡ false → c ≡ client_of (head_in n m k (fresh n)) (replicate row_words 0)
+    pub new_done : (c : Client) → y ≡ true → c ≡ client_of (head_in n m k (fresh n)) (replicate row_words 0)
         → NewGives n m k (record { client = c; answer = Sent 0 0 })
     unfolding new_result
     new_done c u e = said_new (record { client = c; answer = Sent 0 0 }) (rw (holds x (valid_sizes n m) p t, holds y (valid_client k) q u, e, stored-fresh))

@@ -82,15 +82,15 @@ valid_split limit c =
     (no_more c.head.section c.head.m (responses_in c.row c.head.n))
 
 module _ (limit : ℕ) (h : Head) (row : List ℕ) (x : Bool) (p : x ≡ valid_sizes_up_to limit h.n h.m) where
-  pub sizes_fail : not x ≡ true → false ≡ valid_up_to limit (client_of h row)
+  pub sizes_fail : x ≡ false → false ≡ valid_up_to limit (client_of h row)
   sizes_fail t = rw (valid_split, fails x (valid_sizes_up_to limit h.n h.m) p t)
 
-  module _ (y : Bool) (t : not x ≡ false) (q : y ≡ valid_client h.id) where
-    pub id_fails : not y ≡ true → false ≡ valid_up_to limit (client_of h row)
+  module _ (y : Bool) (t : x ≡ true) (q : y ≡ valid_client h.id) where
+    pub id_fails : y ≡ false → false ≡ valid_up_to limit (client_of h row)
     id_fails u = rw (valid_split, holds x (valid_sizes_up_to limit h.n h.m) p t, fails y (valid_client h.id) q u)
 
-    module _ (z : Bool) (u : not y ≡ false) (w : z ≡ fits_timestamp h.section h.timestamp) where
-      pub timestamp_fails : not z ≡ true → false ≡ valid_up_to limit (client_of h row)
+    module _ (z : Bool) (u : y ≡ true) (w : z ≡ fits_timestamp h.section h.timestamp) where
+      pub timestamp_fails : z ≡ false → false ≡ valid_up_to limit (client_of h row)
       timestamp_fails v = rw (
         valid_split,
         holds x (valid_sizes_up_to limit h.n h.m) p t,
@@ -98,8 +98,8 @@ module _ (limit : ℕ) (h : Head) (row : List ℕ) (x : Bool) (p : x ≡ valid_s
         fails z (fits_timestamp h.section h.timestamp) w v,
       )
 
-      module _ (g : Bool) (v : not z ≡ false) (d : g ≡ good_row row h.n) where
-        pub row_fails : not g ≡ true → false ≡ valid_up_to limit (client_of h row)
+      module _ (g : Bool) (v : z ≡ true) (d : g ≡ good_row row h.n) where
+        pub row_fails : g ≡ false → false ≡ valid_up_to limit (client_of h row)
         row_fails s = rw (
           valid_split,
           holds x (valid_sizes_up_to limit h.n h.m) p t,
@@ -108,7 +108,7 @@ module _ (limit : ℕ) (h : Head) (row : List ℕ) (x : Bool) (p : x ≡ valid_s
           fails g (good_row row h.n) d s,
         )
 
-        pub places-decide : (b : Bool) → not g ≡ false → b ≡ valid_places h row → b ≡ valid_up_to limit (client_of h row)
+        pub places-decide : (b : Bool) → g ≡ true → b ≡ valid_places h row → b ≡ valid_up_to limit (client_of h row)
         places-decide b s f =
             rw (
               valid_split,

@@ -45,11 +45,11 @@ and_true true = refl
 and_true false = refl
 
 module _ (q : Request) (b : Bool) (e : b ≡ same q no_request) where
-  pub own-empty : (r : Request) → not b ≡ false → not b ≡ is_request r (shown q)
-  own-empty r h = let t : b ≡ true = not-false _ h in let f : same q no_request ≡ true = cc in rw (f, t)
+  pub own-empty : (r : Request) → b ≡ true → not b ≡ is_request r (shown q)
+  own-empty r h = let t : b ≡ true = h in let f : same q no_request ≡ true = cc in rw (f, t)
 
-  pub own-shown : (r : Request) (a : Bool) → not b ≡ true → a ≡ same q r → a ≡ is_request r (shown q)
-  own-shown r a h p = let t : b ≡ false = not-true _ h in let f : same q no_request ≡ false = cc in rw f p
+  pub own-shown : (r : Request) (a : Bool) → b ≡ false → a ≡ same q r → a ≡ is_request r (shown q)
+  own-shown r a h p = let t : b ≡ false = h in let f : same q no_request ≡ false = cc in rw f p
 
 -- the tests of a place's words
 module _ (k t : ℕ) where

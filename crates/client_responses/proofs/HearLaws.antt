@@ -43,13 +43,13 @@ module _ (r : Request) (row : List ℕ) (j : ServerId) (o : Owner) (q : Request)
   hear_own t = rw (its, t)
 
   module _ (a : Bool) (f : b ≡ false) (d : a ≡ current r o) where
-    pub hear_old : not a ≡ true → row ≡ heard_row r row j o
+    pub hear_old : a ≡ false → row ≡ heard_row r row j o
     unfolding heard_row
-    hear_old t = let e : a ≡ false = not-true a t in rw (its, f, ← d, e)
+    hear_old t = let e : a ≡ false = t in rw (its, f, ← d, e)
 
-    pub hear_new : (x : Request) (after : List ℕ) → not a ≡ false → x ≡ place o → Put row after (j.0 - 1) x → after ≡ heard_row r row j o
+    pub hear_new : (x : Request) (after : List ℕ) → a ≡ true → x ≡ place o → Put row after (j.0 - 1) x → after ≡ heard_row r row j o
     unfolding heard_row
-    hear_new x after t e P = let h : a ≡ true = not-false a t in rw (its, f, ← d, h, ← e) P.words
+    hear_new x after t e P = let h : a ≡ true = t in rw (its, f, ← d, h, ← e) P.words
 
 -- a response as a place
 pub shown-place : (o : Owner) → valid_owner o ≡ true → shown (place o) ≡ o

@@ -89,7 +89,7 @@ module _ (n f : ℕ) where
       go (inl t) = rw (accepted_test n m f servers, t, le-leb m (n - f) (omega (arith, leb-true (m + f) n t)))
       go (inr t) = rw (accepted_test n m f servers, t, lt-leb m (n - f) (omega (arith, leb-false (m + f) n t)))
 
-  pub proposes_no_servers : (x : Bool) → x ≡ within n max_servers → not x ≡ true → Said OutOfRange
+  pub proposes_no_servers : (x : Bool) → x ≡ within n max_servers → x ≡ false → Said OutOfRange
   unfolding proposal_of
   proposes_no_servers x p t = let e = fails x (within n max_servers) p t in said OutOfRange (rw e) (λ m. sym (no_servers-refused n m f e))
 

@@ -33,16 +33,16 @@ use Rattle.system.specs.Numbered.{client_no, server_no}
 
 -- in_range_up_to
 module _ (limit n m f : ℕ) (x : Bool) (p : x ≡ within n limit) where
-  pub no_servers_lem : not x ≡ true → false ≡ in_range_up_to limit n m f
+  pub no_servers_lem : x ≡ false → false ≡ in_range_up_to limit n m f
   unfolding in_range_up_to
   no_servers_lem t = rw (fails x (within n limit) p t)
 
-  module _ (y : Bool) (t : not x ≡ false) (q : y ≡ within m n) where
-    pub no_threshold : not y ≡ true → false ≡ in_range_up_to limit n m f
+  module _ (y : Bool) (t : x ≡ true) (q : y ≡ within m n) where
+    pub no_threshold : y ≡ false → false ≡ in_range_up_to limit n m f
     unfolding in_range_up_to
     no_threshold u = rw (holds x (within n limit) p t, fails y (within m n) q u)
 
-    pub faults_decide : not y ≡ false → leb f n ≡ in_range_up_to limit n m f
+    pub faults_decide : y ≡ true → leb f n ≡ in_range_up_to limit n m f
     unfolding in_range_up_to
     faults_decide u = rw (holds x (within n limit) p t, holds y (within m n) q u)
 
@@ -117,7 +117,7 @@ module _ (n m f : ℕ) where
 
 -- check
 module _ (n m f : ℕ) (x : Bool) (p : x ≡ in_range n m f) where
-  pub check-refuses : not x ≡ true → (OutOfRange ≡ verdict n m f) × Demand3 n m f OutOfRange
+  pub check-refuses : x ≡ false → (OutOfRange ≡ verdict n m f) × Demand3 n m f OutOfRange
   unfolding verdict
   check-refuses t = let o = fails x (in_range n m f) p t in (
     rw o,
@@ -128,20 +128,20 @@ module _ (n m f : ℕ) (x : Bool) (p : x ≡ in_range n m f) where
     },
   )
 
-  pub check_judges : (v : Verdict) → not x ≡ false → v ≡ judged n m f → (v ≡ verdict n m f) × Demand3 n m f v
+  pub check_judges : (v : Verdict) → x ≡ true → v ≡ judged n m f → (v ≡ verdict n m f) × Demand3 n m f v
   unfolding verdict
   check_judges v t e = let i = holds x (in_range n m f) p t in
       (rw i e, rw e (judged_demand n m f (range max_servers n m f i)))
 
-  pub in_bounds : not x ≡ false → (n ≤ max_servers) × (m ≤ n) × (f ≤ n)
+  pub in_bounds : x ≡ true → (n ≤ max_servers) × (m ≤ n) × (f ≤ n)
   in_bounds t = let r = range max_servers n m f (holds x (in_range n m f) p t) in (r.servers, r.threshold, r.faults)
 
   -- run_event
-  pub event-refuses : (i : ℕ) → not x ≡ true → Refused ParameterOutOfRange ≡ run_event n m f i
+  pub event-refuses : (i : ℕ) → x ≡ false → Refused ParameterOutOfRange ≡ run_event n m f i
   unfolding run_event
   event-refuses i t = rw (fails x (in_range n m f) p t)
 
-  pub event-listed : (i : ℕ) (a : Asked) → not x ≡ false → a ≡ listed_event n m f i → a ≡ run_event n m f i
+  pub event-listed : (i : ℕ) (a : Asked) → x ≡ true → a ≡ listed_event n m f i → a ≡ run_event n m f i
   unfolding run_event
   event-listed i a t e = rw (holds x (in_range n m f) p t) e
 
@@ -155,17 +155,17 @@ module _ (n m f i : ℕ) where
     at_length : within i count ≡ within i (length (unsafe_run n m))
     at_length = rw (k, unsafe-length n m r.1)
 
-    pub outside-run : not x ≡ true → Refused NoSuchParty ≡ listed_event n m f i
+    pub outside-run : x ≡ false → Refused NoSuchParty ≡ listed_event n m f i
     unfolding listed_event
     outside-run t = rw (is-unsafe n m f h, sym at_length ∙ fails x (within i count) p t)
 
-    pub inside-run : not x ≡ false → (0 < i) × (i ≤ run_length n m)
+    pub inside-run : x ≡ true → (0 < i) × (i ≤ run_length n m)
     inside-run t = let b = both (leb 1 i) (leb i count) (holds x (within i count) p t) in (leb-true 1 i b.0, omega (arith, leb-true i count b.1, k))
 
-    pub event_bounds : not x ≡ false → (n ≤ max_servers) × (m ≤ n) × (i ≤ longest_run)
+    pub event_bounds : x ≡ true → (n ≤ max_servers) × (m ≤ n) × (i ≤ longest_run)
     event_bounds t = (r.0, r.1, omega (arith, (inside-run t).1, r.0, r.1))
 
-    pub run_element : (e : Happening) → not x ≡ false → e ≡ event_at n m i → Event e ≡ listed_event n m f i
+    pub run_element : (e : Happening) → x ≡ true → e ≡ event_at n m i → Event e ≡ listed_event n m f i
     unfolding listed_event
     run_element e t q =
         let b = inside-run t in
@@ -227,13 +227,13 @@ module _ (n m i : ℕ) (e : Happening) where
 
 -- default_threshold
 module _ (n : ℕ) (x : Bool) (p : x ≡ within n max_servers) where
-  pub no_default : not x ≡ true → Outside ≡ threshold_of n
+  pub no_default : x ≡ false → Outside ≡ threshold_of n
   unfolding threshold_of
   no_default t = rw (fails x (within n max_servers) p t)
 
-  pub few-servers : not x ≡ false → n ≤ max_servers
+  pub few-servers : x ≡ true → n ≤ max_servers
   few-servers t = leb-true n max_servers (both (leb 1 n) (leb n max_servers) (holds x (within n max_servers) p t)).1
 
-  pub default_given : not x ≡ false → Default ((2 * n + 2) / 3) ≡ threshold_of n
+  pub default_given : x ≡ true → Default ((2 * n + 2) / 3) ≡ threshold_of n
   unfolding threshold_of
   default_given t = rw (holds x (within n max_servers) p t)

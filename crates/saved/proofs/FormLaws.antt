@@ -28,11 +28,11 @@ rest head ws = take_all (length ws - head) (drop head ws) (omega (arith, length-
 -- a record's words: they hold one, and it is valid
 module _ (row limit : ℕ) (ws : List ℕ) (x : Bool) where
   module _ (p : x ≡ holds_server_of row ws) where
-    pub no_server_lem : not x ≡ true → false ≡ sound_server row limit ws
+    pub no_server_lem : x ≡ false → false ≡ sound_server row limit ws
     unfolding sound_server
     no_server_lem t = rw (fails x (holds_server_of row ws) p t)
 
-    module _ (t : not x ≡ false) where
+    module _ (t : x ≡ true) where
       pub server-headed : Headed server_head ws
       server-headed = (server-held row ws (holds x (holds_server_of row ws) p t)).headed
 
@@ -45,11 +45,11 @@ module _ (row limit : ℕ) (ws : List ℕ) (x : Bool) where
       server-judged h y e q = q ∙ rw (holds x (holds_server_of row ws) p t, e, rest server_head ws)
 
   module _ (p : x ≡ holds_client_of row ws) where
-    pub no_client_lem : not x ≡ true → false ≡ sound_client row limit ws
+    pub no_client_lem : x ≡ false → false ≡ sound_client row limit ws
     unfolding sound_client
     no_client_lem t = rw (fails x (holds_client_of row ws) p t)
 
-    module _ (t : not x ≡ false) where
+    module _ (t : x ≡ true) where
       pub client-headed : Headed client_head ws
       client-headed = (client-held row ws (holds x (holds_client_of row ws) p t)).headed
 

@@ -164,11 +164,11 @@ module _ (w input out : List ℕ) (x : Bool) (e : x ≡ valid w) where
   abbrev Feeds : List ℕ → List ℕ → Progress → Type 0
   Feeds w' out' r = (r ≡ feed_answer w input (length out)) × FeedLeaves w input out w' out'
 
-  pub feed_invalid : not x ≡ true → Feeds w out (Refused InvalidRecord)
+  pub feed_invalid : x ≡ false → Feeds w out (Refused InvalidRecord)
   unfolding feed_answer
   feed_invalid n = let f = fails x (valid w) e n in (rw f, invalid_leaves w out max_printed _ _ f)
 
-  module _ (n : not x ≡ false) where
+  module _ (n : x ≡ true) where
     good : valid w ≡ true
     good = holds x (valid w) e n
 
@@ -225,11 +225,11 @@ module _ (w out : List ℕ) (x : Bool) (e : x ≡ valid w) where
   abbrev Finishes : List ℕ → List ℕ → Progress → Type 0
   Finishes w' out' r = (r ≡ finish_answer w (length out)) × FinishLeaves w out w' out'
 
-  pub finish_invalid : not x ≡ true → Finishes w out (Refused InvalidRecord)
+  pub finish_invalid : x ≡ false → Finishes w out (Refused InvalidRecord)
   unfolding finish_answer
   finish_invalid n = let f = fails x (valid w) e n in (rw f, invalid_leaves w out max_ending _ _ f)
 
-  module _ (n : not x ≡ false) where
+  module _ (n : x ≡ true) where
     fine : valid w ≡ true
     fine = holds x (valid w) e n
 

@@ -32,13 +32,13 @@ module _ (w : List ℕ) (long : length w ≡ state_size) where
   part-long = simulation_long w long
 
   module _ (x : Bool) (e : x ≡ layout.valid (take simulation_size (drop state_head w))) where
-    pub simulation_bad : not x ≡ true → false ≡ valid_run (head_in w) (simulation_in w)
+    pub simulation_bad : x ≡ false → false ≡ valid_run (head_in w) (simulation_in w)
     unfolding valid_run simulation_in
-    simulation_bad n = rw (sym e ∙ not-true x n)
+    simulation_bad n = rw (sym e ∙ n)
 
-    module _ (n : not x ≡ false) where
+    module _ (n : x ≡ true) where
       pub simulation_good : layout.valid (take simulation_size (drop state_head w)) ≡ true
-      simulation_good = sym e ∙ not-false x n
+      simulation_good = sym e ∙ n
 
       pub lines-many : max_lines < get_or w answered_at 0 → false ≡ valid_run (head_in w) (simulation_in w)
       unfolding valid_run simulation_in head_in
@@ -82,9 +82,9 @@ module _ (w : List ℕ) (long : length w ≡ state_size) where
   line-long g = rw (lt-leb (get_or w length_at 0) max_kept g)
 
   module _ (b : get_or w length_at 0 ≤ max_kept) (x : Bool) (e : x ≡ every byte_word (kept_in w)) where
-    pub bytes-wrong : not x ≡ true → line-says false
+    pub bytes-wrong : x ≡ false → line-says false
     unfolding valid_line
-    bytes-wrong n = rw (le-leb (get_or w length_at 0) max_kept b, sym e ∙ not-true x n)
+    bytes-wrong n = rw (le-leb (get_or w length_at 0) max_kept b, sym e ∙ n)
 
     -- what is tested behind the line is the rest of its words
     rest_of_line : take (state_head - (line_from + get_or w length_at 0)) (drop (line_from + get_or w length_at 0) w) ≡ drop (get_or w length_at 0) (kept_in w)
@@ -95,10 +95,10 @@ module _ (w : List ℕ) (long : length w ≡ state_size) where
         ap (take (state_head - (line_from + i))) (sym (drop-drop i line_from w)) ∙
         (sym (drop-take i (state_head - (line_from + i)) (drop line_from w)) ∙ ap (λ (k : ℕ). drop i (take k (drop line_from w))) (sym z))
 
-    pub rest_decides : not x ≡ false → (r : Bool) → r ≡ layout.blank (take (state_head - (line_from + get_or w length_at 0)) (drop (line_from + get_or w length_at 0) w))
+    pub rest_decides : x ≡ true → (r : Bool) → r ≡ layout.blank (take (state_head - (line_from + get_or w length_at 0)) (drop (line_from + get_or w length_at 0) w))
         → line-says r
     unfolding valid_line
-    rest_decides n r p = rw (le-leb (get_or w length_at 0) max_kept b, sym e ∙ not-false x n) (p ∙ ap layout.blank rest_of_line)
+    rest_decides n r p = rw (le-leb (get_or w length_at 0) max_kept b, sym e ∙ n) (p ∙ ap layout.blank rest_of_line)
 
 -- the words of a script that does not run
 module _ (w : List ℕ) where
@@ -137,18 +137,18 @@ module _ (w : List ℕ) where
     stage-wrong g = rw (eq-eqb (length w) state_size long, lt-leb (get_or w stage_at 0) stage_closed g)
 
     module _ (a : get_or w stage_at 0 ≤ stage_closed) (x : Bool) (e : x ≡ valid_line (get_or w length_at 0) (kept_in w)) where
-      pub line-wrong : not x ≡ true → false ≡ valid w
+      pub line-wrong : x ≡ false → false ≡ valid w
       unfolding valid valid_parts head_in
-      line-wrong n = rw (eq-eqb (length w) state_size long, le-leb (get_or w stage_at 0) stage_closed a, sym e ∙ not-true x n)
+      line-wrong n = rw (eq-eqb (length w) state_size long, le-leb (get_or w stage_at 0) stage_closed a, sym e ∙ n)
 
-      module _ (n : not x ≡ false) where
+      module _ (n : x ≡ true) where
         pub run_decides : get_or w stage_at 0 ≡ stage_running → (r : Bool) → r ≡ valid_run (head_in w) (simulation_in w) → r ≡ valid w
         unfolding valid valid_parts head_in
         run_decides q r p =
             rw (
               eq-eqb (length w) state_size long,
               le-leb (get_or w stage_at 0) stage_closed a,
-              sym e ∙ not-false x n,
+              sym e ∙ n,
               eq-eqb (get_or w stage_at 0) stage_running q,
             ) p
 
@@ -158,6 +158,6 @@ module _ (w : List ℕ) where
             rw (
               eq-eqb (length w) state_size long,
               le-leb (get_or w stage_at 0) stage_closed a,
-              sym e ∙ not-false x n,
+              sym e ∙ n,
               ne_eqb (get_or w stage_at 0) stage_running q,
             ) p

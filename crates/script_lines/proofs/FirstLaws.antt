@@ -158,12 +158,12 @@ module _ (s : List ℕ) (p : ℕ) (short : length s ≤ max_line) (ends : (p ≡
     told-word : r ≡ same (word s) (text "setting")
     told-word = rw (cut_word s 0 p ends.0) at told
 
-    pub setting-other : not r ≡ true → NotOpening ≡ first_of (setting_in s)
+    pub setting-other : r ≡ false → NotOpening ≡ first_of (setting_in s)
     unfolding setting_in
-    setting-other e = simp (le-leb (length s) max_line short, no told-word (not-true _ e))
+    setting-other e = simp (le-leb (length s) max_line short, no told-word e)
 
-    pub setting-numbers : (l : First) → not r ≡ false → l ≡ first_of (four_in (drop (p + 1) s)) → l ≡ first_of (setting_in s)
+    pub setting-numbers : (l : First) → r ≡ true → l ≡ first_of (four_in (drop (p + 1) s)) → l ≡ first_of (setting_in s)
     unfolding setting_in
     setting-numbers l e f =
         let b : rest s ≡ some (drop (p + 1) s) = cut_some s 0 p ends.0 (omega (arith, ends.1)) in
-        simp (le-leb (length s) max_line short, yes told-word (not-false _ e), b) f
+        simp (le-leb (length s) max_line short, yes told-word e, b) f

@@ -71,37 +71,37 @@ module _ (h : Head) (row : List ℕ) (r : Turned) (b : Bool) (e : b ≡ valid (s
   abbrev s : Server
   s = server_of h row
 
-  broken : not b ≡ true → valid s ≡ false
-  broken n = sym e ∙ not-true b n
+  broken : b ≡ false → valid s ≡ false
+  broken n = sym e ∙ n
 
-  sound : not b ≡ false → valid s ≡ true
-  sound n = sym e ∙ not-false b n
+  sound : b ≡ true → valid s ≡ true
+  sound n = sym e ∙ n
 
   -- 21
-  pub message_broken : (m : Message) → not b ≡ true → r ≡ refusing h InvalidRecord → Turns h row (message_outcome s m) r row
+  pub message_broken : (m : Message) → b ≡ false → r ≡ refusing h InvalidRecord → Turns h row (message_outcome s m) r row
   unfolding message_outcome_up_to
   message_broken m n p = turns_refused h row (message_outcome s m) r InvalidRecord (rw (broken n)) p
 
-  pub suspect_broken : not b ≡ true → r ≡ refusing h InvalidRecord → Turns h row (suspect_outcome s) r row
+  pub suspect_broken : b ≡ false → r ≡ refusing h InvalidRecord → Turns h row (suspect_outcome s) r row
   unfolding suspect_outcome
   suspect_broken n p = turns_refused h row (suspect_outcome s) r InvalidRecord (rw (broken n)) p
 
-  pub check_broken : not b ≡ true → r ≡ refusing h InvalidRecord → Turns h row (check_outcome s) r row
+  pub check_broken : b ≡ false → r ≡ refusing h InvalidRecord → Turns h row (check_outcome s) r row
   unfolding check_outcome
   check_broken n p = turns_refused h row (check_outcome s) r InvalidRecord (rw (broken n)) p
 
-  module _ (n : not b ≡ false) where
+  module _ (n : b ≡ true) where
     -- 5, and then what the kind says
     module _ (m : Message) (v : Bool) (f : v ≡ format.valid m) where
-      pub message-range : not v ≡ true → r ≡ refusing h NumberOutOfRange → Turns h row (message_outcome s m) r row
+      pub message-range : v ≡ false → r ≡ refusing h NumberOutOfRange → Turns h row (message_outcome s m) r row
       unfolding message_outcome_up_to
       message-range t p = let z : format.valid m ≡ false = sym f ∙
-          not-true v t in turns_refused h row (message_outcome s m) r NumberOutOfRange (rw (sound n, z)) p
+          t in turns_refused h row (message_outcome s m) r NumberOutOfRange (rw (sound n, z)) p
 
-      module _ (t : not v ≡ false) where
+      module _ (t : v ≡ true) where
         its-kind : message_outcome s m ≡ received s m
         unfolding message_outcome_up_to
-        its-kind = let z : format.valid m ≡ true = sym f ∙ not-false v t in rw (sound n, z)
+        its-kind = let z : format.valid m ≡ true = sym f ∙ t in rw (sound n, z)
 
         -- by what the message asks of a server
         module _ (a : Asked) (d : a ≡ asked_by m) where
@@ -162,21 +162,21 @@ module _ (n : ℕ) (j : ServerId) (r : Stepped) (a : Bool) (p : a ≡ within n m
   said_new : r ≡ new_result n j → NewGives n j r
   said_new e = (e, ap (λ (s : Stepped). answer_says s.answer) e ∙ new_row)
 
-  pub new_few : not a ≡ true → r ≡ record { server = blank; answer = Refused ParameterOutOfRange } → NewGives n j r
+  pub new_few : a ≡ false → r ≡ record { server = blank; answer = Refused ParameterOutOfRange } → NewGives n j r
   unfolding new_result
-  new_few t q = let z : within n max_servers ≡ false = sym p ∙ not-true a t in said_new (rw (z, q))
+  new_few t q = let z : within n max_servers ≡ false = sym p ∙ t in said_new (rw (z, q))
 
-  module _ (t : not a ≡ false) (b : Bool) (q : b ≡ within j.0 n) where
-    pub new_other : not b ≡ true → r ≡ record { server = blank; answer = Refused ParameterOutOfRange } → NewGives n j r
+  module _ (t : a ≡ true) (b : Bool) (q : b ≡ within j.0 n) where
+    pub new_other : b ≡ false → r ≡ record { server = blank; answer = Refused ParameterOutOfRange } → NewGives n j r
     unfolding new_result
     new_other u d =
-        let z : within n max_servers ≡ true = sym p ∙ not-false a t in
-        let y : within j.0 n ≡ false = sym q ∙ not-true b u in
+        let z : within n max_servers ≡ true = sym p ∙ t in
+        let y : within j.0 n ≡ false = sym q ∙ u in
         said_new (rw (z, y, d))
 
-    pub new_made : (s : Server) → not b ≡ false → s ≡ empty_server n j → r ≡ record { server = s; answer = Sent 0 0 } → NewGives n j r
+    pub new_made : (s : Server) → b ≡ true → s ≡ empty_server n j → r ≡ record { server = s; answer = Sent 0 0 } → NewGives n j r
     unfolding new_result
     new_made s u e d =
-        let z : within n max_servers ≡ true = sym p ∙ not-false a t in
-        let y : within j.0 n ≡ true = sym q ∙ not-false b u in
+        let z : within n max_servers ≡ true = sym p ∙ t in
+        let y : within j.0 n ≡ true = sym q ∙ u in
         said_new (rw (z, y, d, e))

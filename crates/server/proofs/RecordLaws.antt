@@ -96,45 +96,45 @@ module _ (v : Votes) (row : List ℕ) (a : Bool) (p : a ≡ valid_owner v.owner)
       (queue_of row v.len) && ordered (queue_of row v.len) && once (queue_of row v.len)
   tests = state_tests v.owner (queue_of row v.len)
 
-  pub votes_1 : not a ≡ true → false ≡ valid_state (view v row)
-  votes_1 n = rw tests (fails_1 _ _ _ _ _ (sym p ∙ not-true a n))
+  pub votes_1 : a ≡ false → false ≡ valid_state (view v row)
+  votes_1 n = rw tests (fails_1 _ _ _ _ _ (sym p ∙ n))
 
-  module _ (na : not a ≡ false) (b : Bool) (q : b ≡ every valid_request (queue_of row v.len)) where
-    pub votes_2 : not b ≡ true → false ≡ valid_state (view v row)
-    votes_2 n = rw tests (fails_2 _ _ _ _ _ (sym p ∙ not-false a na) (sym q ∙ not-true b n))
+  module _ (na : a ≡ true) (b : Bool) (q : b ≡ every valid_request (queue_of row v.len)) where
+    pub votes_2 : b ≡ false → false ≡ valid_state (view v row)
+    votes_2 n = rw tests (fails_2 _ _ _ _ _ (sym p ∙ na) (sym q ∙ n))
 
-    module _ (nb : not b ≡ false) (c : Bool) (r : c ≡ fits_owner v.owner (queue_of row v.len)) where
-      pub votes_3 : not c ≡ true → false ≡ valid_state (view v row)
-      votes_3 n = rw tests (fails_3 _ _ _ _ _ (sym p ∙ not-false a na) (sym q ∙ not-false b nb) (sym r ∙ not-true c n))
+    module _ (nb : b ≡ true) (c : Bool) (r : c ≡ fits_owner v.owner (queue_of row v.len)) where
+      pub votes_3 : c ≡ false → false ≡ valid_state (view v row)
+      votes_3 n = rw tests (fails_3 _ _ _ _ _ (sym p ∙ na) (sym q ∙ nb) (sym r ∙ n))
 
-      module _ (nc : not c ≡ false) (d : Bool) (s : d ≡ ordered (queue_of row v.len)) where
-        pub votes_4 : not d ≡ true → false ≡ valid_state (view v row)
-        votes_4 n = rw tests (fails_4 _ _ _ _ _ (sym p ∙ not-false a na) (sym q ∙ not-false b nb) (sym r ∙ not-false c nc) (sym s ∙ not-true d n))
+      module _ (nc : c ≡ true) (d : Bool) (s : d ≡ ordered (queue_of row v.len)) where
+        pub votes_4 : d ≡ false → false ≡ valid_state (view v row)
+        votes_4 n = rw tests (fails_4 _ _ _ _ _ (sym p ∙ na) (sym q ∙ nb) (sym r ∙ nc) (sym s ∙ n))
 
-        pub votes_5 : (e : Bool) → not d ≡ false → e ≡ once (queue_of row v.len) → e ≡ valid_state (view v row)
-        votes_5 e n t = t ∙ rw tests (passes_4 _ _ _ _ _ (sym p ∙ not-false a na) (sym q ∙ not-false b nb) (sym r ∙ not-false c nc) (sym s ∙ not-false d n))
+        pub votes_5 : (e : Bool) → d ≡ true → e ≡ once (queue_of row v.len) → e ≡ valid_state (view v row)
+        votes_5 e n t = t ∙ rw tests (passes_4 _ _ _ _ _ (sym p ∙ na) (sym q ∙ nb) (sym r ∙ nc) (sym s ∙ n))
 
 module _ (limit : ℕ) (h : Head) (row : List ℕ) (a : Bool) (p : a ≡ within h.n limit) where
-  pub server_1 : not a ≡ true → false ≡ valid_up_to limit (server_of h row)
+  pub server_1 : a ≡ false → false ≡ valid_up_to limit (server_of h row)
   unfolding valid_up_to
-  server_1 n = rw (sym p ∙ not-true a n)
+  server_1 n = rw (sym p ∙ n)
 
-  module _ (na : not a ≡ false) (b : Bool) (q : b ≡ within h.id.0 h.n) where
-    pub server_2 : not b ≡ true → false ≡ valid_up_to limit (server_of h row)
+  module _ (na : a ≡ true) (b : Bool) (q : b ≡ within h.id.0 h.n) where
+    pub server_2 : b ≡ false → false ≡ valid_up_to limit (server_of h row)
     unfolding valid_up_to
-    server_2 n = rw (sym p ∙ not-false a na, sym q ∙ not-true b n)
+    server_2 n = rw (sym p ∙ na, sym q ∙ n)
 
-    module _ (nb : not b ≡ false) (c : Bool) (r : c ≡ good_row row h.votes.len) where
-      pub server_3 : not c ≡ true → false ≡ valid_up_to limit (server_of h row)
+    module _ (nb : b ≡ true) (c : Bool) (r : c ≡ good_row row h.votes.len) where
+      pub server_3 : c ≡ false → false ≡ valid_up_to limit (server_of h row)
       unfolding valid_up_to
-      server_3 n = rw (sym p ∙ not-false a na, sym q ∙ not-false b nb, sym r ∙ not-true c n)
+      server_3 n = rw (sym p ∙ na, sym q ∙ nb, sym r ∙ n)
 
-      pub server_4 : (d : Bool) → not c ≡ false → d ≡ valid_state (view h.votes row) → d ≡ valid_up_to limit (server_of h row)
+      pub server_4 : (d : Bool) → c ≡ true → d ≡ valid_state (view h.votes row) → d ≡ valid_up_to limit (server_of h row)
       unfolding valid_up_to
-      server_4 d n t = rw (sym p ∙ not-false a na, sym q ∙ not-false b nb, sym r ∙ not-false c n) t
+      server_4 d n t = rw (sym p ∙ na, sym q ∙ nb, sym r ∙ n) t
 
-pub row-padded : (row : List ℕ) (len : ℕ) (b : Bool) → b ≡ good_row row len → not b ≡ false → Padded row len
-row-padded row len b e n = good-padded row len (sym e ∙ not-false b n)
+pub row-padded : (row : List ℕ) (len : ℕ) (b : Bool) → b ≡ good_row row len → b ≡ true → Padded row len
+row-padded row len b e n = good-padded row len (sym e ∙ n)
 
 -- the parts of a valid record: its numbers, its row and its state
 module _ (limit : ℕ) (x : Server) (v : valid_up_to limit x ≡ true) where
@@ -156,8 +156,8 @@ module _ (limit : ℕ) (x : Server) (v : valid_up_to limit x ≡ true) where
       (valid_state (view x.head.votes x.row)) v).1
 
 -- a valid server's row is in good order
-pub server-padded : (x : Server) (b : Bool) → b ≡ valid x → not b ≡ false → Padded x.row x.head.votes.len
-server-padded x b e n = valid-padded max_servers x (sym e ∙ not-false b n)
+pub server-padded : (x : Server) (b : Bool) → b ≡ valid x → b ≡ true → Padded x.row x.head.votes.len
+server-padded x b e n = valid-padded max_servers x (sym e ∙ n)
 
 -- a record, by its head
 pub with-head : (row : List ℕ) (h d : Head) → h ≡ d → server_of h row ≡ server_of d row

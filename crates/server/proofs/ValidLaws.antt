@@ -38,11 +38,11 @@ module _ (test : List Request → Bool) (l : List Request) (from : ℕ) where
   passing_on i h e p = record { within = omega arith; left = rw (add-one i) (p.left ∙ e) }
 
 module _ (f : Request → Bool) (l : List Request) (i : ℕ) (h : i < length l) (b : Bool) (e : b ≡ f (get_or l i no_request)) where
-  every_on : not b ≡ false → every f (drop i l) ≡ every f (drop (suc i) l)
-  every_on n = let t : f (get_or l i no_request) ≡ true = sym e ∙ not-false b n in rw (drop-cons l i no_request h, t)
+  every_on : b ≡ true → every f (drop i l) ≡ every f (drop (suc i) l)
+  every_on n = let t : f (get_or l i no_request) ≡ true = sym e ∙ n in rw (drop-cons l i no_request h, t)
 
-  every_stops : not b ≡ true → every f (drop i l) ≡ false
-  every_stops n = let t : f (get_or l i no_request) ≡ false = sym e ∙ not-true b n in rw (drop-cons l i no_request h, t)
+  every_stops : b ≡ false → every f (drop i l) ≡ false
+  every_stops n = let t : f (get_or l i no_request) ≡ false = sym e ∙ n in rw (drop-cons l i no_request h, t)
 
 every-ends : (f : Request → Bool) (l : List Request) (i : ℕ) → length l ≤ i → every f (drop i l) ≡ true
 every-ends f l i h = rw (drop_of_length-le l h)
@@ -51,14 +51,14 @@ module _ (l : List Request) (i : ℕ) (h : suc i < length l) (b : Bool) (e : b �
   two : drop i l ≡ get_or l i no_request ∷ (get_or l (suc i) no_request ∷ drop (suc (suc i)) l)
   two = drop-cons l i no_request (omega arith) ∙ ap (λ (t : List Request). get_or l i no_request ∷ t) (drop-cons l (suc i) no_request h)
 
-  ordered_on : not b ≡ false → ordered (drop i l) ≡ ordered (drop (suc i) l)
+  ordered_on : b ≡ true → ordered (drop i l) ≡ ordered (drop (suc i) l)
   unfolding ordered
-  ordered_on n = let t : before (get_or l i no_request) (get_or l (suc i) no_request) ≡ true = sym e ∙ not-false b n in ap ordered two ∙
+  ordered_on n = let t : before (get_or l i no_request) (get_or l (suc i) no_request) ≡ true = sym e ∙ n in ap ordered two ∙
       rw t (ap ordered (sym (drop-cons l (suc i) no_request h)))
 
-  ordered_stops : not b ≡ true → ordered (drop i l) ≡ false
+  ordered_stops : b ≡ false → ordered (drop i l) ≡ false
   unfolding ordered
-  ordered_stops n = let t : before (get_or l i no_request) (get_or l (suc i) no_request) ≡ false = sym e ∙ not-true b n in ap ordered two ∙ rw t
+  ordered_stops n = let t : before (get_or l i no_request) (get_or l (suc i) no_request) ≡ false = sym e ∙ n in ap ordered two ∙ rw t
 
 short-ordered : (l : List Request) → length l ≤ 1 → ordered l ≡ true
 unfolding ordered
@@ -112,10 +112,10 @@ module _ (P : List Request) (len : ℕ) (w : len ≤ length P) where
       there : b ≡ f (get_or (take len P) i no_request)
       there = rw (get_or-take len P i no_request h) e
 
-      pub valid_on : not b ≡ false → Passing (every f) (take len P) 0 (i + 1)
+      pub valid_on : b ≡ true → Passing (every f) (take len P) 0 (i + 1)
       valid_on n = passing_on (every f) (take len P) 0 i inside (every_on f (take len P) i inside b there n) p
 
-      pub valid_stops : not b ≡ true → false ≡ every f (take len P)
+      pub valid_stops : b ≡ false → false ≡ every f (take len P)
       valid_stops n = sym (p.left ∙ every_stops f (take len P) i inside b there n)
 
     module _ (b : Bool) (e : b ≡ repeats (drop i (take len P))) (p : Passing once (take len P) 0 i) where
@@ -135,10 +135,10 @@ module _ (P : List Request) (len : ℕ) (w : len ≤ length P) where
         let c : suc i < len = omega arith in
         rw (get_or-take len P i no_request a, get_or-take len P (suc i) no_request c) (rw (add-one i) at e)
 
-    pub order_on : not b ≡ false → Passing ordered (take len P) 0 (i + 1)
+    pub order_on : b ≡ true → Passing ordered (take len P) 0 (i + 1)
     order_on n = passing_on ordered (take len P) 0 i (omega (arith, inside')) (ordered_on (take len P) i inside' b there' n) p
 
-    pub order_stops : not b ≡ true → false ≡ ordered (take len P)
+    pub order_stops : b ≡ false → false ≡ ordered (take len P)
     order_stops n = sym (p.left ∙ ordered_stops (take len P) i inside' b there' n)
 
   module _ (i : ℕ) where

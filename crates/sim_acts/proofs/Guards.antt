@@ -31,10 +31,10 @@ use Rattle.sim_changes.proofs.ServerEvents.{server_there_in}
 module _ (w : List ℕ) (k : ClientId) {a : Bool} (ok : valid w ≡ true) (e : a ≡ within k.0 (setting_of w).clients) where
   pub client_missing : (v : Event)
       → (has (view w).clients k.0 ≡ false → event (setting_of w).n (enough (setting_of w).m) (view w) v ≡ refused NoSuchParty)
-      → not a ≡ true → Leaves w v w × (Refused NoSuchParty ≡ moved_of (happens w v))
+      → a ≡ false → Leaves w v w × (Refused NoSuchParty ≡ moved_of (happens w v))
   client_missing v f t = leaves_refused w v NoSuchParty ok (f (parties.client_missing w ok k.0 a e t))
 
-  pub client-here : not a ≡ false → HasClient w k
+  pub client-here : a ≡ true → HasClient w k
   client-here t = parties.client-found w ok k.0 a e t
 
 -- client k is there
@@ -42,10 +42,10 @@ module _ (w : List ℕ) (k : ClientId) (H : HasClient w k) {b : Bool} (f : b ≡
   living-here : b ≡ (client_at (view w) k).living
   living-here = sym (parties.living-is w k.0 H b f)
 
-  pub client-lives : not b ≡ false → (client_at (view w) k).living ≡ true
+  pub client-lives : b ≡ true → (client_at (view w) k).living ≡ true
   client-lives u = holds b _ living-here u
 
-  pub fall_twice : not b ≡ true → Leaves w (Fall k) w × (Refused PartyDown ≡ moved_of (happens w (Fall k)))
+  pub fall_twice : b ≡ false → Leaves w (Fall k) w × (Refused PartyDown ≡ moved_of (happens w (Fall k)))
   fall_twice u =
       leaves_refused w (Fall k) PartyDown H.valid
       (fallen_falls (setting_of w).n (enough (setting_of w).m) (view w) k (client_there_in w k H) (fails b _ living-here u))
@@ -54,10 +54,10 @@ module _ (w : List ℕ) (k : ClientId) (H : HasClient w k) {b : Bool} (f : b ≡
 module _ (w : List ℕ) (j : ServerId) {a : Bool} (ok : valid w ≡ true) (e : a ≡ within j.0 (setting_of w).n) where
   pub server_missing : (v : Event)
       → (has (view w).servers j.0 ≡ false → event (setting_of w).n (enough (setting_of w).m) (view w) v ≡ refused NoSuchParty)
-      → not a ≡ true → Leaves w v w × (Refused NoSuchParty ≡ moved_of (happens w v))
+      → a ≡ false → Leaves w v w × (Refused NoSuchParty ≡ moved_of (happens w v))
   server_missing v f t = leaves_refused w v NoSuchParty ok (f (parties.server_missing w ok j.0 a e t))
 
-  pub server-here : not a ≡ false → HasServer w j
+  pub server-here : a ≡ true → HasServer w j
   server-here t = parties.server-found w ok j.0 a e t
 
 -- server j is there
@@ -65,13 +65,13 @@ module _ (w : List ℕ) (j : ServerId) (H : HasServer w j) {b : Bool} (f : b ≡
   pub up-here : b ≡ (server_at (view w) j).up
   up-here = sym (parties.up_is w j.0 H b f)
 
-  pub server-runs : not b ≡ false → (server_at (view w) j).up ≡ true
+  pub server-runs : b ≡ true → (server_at (view w) j).up ≡ true
   server-runs u = holds b _ up-here u
 
   pub server-down : (v : Event)
       → (has (view w).servers j.0 ≡ true → (server_at (view w) j).up ≡ false
       → event (setting_of w).n (enough (setting_of w).m) (view w) v ≡ refused PartyDown)
-      → not b ≡ true → Leaves w v w × (Refused PartyDown ≡ moved_of (happens w v))
+      → b ≡ false → Leaves w v w × (Refused PartyDown ≡ moved_of (happens w v))
   server-down v g u = leaves_refused w v PartyDown H.valid (g (server_there_in w j H) (fails b _ up-here u))
 
   pub up_twice : b ≡ true → Leaves w (Up j) w × (Refused PartyDown ≡ moved_of (happens w (Up j)))

@@ -64,7 +64,7 @@ module _ (w : List ℕ) (k : ℕ) (H : HasClient w (client_no k)) where
       (fall_block (setting_of w).n (setting_of w).m (setting_of w).clients k block (client-valid w (sound w H.valid) k H.first H.last)) in
       client-becomes w H.valid k (cleared (set block 0 0)) _ H.first H.last B zero-le
 
-module _ (w : List ℕ) (k : ClientId) (H : HasClient w k) {b : Bool} (f : b ≡ (client_place (client_block_of w k)).living) (u : not b ≡ false) where
+module _ (w : List ℕ) (k : ClientId) (H : HasClient w k) {b : Bool} (f : b ≡ (client_place (client_block_of w k)).living) (u : b ≡ true) where
   pub fall_leaves : {w' : List ℕ} → w' ≡ sets w (clients_from + client_block * (k.0 - 1)) (cleared (set (client_block_of w k) 0 0))
       → Leaves w (Fall k) w' × (Sent 0 ≡ moved_of (happens w (Fall k)))
   fall_leaves g =
@@ -130,7 +130,7 @@ module _ (w : List ℕ) (j : ServerId) (H : HasServer w j) where
             ∙ ap (λ (u : System). with_clients u (map (downed j) u.clients))
             (R.system ∙ ap (λ (u : System). with_transit u (map (again j) u.transit)) sunk.system)
 
-        pub down_leaves : {b : Bool} → b ≡ (server_place (server_block_of w j)).up → not b ≡ false
+        pub down_leaves : {b : Bool} → b ≡ (server_place (server_block_of w j)).up → b ≡ true
             → Leaves w (Down j) w₃ × (Sent 0 ≡ moved_of (happens w (Down j)))
         down_leaves f u =
             leaves_silent w (Down j) (went_down (view w) j) refl

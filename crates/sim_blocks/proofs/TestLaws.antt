@@ -86,20 +86,20 @@ zero_words (x ∷ l) = rw (zero_word_lem x, zero_words l)
 
 module _ (n : ℕ) (l : List ℕ) where
   module _ (r x : Bool) (p : x ≡ every (λ y. leb y 1) l) where
-    pub flags_large : not x ≡ true → false ≡ fits_flags n r l
+    pub flags_large : x ≡ false → false ≡ fits_flags n r l
     unfolding fits_flags
     flags_large t = rw (fails x (every bit_word l) p t)
 
-    module _ (t : not x ≡ false) (y : Bool) (q : y ≡ every (λ z. leb z 0) (drop n l)) where
-      pub flags-behind : not y ≡ true → false ≡ fits_flags n r l
+    module _ (t : x ≡ true) (y : Bool) (q : y ≡ every (λ z. leb z 0) (drop n l)) where
+      pub flags-behind : y ≡ false → false ≡ fits_flags n r l
       unfolding fits_flags
       flags-behind u = rw (holds x (every bit_word l) p t, fails y (every zero_word (drop n l)) (q ∙ zero_words (drop n l)) u)
 
-      pub flags_epoch : not y ≡ false → r ≡ true → true ≡ fits_flags n r l
+      pub flags_epoch : y ≡ true → r ≡ true → true ≡ fits_flags n r l
       unfolding fits_flags
       flags_epoch u e = rw (holds x (every bit_word l) p t, holds y (every zero_word (drop n l)) (q ∙ zero_words (drop n l)) u, e)
 
-      pub flags-outside : not y ≡ false → r ≡ false → (z : Bool) → z ≡ every (λ w. leb w 0) l → z ≡ fits_flags n r l
+      pub flags-outside : y ≡ true → r ≡ false → (z : Bool) → z ≡ every (λ w. leb w 0) l → z ≡ fits_flags n r l
       unfolding fits_flags
       flags-outside u e z w =
           rw (holds x (every bit_word l) p t, holds y (every zero_word (drop n l)) (q ∙ zero_words (drop n l)) u, e) (w ∙ zero_words l)
@@ -117,11 +117,11 @@ module _ (n m clients : ℕ) (k : ClientId) (ws : List ℕ) (c : Client) (e : c 
   its-valid : x ≡ client.valid (client_from ws)
   its-valid = p ∙ ap client.valid e
 
-  pub client_broken : not x ≡ true → false ≡ fits_client n m clients k (client_from ws)
+  pub client_broken : x ≡ false → false ≡ fits_client n m clients k (client_from ws)
   unfolding fits_client
   client_broken t = rw (fails x (client.valid (client_from ws)) its-valid t)
 
-  module _ (t : not x ≡ false) where
+  module _ (t : x ≡ true) where
     good : client.valid (client_from ws) ≡ true
     good = holds x (client.valid (client_from ws)) its-valid t
 
@@ -169,11 +169,11 @@ named-owner clients k t l =
     (decided (eqb k 0 && eqb t 0))
 
 module _ (n clients : ℕ) (j : ServerId) (ws : List ℕ) (s : Server) (e : s ≡ server_from ws) (x : Bool) (p : x ≡ server.valid s) where
-  pub server_broken : not x ≡ true → false ≡ fits_server n clients j (server_from ws)
+  pub server_broken : x ≡ false → false ≡ fits_server n clients j (server_from ws)
   unfolding fits_server
   server_broken t = rw (fails x (server.valid (server_from ws)) (p ∙ ap server.valid e) t)
 
-  module _ (t : not x ≡ false) where
+  module _ (t : x ≡ true) where
     sound : server.valid (server_from ws) ≡ true
     sound = holds x (server.valid (server_from ws)) (p ∙ ap server.valid e) t
 
@@ -240,15 +240,15 @@ module _ (n m clients : ℕ) (k : ClientId) (b : List ℕ) where
     abbrev fits : Bool
     fits = fits_client n m clients k (client_from (client_record b)) && fits_flags n (in_epoch (client_place b)) (flags b)
 
-    pub record_unfit : not x ≡ true → false ≡ fits
+    pub record_unfit : x ≡ false → false ≡ fits
     record_unfit t = rw (fails x (fits_client n m clients k (client_from (client_record b))) p t)
 
-    pub record_few : holds_client_record (client_record b) ≡ true → not x ≡ false → n ≤ system_servers
+    pub record_few : holds_client_record (client_record b) ≡ true → x ≡ true → n ≤ system_servers
     record_few h t =
         few-servers n m clients k (client_from (client_record b)) (client-row response_words (client_record b) h)
         (holds x (fits_client n m clients k (client_from (client_record b))) p t)
 
-    pub flags-decide : not x ≡ false → (r : Bool) → r ≡ in_epoch (client_place b) → (y : Bool) → y ≡ fits_flags n r (flags b) → y ≡ fits
+    pub flags-decide : x ≡ true → (r : Bool) → r ≡ in_epoch (client_place b) → (y : Bool) → y ≡ fits_flags n r (flags b) → y ≡ fits
     flags-decide t r e y q = rw (holds x (fits_client n m clients k (client_from (client_record b))) p t) (q ∙ ap (λ (z : Bool). fits_flags n z (flags b)) e)
 
   pub client-size : (length b ≡ client_block → ⊥) → false ≡ valid_client_block n m clients k b
@@ -261,11 +261,11 @@ module _ (n m clients : ℕ) (k : ClientId) (b : List ℕ) where
     client-bit h = rw (l, lt-leb (get_or b 0 0) 1 h)
 
     module _ (h : get_or b 0 0 ≤ 1) (x : Bool) (p : x ≡ holds_client_record (client_record b)) where
-      pub client-wide : not x ≡ true → false ≡ valid_client_block n m clients k b
+      pub client-wide : x ≡ false → false ≡ valid_client_block n m clients k b
       unfolding valid_client_block
       client-wide t = rw (l, le-leb (get_or b 0 0) 1 h, fails x (holds_client_record (client_record b)) p t)
 
-      pub client-decided : not x ≡ false → (y : Bool)
+      pub client-decided : x ≡ true → (y : Bool)
           → y ≡ fits_client n m clients k (client_from (client_record b)) && fits_flags n (in_epoch (client_place b)) (flags b)
           → y ≡ valid_client_block n m clients k b
       unfolding valid_client_block
@@ -282,11 +282,11 @@ module _ (n clients : ℕ) (j : ServerId) (b : List ℕ) where
     server-bit h = rw (l, lt-leb (get_or b 0 0) 1 h)
 
     module _ (h : get_or b 0 0 ≤ 1) (x : Bool) (p : x ≡ holds_server_record (server_record b)) where
-      pub server-wide : not x ≡ true → false ≡ valid_server_block n clients j b
+      pub server-wide : x ≡ false → false ≡ valid_server_block n clients j b
       unfolding valid_server_block
       server-wide t = rw (l, le-leb (get_or b 0 0) 1 h, fails x (holds_server_record (server_record b)) p t)
 
-      pub server-decided : not x ≡ false → (y : Bool) → y ≡ fits_server n clients j (server_from (server_record b)) → y ≡ valid_server_block n clients j b
+      pub server-decided : x ≡ true → (y : Bool) → y ≡ fits_server n clients j (server_from (server_record b)) → y ≡ valid_server_block n clients j b
       unfolding valid_server_block
       server-decided t y q = rw (l, le-leb (get_or b 0 0) 1 h, holds x (holds_server_record (server_record b)) p t) q
 

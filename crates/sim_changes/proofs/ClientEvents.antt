@@ -162,10 +162,10 @@ module _ (w : List ℕ) (k : ClientId) where
     living-here : b ≡ (client_at (view w) k).living
     living-here = sym (living-is w k.0 (act-client a M) b f)
 
-    pub client-fallen : not b ≡ true → Leaves w (client_event w k a) w × (Refused PartyDown ≡ moved_of (happens w (client_event w k a)))
+    pub client-fallen : b ≡ false → Leaves w (client_event w k a) w × (Refused PartyDown ≡ moved_of (happens w (client_event w k a)))
     client-fallen u = leaves_refused w (client_event w k a) PartyDown (act-client a M).valid (act-fallen a M (fails b _ living-here u))
 
-    pub client-lives : not b ≡ false → (client_at (view w) k).living ≡ true
+    pub client-lives : b ≡ true → (client_at (view w) k).living ≡ true
     client-lives u = holds b _ living-here u
 
   -- what the call asks
@@ -370,10 +370,10 @@ client-few C count size f = call_few C.call count size f
 -- the laws of each way out: words w₁ have the client's record, and words w₂ its messages
 module _ {w : List ℕ} {k : ClientId} {a : ClientAct} {r : Turned} {row bytes : List ℕ} {count : ℕ} {b : Bool}
     (T : ClientTested w k a r row bytes count b) where
-  pub client-full : not b ≡ true → Leaves w (client_event w k a) w × (Refused SystemFull ≡ moved_of (happens w (client_event w k a)))
+  pub client-full : b ≡ false → Leaves w (client_event w k a) w × (Refused SystemFull ≡ moved_of (happens w (client_event w k a)))
   client-full t = call_full T.called.call count T.size T.answered b T.room t
 
-  module _ (t : not b ≡ false) (w₁ : List ℕ) (B : Becomes w w₁ (client_stored w k a)) where
+  module _ (t : b ≡ true) (w₁ : List ℕ) (B : Becomes w w₁ (client_stored w k a)) where
     pub client_sendable : Sendable w₁ count bytes
     client_sendable = call_sendable T.called.call count T.size T.answered b T.room t w₁ _ B T.called.all refl
 

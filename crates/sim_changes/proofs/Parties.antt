@@ -34,13 +34,13 @@ module _ (w : List ℕ) (ok : valid w ≡ true) (k : ℕ) (r : Bool) (e : r ≡ 
   has-client : r ≡ has (view w).clients k
   has-client = e ∙ sym (client-there w k)
 
-  pub client_missing : not r ≡ true → has (view w).clients k ≡ false
+  pub client_missing : r ≡ false → has (view w).clients k ≡ false
   client_missing t = fails r (has (view w).clients k) has-client t
 
-  pub client_there_is : not r ≡ false → has (view w).clients k ≡ true
+  pub client_there_is : r ≡ true → has (view w).clients k ≡ true
   client_there_is t = holds r (has (view w).clients k) has-client t
 
-  pub client-found : not r ≡ false → HasClient w (client_no k)
+  pub client-found : r ≡ true → HasClient w (client_no k)
   client-found t =
       let b = within-range k (setting_of w).clients (holds r (within k (setting_of w).clients) e t) in
       record { valid = ok; first = b.0; last = b.1 }
@@ -50,13 +50,13 @@ module _ (w : List ℕ) (ok : valid w ≡ true) (j : ℕ) (r : Bool) (e : r ≡ 
   has-server : r ≡ has (view w).servers j
   has-server = e ∙ sym (server-there w j)
 
-  pub server_missing : not r ≡ true → has (view w).servers j ≡ false
+  pub server_missing : r ≡ false → has (view w).servers j ≡ false
   server_missing t = fails r (has (view w).servers j) has-server t
 
-  pub server_there_is : not r ≡ false → has (view w).servers j ≡ true
+  pub server_there_is : r ≡ true → has (view w).servers j ≡ true
   server_there_is t = holds r (has (view w).servers j) has-server t
 
-  pub server-found : not r ≡ false → HasServer w (server_no j)
+  pub server-found : r ≡ true → HasServer w (server_no j)
   server-found t =
       let b = within-range j (setting_of w).n (holds r (within j (setting_of w).n) e t) in
       record { valid = ok; first = b.0; last = b.1 }

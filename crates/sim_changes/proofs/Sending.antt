@@ -138,14 +138,14 @@ module _ {w : List ℕ} {e : Event} {gone : ℕ} {l : List Message} {s : Step Sy
     call_few = omega (arith, call_count, C.steps.sends.few)
 
     module _ (r : Bool) (h : r ≡ has_room w gone count) where
-      pub call_full : not r ≡ true → Leaves w e w × (Refused SystemFull ≡ moved_of (happens w e))
+      pub call_full : r ≡ false → Leaves w e w × (Refused SystemFull ≡ moved_of (happens w e))
       call_full t =
-          let g : has_room w gone (length l) ≡ false = rw call_count at (sym h ∙ not-true r t) in
+          let g : has_room w gone (length l) ≡ false = rw call_count at (sym h ∙ t) in
           leaves_full w e gone l s C.steps C.ok g
 
-      module _ (t : not r ≡ false) where
+      module _ (t : r ≡ true) where
         has_room_lem : has_room w gone (length l) ≡ true
-        has_room_lem = rw call_count at (sym h ∙ not-false r t)
+        has_room_lem = rw call_count at (sym h ∙ t)
 
         pub call_sendable : (w₁ : List ℕ) (u : System) → Becomes w w₁ u → length u.transit ≡ length_of w - gone → u.sent ≡ (view w).sent
             → Sendable w₁ count bytes
@@ -216,14 +216,14 @@ module _ {w : List ℕ} {e : Event} {l : List Message} {s : Step System} {x : Ru
     ruled-few = omega (arith, ruled-count, C.steps.sends.few)
 
     module _ (r : Bool) (h : r ≡ has_room w 0 count) where
-      pub ruled-full : not r ≡ true → Leaves w e w × (Refused SystemFull ≡ moved_of (happens w e))
+      pub ruled-full : r ≡ false → Leaves w e w × (Refused SystemFull ≡ moved_of (happens w e))
       ruled-full t =
-          let g : has_room w 0 (length l) ≡ false = rw ruled-count at (sym h ∙ not-true r t) in
+          let g : has_room w 0 (length l) ≡ false = rw ruled-count at (sym h ∙ t) in
           leaves_full w e 0 l s C.steps C.ok g
 
-      module _ (t : not r ≡ false) where
+      module _ (t : r ≡ true) where
         roomy_for : has_room w 0 (length l) ≡ true
-        roomy_for = rw ruled-count at (sym h ∙ not-false r t)
+        roomy_for = rw ruled-count at (sym h ∙ t)
 
         pub ruled_sendable : (w₁ : List ℕ) (u : System) → Becomes w w₁ u → length u.transit ≡ length_of w - 0 → u.sent ≡ (view w).sent → CanSend w₁ ms
         ruled_sendable w₁ u B p q = rw C.told (can_send w e 0 l s C.steps roomy_for w₁ u B p q)

@@ -172,10 +172,10 @@ module _ (w : List ℕ) (j : ServerId) where
     up-here : b ≡ (server_at (view w) j).up
     up-here = sym (up_is w j.0 (act-server a M) b f)
 
-    pub server-down : not b ≡ true → Leaves w (server_event w j a) w × (Refused PartyDown ≡ moved_of (happens w (server_event w j a)))
+    pub server-down : b ≡ false → Leaves w (server_event w j a) w × (Refused PartyDown ≡ moved_of (happens w (server_event w j a)))
     server-down u = leaves_refused w (server_event w j a) PartyDown (act-server a M).valid (act-down a M (fails b _ up-here u))
 
-    pub server-runs : not b ≡ false → (server_at (view w) j).up ≡ true
+    pub server-runs : b ≡ true → (server_at (view w) j).up ≡ true
     server-runs u = holds b _ up-here u
 
   module _ (i : ℕ) (x : Tag) (k : ClientId) (t : Timestamp) (P : Pends w i (tagged x k j t)) where
@@ -278,7 +278,7 @@ module _ (w : List ℕ) (j : ServerId) (a : ServerAct) (M : ServerMay w j a) (up
 
 -- the laws of each way out: words w₁ have the server's record, and words w₂ its messages
 module _ {w : List ℕ} {j : ServerId} {a : ServerAct} {r : Turned} {row : List ℕ} (C : ServerCalled w j a r row)
-    (count : ℕ) (f : count ≡ length (three_mails r.first r.second r.third)) (b : Bool) (h : b ≡ has_room w 0 count) (t : not b ≡ false)
+    (count : ℕ) (f : count ≡ length (three_mails r.first r.second r.third)) (b : Bool) (h : b ≡ has_room w 0 count) (t : b ≡ true)
     (w₁ : List ℕ) (B : Becomes w w₁ (server_stored w j a)) where
   pub server_sendable : CanSend w₁ (three_mails r.first r.second r.third)
   server_sendable = ruled_sendable C.ruled count f b h t w₁ _ B C.all refl

@@ -215,7 +215,7 @@ pub record Making (n clients sent len : ℕ) (t x : List ℕ) (i : ℕ) : Type 0
   pub so_far : x ≡ afresh (slots i t)
 
 module _ (n clients sent len : ℕ) (t : List ℕ) where
-  pub making_none : (n ≤ system_servers) × (clients ≤ system_clients) → (v : Bool) → v ≡ valid_slots n clients sent len t → not v ≡ false
+  pub making_none : (n ≤ system_servers) × (clients ≤ system_clients) → (v : Bool) → v ≡ valid_slots n clients sent len t → v ≡ true
       → Making n clients sent len t (replicate index_size 0) 0
   making_none few v e h =
       record {
@@ -249,11 +249,11 @@ module _ (n clients sent len : ℕ) (t : List ℕ) where
   wrong_size h = rw (ne_eqb (length t) indexed_size h)
 
   module _ (size : length t ≡ indexed_size) (v : Bool) (e : v ≡ valid_slots n clients sent len (table t)) where
-    pub wrong-slots : not v ≡ true → false ≡ valid_indexed n clients sent len t
+    pub wrong-slots : v ≡ false → false ≡ valid_indexed n clients sent len t
     unfolding valid_indexed
-    wrong-slots h = rw (eq-eqb (length t) indexed_size size, ← e, not-true v h)
+    wrong-slots h = rw (eq-eqb (length t) indexed_size size, ← e, h)
 
-    pub index_decides : not v ≡ false → (made : List ℕ) → made ≡ afresh (slots len (table t)) → (r : Bool)
+    pub index_decides : v ≡ true → (made : List ℕ) → made ≡ afresh (slots len (table t)) → (r : Bool)
         → r ≡ same (lent t) made → r ≡ valid_indexed n clients sent len t
     unfolding valid_indexed
-    index_decides h made m r f = rw (eq-eqb (length t) indexed_size size, ← e, not-false v h) (rw (lent-index t size, m) at f)
+    index_decides h made m r f = rw (eq-eqb (length t) indexed_size size, ← e, h) (rw (lent-index t size, m) at f)

@@ -58,17 +58,17 @@ module _ (w : List ℕ) (ok : valid w ≡ true) where
 
   -- a client
   module _ (r : Receiver) (i : ℕ) (k : ClientId) (is : r ≡ Client k) (b : Bool) (e : b ≡ within k.0 (setting_of w).clients) where
-    pub client_lacking : not b ≡ true → Nothing ≡ listed_at (index_of r (view w).transit) i
+    pub client_lacking : b ≡ false → Nothing ≡ listed_at (index_of r (view w).transit) i
     client_lacking h =
         let none = none_to (setting_of w).n (setting_of w).clients (Client k) (fails b (within k.0 (setting_of w).clients) e h) kept in
         rw (is, none) (listed-none i)
 
-    pub client-there : not b ≡ false → (1 ≤ k.0) × (system_servers + (k.0 - 1) < receivers)
+    pub client-there : b ≡ true → (1 ≤ k.0) × (system_servers + (k.0 - 1) < receivers)
     client-there h =
         let a = within-range k.0 (setting_of w).clients (holds b (within k.0 (setting_of w).clients) e h) in
         (a.0, omega (arith, a, few.few-clients))
 
-    pub client-entry : not b ≡ false → (x : Listed) → x ≡ listed_at (entries_at (system_servers + (k.0 - 1)) (view w).transit) i
+    pub client-entry : b ≡ true → (x : Listed) → x ≡ listed_at (entries_at (system_servers + (k.0 - 1)) (view w).transit) i
         → x ≡ listed_at (index_of r (view w).transit) i
     client-entry h x f =
         let own = entries_to (setting_of w).n (setting_of w).clients few (Client k) (client-there h).0 kept in
@@ -76,17 +76,17 @@ module _ (w : List ℕ) (ok : valid w ≡ true) where
 
   -- a server
   module _ (r : Receiver) (i : ℕ) (j : ServerId) (is : r ≡ Server j) (b : Bool) (e : b ≡ within j.0 (setting_of w).n) where
-    pub server_lacking : not b ≡ true → Nothing ≡ listed_at (index_of r (view w).transit) i
+    pub server_lacking : b ≡ false → Nothing ≡ listed_at (index_of r (view w).transit) i
     server_lacking h =
         let none = none_to (setting_of w).n (setting_of w).clients (Server j) (fails b (within j.0 (setting_of w).n) e h) kept in
         rw (is, none) (listed-none i)
 
-    pub server-there : not b ≡ false → (1 ≤ j.0) × (j.0 - 1 < receivers)
+    pub server-there : b ≡ true → (1 ≤ j.0) × (j.0 - 1 < receivers)
     server-there h =
         let a = within-range j.0 (setting_of w).n (holds b (within j.0 (setting_of w).n) e h) in
         (a.0, omega (arith, a, few.few-servers))
 
-    pub server-entry : not b ≡ false → (x : Listed) → x ≡ listed_at (entries_at (j.0 - 1) (view w).transit) i → x ≡ listed_at (index_of r (view w).transit) i
+    pub server-entry : b ≡ true → (x : Listed) → x ≡ listed_at (entries_at (j.0 - 1) (view w).transit) i → x ≡ listed_at (index_of r (view w).transit) i
     server-entry h x f =
         let a = within-range j.0 (setting_of w).n (holds b (within j.0 (setting_of w).n) e h) in
         let own = entries_to (setting_of w).n (setting_of w).clients few (Server j) (a.0, omega (arith, a, few.few-servers)) kept in

@@ -34,7 +34,7 @@ module _ (f : ℕ → List ℕ → Bool) (s c : ℕ) (l : List ℕ) where
           let w : i + 1 ≡ 1 + i = omega arith in
           e ∙ (ap (λ (x : ℕ). f (i + 1) (take s (drop (x * s) l))) z ∙ ap (λ (x : ℕ). f x (take s (drop (i * s) l))) w)
 
-      pub passed-more : not y ≡ false → Passed f s c l (i + 1)
+      pub passed-more : y ≡ true → Passed f s c l (i + 1)
       passed-more t =
           record {
             within = omega arith;
@@ -44,7 +44,7 @@ module _ (f : ℕ → List ℕ → Bool) (s c : ℕ) (l : List ℕ) where
                 (decided (ltb x i));
           }
 
-      pub passed_fails : not y ≡ true → false ≡ valid_from f 1 (blocks s itself c l)
+      pub passed_fails : y ≡ false → false ≡ valid_from f 1 (blocks s itself c l)
       passed_fails t =
           ⊎_elim
           (λ (u : valid_from f 1 (blocks s itself c l) ≡ true). clash (f (1 + i) (take s (drop (i * s) l))) (each-valid f s c 1 l u i lt)

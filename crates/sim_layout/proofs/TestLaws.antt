@@ -66,25 +66,25 @@ module _ (n m clients : ℕ) (w : List ℕ) (r : (length w ≡ simulation_size) 
   abbrev F : Bool
   F = blank (drop (n * server_block) (server_words w))
 
-  pub clients_bad : not a ≡ true → false ≡ blocks_valid n m clients w
+  pub clients_bad : a ≡ false → false ≡ blocks_valid n m clients w
   unfolding blocks_valid
   clients_bad t = rw (fails a C p t)
 
-  module _ (t : not a ≡ false) (b : Bool)
+  module _ (t : a ≡ true) (b : Bool)
       (q : b ≡ blank (take (servers_from - (clients_from + client_block * clients)) (drop (clients_from + client_block * clients) w))) where
     behind : b ≡ D
     behind = q ∙ ap blank (clients-rest w clients r.2)
 
-    pub behind-clients : not b ≡ true → false ≡ blocks_valid n m clients w
+    pub behind-clients : b ≡ false → false ≡ blocks_valid n m clients w
     unfolding blocks_valid
     behind-clients u = rw (holds a C p t, fails b D behind u)
 
-    module _ (u : not b ≡ false) (d : Bool) (s : d ≡ E) where
-      pub servers_bad : not d ≡ true → false ≡ blocks_valid n m clients w
+    module _ (u : b ≡ true) (d : Bool) (s : d ≡ E) where
+      pub servers_bad : d ≡ false → false ≡ blocks_valid n m clients w
       unfolding blocks_valid
       servers_bad v = rw (holds a C p t, holds b D behind u, fails d E s v)
 
-      pub behind-servers : (e : Bool) → not d ≡ false
+      pub behind-servers : (e : Bool) → d ≡ true
           → e ≡ blank (take (transit_from - (servers_from + server_block * n)) (drop (servers_from + server_block * n) w))
           → e ≡ blocks_valid n m clients w
       unfolding blocks_valid
@@ -95,16 +95,16 @@ module _ (n m clients : ℕ) (w : List ℕ) (a : Bool) (p : a ≡ blocks_valid n
   abbrev T : Bool
   T = valid_indexed n clients (sent_of w) (length_of w) (transit_words w)
 
-  pub blocks_bad : not a ≡ true → false ≡ parts_valid n m clients w
+  pub blocks_bad : a ≡ false → false ≡ parts_valid n m clients w
   unfolding parts_valid
   blocks_bad t = rw (fails a (blocks_valid n m clients w) p t)
 
-  module _ (t : not a ≡ false) (b : Bool) (q : b ≡ T) where
-    pub transit_bad : not b ≡ true → false ≡ parts_valid n m clients w
+  module _ (t : a ≡ true) (b : Bool) (q : b ≡ T) where
+    pub transit_bad : b ≡ false → false ≡ parts_valid n m clients w
     unfolding parts_valid
     transit_bad u = rw (holds a (blocks_valid n m clients w) p t, fails b T q u)
 
-    module _ (u : not b ≡ false) where
+    module _ (u : b ≡ true) where
       pub most_high : n < most_of w → false ≡ parts_valid n m clients w
       unfolding parts_valid
       most_high h = rw (holds a (blocks_valid n m clients w) p t, holds b T q u, lt-leb (most_of w) n h)
@@ -174,19 +174,19 @@ module _ (w : List ℕ) where
     unfolding setting_of
     its-range = refl
 
-    pub range-wrong : not a ≡ true → false ≡ valid w
+    pub range-wrong : a ≡ false → false ≡ valid w
     range-wrong t = by_fact (in_range_up_to system_servers (setting_of w).n (setting_of w).m (setting_of w).f) (λ f. f.range) (its-range ∙
         fails a (in_range_up_to system_servers (get_or w 0 0) (get_or w 1 0) (get_or w 2 0)) p t)
 
-    module _ (t : not a ≡ false) (b : Bool) (q : b ≡ within (get_or w 3 0) system_clients) where
+    module _ (t : a ≡ true) (b : Bool) (q : b ≡ within (get_or w 3 0) system_clients) where
       its-clients : within (setting_of w).clients system_clients ≡ within (get_or w 3 0) system_clients
       unfolding setting_of
       its-clients = refl
 
-      pub clients-wrong : not b ≡ true → false ≡ valid w
+      pub clients-wrong : b ≡ false → false ≡ valid w
       clients-wrong u = by_fact (within (setting_of w).clients system_clients) (λ f. f.some) (its-clients ∙ fails b (within (get_or w 3 0) system_clients) q u)
 
-      pub bounds : not b ≡ false → (length w ≡ simulation_size) × (get_or w 0 0 ≤ system_servers) × (get_or w 3 0 ≤ system_clients)
+      pub bounds : b ≡ true → (length w ≡ simulation_size) × (get_or w 0 0 ≤ system_servers) × (get_or w 3 0 ≤ system_clients)
       bounds u =
           let r = range system_servers (get_or w 0 0) (get_or w 1 0) (get_or w 2 0) (holds a (in_range_up_to system_servers (get_or w 0 0) (get_or w 1 0) (get_or w 2 0)) p t) in
           let k = both (leb 1 (get_or w 3 0)) (leb (get_or w 3 0) system_clients) (holds b (within (get_or w 3 0) system_clients) q u) in
@@ -196,7 +196,7 @@ module _ (w : List ℕ) where
       unfolding setting_of
       its-parts = refl
 
-      pub parts-decide : (r : Bool) → not b ≡ false → r ≡ parts_valid (get_or w 0 0) (get_or w 1 0) (get_or w 3 0) w → r ≡ valid w
+      pub parts-decide : (r : Bool) → b ≡ true → r ≡ parts_valid (get_or w 0 0) (get_or w 1 0) (get_or w 3 0) w → r ≡ valid w
       parts-decide r u e =
           e ∙ (sym its-parts ∙ same_truth in_parts (valid w)
           (λ h. from-facts w (facts_of l (its-range ∙ holds a (in_range_up_to system_servers (get_or w 0 0) (get_or w 1 0) (get_or w 2 0)) p t)

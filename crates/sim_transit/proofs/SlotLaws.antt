@@ -167,23 +167,23 @@ module _ (n clients : ℕ) (f : Fields) where
   named-names v = rw (v, fields_again max_servers f v)
 
   module _ (v : Bool) (e : v ≡ valid_fields f) where
-    pub named-range : not v ≡ true → false ≡ named_fields n clients f
+    pub named-range : v ≡ false → false ≡ named_fields n clients f
     unfolding named_fields
-    named-range h = rw (← e, not-true v h)
+    named-range h = rw (← e, h)
 
-    module _ (h : not v ≡ false) (x : Bool) (p : x ≡ within f.client clients) where
-      pub named-client : not x ≡ true → false ≡ named_fields n clients f
+    module _ (h : v ≡ true) (x : Bool) (p : x ≡ within f.client clients) where
+      pub named-client : x ≡ false → false ≡ named_fields n clients f
       unfolding named_fields
-      named-client k = rw (← e, not-false v h, ← p, not-true x k)
+      named-client k = rw (← e, h, ← p, k)
 
-      module _ (k : not x ≡ false) (y : Bool) (q : y ≡ within f.server n) where
-        pub named-server : not y ≡ true → false ≡ named_fields n clients f
+      module _ (k : x ≡ true) (y : Bool) (q : y ≡ within f.server n) where
+        pub named-server : y ≡ false → false ≡ named_fields n clients f
         unfolding named_fields
-        named-server j = rw (← e, not-false v h, ← p, not-false x k, ← q, not-true y j)
+        named-server j = rw (← e, h, ← p, k, ← q, j)
 
-        pub named-owner : not y ≡ false → leb f.owner clients ≡ named_fields n clients f
+        pub named-owner : y ≡ true → leb f.owner clients ≡ named_fields n clients f
         unfolding named_fields
-        named-owner j = rw (← e, not-false v h, ← p, not-false x k, ← q, not-false y j)
+        named-owner j = rw (← e, h, ← p, k, ← q, j)
 
 module _ (n clients : ℕ) (ws : List ℕ) where
   pub slot_flag : 1 < get_or ws 1 0 → false ≡ valid_slot n clients ws

@@ -88,11 +88,11 @@ module _ (n clients : ℕ) (t : List ℕ) (len : ℕ) where
 
   module _ (i : ℕ) (T : Tested n clients t len i) where
     module _ (x : Bool) (e : x ≡ valid_slot n clients (take slot_size (drop (slot_size * i) t))) (h : i < len) where
-      pub tested_failed : not x ≡ true → false ≡ every (valid_slot n clients) (rows len t)
-      tested_failed p = rw (T.same, rows-here t len i h, ← e, not-true x p)
+      pub tested_failed : x ≡ false → false ≡ every (valid_slot n clients) (rows len t)
+      tested_failed p = rw (T.same, rows-here t len i h, ← e, p)
 
-      pub tested_more : not x ≡ false → Tested n clients t len (i + 1)
-      tested_more p = record { within = omega arith; same = rw (T.same, rows-here t len i h, ← e, not-false x p) }
+      pub tested_more : x ≡ true → Tested n clients t len (i + 1)
+      tested_more p = record { within = omega arith; same = rw (T.same, rows-here t len i h, ← e, p) }
 
     pub tested_all : len ≤ i → true ≡ every (valid_slot n clients) (rows len t)
     unfolding rows
@@ -161,18 +161,18 @@ module _ (n clients sent len : ℕ) (t : List ℕ) where
     valid-many h = rw (a, lt-leb len system_messages h)
 
     module _ (b : len ≤ system_messages) (x : Bool) (e : x ≡ every (valid_slot n clients) (rows len t)) where
-      pub valid-slots : not x ≡ true → false ≡ valid_slots n clients sent len t
+      pub valid-slots : x ≡ false → false ≡ valid_slots n clients sent len t
       unfolding valid_slots
-      valid-slots h = rw (a, le-leb len system_messages b, ← e, not-true x h)
+      valid-slots h = rw (a, le-leb len system_messages b, ← e, h)
 
-      module _ (c : not x ≡ false) (y : Bool) (f : y ≡ ascending 0 sent (slots len t)) where
-        pub valid-numbers : not y ≡ true → false ≡ valid_slots n clients sent len t
+      module _ (c : x ≡ true) (y : Bool) (f : y ≡ ascending 0 sent (slots len t)) where
+        pub valid-numbers : y ≡ false → false ≡ valid_slots n clients sent len t
         unfolding valid_slots
-        valid-numbers h = rw (a, le-leb len system_messages b, ← e, not-false x c, ← f, not-true y h)
+        valid-numbers h = rw (a, le-leb len system_messages b, ← e, c, ← f, h)
 
-        pub valid-rest : (z : Bool) → not y ≡ false → z ≡ every (eqb 0) (drop (slot_size * len) t) → z ≡ valid_slots n clients sent len t
+        pub valid-rest : (z : Bool) → y ≡ true → z ≡ every (eqb 0) (drop (slot_size * len) t) → z ≡ valid_slots n clients sent len t
         unfolding valid_slots
-        valid-rest z h p = rw (a, le-leb len system_messages b, ← e, not-false x c, ← f, not-false y h) p
+        valid-rest z h p = rw (a, le-leb len system_messages b, ← e, c, ← f, h) p
 
 -- what holds of all rows holds of each
 module _ (n clients sent len : ℕ) (t : List ℕ) (ok : valid_slots n clients sent len t ≡ true) (i : ℕ) (h : i < len) where

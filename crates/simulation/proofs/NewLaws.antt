@@ -20,10 +20,10 @@ use Rattle.system.specs.Limits.{system_clients, system_servers}
 
 -- `in_range`: both tests
 module _ (s : Setting) (a : Bool) (p : a ≡ in_range_up_to system_servers s.n s.m s.f) where
-  pub servers-out : not a ≡ true → false ≡ in_range s
+  pub servers-out : a ≡ false → false ≡ in_range s
   servers-out t = rw (fails a (in_range_up_to system_servers s.n s.m s.f) p t)
 
-  pub clients-decide : not a ≡ false → (b : Bool) → b ≡ within s.clients system_clients → b ≡ in_range s
+  pub clients-decide : a ≡ true → (b : Bool) → b ≡ within s.clients system_clients → b ≡ in_range s
   clients-decide t b q = rw (holds a (in_range_up_to system_servers s.n s.m s.f) p t) q
 
 module _ (s : Setting) (w : List ℕ) where
@@ -39,15 +39,15 @@ module _ (s : Setting) (w : List ℕ) where
   new_size ne = refuses (wrong_size ne)
 
   module _ (l : length w ≡ simulation_size) (a : Bool) (p : a ≡ in_range_up_to system_servers s.n s.m s.f) where
-    wrong-range : not a ≡ true → opens (length w) s ≡ false
+    wrong-range : a ≡ false → opens (length w) s ≡ false
     unfolding opens
     wrong-range t = rw (eq-eqb (length w) simulation_size l, fails a (in_range_up_to system_servers s.n s.m s.f) p t)
 
-    pub new_range : not a ≡ true → NewLeaves s w w × (moved.Refused ParameterOutOfRange ≡ new_reply (opens (length w) s))
+    pub new_range : a ≡ false → NewLeaves s w w × (moved.Refused ParameterOutOfRange ≡ new_reply (opens (length w) s))
     new_range t = refuses (wrong-range t)
 
-    module _ (t : not a ≡ false) (b : Bool) (q : b ≡ within s.clients system_clients) where
-      wrong-clients : not b ≡ true → opens (length w) s ≡ false
+    module _ (t : a ≡ true) (b : Bool) (q : b ≡ within s.clients system_clients) where
+      wrong-clients : b ≡ false → opens (length w) s ≡ false
       unfolding opens
       wrong-clients u = rw (
         eq-eqb (length w) simulation_size l,
@@ -55,14 +55,14 @@ module _ (s : Setting) (w : List ℕ) where
         fails b (within s.clients system_clients) q u,
       )
 
-      pub new_clients : not b ≡ true → NewLeaves s w w × (moved.Refused ParameterOutOfRange ≡ new_reply (opens (length w) s))
+      pub new_clients : b ≡ false → NewLeaves s w w × (moved.Refused ParameterOutOfRange ≡ new_reply (opens (length w) s))
       new_clients u = refuses (wrong-clients u)
 
-      pub new_asks : not b ≡ false
+      pub new_asks : b ≡ true
           → (length w ≡ simulation_size) × (in_range_up_to system_servers s.n s.m s.f ≡ true) × (within s.clients system_clients ≡ true)
       new_asks u = (l, holds a (in_range_up_to system_servers s.n s.m s.f) p t, holds b (within s.clients system_clients) q u)
 
-      all_right : not b ≡ false → opens (length w) s ≡ true
+      all_right : b ≡ true → opens (length w) s ≡ true
       unfolding opens
       all_right u = rw (
         eq-eqb (length w) simulation_size l,
@@ -70,7 +70,7 @@ module _ (s : Setting) (w : List ℕ) where
         holds b (within s.clients system_clients) q u,
       )
 
-      pub new_starts : not b ≡ false → (w' : List ℕ) → Starts s w' → NewLeaves s w w' × (moved.Sent 0 ≡ new_reply (opens (length w) s))
+      pub new_starts : b ≡ true → (w' : List ℕ) → Starts s w' → NewLeaves s w w' × (moved.Sent 0 ≡ new_reply (opens (length w) s))
       unfolding new_reply
       new_starts u w' S = (record { starts = λ y. S; kept = λ y. clash (opens (length w) s) (all_right u) y }, rw (all_right u))
 

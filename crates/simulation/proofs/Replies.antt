@@ -45,13 +45,13 @@ module _ (w : List ℕ) (e : Event) (w' : List ℕ) (r : Moved) (h : Leaves w e 
   happened c i g f = (h.0, ap (λ (a : ℕ). reply.Accepted c a) f ∙ accepted-reply (view w) (happens w e) (view w') c h.0.system (sym g ∙ h.1))
 
 module _ (w : List ℕ) (e : Event) (b : Bool) (t : b ≡ valid w) where
-  pub event_invalid : not b ≡ true → EventLeaves w e w × (reply.Refused InvalidRecord ≡ event_reply w e)
+  pub event_invalid : b ≡ false → EventLeaves w e w × (reply.Refused InvalidRecord ≡ event_reply w e)
   unfolding event_reply
   event_invalid f =
       let no = fails b (valid w) t f in
       (record { valid_leaves = λ y. clash (valid w) y no; invalid_kept = λ y. refl }, rw no)
 
-  pub event-valid : not b ≡ false → (w' : List ℕ) (r : Reply) → Leaves w e w' × (r ≡ reply_of (view w) (happens w e)) → EventLeaves w e w' × (r ≡ event_reply w e)
+  pub event-valid : b ≡ true → (w' : List ℕ) (r : Reply) → Leaves w e w' × (r ≡ reply_of (view w) (happens w e)) → EventLeaves w e w' × (r ≡ event_reply w e)
   unfolding event_reply
   event-valid f w' r h =
       let yes = holds b (valid w) t f in

@@ -31,11 +31,11 @@ module _ (a b : ℕ) where
   signed-from h = rw (le-ltb a b h)
 
 module _ (n m f : ℕ) where
-  pub margin-none : (x : Bool) → x ≡ in_range n m f → not x ≡ true → margin_text n m f ≡ []
+  pub margin-none : (x : Bool) → x ≡ in_range n m f → x ≡ false → margin_text n m f ≡ []
   unfolding margin_text
   margin-none x e h = rw (fails x (in_range n m f) e h)
 
-  pub margin_some : (x : Bool) → x ≡ in_range n m f → not x ≡ false → margin_text n m f ≡ text "margin " ∷ (signed (sub_ℕ (2 * m) (n + f)) ++ ends)
+  pub margin_some : (x : Bool) → x ≡ in_range n m f → x ≡ true → margin_text n m f ≡ text "margin " ∷ (signed (sub_ℕ (2 * m) (n + f)) ++ ends)
   unfolding margin_text
   margin_some x e h = rw (holds x (in_range n m f) e h, margin_difference n m f)
 

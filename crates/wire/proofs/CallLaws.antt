@@ -36,13 +36,13 @@ module _ (s : List ℕ) where
     its-kind : kind_in s ≡ kind
     its-kind = sym (kind_in_lem s) ∙ sym its
 
-    pub read_unknown : not ok ≡ true → NoNumbers KindUnknown ≡ numbers_of (read_of s)
+    pub read_unknown : ok ≡ false → NoNumbers KindUnknown ≡ numbers_of (read_of s)
     unfolding read_up_to
-    read_unknown f = let e : known kind ≡ false = sym tested ∙ not-true ok f in simp (le-ltb _ _ header, its-kind, e)
+    read_unknown f = let e : known kind ≡ false = sym tested ∙ f in simp (le-ltb _ _ header, its-kind, e)
 
-    module _ (size len : ℕ) (passed : not ok ≡ false) (full : size ≡ length_of kind) (said : len ≡ number (take 2 (drop 0 s))) where
+    module _ (size len : ℕ) (passed : ok ≡ true) (full : size ≡ length_of kind) (said : len ≡ number (take 2 (drop 0 s))) where
       is_known : known kind ≡ true
-      is_known = sym tested ∙ not-false ok passed
+      is_known = sym tested ∙ passed
 
       its-length : length_in s ≡ len
       its-length = sym (length_in_lem s) ∙ sym said
@@ -64,10 +64,10 @@ module _ (s : List ℕ) where
           unfolding valid_fields_up_to fields_in
           in_range_lem = rw (held, known_in) at judged ∙ valid-message (fields_in s) max_servers known_in (alone_in s)
 
-          pub read_invalid : not valid-numbers ≡ true → NoNumbers NumberOutOfRange ≡ numbers_of (read_of s)
+          pub read_invalid : valid-numbers ≡ false → NoNumbers NumberOutOfRange ≡ numbers_of (read_of s)
           unfolding read_up_to
           read_invalid b =
-              let i : valid (message_of (fields_in s)) ≡ false = sym in_range_lem ∙ not-true valid-numbers b in
+              let i : valid (message_of (fields_in s)) ≡ false = sym in_range_lem ∙ b in
               simp (le-ltb _ _ header, its-kind, is_known, its-length, ← full, eq-eqb _ _ right, le-ltb _ _ whole, i)
 
           accepted : valid-numbers ≡ true → read_of s ≡ Accepted (message_of (fields_in s)) size
@@ -76,8 +76,8 @@ module _ (s : List ℕ) where
               let i : valid (message_of (fields_in s)) ≡ true = sym in_range_lem ∙ b in
               simp (le-ltb _ _ header, its-kind, is_known, its-length, ← full, eq-eqb _ _ right, le-ltb _ _ whole, i)
 
-          pub read-accepted : not valid-numbers ≡ false → Fitting f size ≡ numbers_of (read_of s)
-          read-accepted b = rw (accepted (not-false valid-numbers b), fields_of-message s known_in, held)
+          pub read-accepted : valid-numbers ≡ true → Fitting f size ≡ numbers_of (read_of s)
+          read-accepted b = rw (accepted b, fields_of-message s known_in, held)
 
 -- what `read` makes of the numbers
 module _ (s : List ℕ) (p : Numbers) where

@@ -38,15 +38,15 @@ module _ (ws : List ℕ) where
   cross_length n = rw (ne_eqb (length ws) 5 n)
 
   module _ (l : length ws ≡ 5) (x : Bool) (f : x ≡ fits (get_or ws 0 0) (get_or ws 1 0) (get_or ws 2 0) (get_or ws 4 0)) where
-    pub cross_large : not x ≡ true → TooLarge ≡ crossing ws
+    pub cross_large : x ≡ false → TooLarge ≡ crossing ws
     unfolding crossing
-    cross_large n = let u : x ≡ false = not-true x n in rw (l, ← f, u)
+    cross_large n = let u : x ≡ false = n in rw (l, ← f, u)
 
-    module _ (n : not x ≡ false) where
+    module _ (n : x ≡ true) where
       pub cross_small : (get_or ws 0 0 ≤ max_short) × (get_or ws 1 0 ≤ max_short) × (get_or ws 2 0 ≤ max_short) × (get_or ws 4 0 ≤ max_short)
       unfolding fits
       cross_small =
-          let t : x ≡ true = not-false x n in
+          let t : x ≡ true = n in
           let (
             k,
             r₁,
@@ -58,7 +58,7 @@ module _ (ws : List ℕ) where
 
       pub cross_numbers : (g : Fields) → g ≡ fields_from ws → Numbers g ≡ crossing ws
       unfolding crossing
-      cross_numbers g e = let t : x ≡ true = not-false x n in rw (e, l, ← f, t)
+      cross_numbers g e = let t : x ≡ true = n in rw (e, l, ← f, t)
 
 -- the message, from what crossed
 module _ (ws : List ℕ) (g : Crossed) (e : g ≡ crossing ws) (m : Message) where
@@ -66,11 +66,11 @@ module _ (ws : List ℕ) (g : Crossed) (e : g ≡ crossing ws) (m : Message) whe
   in_large a p = let q : crossing ws ≡ TooLarge = cc in rw (q, p)
 
   module _ (f : Fields) (a : g ≡ Numbers f) (b : Bool) (v : b ≡ valid_fields f) where
-    pub in_invalid : not b ≡ true → m ≡ no_message → m ≡ message_or (message_in ws)
-    in_invalid n p = let q : crossing ws ≡ Numbers f = cc in let u : valid_fields f ≡ false = sym v ∙ not-true b n in rw (q, u, p)
+    pub in_invalid : b ≡ false → m ≡ no_message → m ≡ message_or (message_in ws)
+    in_invalid n p = let q : crossing ws ≡ Numbers f = cc in let u : valid_fields f ≡ false = sym v ∙ n in rw (q, u, p)
 
-    pub in_valid : not b ≡ false → m ≡ message_of f → m ≡ message_or (message_in ws)
-    in_valid n p = let q : crossing ws ≡ Numbers f = cc in let u : valid_fields f ≡ true = sym v ∙ not-false b n in rw (q, u, p)
+    pub in_valid : b ≡ true → m ≡ message_of f → m ≡ message_or (message_in ws)
+    in_valid n p = let q : crossing ws ≡ Numbers f = cc in let u : valid_fields f ≡ true = sym v ∙ n in rw (q, u, p)
 
 -- the same in document 01's numbers
 five_row : (ws : List ℕ) → crossed_says (crossing ws) ≡ five_says ws

@@ -61,31 +61,31 @@ module _ (head row : ℕ) (ws : List ℕ) where
       (decided (eqb (length ws - head) row))
 
   -- so a word of the head can be read
-  pub word-there : (x : Bool) → x ≡ eqb (length ws) (head + row) → (i : ℕ) → i < head → not x ≡ false → i < length ws
-  word-there x is i h n = omega (arith, h, eqb-true (length ws) (head + row) (sym is ∙ not-false x n))
+  pub word-there : (x : Bool) → x ≡ eqb (length ws) (head + row) → (i : ℕ) → i < head → x ≡ true → i < length ws
+  word-there x is i h n = omega (arith, h, eqb-true (length ws) (head + row) (sym is ∙ n))
 
 module _ (row : ℕ) (ws : List ℕ) (x : Bool) where
   module _ (is : x ≡ eqb (length ws) (server_size_of row)) where
-    pub server-length : not x ≡ true → false ≡ holds_server_of row ws
+    pub server-length : x ≡ false → false ≡ holds_server_of row ws
     unfolding holds_server_of
-    server-length n = rw (sym is ∙ not-true x n)
+    server-length n = rw (sym is ∙ n)
 
-    pub server-fits : (y : Bool) → not x ≡ false → y ≡ head_fits ws → y ≡ holds_server_of row ws
+    pub server-fits : (y : Bool) → x ≡ true → y ≡ head_fits ws → y ≡ holds_server_of row ws
     unfolding holds_server_of
-    server-fits y n h = rw (sym is ∙ not-false x n) h
+    server-fits y n h = rw (sym is ∙ n) h
 
   module _ (is : x ≡ eqb (length ws) (client_size_of row)) where
-    pub client-length : not x ≡ true → false ≡ holds_client_of row ws
+    pub client-length : x ≡ false → false ≡ holds_client_of row ws
     unfolding holds_client_of
-    client-length n = rw (sym is ∙ not-true x n)
+    client-length n = rw (sym is ∙ n)
 
-    pub client-section : not x ≡ false → 2 < get_or ws 3 0 → false ≡ holds_client_of row ws
+    pub client-section : x ≡ true → 2 < get_or ws 3 0 → false ≡ holds_client_of row ws
     unfolding holds_client_of
-    client-section n h = rw (sym is ∙ not-false x n, lt-leb _ _ h)
+    client-section n h = rw (sym is ∙ n, lt-leb _ _ h)
 
-    pub client-fits : (y : Bool) → not x ≡ false → get_or ws 3 0 ≤ 2 → y ≡ head_fits ws → y ≡ holds_client_of row ws
+    pub client-fits : (y : Bool) → x ≡ true → get_or ws 3 0 ≤ 2 → y ≡ head_fits ws → y ≡ holds_client_of row ws
     unfolding holds_client_of
-    client-fits y n g h = rw (sym is ∙ not-false x n, le-leb _ _ g) h
+    client-fits y n g h = rw (sym is ∙ n, le-leb _ _ g) h
 
 -- what a passed test tells: so many words, and a head can be read from them
 pub record Held (head row : ℕ) (ws : List ℕ) : Type 0 where

@@ -31,7 +31,7 @@ module _ (c : tie.After-server_step-t) where
   abbrev entry : tie.Start
   entry = c.before.before.before.before.before.before.before.before.before.before.before.before.before.before.before
 
-  kept : length c.server_step-t.new.1.0 ≡ server.row_words
+  kept : length c.server_step-t.new.row ≡ server.row_words
   kept = server-kept _ _ tested.holds_server.ensures tested.if-not-holds_server.false _ _ loaded.server_head-h.ensures
       copied.copy.ensures entry.args.call _ _ c.server_step-t.ensures
 

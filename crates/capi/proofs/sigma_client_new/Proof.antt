@@ -19,13 +19,13 @@ returns-2 c =
     c.if-not-fits_head.true c.code_of-then-not-fits_head.ensures
 
 cast-new : tie.Need-overflow_cast-k
-cast-new c = let (a, b, d) = head_small _ _ _ (sym c.fits_head.ensures ∙ not-false _ c.if-not-fits_head.false) in omega arith
+cast-new c = let (a, b, d) = head_small _ _ _ (sym c.fits_head.ensures ∙ c.if-not-fits_head.false) in omega arith
 
 cast-new-2 : tie.Need-overflow_cast-n
-cast-new-2 c = let (a, b, d) = head_small _ _ _ (sym c.fits_head.ensures ∙ not-false _ c.if-not-fits_head.false) in omega arith
+cast-new-2 c = let (a, b, d) = head_small _ _ _ (sym c.fits_head.ensures ∙ c.if-not-fits_head.false) in omega arith
 
 cast-new-3 : tie.Need-overflow_cast-m
-cast-new-3 c = let (a, b, d) = head_small _ _ _ (sym c.fits_head.ensures ∙ not-false _ c.if-not-fits_head.false) in omega arith
+cast-new-3 c = let (a, b, d) = head_small _ _ _ (sym c.fits_head.ensures ∙ c.if-not-fits_head.false) in omega arith
 
 returns-3 : tie.Need-returns
 returns-3 c =

@@ -19,10 +19,10 @@ returns-2 c =
     c.if-not-fits_head.true c.code_of-then-not-fits_head.ensures
 
 cast-new : tie.Need-overflow_cast-j
-cast-new c = let (a, b, d) = head_small _ _ _ (sym c.fits_head.ensures ∙ not-false _ c.if-not-fits_head.false) in omega arith
+cast-new c = let (a, b, d) = head_small _ _ _ (sym c.fits_head.ensures ∙ c.if-not-fits_head.false) in omega arith
 
 cast-new-2 : tie.Need-overflow_cast-n
-cast-new-2 c = let (a, b, d) = head_small _ _ _ (sym c.fits_head.ensures ∙ not-false _ c.if-not-fits_head.false) in omega arith
+cast-new-2 c = let (a, b, d) = head_small _ _ _ (sym c.fits_head.ensures ∙ c.if-not-fits_head.false) in omega arith
 
 server-made-requires : tie.Need-server_made-requires
 server-made-requires c κs = let w = server_new-whole _ _ _ c.new-r.ensures.0 in (c.if-state-lt-SERVER_WORDS.false, w.0, w.1)

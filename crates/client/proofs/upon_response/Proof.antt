@@ -22,7 +22,7 @@ module _ (c : tie.After-hear-old) where
   abbrev tries : tie.Else-not-is_trying
   tries = c.before.before.before
 
-  heard : Heard (begun tries).args.h (begun tries).args.row-1.now (begun tries).args.j (begun tries).args.o c.hear-old.result c.hear-old.new.1.0
+  heard : Heard (begun tries).args.h (begun tries).args.row-1.now (begun tries).args.j (begun tries).args.o c.hear-old.result c.hear-old.new.row
   heard =
       let s = begun tries in
       respond_heard _ _ s.requires.0 _ _ _ tries.is_trying.ensures s.requires.1 s.requires.2 s.requires.3 tries.if-not-is_trying.false _ _ _

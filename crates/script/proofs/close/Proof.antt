@@ -12,7 +12,7 @@ module _ (c : tie.After-last-at) where
   abbrev entry : tie.Start
   entry = c.before.before.before.before.before
 
-  whole : Sound c.last-at.new.0
+  whole : Sound c.last-at.new.w
   whole = sound _ c.last-at.ensures.again
 
 -- the end is printed, which leaves the words

@@ -8,7 +8,7 @@ use Rattle.sim_blocks.proofs.valid_client_block.Statement.{statement}
 use Rattle.sim_blocks.proofs.valid_client_block.Tie as tie
 
 fits-client-block-requires : tie.Need-fits_client_block-requires
-fits-client-block-requires c κs = (c.if-b-ne-CLIENT_BLOCK.false, sym c.holds_client_of.ensures ∙ not-false _ c.if-not-holds_client_of.false)
+fits-client-block-requires c κs = (c.if-b-ne-CLIENT_BLOCK.false, sym c.holds_client_of.ensures ∙ c.if-not-holds_client_of.false)
 
 pub valid_client_block_spec : {M : Type 1} → statement M
 valid_client_block_spec =

@@ -19,5 +19,5 @@ valid_server_block_spec =
     (λ c. search rules)
     (λ c κs. tt)
     (λ c. search server-wide)
-    (λ c κs. sym c.holds_server_of.ensures ∙ not-false _ c.if-not-holds_server_of.false)
+    (λ c κs. sym c.holds_server_of.ensures ∙ c.if-not-holds_server_of.false)
     (λ c. search server-decided))

@@ -15,7 +15,7 @@ module _ (c : tie.After-put_client) where
   abbrev entry : tie.Start
   entry = made.before.before.before
 
-  opened : c.put_client.new.0 ≡ new_client entry.args.n entry.args.m entry.args.k entry.args.w-1.now
+  opened : c.put_client.new.w ≡ new_client entry.args.n entry.args.m entry.args.k entry.args.w-1.now
   opened = client-opened entry.args.n entry.args.m entry.args.k.0 entry.args.w-1.now entry.requires _ made.fresh_head-head.ensures _
       c.put_client.ensures
 

@@ -47,7 +47,7 @@ module _ (c : tie.After-slice_known-4-1) where
   read = c.before.before.before.before
 
   done : Posts (length_of (words (entry read))) (sent_of (words (entry read))) (new (entry read)) (take indexed_size (drop transit_from (words (entry read))))
-      c.post_message.new.0
+      c.post_message.new.t
   done = c.post_message.ensures
 
 slice-read-len : tie.Need-bounds-w-4

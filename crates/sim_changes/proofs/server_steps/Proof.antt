@@ -48,7 +48,7 @@ module _ (c : tie.After-call_server-t) where
   abbrev start : tie.Start
   start = entry (row_read loaded)
 
-  called : ServerCalled (words start) start.args.j start.args.act c.call_server-t.result c.call_server-t.new.1.0
+  called : ServerCalled (words start) start.args.j start.args.act c.call_server-t.result c.call_server-t.new.row
   called = server-called (words start) start.args.j start.args.act start.requires.0 start.requires.1 _ _ (read loaded) _ _ c.call_server-t.ensures
 
 -- its messages are counted

@@ -24,7 +24,7 @@ module _ (c : tie.After-insert) where
   abbrev start : tie.Start
   start = begun started
 
-  left : Left start.args.c.place start.args.x-1.now c.insert.new.0
+  left : Left start.args.c.place start.args.x-1.now c.insert.new.x
   left = put-left _ _ _ start.requires.0 _ _ _ _ (within started) start.requires.1 c.insert.ensures
 
 pub add_spec : {M : Type 1} → statement M
@@ -39,5 +39,5 @@ add_spec =
     (λ c. let p = c.before.before.before in
     record { fits = omega (arith, (left p).count, entries_few _ _ _ (start p).requires.0, (start p).requires.1) })
     (λ c. let p = c.before.before.before in omega (arith, (left p).size, (start p).requires.0.size, (start p).requires.0.place))
-    (λ c. let p = c.before.before.before in length-set p.insert.new.0 _ _ ∙ (left p).size)
+    (λ c. let p = c.before.before.before in length-set p.insert.new.x _ _ ∙ (left p).size)
     (λ c. search added_is))

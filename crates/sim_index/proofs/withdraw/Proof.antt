@@ -24,7 +24,7 @@ module _ (c : tie.After-delete) where
   abbrev start : tie.Start
   start = begun found
 
-  left : Left start.args.p start.args.x-1.now c.delete.new.0
+  left : Left start.args.p start.args.x-1.now c.delete.new.x
   left = taken-left _ _ _ start.requires.0 _ _ (within found) c.delete.ensures
 
 pub withdraw_spec : {M : Type 1} → statement M
@@ -38,5 +38,5 @@ withdraw_spec =
     (λ c. let p = c.before.before.before in omega (arith, (left p).size, (start p).requires.0.size, (start p).requires.0.place))
     (λ c. let p = c.before.before.before in omega (arith, (left p).count, (start p).requires.2))
     (λ c. let p = c.before.before.before in omega (arith, (left p).size, (start p).requires.0.size, (start p).requires.0.place))
-    (λ c. let p = c.before.before.before in length-set p.delete.new.0 _ _ ∙ (left p).size)
+    (λ c. let p = c.before.before.before in length-set p.delete.new.x _ _ ∙ (left p).size)
     (λ c. search withdrawn-is))

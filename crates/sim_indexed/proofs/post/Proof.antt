@@ -21,7 +21,7 @@ module _ (c : tie.After-post) where
   abbrev entry : tie.Start
   entry = c.before.before.before.before
 
-  posted : Posts entry.args.len entry.args.sent (new entry) (table entry.args.t-1.now) c.post.new.0
+  posted : Posts entry.args.len entry.args.sent (new entry) (table entry.args.t-1.now) c.post.new.t
   posted =
       let s = entry in
       let p = s.requires in
@@ -53,14 +53,14 @@ same_length c =
     let q = c.before.before in
     let p = stored q in
     let s = entry p in
-    posts_same _ _ _ _ s.requires.0 _ (posted p) q.list_slots.new.0 (rw s.requires.1 q.list_slots.ensures)
+    posts_same _ _ _ _ s.requires.0 _ (posted p) q.list_slots.new.t (rw s.requires.1 q.list_slots.ensures)
 
 returns : tie.Need-returns
 returns c =
     let q = c.before.before in
     let p = stored q in
     let s = entry p in
-    posts_both _ _ _ _ s.requires.0 _ (posted p) q.list_slots.new.0 (rw s.requires.1 q.list_slots.ensures)
+    posts_both _ _ _ _ s.requires.0 _ (posted p) q.list_slots.new.t (rw s.requires.1 q.list_slots.ensures)
 
 pub post_spec : {M : Type 1} → statement M
 post_spec =

@@ -14,7 +14,7 @@ module _ (c : tie.After-post_message) where
   abbrev entry : tie.Start
   entry = c.before.before.before
 
-  posted : Posts entry.args.len entry.args.sent (entry.args.m ∷ []) (table entry.args.t-1.now) c.post_message.new.0
+  posted : Posts entry.args.len entry.args.sent (entry.args.m ∷ []) (table entry.args.t-1.now) c.post_message.new.t
   posted = let p = entry.requires in posts_one _ _ _ _ _ (post_may _ _ _ _ p.0).0 p.1 c.post_message.ensures
 
 -- the index has it

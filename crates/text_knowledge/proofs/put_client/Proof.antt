@@ -23,7 +23,7 @@ module _ (c : tie.After-client_head-h) where
   entry = tested.before.before.before
 
   abbrev row : List ℕ
-  row = c.client_row.new.1.1.0
+  row = c.client_row.new.row
 
   read : client_of c.client_head-h.result row ≡ client_from (client_record (client_block_of entry.args.w.now entry.args.k))
   read = client-read _ _ _ c.client_head-h.ensures c.client_row.ensures

@@ -23,7 +23,7 @@ module _ (c : tie.After-server_head-h) where
   entry = tested.before.before.before
 
   abbrev row : List ℕ
-  row = c.server_row.new.1.1.0
+  row = c.server_row.new.row
 
   read : server_of c.server_head-h.result row ≡ server_from (server_record (server_block_of entry.args.w.now entry.args.j))
   read = server-read _ _ _ c.server_head-h.ensures c.server_row.ensures

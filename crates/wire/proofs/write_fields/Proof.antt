@@ -9,7 +9,7 @@ use Rattle.wire.proofs.write_fields.Tie as tie
 returns-2 : tie.Need-returns
 returns-2 c =
     let b = c.before.before.before.before in
-    fields_said _ _ _ _ (numbers_laid _ _ _ b.valid_fields.ensures (not-false _ b.if-not-valid_fields.false) _ _ c.lay.ensures.0
+    fields_said _ _ _ _ (numbers_laid _ _ _ b.valid_fields.ensures b.if-not-valid_fields.false _ _ c.lay.ensures.0
     c.lay.ensures.1)
 
 pub write_fields_spec : {M : Type 1} → statement M
@@ -17,7 +17,7 @@ write_fields_spec =
     tie.close
     (tie.spec
     (λ c κs. search rules)
-    (λ c. fields_said _ _ _ _ (numbers_invalid _ _ _ c.valid_fields.ensures (not-true _ c.if-not-valid_fields.true)))
+    (λ c. fields_said _ _ _ _ (numbers_invalid _ _ _ c.valid_fields.ensures c.if-not-valid_fields.true))
     (λ c κs. search rules)
     (λ c. search rules)
     returns-2)
