@@ -43,7 +43,7 @@ server-head-requires : tie.Need-server_head-h-requires
 server-head-requires c κs = (server-held _ _ (is-server _ _ c.holds_server.ensures c.if-not-holds_server.false)).headed
 
 part-copy-end : tie.Need-slice_bounds-copy-end
-part-copy-end c = omega (arith, long c.before.before.before)
+part-copy-end c = omega (arith, long c.before)
 
 server-finish-requires : tie.Need-server_finish-requires
 server-finish-requires c κs = let made = c.before.before.before.before.before in (omega (arith, long (tested made), kept made), short made)

@@ -11,7 +11,7 @@ module _ (c : tie.After-delete-before) where
   padded = deleted-padded _ c.args.tag c.args.r c.args.v _ c.requires.0 _ _ _ c.delete-before.ensures
 
 act-requires : tie.Need-act-after-requires
-act-requires c κs = padded c.before.before.before
+act-requires c κs = padded c.before.before.before.before
 
 returns-2 : tie.Need-returns-then-t-now
 returns-2 c =

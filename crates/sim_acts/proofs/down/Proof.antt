@@ -33,7 +33,7 @@ returns c =
     server_missing _ d.args.j d.requires c.has_server.ensures _ (no_server-downs _ _ _ _) c.if-not-has_server.true
 
 returns-2 : tie.Need-returns-then-not-is_up
-returns-2 c = server-down _ _ (here c.before.before.before) c.is_up.ensures _ (downs_twice _ _ _ _) c.if-not-is_up.true
+returns-2 c = server-down _ _ (here c.before.before) c.is_up.ensures _ (downs_twice _ _ _ _) c.if-not-is_up.true
 
 restart-messages-requires : tie.Need-restart_messages-requires
 restart-messages-requires c κs =

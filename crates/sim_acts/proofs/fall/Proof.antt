@@ -22,7 +22,7 @@ module _ (c : tie.Else-not-has_client) where
   here = client-here _ _ entry.requires c.has_client.ensures c.if-not-has_client.false
 
 returns-2 : tie.Need-returns-then-not-is_living
-returns-2 c = fall_twice _ _ (here c.before.before.before) c.is_living.ensures c.if-not-is_living.true
+returns-2 c = fall_twice _ _ (here c.before.before) c.is_living.ensures c.if-not-is_living.true
 
 returns-3 : tie.Need-returns
 returns-3 c =

@@ -45,7 +45,7 @@ returns c =
     server_missing _ d.args.j d.requires c.has_server.ensures _ (no_server-misses _ _ _ _) c.if-not-has_server.true
 
 returns-2 : tie.Need-returns-then-not-is_up
-returns-2 c = server-down _ _ (here c.before.before.before) c.is_up.ensures _ (misses-down _ _ _ _) c.if-not-is_up.true
+returns-2 c = server-down _ _ (here c.before.before) c.is_up.ensures _ (misses-down _ _ _ _) c.if-not-is_up.true
 
 is-living-requires : tie.Need-is_living-requires
 is-living-requires c κs =

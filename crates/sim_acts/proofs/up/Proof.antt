@@ -22,7 +22,7 @@ module _ (c : tie.Else-not-has_server) where
   here = server-here _ _ entry.requires c.has_server.ensures c.if-not-has_server.false
 
 returns-2 : tie.Need-returns-then-is_up
-returns-2 c = up_twice _ _ (here c.before.before.before) c.is_up.ensures c.if-is_up.true
+returns-2 c = up_twice _ _ (here c.before.before) c.is_up.ensures c.if-is_up.true
 
 returns-3 : tie.Need-returns
 returns-3 c =

@@ -94,7 +94,7 @@ module _ (c : tie.After-store_client) where
   roomy = c.before.before.before
 
 is-living-requires : tie.Need-is_living-requires
-is-living-requires c κs = client_in_lem _ _ (there c.before.before)
+is-living-requires c κs = client_in_lem _ _ (there c.before)
 
 returns : tie.Need-returns-then-not-is_living
 returns c =
@@ -102,11 +102,11 @@ returns c =
     events.client-fallen (words d) d.args.k d.args.act d.requires _ c.is_living.ensures c.if-not-is_living.true
 
 client-row-requires : tie.Need-client_row-requires
-client-row-requires c κs = (client_in_lem _ _ (there (entry c.before.before)), search rules)
+client-row-requires c κs = (client_in_lem _ _ (there (entry c.before)), search rules)
 
 client-head-requires : tie.Need-client_head-requires
 client-head-requires c κs =
-    let d = entry c.before.before.before.before.before in
+    let d = entry c.before.before.before in
     (client_in_lem _ _ (there d), client-held _ d.args.k (there d))
 
 call-client-requires : tie.Need-call_client-s-requires
@@ -125,7 +125,7 @@ has-room-requires c κs =
     )
 
 store-client-requires : tie.Need-store_client-requires
-store-client-requires c κs = ((tested c.before.before.before).called.stores, search rules)
+store-client-requires c κs = ((tested c.before.before.before.before).called.stores, search rules)
 
 send-requires : tie.Need-send-requires
 send-requires c κs =

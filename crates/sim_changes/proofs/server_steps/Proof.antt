@@ -75,11 +75,11 @@ module _ (c : tie.After-send_mails) where
   stored = c.before.before.before.before
 
 server-row-requires : tie.Need-server_row-requires
-server-row-requires c κs = (server_in_lem _ _ (there c.before.before.before), search rules)
+server-row-requires c κs = (server_in_lem _ _ (there c.before.before), search rules)
 
 server-head-requires : tie.Need-server_head-requires
 server-head-requires c κs =
-    let d = entry c.before.before in
+    let d = entry c.before in
     (server_in_lem _ _ (there d), record_held _ d.args.j (there d))
 
 call-server-requires : tie.Need-call_server-t-requires
@@ -99,7 +99,7 @@ returns c =
     ruled-full (called (made n)).ruled _ n.counts-count.ensures _ c.has_room.ensures c.if-not-has_room.true
 
 store-server-requires : tie.Need-store_server-requires
-store-server-requires c κs = ((called (made (counted c.before.before))).stores, search rules)
+store-server-requires c κs = ((called (made (counted c.before.before.before))).stores, search rules)
 
 send-mails-requires : tie.Need-send_mails-requires
 send-mails-requires c κs =
