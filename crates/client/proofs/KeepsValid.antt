@@ -295,7 +295,7 @@ module _ {limit : ℕ} (n m : ℕ) (k : ClientId) (c : State) (l : List Owner) (
 -- trying, fewer than m places are filled
 few-filled : (m : ℕ) (l : List Owner) → not (enough m (map filled l)) ≡ true → suc (count (map filled l)) ≤ m
 unfolding enough
-few-filled m l h = leb-false m (count (map filled l)) h
+few-filled m l h = leb-false m (count (map filled l)) (not-true _ h)
 
 -- what was seen is held to nothing
 pub saw-fits : {limit : ℕ} (n m : ℕ) (k : ClientId) (t : Timestamp) (s : State) → FitsUpTo limit n m k s → FitsUpTo limit n m k (saw t s)

@@ -12,7 +12,7 @@ use Rattle.capi.proofs.client_call.Tie as tie
 
 -- the words are a client's record
 module _ (c : tie.Else-not-holds_client) where
-  long : length c.args.state-1.now ≡ client_size
+  long : length c.args.state.now ≡ client_size
   long = client-long _ _ c.holds_client.ensures c.if-not-holds_client.false
 
 -- its head is read
@@ -32,17 +32,16 @@ module _ (c : tie.After-client_step-t) where
   storable =
       let t = tested loaded in
       let e = entry loaded in
-      client_storable _ _ t.holds_client.ensures t.if-not-holds_client.false _ loaded.client_head-h.ensures e.args.call
-      e.args.out-1.now e.args.sent-1.now _ _ _ c.client_step-t.ensures
+      client_storable _ _ t.holds_client.ensures t.if-not-holds_client.false _ c.client_head-h.ensures e.args.call
+      e.args.out.now e.args.sent.now _ _ _ c.client_step-t.ensures
 
 client-head-requires : tie.Need-client_head-h-requires
 client-head-requires c κs = (client-held _ _ (is-client _ _ c.holds_client.ensures c.if-not-holds_client.false)).headed
 
 client-finish-requires : tie.Need-client_finish-requires
 client-finish-requires c κs =
-    let made = c.before.before.before.before.before.before in
-    let l = loaded made in
-    (omega (arith, long (tested l)), made.if-sent-lt2.false, storable made)
+    let l = loaded c.before.before.before.before.before.before in
+    (omega (arith, long (tested c.before.before.before.before.before.before.before.before.before.before)), c.if-sent-lt2.false, storable c.before.before.before.before.before.before)
 
 pub client_call_spec : {M : Type 1} → statement M
 client_call_spec =
@@ -55,7 +54,7 @@ client_call_spec =
     client-head-requires
     (λ c. search rules)
     (λ c. search rules)
-    (λ c. omega (arith, long (tested c.before.before)))
+    (λ c. omega (arith, long (tested c.before)))
     (λ c κs. search client_row_long)
     (λ c. search rules)
     (λ c. search client_short_leaves)

@@ -14,30 +14,21 @@ use Rattle.capi.proofs.server_call.Tie as tie
 
 -- the words are a server's record
 module _ (c : tie.Else-not-holds_server) where
-  long : length c.args.state-1.now ≡ server_size
+  long : length c.args.state.now ≡ server_size
   long = server-long _ _ c.holds_server.ensures c.if-not-holds_server.false
 
 -- the step is made
 module _ (c : tie.After-server_step-t) where
-  abbrev copied : tie.After-copy
-  copied = c.before.before.before
-
-  abbrev loaded : tie.After-server_head-h
-  loaded = c.before.before.before.before.before.before.before
-
   abbrev tested : tie.Else-not-holds_server
   tested = c.before.before.before.before.before.before.before.before.before
 
-  abbrev entry : tie.Start
-  entry = c.before.before.before.before.before.before.before.before.before.before.before.before.before.before.before
-
   kept : length c.server_step-t.new.row ≡ server.row_words
-  kept = server-kept _ _ tested.holds_server.ensures tested.if-not-holds_server.false _ _ loaded.server_head-h.ensures
-      copied.copy.ensures entry.args.call _ _ c.server_step-t.ensures
+  kept = server-kept _ _ c.holds_server.ensures c.if-not-holds_server.false _ _ c.server_head-h.ensures
+      c.copy.ensures c.args.call _ _ c.server_step-t.ensures
 
   short : c.server_step-t.result.ruling ≡ Done → c.server_step-t.result.head.votes.len ≤ max_word
-  short = server-short _ _ tested.holds_server.ensures tested.if-not-holds_server.false _ _ loaded.server_head-h.ensures
-      copied.copy.ensures entry.args.call _ _ c.server_step-t.ensures
+  short = server-short _ _ c.holds_server.ensures c.if-not-holds_server.false _ _ c.server_head-h.ensures
+      c.copy.ensures c.args.call _ _ c.server_step-t.ensures
 
 server-head-requires : tie.Need-server_head-h-requires
 server-head-requires c κs = (server-held _ _ (is-server _ _ c.holds_server.ensures c.if-not-holds_server.false)).headed
@@ -46,7 +37,7 @@ part-copy-end : tie.Need-slice_bounds-copy-end
 part-copy-end c = omega (arith, long c.before)
 
 server-finish-requires : tie.Need-server_finish-requires
-server-finish-requires c κs = let made = c.before.before.before.before.before in (omega (arith, long (tested made), kept made), short made)
+server-finish-requires c κs = (omega (arith, long (tested c.before.before.before.before.before), kept c.before.before.before.before.before), short c.before.before.before.before.before)
 
 pub server_call_spec : {M : Type 1} → statement M
 server_call_spec =

@@ -7,19 +7,19 @@ use Rattle.capi.proofs.server_finish.Tie as tie
 
 server-send-requires : tie.Need-server_send-requires
 server-send-requires c κs = let e = c.before.before.before.before.before.before.before.before.before in (
-  e.requires.0,
-  e.requires.1 c.in-Done.is,
+  c.requires.0,
+  c.requires.1 c.in-Done.is,
 )
 
 returns : tie.Need-returns-in-Done
-returns c = let told = c.before.before.before.before.before.before in rw told.in-Done.is
-    told.server_send.ensures
+returns c = rw c.in-Done.is
+    c.server_send.ensures
 
 returns-2 : tie.Need-returns-in-Refused
 returns-2 c =
     let arm = c.before.before in
     let e = arm.before.before.before.before.before.before in
-    rw arm.in-Refused.is (refused_leaves _ _ _ e.args.state-1.now e.args.out-1.now e.args.sent-1.now refl c.code_of_lem.ensures)
+    rw c.in-Refused.is (refused_leaves _ _ _ c.args.state.now c.args.out.now c.args.sent.now refl c.code_of_lem.ensures)
 
 pub server_finish_spec : {M : Type 1} → statement M
 server_finish_spec =

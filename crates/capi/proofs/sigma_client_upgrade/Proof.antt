@@ -6,32 +6,23 @@ use Rattle.capi.proofs.UpgradeLaws.{upgrade_broken, upgrade-short, upgrade-done}
 use Rattle.capi.proofs.sigma_client_upgrade.Statement.{statement}
 use Rattle.capi.proofs.sigma_client_upgrade.Tie as tie
 
--- the saved words are sound
-module _ (c : tie.Else-not-valid_client) where
-  abbrev tested : tie.After-valid_client
-  tested = c.before
-
-  abbrev entry : tie.Start
-  entry = tested.before.before.before
-
 returns : tie.Need-returns-then-not-valid_client
 returns c = upgrade_broken _ _ _ _ _ c.valid_client.ensures _ c.if-not-valid_client.true c.code_of_lem.ensures
 
 returns-2 : tie.Need-returns-then-state-lt-CLIENT_WORDS
 returns-2 c =
     let s = c.before.before in
-    upgrade-short _ _ _ _ _ (tested s).valid_client.ensures _ s.if-not-valid_client.false c.if-state-lt-CLIENT_WORDS.true c.code_of-then-state-lt-CLIENT_WORDS.ensures
+    upgrade-short _ _ _ _ _ c.valid_client.ensures _ c.if-not-valid_client.false c.if-state-lt-CLIENT_WORDS.true c.code_of-then-state-lt-CLIENT_WORDS.ensures
 
 take-client-requires : tie.Need-take_client-requires
-take-client-requires c κs = let s = c.before.before in (holds _ _ (tested s).valid_client.ensures s.if-not-valid_client.false, c.if-state-lt-CLIENT_WORDS.false)
+take-client-requires c κs = let s = c.before.before in (holds _ _ c.valid_client.ensures c.if-not-valid_client.false, c.if-state-lt-CLIENT_WORDS.false)
 
 returns-3 : tie.Need-returns
 returns-3 c =
     let t = c.before.before in
     let s = t.before.before.before in
-    let e = entry s in
-    upgrade-done _ _ (client_now e.args.old.now) e.args.state-1.now _ (tested s).valid_client.ensures 0 s.if-not-valid_client.false _ t.if-state-lt-CLIENT_WORDS.false
-    t.take_client.ensures
+    upgrade-done _ _ (client_now c.args.old.now) c.args.state.now _ c.valid_client.ensures 0 c.if-not-valid_client.false _ c.if-state-lt-CLIENT_WORDS.false
+    c.take_client.ensures
 
 pub sigma_client_upgrade_spec : {M : Type 1} → statement M
 sigma_client_upgrade_spec =

@@ -17,8 +17,7 @@ cast-put-words c =
 
 returns-2 : tie.Need-returns-else-words-lt-READ_WORDS
 returns-2 c =
-    let b = c.before.before.before.before in
-    read_done _ _ _ b.read_fields-p.ensures.0 _ _ b.in-Fitting.is _ b.if-words-lt-READ_WORDS.false
+    read_done _ _ _ c.read_fields-p.ensures.0 _ _ c.in-Fitting.is _ c.if-words-lt-READ_WORDS.false
     c.put_words.ensures
 
 returns-3 : tie.Need-returns-in-Refused

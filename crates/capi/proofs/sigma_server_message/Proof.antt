@@ -9,8 +9,7 @@ returns : tie.Need-returns
 returns c =
     let called = c.before.before.before.before.before.before in
     let read = called.before.before.before.before in
-    let e = read.before.before.before.before.before in
-    rw (server_takes-words e.args.state-1.now (message_in e.args.message.now) _ read.message_in-m.ensures) at called.server_call.ensures
+    rw (server_takes-words c.args.state.now (message_in c.args.message.now) _ c.message_in-m.ensures) at c.server_call.ensures
 
 pub sigma_server_message_spec : {M : Type 1} → statement M
 sigma_server_message_spec =

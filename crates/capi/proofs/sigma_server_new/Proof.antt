@@ -9,13 +9,13 @@ use Rattle.capi.proofs.sigma_server_new.Statement.{statement}
 use Rattle.capi.proofs.sigma_server_new.Tie as tie
 
 returns : tie.Need-returns-then-state-lt-SERVER_WORDS
-returns c = server_new-room _ _ c.args.state-1.now _ c.if-state-lt-SERVER_WORDS.true c.code_of_lem.ensures
+returns c = server_new-room _ _ c.args.state.now _ c.if-state-lt-SERVER_WORDS.true c.code_of_lem.ensures
 
 returns-2 : tie.Need-returns-then-not-fits_head
 returns-2 c =
     let asked = c.before.before in
     let tested = asked.before in
-    server_new-wide _ _ tested.args.state-1.now tested.if-state-lt-SERVER_WORDS.false _ _ asked.fits_head.ensures
+    server_new-wide _ _ c.args.state.now c.if-state-lt-SERVER_WORDS.false _ _ c.fits_head.ensures
     c.if-not-fits_head.true c.code_of-then-not-fits_head.ensures
 
 cast-new : tie.Need-overflow_cast-j
@@ -32,8 +32,8 @@ returns-3 c =
     let made = c.before.before in
     let new = made.before.before in
     let tested = new.before.before.before in
-    server_new-done _ _ tested.args.state-1.now tested.if-state-lt-SERVER_WORDS.false _ _ _ new.new-r.ensures.0
-    made.server_made.ensures.0 made.server_made.ensures.1
+    server_new-done _ _ c.args.state.now c.if-state-lt-SERVER_WORDS.false _ _ _ c.new-r.ensures.0
+    c.server_made.ensures.0 c.server_made.ensures.1
 
 pub sigma_server_new_spec : {M : Type 1} → statement M
 sigma_server_new_spec =

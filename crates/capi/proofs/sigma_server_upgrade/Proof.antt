@@ -6,32 +6,23 @@ use Rattle.capi.proofs.UpgradeLaws.{upgrade_broken, upgrade-short, upgrade-done}
 use Rattle.capi.proofs.sigma_server_upgrade.Statement.{statement}
 use Rattle.capi.proofs.sigma_server_upgrade.Tie as tie
 
--- the saved words are sound
-module _ (c : tie.Else-not-valid_server) where
-  abbrev tested : tie.After-valid_server
-  tested = c.before
-
-  abbrev entry : tie.Start
-  entry = tested.before.before.before
-
 returns : tie.Need-returns-then-not-valid_server
 returns c = upgrade_broken _ _ _ _ _ c.valid_server.ensures _ c.if-not-valid_server.true c.code_of_lem.ensures
 
 returns-2 : tie.Need-returns-then-state-lt-SERVER_WORDS
 returns-2 c =
     let s = c.before.before in
-    upgrade-short _ _ _ _ _ (tested s).valid_server.ensures _ s.if-not-valid_server.false c.if-state-lt-SERVER_WORDS.true c.code_of-then-state-lt-SERVER_WORDS.ensures
+    upgrade-short _ _ _ _ _ c.valid_server.ensures _ c.if-not-valid_server.false c.if-state-lt-SERVER_WORDS.true c.code_of-then-state-lt-SERVER_WORDS.ensures
 
 take-server-requires : tie.Need-take_server-requires
-take-server-requires c κs = let s = c.before.before in (holds _ _ (tested s).valid_server.ensures s.if-not-valid_server.false, c.if-state-lt-SERVER_WORDS.false)
+take-server-requires c κs = let s = c.before.before in (holds _ _ c.valid_server.ensures c.if-not-valid_server.false, c.if-state-lt-SERVER_WORDS.false)
 
 returns-3 : tie.Need-returns
 returns-3 c =
     let t = c.before.before in
     let s = t.before.before.before in
-    let e = entry s in
-    upgrade-done _ _ (server_now e.args.old.now) e.args.state-1.now _ (tested s).valid_server.ensures 0 s.if-not-valid_server.false _ t.if-state-lt-SERVER_WORDS.false
-    t.take_server.ensures
+    upgrade-done _ _ (server_now c.args.old.now) c.args.state.now _ c.valid_server.ensures 0 c.if-not-valid_server.false _ c.if-state-lt-SERVER_WORDS.false
+    c.take_server.ensures
 
 pub sigma_server_upgrade_spec : {M : Type 1} → statement M
 sigma_server_upgrade_spec =

@@ -6,8 +6,7 @@ use Rattle.capi.proofs.sigma_write.Tie as tie
 
 returns : tie.Need-returns-in-Numbers
 returns c =
-    let b = c.before.before.before.before.before.before in
-    write_numbers_lem _ _ _ b.cross-g.ensures.0 _ _ _ _ b.in-Numbers.is c.write_fields.ensures.0.0
+    write_numbers_lem _ _ _ c.cross-g.ensures.0 _ _ _ _ c.in-Numbers.is c.write_fields.ensures.0.0
     c.write_fields.ensures.0.1 c.written_code.ensures
 
 returns-2 : tie.Need-returns-in-TooLarge

@@ -13,6 +13,5 @@ answer_spec =
     (λ c κs. search rules)
     (λ c. search rules)
     (λ c.
-    let b = c.before.before.before.before in
-    let a = b.args in
-    answer-put a.words-1.now a.f a.used _ b.if-words-lt-READ_WORDS.false c.put_words.ensures))
+    let a = c.args in
+    answer-put a.words-1.now a.f a.used _ c.if-words-lt-READ_WORDS.false c.put_words.ensures))

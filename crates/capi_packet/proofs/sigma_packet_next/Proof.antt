@@ -10,13 +10,12 @@ returns : tie.Need-returns-in-Message
 returns c =
     let b = c.before.before.before in
     let m = b.before.before.before in
-    next-given _ _ _ _ m.next_at.ensures.0 _ _ _ _ _ m.in-Message.is b.fields_of.ensures c.answer.ensures
+    next-given _ _ _ _ c.next_at.ensures.0 _ _ _ _ _ c.in-Message.is c.fields_of.ensures c.answer.ensures
 
 returns-2 : tie.Need-returns-in-End
 returns-2 c =
     let b = c.before.before.before in
-    let t = b.before.before in
-    next_end _ _ _ _ t.next_at.ensures.0 _ _ t.in-End.is (rw b.no_fields.ensures at c.answer-in-End.ensures)
+    next_end _ _ _ _ c.next_at.ensures.0 _ _ c.in-End.is (rw c.no_fields.ensures at c.answer-in-End.ensures)
 
 pub sigma_packet_next_spec : {M : Type 1} → statement M
 sigma_packet_next_spec =
@@ -27,10 +26,10 @@ sigma_packet_next_spec =
     (λ c κs. search rules)
     (λ c.
     let m = c.before.before.before in
-    place_order _ _ _ _ (sym m.next_at.ensures.0 ∙ m.in-Message.is))
+    place_order _ _ _ _ (sym c.next_at.ensures.0 ∙ c.in-Message.is))
     (λ c.
     let m = c.before.before.before in
-    omega (arith, used-small _ _ _ _ (sym m.next_at.ensures.0 ∙ m.in-Message.is)))
+    omega (arith, used-small _ _ _ _ (sym c.next_at.ensures.0 ∙ c.in-Message.is)))
     (λ c κs. search rules)
     (λ c. search rules)
     (λ c κs. search rules)

@@ -8,16 +8,16 @@ use Rattle.capi_quorum.proofs.sigma_run_event.Tie as tie
 returns : tie.Need-returns-in-Event
 returns c =
     let d = c.before.before.before.before.before.before.before.before.before in
-    let a = d.args in
-    event-given a.n a.m a.f a.i a.words-1.now _ _ _ d.run_event-a.ensures.0 _ _ _
+    let a = c.args in
+    event-given a.n a.m a.f a.i a.words-1.now _ _ _ c.run_event-a.ensures.0 _ _ _
     c.in-Event.is c.kind_of.ensures
     c.before.before.before.number_of_lem.ensures c.put_two.ensures
 
 returns-2 : tie.Need-returns-in-Refused
 returns-2 c =
     let d = c.before.before.before.before in
-    let a = d.args in
-    event-refused a.n a.m a.f a.i a.words-1.now [] _ _ d.run_event-a.ensures.0 _ c.in-Refused.is c.code_of_lem.ensures
+    let a = c.args in
+    event-refused a.n a.m a.f a.i a.words-1.now [] _ _ c.run_event-a.ensures.0 _ c.in-Refused.is c.code_of_lem.ensures
 
 pub sigma_run_event_spec : {M : Type 1} → statement M
 sigma_run_event_spec =

@@ -6,18 +6,15 @@ use Rattle.capi_script.proofs.sigma_script_feed.Tie as tie
 
 returns : tie.Need-returns-then-counts-lt2
 returns c =
-    let t = c.before.before in
-    let a = t.args in
-    feed_short a.state-1.now a.out-1.now a.counts-1.now _ a.input.now t.if-counts-lt2.true c.short_number.ensures
+    let a = c.args in
+    feed_short a.state-1.now a.out-1.now a.counts-1.now _ a.input.now c.if-counts-lt2.true c.short_number.ensures
 
 returns-2 : tie.Need-returns
 returns-2 c =
     let k = c.before.before.before in
-    let f = k.before.before.before.before.before.before in
-    let e = f.before.before.before in
-    let a = e.args in
-    feed_lent a.state-1.now a.out-1.now a.counts-1.now _ e.if-counts-lt2.false _ _ _ _ k.put_counts.ensures c.number_of_lem.ensures
-    a.input.now f.feed-p.ensures.0
+    let a = c.args in
+    feed_lent a.state-1.now a.out-1.now a.counts-1.now _ c.if-counts-lt2.false _ _ _ _ c.put_counts.ensures c.number_of_lem.ensures
+    a.input.now c.feed-p.ensures.0
 
 pub sigma_script_feed_spec : {M : Type 1} → statement M
 sigma_script_feed_spec =

@@ -6,8 +6,7 @@ use Rattle.capi_script.proofs.sigma_script_new.Tie as tie
 
 returns : tie.Need-returns
 returns c =
-    let n = c.before.before.before in
-    new_done n.args.state-1.now _ _ _ n.new-p.ensures.0 c.number_of_lem.ensures
+    new_done c.args.state.now _ _ _ c.new-p.ensures.0 c.number_of_lem.ensures
 
 pub sigma_script_new_spec : {M : Type 1} → statement M
 sigma_script_new_spec =

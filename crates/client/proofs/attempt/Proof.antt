@@ -9,7 +9,7 @@ add-t11 : tie.Need-overflow_add-t
 add-t11 c =
     let a = c.before in
     let s = a.before.before.before.before.before in
-    let k = try_left _ _ _ a.latest-last.ensures s.requires.1 in
+    let k = try_left _ _ _ c.latest-last.ensures c.requires.1 in
     search (rules, k)
 
 pub attempt_spec : {M : Type 1} → statement M

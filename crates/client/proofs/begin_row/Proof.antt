@@ -4,19 +4,13 @@ use borrow.Author.Rules.{rules}
 use Rattle.client.proofs.begin_row.Statement.{statement}
 use Rattle.client.proofs.begin_row.Tie as tie
 
--- the section is the right one, and the record before it valid
-module _ (c : tie.Else-not-is_remainder) where
-  abbrev tested : tie.Else-not-valid_row
-  tested = c.before.before
-
 returns-4 : tie.Need-returns
 returns-4 c =
     let a = c.before.before.before.before in
     let t = a.before.before.before in
     let s = t.before.before.before in
-    let v = tested s in
-    rw (begin_tries _ _ _ v.valid_row.ensures _ v.if-not-valid_row.false s.is_remainder.ensures _ t.latest-last.ensures s.if-not-is_remainder.false t.if-last-gt-LAST_TRY.false)
-    a.attempt.ensures
+    rw (begin_tries _ _ _ c.valid_row.ensures _ c.if-not-valid_row.false c.is_remainder.ensures _ c.latest-last.ensures c.if-not-is_remainder.false c.if-last-gt-LAST_TRY.false)
+    c.attempt.ensures
 
 pub begin_row_spec : {M : Type 1} → statement M
 begin_row_spec =

@@ -8,7 +8,7 @@ returns : tie.Need-returns
 returns c =
     let r = c.before.before.before.before in
     let s = r.before.before.before.before.before in
-    by_value s.args.c _ s.args.out-1.now _ _ _ r.exit_row-turned.ensures _ c.together.ensures
+    by_value c.args.c _ c.args.out.now _ _ _ c.exit_row-turned.ensures _ c.together.ensures
 
 pub exit_spec : {M : Type 1} → statement M
 exit_spec =

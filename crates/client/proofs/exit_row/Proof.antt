@@ -4,17 +4,11 @@ use borrow.Author.Rules.{rules}
 use Rattle.client.proofs.exit_row.Statement.{statement}
 use Rattle.client.proofs.exit_row.Tie as tie
 
--- the section is the right one, and the record before it valid
-module _ (c : tie.Else-not-is_critical) where
-  abbrev tested : tie.Else-not-valid_row
-  tested = c.before.before
-
 returns-3 : tie.Need-returns
 returns-3 c =
     let a = c.before.before.before.before in
     let s = a.before.before.before in
-    let v = tested s in
-    rw (exit_leaves _ _ _ v.valid_row.ensures _ v.if-not-valid_row.false s.is_critical.ensures s.if-not-is_critical.false) a.leave.ensures
+    rw (exit_leaves _ _ _ c.valid_row.ensures _ c.if-not-valid_row.false c.is_critical.ensures c.if-not-is_critical.false) c.leave.ensures
 
 pub exit_row_spec : {M : Type 1} → statement M
 exit_row_spec =

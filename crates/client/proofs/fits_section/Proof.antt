@@ -9,33 +9,26 @@ use Rattle.client.proofs.fits_section.Tie as tie
 
 -- the filled places are counted
 module _ (c : tie.After-filled_count-found) where
-  abbrev entry : tie.Start
-  entry = c.before.before
-
   abbrev heard : List Owner
-  heard = responses_in entry.args.row.now entry.args.n
+  heard = responses_in c.args.row.now c.args.n
 
 returns : tie.Need-returns-in-Remainder
-returns c = let f = c.before.before in rw c.in-Remainder.is
-    (section_remainder (entry f).args.m (entry f).args.r (heard f) _ f.filled_count-found.ensures)
+returns c = rw c.in-Remainder.is
+    (section_remainder c.args.m c.args.r (heard c.before) _ c.filled_count-found.ensures)
 
 returns-2 : tie.Need-returns-in-Trying
-returns-2 c = let f = c.before.before in rw c.in-Trying.is
-    (section-trying (entry f).args.m (entry f).args.r (heard f) _ f.filled_count-found.ensures)
+returns-2 c = rw c.in-Trying.is
+    (section-trying c.args.m c.args.r (heard c.before) _ c.filled_count-found.ensures)
 
 returns-3 : tie.Need-returns-then-enough_own
 returns-3 c =
-    let t = c.before.before in
-    let f = t.before.before in
-    rw t.in-Critical.is
-    (section_critical (entry f).args.m (entry f).args.r (heard f) _ f.filled_count-found.ensures _ c.enough_own.ensures c.if-enough_own.true)
+    rw c.in-Critical.is
+    (section_critical c.args.m c.args.r (heard c.before.before.before) _ c.filled_count-found.ensures _ c.enough_own.ensures c.if-enough_own.true)
 
 returns-4 : tie.Need-returns-else-enough_own
 returns-4 c =
-    let t = c.before.before in
-    let f = t.before.before in
-    rw t.in-Critical.is
-    (section-few (entry f).args.m (entry f).args.r (heard f) _ f.filled_count-found.ensures _ c.enough_own.ensures c.if-enough_own.false)
+    rw c.in-Critical.is
+    (section-few c.args.m c.args.r (heard c.before.before.before) _ c.filled_count-found.ensures _ c.enough_own.ensures c.if-enough_own.false)
 
 pub fits_section_spec : {M : Type 1} → statement M
 fits_section_spec =

@@ -10,8 +10,8 @@ returns c =
     let d = c.before.before.before.before in
     let o = d.before.before.before in
     let q = o.before.before in
-    let s = q.before.before.before.before.before.before.before in
-    rw (verdicts s.args.h s.args.row-1.now _ _ _ q.filled_count.ensures q.request_of.ensures o.own_count.ensures) d.decide.ensures
+    let s = q.before.before.before.before.before in
+    rw (verdicts c.args.h c.args.row.now _ _ _ c.filled_count.ensures c.request_of.ensures c.own_count.ensures) c.decide.ensures
 
 pub judge_spec : {M : Type 1} → statement M
 judge_spec =

@@ -8,18 +8,18 @@ use Rattle.client.proofs.receive.Tie as tie
 take-response-requires : tie.Need-take_response-requires
 take-response-requires c κs =
     let m = c.before.before.before in
-    let s = m.before.before.before.before in
-    (s.requires.0, rw m.in-Response.is at s.requires.1)
+    let s = m.before.before in
+    (c.requires.0, rw c.in-Response.is at c.requires.1)
 
 returns-5 : tie.Need-returns-in-Response
 returns-5 c =
     let t = c.before.before.before.before in
-    rw t.in-Response.is t.take_response.ensures
+    rw c.in-Response.is c.take_response.ensures
 
 returns-6 : tie.Need-returns-in-Check
 returns-6 c =
     let t = c.before.before in
-    rw t.in-Check.is t.take_check.ensures
+    rw c.in-Check.is c.take_check.ensures
 
 pub receive_spec : {M : Type 1} → statement M
 receive_spec =

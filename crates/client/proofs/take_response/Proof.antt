@@ -12,17 +12,14 @@ module _ (c : tie.After-for_client) where
 
 respond-row-requires : tie.Need-respond_row-requires
 respond-row-requires c κs =
-    let e = c.before.before in
-    let s = entry e.before in
-    let v = response-range max_servers s.args.k s.args.j s.args.o s.requires.1 in
-    (s.requires.0, v.0, its-server s.args.h s.args.row-1.now s.args.k s.args.j _ e.for_client.ensures e.if-not-for_client.false, v.1)
+    let s = entry c.before.before.before in
+    let v = response-range max_servers c.args.k c.args.j c.args.o c.requires.1 in
+    (c.requires.0, v.0, its-server c.args.h c.args.row.now c.args.k c.args.j _ c.for_client.ensures c.if-not-for_client.false, v.1)
 
 returns-2 : tie.Need-returns
 returns-2 c =
-    let r = c.before.before.before.before in
-    let e = r.before.before.before in
-    let a = (entry e.before).args in
-    rw (response-taken a.h _ a.k a.j _ e.for_client.ensures e.if-not-for_client.false a.o) r.respond_row.ensures
+    let a = c.args in
+    rw (response-taken a.h _ a.k a.j _ c.for_client.ensures c.if-not-for_client.false a.o) c.respond_row.ensures
 
 pub take_response_spec : {M : Type 1} → statement M
 take_response_spec =

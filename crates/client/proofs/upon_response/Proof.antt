@@ -14,18 +14,18 @@ module _ (c : tie.Else-not-is_trying) where
   abbrev begun : tie.Start
   begun = c.before.before.before.before
 
-  room : 2 * begun.args.h.n ≤ length begun.args.row-1.now
-  room = padded-words _ _ (valid-padded _ begun.requires.0)
+  room : 2 * c.args.h.n ≤ length c.args.row.now
+  room = padded-words _ _ (valid-padded _ c.requires.0)
 
 -- the response is heard
 module _ (c : tie.After-hear-old) where
   abbrev tries : tie.Else-not-is_trying
   tries = c.before.before.before
 
-  heard : Heard (begun tries).args.h (begun tries).args.row-1.now (begun tries).args.j (begun tries).args.o c.hear-old.result c.hear-old.new.row
+  heard : Heard c.args.h c.args.row.now c.args.j c.args.o c.hear-old.result c.hear-old.new.row
   heard =
       let s = begun tries in
-      respond_heard _ _ s.requires.0 _ _ _ tries.is_trying.ensures s.requires.1 s.requires.2 s.requires.3 tries.if-not-is_trying.false _ _ _
+      respond_heard _ _ c.requires.0 _ _ _ c.is_trying.ensures c.requires.1 c.requires.2 c.requires.3 c.if-not-is_trying.false _ _ _
       c.request_of.ensures c.hear-old.ensures.0 c.hear-old.ensures.1
 
 -- the row is judged
@@ -39,9 +39,8 @@ module _ (c : tie.After-is_refused) where
 
 hear-requires : tie.Need-hear-old-requires
 hear-requires c κs =
-    let e = c.before.before in
-    let s = begun e in
-    ((valid-padded _ s.requires.0).places, s.requires.1, omega (arith, room e, s.requires.2))
+    let s = begun c.before.before in
+    ((valid-padded _ c.requires.0).places, c.requires.1, omega (arith, room c.before.before, c.requires.2))
 
 judge-requires : tie.Need-judge-r-requires
 judge-requires c κs = (heard c.before.before.before.before).padded
@@ -52,20 +51,18 @@ sub-put-request c = omega (arith, (begun (tries (hearing (judged c.before.before
 put-request-requires : tie.Need-put_request-requires
 put-request-requires c κs =
     let e = tries (hearing (judged c.before.before.before)) in
-    omega (arith, room e, (begun e).requires.1, (begun e).requires.2)
+    omega (arith, room c.before.before.before.before.before.before.before.before.before.before.before.before.before.before.before.before, c.requires.1, c.requires.2)
 
 returns-2 : tie.Need-returns-then-is_refused
 returns-2 c =
-    let p = c.before.before in
-    let t = p.before.before.before in
-    let a = judged t.before in
-    respond_undone _ _ _ _ _ _ (heard (hearing a)) _ _ (begun (tries (hearing a))).args.out-1.now _ a.judge-r.ensures _
-    t.is_refused.ensures _ t.if-is_refused.true p.put_request.ensures
+    let a = judged c.before.before.before.before.before.before in
+    respond_undone _ _ _ _ _ _ (heard (hearing c.before.before.before.before.before.before.before.before.before.before.before)) _ _ (begun (tries (hearing c.before.before.before.before.before.before.before.before.before.before.before))).args.out.now _ c.judge-r.ensures _
+    c.is_refused.ensures _ c.if-is_refused.true c.put_request.ensures
 
 returns-3 : tie.Need-returns
 returns-3 c =
     let a = judged c.before in
-    respond_kept _ _ _ _ _ _ (heard (hearing a)) _ _ (begun (tries (hearing a))).args.out-1.now _ a.judge-r.ensures _
+    respond_kept _ _ _ _ _ _ (heard (hearing c.before.before.before.before.before.before)) _ _ (begun (tries (hearing c.before.before.before.before.before.before))).args.out.now _ c.judge-r.ensures _
     c.is_refused.ensures c.if-is_refused.false
 
 pub upon_response_spec : {M : Type 1} → statement M

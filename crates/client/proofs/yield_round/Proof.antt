@@ -9,17 +9,13 @@ use Rattle.client.proofs.yield_round.Tie as tie
 
 -- the filled places are counted
 module _ (c : tie.After-filled_count-found) where
-  abbrev entry : tie.Start
-  entry = c.before.before.before.before.before
-
-  few : c.filled_count-found.result ≤ entry.args.h.n
-  few = filled-few entry.args.row-1.now _ _ entry.requires c.filled_count-found.ensures
+  few : c.filled_count-found.result ≤ c.args.h.n
+  few = filled-few c.args.row.now _ _ c.requires c.filled_count-found.ensures
 
 send-round-requires : tie.Need-send_round-requires
 send-round-requires c κs =
-    let e = c.before.before.before in
-    let p = (entry e.before).requires in
-    (p.places, padded-words _ _ p, rw e.filled_count-found.ensures at e.if-out-size.false)
+    let p = c.requires in
+    (p.places, padded-words _ _ p, rw c.filled_count-found.ensures at c.if-out-size.false)
 
 pub yield_round_spec : {M : Type 1} → statement M
 yield_round_spec =

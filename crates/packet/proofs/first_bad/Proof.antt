@@ -16,33 +16,28 @@ decreases-loop bytes from at₀ at = length bytes - at
 
 -- the part at the place reached
 module _ (c : tie.After-size_at invariant-loop decreases-loop) where
-  abbrev start : tie.Start invariant-loop decreases-loop
-  start = c.before.before.before.before
-
   abbrev s : List ℕ
-  s = start.args.bytes.now
+  s = c.args.bytes.now
 
   abbrev at : ℕ
   at = c.loop-at.at
 
-  judging : Judging s start.args.from at
+  judging : Judging s c.args.from at
   judging = c.loop-at.invariant
 
   part : PartAt s at c.size_at.result
-  part = its-part s start.args.from at judging c.size_at.result c.loop-at-test.true c.size_at.ensures
+  part = its-part s c.args.from at judging c.size_at.result c.loop-at-test.true c.size_at.ensures
 
 -- it was read
 loop-again : tie.Need-loop-at-preserved invariant-loop decreases-loop
 loop-again c =
-    let b = c.before.before.before.before in
-    judging_more _ _ _ (judging b) _ b.loop-at-test.true b.size_at.ensures _ c.read.ensures.0 _ _ c.in-Accepted.is
+    judging_more _ _ _ (judging c.before.before.before) _ c.loop-at-test.true c.size_at.ensures _ c.read.ensures.0 _ _ c.in-Accepted.is
 
 -- it was refused
 returns : tie.Need-returns-in-Refused invariant-loop decreases-loop
 returns c =
-    let b = c.before.before.before.before.before in
     let r = c.read.ensures.0 in
-    judging_bad _ _ _ (judging b) _ b.loop-at-test.true b.size_at.ensures _ r _ c.in-Refused.is
+    judging_bad _ _ _ (judging c.before.before.before) _ c.loop-at-test.true c.size_at.ensures _ r _ c.in-Refused.is
 
 pub first_bad_spec : {M : Type 1} → statement M
 first_bad_spec =
@@ -58,7 +53,7 @@ first_bad_spec =
     (λ c. (part c).within)
     (λ c κs. search rules)
     (λ c. search rules)
-    (λ c. let p = part c.before.before.before.before in omega (arith, p.least, p.within))
+    (λ c. let p = part c.before.before.before in omega (arith, p.least, p.within))
     loop-again
     (λ c. search rules)
     returns

@@ -13,23 +13,20 @@ use Rattle.packet.proofs.message_at.Tie as tie
 
 -- a message starts at the place
 module _ (c : tie.Else-place-bytes) where
-  abbrev start : tie.Start
-  start = c.before.before.before.before.before.before
-
   abbrev s : List ℕ
-  s = start.args.bytes.now
+  s = c.args.bytes.now
 
   abbrev place : ℕ
   place = c.reach-place.result
 
-  reached : Reached s start.args.at place
+  reached : Reached s c.args.at place
   reached = c.reach-place.ensures.1
 
   inside : place < length s
   inside = omega (arith, reached.within, c.if-place-bytes.false)
 
   part : PartAt s place c.size_at.result
-  part = here s start.args.at place c.size_at.result reached inside c.size_at.ensures
+  part = here s c.args.at place c.size_at.result reached inside c.size_at.ensures
 
 pub message_at_spec : {M : Type 1} → statement M
 message_at_spec =
@@ -50,8 +47,8 @@ message_at_spec =
     (λ c.
     let b = c.before.before.before.before.before in
     let r = c.read.ensures.0 in
-    place-message _ _ _ (reached b) b.if-place-at.false _ (inside b) b.size_at.ensures _ r _ _ c.in-Accepted.is)
+    place-message _ _ _ (reached b) c.if-place-at.false _ (inside b) c.size_at.ensures _ r _ _ c.in-Accepted.is)
     (λ c.
     let b = c.before.before.before.before.before in
     let r = c.read.ensures.0 in
-    place_bad _ _ _ (reached b) b.if-place-at.false _ (inside b) b.size_at.ensures _ r _ c.in-Refused.is))
+    place_bad _ _ _ (reached b) c.if-place-at.false _ (inside b) c.size_at.ensures _ r _ c.in-Refused.is))

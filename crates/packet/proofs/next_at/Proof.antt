@@ -20,13 +20,13 @@ next_at_spec =
     (λ c. search rules)
     (λ c κs.
     let b = c.before.before.before.before in
-    next-carried _ 0 _ b.total_of-total.ensures b.if-total-eq0.false (sym c.in-Accepted.is ∙ c.judge.ensures))
+    next-carried _ 0 _ c.total_of-total.ensures c.if-total-eq0.false (sym c.in-Accepted.is ∙ c.judge.ensures))
     (λ c. search rules)
     (λ c.
     let b = c.before.before.before.before.before in
     let j = sym c.in-Accepted.is ∙ c.judge.ensures in
-    next-said _ _ _ (next-found _ _ _ b.total_of-total.ensures b.if-total-eq0.false j _ c.message_at.ensures))
+    next-said _ _ _ (next-found _ _ _ c.total_of-total.ensures c.if-total-eq0.false j _ c.message_at.ensures))
     (λ c.
     let b = c.before.before.before.before.before in
     let j = sym c.in-Refused.is ∙ c.judge.ensures in
-    next-said _ _ _ (next-refused _ _ _ b.total_of-total.ensures b.if-total-eq0.false _ j)))
+    next-said _ _ _ (next-refused _ _ _ c.total_of-total.ensures c.if-total-eq0.false _ j)))

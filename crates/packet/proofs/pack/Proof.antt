@@ -17,15 +17,15 @@ pack_spec =
     (λ c. search rules)
     (λ c.
     let j = c.before.before.before in
-    pack_said _ _ _ _ (pack_refused _ _ j.if-bytes.false _ (sym c.in-Refused.is ∙ j.judge.ensures)))
+    pack_said _ _ _ _ (pack_refused _ _ c.if-bytes.false _ (sym c.in-Refused.is ∙ c.judge.ensures)))
     (λ c. search rules)
     (λ c.
     let j = c.before.before.before in
-    pack_said _ _ _ _ (pack_room _ _ j.if-bytes.false (sym c.in-Accepted.is ∙ j.judge.ensures) _ refl c.if-out-total.true))
+    pack_said _ _ _ _ (pack_room _ _ c.if-bytes.false (sym c.in-Accepted.is ∙ c.judge.ensures) _ refl c.if-out-total.true))
     (λ c κs. search rules)
     (λ c. search rules)
     (λ c.
     let r = c.before.before.before.before in
     let j = r.before.before.before in
-    let g = sym r.in-Accepted.is ∙ j.judge.ensures in
-    pack_said _ _ _ _ (pack_done _ _ j.if-bytes.false g _ refl r.if-out-total.false _ c.put_packet.ensures)))
+    let g = sym c.in-Accepted.is ∙ c.judge.ensures in
+    pack_said _ _ _ _ (pack_done _ _ c.if-bytes.false g _ refl c.if-out-total.false _ c.put_packet.ensures)))

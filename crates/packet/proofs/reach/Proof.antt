@@ -17,20 +17,17 @@ decreases-loop bytes at place₀ place = at - place
 
 -- the part at the place reached
 module _ (c : tie.After-size_at-place invariant-loop decreases-loop) where
-  abbrev start : tie.Start invariant-loop decreases-loop
-  start = c.before.before.before.before
-
   abbrev s : List ℕ
-  s = start.args.bytes.now
+  s = c.args.bytes.now
 
   abbrev place : ℕ
   place = c.loop-place.place
 
   inside : place < length s
-  inside = omega (arith, c.loop-place-test.true, start.requires.0)
+  inside = omega (arith, c.loop-place-test.true, c.requires.0)
 
   part : PartAt s place c.size_at-place.result
-  part = here s start.args.at place c.size_at-place.result c.loop-place.invariant inside c.size_at-place.ensures
+  part = here s c.args.at place c.size_at-place.result c.loop-place.invariant inside c.size_at-place.ensures
 
 pub reach_spec : {M : Type 1} → statement M
 reach_spec =

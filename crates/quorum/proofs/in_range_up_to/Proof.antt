@@ -6,9 +6,8 @@ use Rattle.quorum.proofs.in_range_up_to.Tie as tie
 
 returns-3 : tie.Need-returns
 returns-3 c =
-    let d = c.before.before.before in
-    let a = d.args in
-    faults_decide a.limit a.n a.m a.f _ d.within_limit.ensures _ c.if-not-within_limit.false
+    let a = c.args in
+    faults_decide a.limit a.n a.m a.f _ c.within_limit.ensures _ c.if-not-within_limit.false
     c.within_limit-2.ensures c.if-not-within_limit-2.false
 
 pub in_range_up_to_spec : {M : Type 1} → statement M

@@ -6,9 +6,8 @@ use Rattle.quorum.proofs.listed.Tie as tie
 
 event-at-requires : tie.Need-event_at-e-requires
 event-at-requires c κs =
-    let d = c.before.before.before in
-    let a = d.args in
-    event_bounds a.n a.m a.f a.i d.requires d.if-n-f.false _ c.events.ensures _
+    let a = c.args in
+    event_bounds a.n a.m a.f a.i c.requires c.if-n-f.false _ c.events.ensures _
     c.within_limit.ensures c.if-not-within_limit.false
 
 pub listed_spec : {M : Type 1} → statement M

@@ -13,14 +13,11 @@ use Rattle.quorum.proofs.propose.Tie as tie
 
 -- n is in range
 module _ (c : tie.Else-not-within_limit) where
-  abbrev entry : tie.Start
-  entry = c.before.before
+  servers : within c.args.n max_servers ≡ true
+  servers = holds _ (within c.args.n max_servers) c.within_limit.ensures c.if-not-within_limit.false
 
-  servers : within entry.args.n max_servers ≡ true
-  servers = holds _ (within entry.args.n max_servers) c.within_limit.ensures c.if-not-within_limit.false
-
-  few : entry.args.n ≤ max_servers
-  few = few-servers entry.args.n _ c.within_limit.ensures c.if-not-within_limit.false
+  few : c.args.n ≤ max_servers
+  few = few-servers c.args.n _ c.within_limit.ensures c.if-not-within_limit.false
 
 returns : tie.Need-returns-then-not-within_limit
 returns c =
@@ -29,20 +26,18 @@ returns c =
 
 returns-2 : tie.Need-returns-then-n-f
 returns-2 c =
-    let a = (entry c.before).args in
+    let a = c.args in
     proposes_no_faults a.n a.f (servers c.before) c.if-n-f.true
 
 returns-3 : tie.Need-returns-then-n-least
 returns-3 c =
-    let e = c.before.before in
-    let a = (entry e.before).args in
-    proposes_none a.n a.f (servers e.before) e.if-n-f.false _ c.above_half-least.ensures c.if-n-least.true
+    let a = c.args in
+    proposes_none a.n a.f (servers c.before.before.before) c.if-n-f.false _ c.above_half-least.ensures c.if-n-least.true
 
 returns-4 : tie.Need-returns
 returns-4 c =
-    let e = c.before.before in
-    let a = (entry e.before).args in
-    proposes_some a.n a.f (servers e.before) e.if-n-f.false _ c.above_half-least.ensures c.if-n-least.false
+    let a = c.args in
+    proposes_some a.n a.f (servers c.before.before.before) c.if-n-f.false _ c.above_half-least.ensures c.if-n-least.false
 
 pub propose_spec : {M : Type 1} → statement M
 propose_spec =

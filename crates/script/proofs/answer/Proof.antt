@@ -11,8 +11,8 @@ module _ (c : tie.Else-w-ge-MAX_LINES) where
   abbrev entry : tie.Start
   entry = c.before.before.before.before
 
-  ready : Ready entry.args.w-1.now entry.args.out-1.now entry.args.at × Reads entry.args.w-1.now
-  ready = (entry.requires.0, reading _ entry.args.out-1.now entry.args.at entry.requires.0 entry.requires.1 c.if-w-ge-MAX_LINES.false)
+  ready : Ready c.args.w.now c.args.out.now c.args.at × Reads c.args.w.now
+  ready = (c.requires.0, reading _ c.args.out.now c.args.at c.requires.0 c.requires.1 c.if-w-ge-MAX_LINES.false)
 
 -- it is read
 module _ (c : tie.After-read_event-line) where
@@ -21,35 +21,25 @@ module _ (c : tie.After-read_event-line) where
 
 returns : tie.Need-returns-then-w-ge-MAX_LINES
 returns c =
-    let d = c.before.before.before.before in
-    unread_does d.args.w-1.now d.args.out-1.now d.args.at d.requires.0 d.requires.1 c.if-w-ge-MAX_LINES.true
+    unread_does c.args.w.now c.args.out.now c.args.at c.requires.0 c.requires.1 c.if-w-ge-MAX_LINES.true
 
 returns-2 : tie.Need-returns-in-Bad
 returns-2 c =
-    let p = c.before.before.before.before in
-    let t = p.before.before.before in
-    let r = t.before.before in
-    let d = entry (more r) in
-    bad_does d.args.w-1.now d.args.out-1.now d.args.at d.requires.0 _ _ _ d.requires.1 (more r).if-w-ge-MAX_LINES.false
-    (sym t.in-Bad.is ∙ r.read_event-line.ensures) p.pass.ensures
+    let d = entry (more c.before.before.before.before.before.before.before.before) in
+    bad_does c.args.w.now c.args.out.now c.args.at c.requires.0 _ _ _ c.requires.1 c.if-w-ge-MAX_LINES.false
+    (sym c.in-Bad.is ∙ c.read_event-line.ensures) c.pass.ensures
 
 returns-3 : tie.Need-returns-in-Unknown
 returns-3 c =
-    let p = c.before.before.before.before in
-    let t = p.before.before.before in
-    let r = t.before.before in
-    let d = entry (more r) in
-    unknown_does d.args.w-1.now d.args.out-1.now d.args.at d.requires.0 _ _ _ d.requires.1 (more r).if-w-ge-MAX_LINES.false
-    (sym t.in-Unknown.is ∙ r.read_event-line.ensures) p.pass-in-Unknown.ensures
+    let d = entry (more c.before.before.before.before.before.before.before.before) in
+    unknown_does c.args.w.now c.args.out.now c.args.at c.requires.0 _ _ _ c.requires.1 c.if-w-ge-MAX_LINES.false
+    (sym c.in-Unknown.is ∙ c.read_event-line.ensures) c.pass-in-Unknown.ensures
 
 returns-4 : tie.Need-returns-in-Event
 returns-4 c =
-    let p = c.before.before.before.before in
-    let t = p.before.before.before.before in
-    let r = t.before.before in
-    let d = entry (more r) in
-    event_does d.args.w-1.now d.args.out-1.now d.args.at d.requires.0 _ _ _ d.requires.1 (more r).if-w-ge-MAX_LINES.false
-    _ (sym t.in-Event.is ∙ r.read_event-line.ensures) p.happen.ensures
+    let d = entry (more c.before.before.before.before.before.before.before.before) in
+    event_does c.args.w.now c.args.out.now c.args.at c.requires.0 _ _ _ c.requires.1 c.if-w-ge-MAX_LINES.false
+    _ (sym c.in-Event.is ∙ c.read_event-line.ensures) c.happen.ensures
 
 pub answer_spec : {M : Type 1} → statement M
 answer_spec =
@@ -59,11 +49,11 @@ answer_spec =
     returns
     (λ c κs. search rules)
     (λ c. search rules)
-    (λ c κs. ready (more c.before.before.before.before))
+    (λ c κs. ready (more c.before.before.before))
     (λ c. search rules)
-    (λ c κs. ready (more c.before.before.before.before))
+    (λ c κs. ready (more c.before.before.before))
     (λ c. search rules)
-    (λ c κs. ready (more c.before.before.before.before.before))
+    (λ c κs. ready (more c.before.before.before))
     (λ c. search rules)
     (λ c. search rules)
     returns-2

@@ -26,56 +26,51 @@ module _ (c : tie.After-start) where
 
 refuse-requires : tie.Need-refuse-requires
 refuse-requires c κs =
-    let m = c.before.before.before in
-    let n = asked m in
-    let d = entry n in
-    let a = d.args in
-    begin_ready a.w-1.now a.out-1.now a.at d.requires.0 d.requires.1 a.s _ _ n.new-begun.ensures.0 _ m.in-Refused.is
+    let n = asked c.before.before.before in
+    let d = entry c.before.before.before.before.before in
+    let a = c.args in
+    begin_ready a.w-1.now a.out-1.now a.at c.requires.0 c.requires.1 a.s _ _ c.new-begun.ensures.0 _ c.in-Refused.is
 
 start-requires : tie.Need-start-requires
 start-requires c κs =
-    let m = c.before.before in
-    let n = made m in
-    let d = entry n in
-    let a = d.args in
-    begin_long a.w-1.now a.out-1.now a.at d.requires.0 d.requires.1 a.s _ _ n.new-begun.ensures.0 _ m.in-Run.is
+    let n = made c.before.before in
+    let d = entry c.before.before.before.before in
+    let a = c.args in
+    begin_long a.w-1.now a.out-1.now a.at c.requires.0 c.requires.1 a.s _ _ c.new-begun.ensures.0 _ c.in-Run.is
 
 put-header-requires : tie.Need-put_header-requires
 put-header-requires c κs =
     let m = run c.before.before.before in
-    let n = made m in
-    let d = entry n in
-    let a = d.args in
-    begin_room a.w-1.now a.out-1.now a.at d.requires.0 d.requires.1 a.s _ _ n.new-begun.ensures.0 _ m.in-Run.is
+    let n = made c.before.before.before.before.before.before in
+    let d = entry c.before.before.before.before.before.before.before.before in
+    let a = c.args in
+    begin_room a.w-1.now a.out-1.now a.at c.requires.0 c.requires.1 a.s _ _ c.new-begun.ensures.0 _ c.in-Run.is
 
 returns : tie.Need-returns-in-Refused
 returns c =
-    let m = c.before.before.before.before.before.before.before.before in
-    let n = asked m in
-    let d = entry n in
-    let a = d.args in
-    begin_refused a.w-1.now a.out-1.now a.at d.requires.0 d.requires.1 a.s _ _ n.new-begun.ensures.0 _ m.in-Refused.is
+    let n = asked c.before.before.before.before.before.before.before.before in
+    let d = entry c.before.before.before.before.before.before.before.before.before.before in
+    let a = c.args in
+    begin_refused a.w-1.now a.out-1.now a.at c.requires.0 c.requires.1 a.s _ _ c.new-begun.ensures.0 _ c.in-Refused.is
     _ _ _ c.refuse.ensures
 
 same-length-3 : tie.Need-shape_of-w-in-Run
 same-length-3 c =
-    let s = c.before.before.before.before.before.before in
-    let m = run s in
-    let n = made m in
-    let d = entry n in
-    let a = d.args in
-    begin_same a.w-1.now a.out-1.now a.at d.requires.0 d.requires.1 a.s _ _ n.new-begun.ensures.0 _ m.in-Run.is
-    _ s.start.ensures
+    let m = run c.before.before.before.before.before.before in
+    let n = made c.before.before.before.before.before.before.before.before.before in
+    let d = entry c.before.before.before.before.before.before.before.before.before.before.before in
+    let a = c.args in
+    begin_same a.w-1.now a.out-1.now a.at c.requires.0 c.requires.1 a.s _ _ c.new-begun.ensures.0 _ c.in-Run.is
+    _ c.start.ensures
 
 returns-2 : tie.Need-returns-in-Run
 returns-2 c =
-    let s = c.before.before.before.before.before.before in
-    let m = run s in
-    let n = made m in
-    let d = entry n in
-    let a = d.args in
-    begin_running a.w-1.now a.out-1.now a.at d.requires.0 d.requires.1 a.s _ _ n.new-begun.ensures.0 _ m.in-Run.is
-    _ s.start.ensures _ _ c.put_header.ensures
+    let m = run c.before.before.before.before.before.before in
+    let n = made c.before.before.before.before.before.before.before.before.before in
+    let d = entry c.before.before.before.before.before.before.before.before.before.before.before in
+    let a = c.args in
+    begin_running a.w-1.now a.out-1.now a.at c.requires.0 c.requires.1 a.s _ _ c.new-begun.ensures.0 _ c.in-Run.is
+    _ c.start.ensures _ _ c.put_header.ensures
 
 pub begin_spec : {M : Type 1} → statement M
 begin_spec =

@@ -22,25 +22,21 @@ module _ (c : tie.After-end-wrote) where
 
 last-requires : tie.Need-last-at-requires
 last-requires c κs =
-    let d = c.before.before.before.before in
-    closing_ready d.args.w-1.now d.args.out-1.now d.requires.0 d.requires.1
+    closing_ready c.args.w.now c.args.out.now c.requires.0 c.requires.1
 
 end-requires : tie.Need-end-wrote-requires
 end-requires c κs =
-    let l = c.before.before.before.before.before.before in
-    let d = entry l in
-    ending_ready d.args.w-1.now d.args.out-1.now d.requires.0 d.requires.1 _ _ _ l.last-at.ensures
+    let d = entry c.before.before.before.before.before in
+    ending_ready c.args.w.now c.args.out.now c.requires.0 c.requires.1 _ _ _ c.last-at.ensures
 
 seal-requires : tie.Need-seal-requires
 seal-requires c κs = (whole (done c.before.before.before)).long
 
 returns : tie.Need-returns
 returns c =
-    let s = c.before.before in
-    let e = s.before.before.before.before in
-    let l = done e in
-    let d = entry l in
-    closing d.args.w-1.now d.args.out-1.now d.requires.0 d.requires.1 _ _ _ l.last-at.ensures _ _ e.end-wrote.ensures _ s.seal.ensures
+    let l = done c.before.before.before.before.before.before in
+    let d = entry c.before.before.before.before.before.before.before.before.before.before.before.before in
+    closing c.args.w.now c.args.out.now c.requires.0 c.requires.1 _ _ _ c.last-at.ensures _ _ c.end-wrote.ensures _ c.seal.ensures
 
 pub close_spec : {M : Type 1} → statement M
 close_spec =

@@ -5,36 +5,31 @@ use borrow.Author.Rules.{rules}
 use Rattle.script.proofs.feed.Statement.{statement}
 use Rattle.script.proofs.feed.Tie as tie
 
--- the state is valid or not
-module _ (c : tie.After-valid) where
-  abbrev entry : tie.Start
-  entry = c.before.before.before.before.before
-
 returns : tie.Need-returns-then-not-valid
 returns c =
-    let a = (entry c.before).args in
+    let a = c.args in
     feed_said _ _ _ _ (feed_invalid a.w-1.now a.input.now a.out-1.now _ c.valid.ensures c.if-not-valid.true)
 
 returns-2 : tie.Need-returns-then-out-lt-MAX_PRINTED
 returns-2 c =
     let v = c.before in
-    let a = (entry v.before).args in
-    feed_said _ _ _ _ (feed_short a.w-1.now a.input.now a.out-1.now _ v.valid.ensures v.if-not-valid.false c.if-out-lt-MAX_PRINTED.true)
+    let a = c.args in
+    feed_said _ _ _ _ (feed_short a.w-1.now a.input.now a.out-1.now _ c.valid.ensures c.if-not-valid.false c.if-out-lt-MAX_PRINTED.true)
 
 take-all-requires : tie.Need-take_all-requires
 take-all-requires c κs =
     let v = c.before.before.before in
-    let a = (entry v.before).args in
-    feed_sound a.w-1.now a.input.now a.out-1.now _ v.valid.ensures v.if-not-valid.false
+    let a = c.args in
+    feed_sound a.w-1.now a.input.now a.out-1.now _ c.valid.ensures c.if-not-valid.false
 
 returns-3 : tie.Need-returns
 returns-3 c =
     let t = c.before.before.before.before in
     let r = t.before.before.before in
     let v = r.before in
-    let a = (entry v.before).args in
-    feed_said _ _ _ _ (feed_done a.w-1.now a.input.now a.out-1.now _ v.valid.ensures v.if-not-valid.false r.if-out-lt-MAX_PRINTED.false
-    _ _ _ t.take_all.ensures)
+    let a = c.args in
+    feed_said _ _ _ _ (feed_done a.w-1.now a.input.now a.out-1.now _ c.valid.ensures c.if-not-valid.false c.if-out-lt-MAX_PRINTED.false
+    _ _ _ c.take_all.ensures)
 
 pub feed_spec : {M : Type 1} → statement M
 feed_spec =

@@ -5,36 +5,31 @@ use borrow.Author.Rules.{rules}
 use Rattle.script.proofs.finish.Statement.{statement}
 use Rattle.script.proofs.finish.Tie as tie
 
--- the state is valid or not
-module _ (c : tie.After-valid) where
-  abbrev entry : tie.Start
-  entry = c.before.before.before.before
-
 returns : tie.Need-returns-then-not-valid
 returns c =
-    let a = (entry c.before).args in
+    let a = c.args in
     finish_said _ _ _ (finish_invalid a.w-1.now a.out-1.now _ c.valid.ensures c.if-not-valid.true)
 
 returns-2 : tie.Need-returns-then-out-lt-MAX_ENDING
 returns-2 c =
     let v = c.before in
-    let a = (entry v.before).args in
-    finish_said _ _ _ (finish_short a.w-1.now a.out-1.now _ v.valid.ensures v.if-not-valid.false c.if-out-lt-MAX_ENDING.true)
+    let a = c.args in
+    finish_said _ _ _ (finish_short a.w-1.now a.out-1.now _ c.valid.ensures c.if-not-valid.false c.if-out-lt-MAX_ENDING.true)
 
 close-requires : tie.Need-close-wrote-requires
 close-requires c κs =
     let r = c.before.before in
     let v = r.before in
-    let a = (entry v.before).args in
-    (finish_sound a.w-1.now a.out-1.now _ v.valid.ensures v.if-not-valid.false, r.if-out-lt-MAX_ENDING.false)
+    let a = c.args in
+    (finish_sound a.w-1.now a.out-1.now _ c.valid.ensures c.if-not-valid.false, c.if-out-lt-MAX_ENDING.false)
 
 returns-3 : tie.Need-returns
 returns-3 c =
     let t = c.before.before.before.before in
     let r = t.before.before.before in
     let v = r.before in
-    let a = (entry v.before).args in
-    finish_said _ _ _ (finish_done a.w-1.now a.out-1.now _ v.valid.ensures v.if-not-valid.false r.if-out-lt-MAX_ENDING.false _ _ _ t.close-wrote.ensures)
+    let a = c.args in
+    finish_said _ _ _ (finish_done a.w-1.now a.out-1.now _ c.valid.ensures c.if-not-valid.false c.if-out-lt-MAX_ENDING.false _ _ _ c.close-wrote.ensures)
 
 pub finish_spec : {M : Type 1} → statement M
 finish_spec =

@@ -19,38 +19,34 @@ module _ (c : tie.After-put_counts) where
 
 event-requires : tie.Need-event-went-requires
 event-requires c κs =
-    let k = c.before in
-    let d = entry k in
-    let a = d.args in
-    (simulation_valid a.w-1.now a.out-1.now a.at d.requires.0 d.requires.1, counts-small a.w-1.now d.requires.1 _ k.counts_in-counts.ensures)
+    let d = entry c.before in
+    let a = c.args in
+    (simulation_valid a.w-1.now a.out-1.now a.at c.requires.0 c.requires.1, counts-small a.w-1.now c.requires.1 _ c.counts_in-counts.ensures)
 
 put-counts-requires : tie.Need-put_counts-requires
 put-counts-requires c κs =
-    let h = c.before.before.before in
-    let k = counted h in
-    let d = entry k in
-    let a = d.args in
-    event-long a.w-1.now a.out-1.now a.at d.requires.0 d.requires.1 a.e _ _ k.counts_in-counts.ensures _ h.event-went.ensures
+    let k = counted c.before.before.before.before in
+    let d = entry c.before.before.before.before.before.before in
+    let a = c.args in
+    event-long a.w-1.now a.out-1.now a.at c.requires.0 c.requires.1 a.e _ _ c.counts_in-counts.ensures _ c.event-went.ensures
 
 same_length : tie.Need-shape_of-w
 same_length c =
-    let s = c.before.before.before.before.before.before in
-    let h = went s in
-    let k = counted h in
-    let d = entry k in
-    let a = d.args in
-    event-same a.w-1.now a.out-1.now a.at d.requires.0 d.requires.1 a.e _ _ k.counts_in-counts.ensures _ h.event-went.ensures
-    _ s.put_counts.ensures
+    let h = went c.before.before.before.before.before.before in
+    let k = counted c.before.before.before.before.before.before.before.before.before.before.before in
+    let d = entry c.before.before.before.before.before.before.before.before.before.before.before.before.before in
+    let a = c.args in
+    event-same a.w-1.now a.out-1.now a.at c.requires.0 c.requires.1 a.e _ _ c.counts_in-counts.ensures _ c.event-went.ensures
+    _ c.put_counts.ensures
 
 returns : tie.Need-returns
 returns c =
-    let s = c.before.before.before.before.before.before in
-    let h = went s in
-    let k = counted h in
-    let d = entry k in
-    let a = d.args in
-    event-happened a.w-1.now a.out-1.now a.at d.requires.0 d.requires.1 a.e _ _ k.counts_in-counts.ensures _ h.event-went.ensures
-    _ s.put_counts.ensures _ _ c.put_reply.ensures
+    let h = went c.before.before.before.before.before.before in
+    let k = counted c.before.before.before.before.before.before.before.before.before.before.before in
+    let d = entry c.before.before.before.before.before.before.before.before.before.before.before.before.before in
+    let a = c.args in
+    event-happened a.w-1.now a.out-1.now a.at c.requires.0 c.requires.1 a.e _ _ c.counts_in-counts.ensures _ c.event-went.ensures
+    _ c.put_counts.ensures _ _ c.put_reply.ensures
 
 pub happen_spec : {M : Type 1} → statement M
 happen_spec =

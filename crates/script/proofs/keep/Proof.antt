@@ -8,14 +8,14 @@ use Rattle.script.proofs.keep.Tie as tie
 returns : tie.Need-returns-then-len-ge-MAX_KEPT
 returns c =
     let d = c.before.before in
-    let a = d.args in
-    keep_full a.w.now a.b d.requires c.if-len-ge-MAX_KEPT.true
+    let a = c.args in
+    keep_full a.w.now a.b c.requires c.if-len-ge-MAX_KEPT.true
 
 returns-2 : tie.Need-returns
 returns-2 c =
     let d = c.before.before in
-    let a = d.args in
-    keep_more a.w.now a.b d.requires c.if-len-ge-MAX_KEPT.false (omega arith)
+    let a = c.args in
+    keep_more a.w.now a.b c.requires c.if-len-ge-MAX_KEPT.false (omega arith)
 
 pub keep_spec : {M : Type 1} → statement M
 keep_spec =

@@ -7,9 +7,9 @@ use Rattle.script.proofs.new.Tie as tie
 
 returns-2 : tie.Need-returns
 returns-2 c = new_said _ _ (
-  newly_answered c.args.w-1.now c.if-w-ne-STATE_WORDS.false,
+  newly_answered c.args.w.now c.if-w-ne-STATE_WORDS.false,
   newly
-      c.args.w-1.now _ c.if-w-ne-STATE_WORDS.false
+      c.args.w.now _ c.if-w-ne-STATE_WORDS.false
       c.clear.ensures,
 )
 
@@ -17,7 +17,7 @@ pub new_spec : {M : Type 1} → statement M
 new_spec =
     tie.close
     (tie.spec
-    (λ c. new_said _ _ (not_new c.args.w-1.now c.if-w-ne-STATE_WORDS.true))
+    (λ c. new_said _ _ (not_new c.args.w.now c.if-w-ne-STATE_WORDS.true))
     (λ c κs. search rules)
     (λ c. search rules)
     returns-2)

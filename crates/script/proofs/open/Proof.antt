@@ -12,21 +12,15 @@ module _ (c : tie.After-read_setting-first) where
 
 returns : tie.Need-returns-in-Bad
 returns c =
-    let p = c.before.before.before.before in
-    let t = p.before.before.before in
-    let r = t.before.before in
-    let d = entry r in
-    bad_first d.args.w-1.now d.args.out-1.now d.args.at d.requires.0 _ _ _
-    (sym t.in-Bad.is ∙ r.read_setting-first.ensures) p.refuse.ensures
+    let d = entry c.before.before.before.before.before.before.before.before in
+    bad_first c.args.w.now c.args.out.now c.args.at c.requires.0 _ _ _
+    (sym c.in-Bad.is ∙ c.read_setting-first.ensures) c.refuse.ensures
 
 returns-2 : tie.Need-returns-in-Setting
 returns-2 c =
-    let p = c.before.before.before.before in
-    let t = p.before.before.before.before in
-    let r = t.before.before in
-    let d = entry r in
-    setting-first d.args.w-1.now d.args.out-1.now d.args.at d.requires.0 _ _ _
-    _ (sym t.in-Setting.is ∙ r.read_setting-first.ensures) p.begin.ensures
+    let d = entry c.before.before.before.before.before.before.before.before in
+    setting-first c.args.w.now c.args.out.now c.args.at c.requires.0 _ _ _
+    _ (sym c.in-Setting.is ∙ c.read_setting-first.ensures) c.begin.ensures
 
 pub open_spec : {M : Type 1} → statement M
 open_spec =

@@ -9,15 +9,15 @@ use Rattle.script.proofs.refuse.Tie as tie
 returns : tie.Need-returns
 returns c =
     let d = c.before.before.before.before.before.before in
-    let a = d.args in
-    refused_does a.w.now a.out-1.now a.at d.requires.0 d.requires.1 a.x _ _ c.before.before.Put-refused.ensures
+    let a = c.args in
+    refused_does a.w.now a.out-1.now a.at c.requires.0 c.requires.1 a.x _ _ c.before.before.Put-refused.ensures
 
 pub refuse_spec : {M : Type 1} → statement M
 refuse_spec =
     tie.close
     (tie.spec
     (λ c. search rules)
-    (λ c κs. let d = c.before.before.before in omega (arith, refused-short d.args.x, d.requires.0.room))
+    (λ c κs. let d = c.before.before.before in omega (arith, refused-short c.args.x, c.requires.0.room))
     (λ c. search rules)
     (λ c. search rules)
     returns)

@@ -5,7 +5,7 @@ use Rattle.script.proofs.start.Statement.{statement}
 use Rattle.script.proofs.start.Tie as tie
 
 same_length : tie.Need-shape_of-w
-same_length c = let d = c.before.before.before.before.before in started-same d.args.w-1.now _ d.args.c c.put_counts.ensures
+same_length c = started-same c.args.w.now _ c.args.c c.put_counts.ensures
 
 pub start_spec : {M : Type 1} → statement M
 start_spec = tie.close (tie.spec (λ c. search rules) (λ c κs. search rules) same_length (λ c. search rules))

@@ -15,9 +15,7 @@ decreases-loop w₀ input out₀ used₀ at₀ w out used at = length input - us
 
 loop-again : tie.Need-loop-used-preserved invariant-loop decreases-loop
 loop-again c =
-    let t = c.before.before.before.before in
-    let r = t.before.before.before.before in
-    feeding_more r.loop-used.invariant (omega arith) r.if-out-at-lt-MAX_PRINTED.false _ _ _ t.take-at.ensures
+    feeding_more c.loop-used.invariant (omega arith) c.if-out-at-lt-MAX_PRINTED.false _ _ _ c.take-at.ensures
 
 pub take_all_spec : {M : Type 1} → statement M
 take_all_spec =
@@ -25,7 +23,7 @@ take_all_spec =
     (tie.spec
     invariant-loop
     decreases-loop
-    (λ c. let d = c.before.before.before in feeding_none d.args.w-1.now d.args.input.now d.args.out-1.now d.requires)
+    (λ c. feeding_none c.args.w.now c.args.input.now c.args.out.now c.requires)
     (λ c. search rules)
     (λ c. search rules)
     (λ c. search rules)

@@ -23,8 +23,8 @@ module _ (c : tie.In-Number) where
   abbrev behind₁ : ℕ
   behind₁ = c.in-Number.a
 
-  one : Found (line entry) entry.args.at n behind₁
-  one = found _ _ _ _ _ entry.requires c.read_field.ensures c.in-Number.is
+  one : Found (line entry) c.args.at n behind₁
+  one = found _ _ _ _ _ c.requires c.read_field.ensures c.in-Number.is
 
 module _ (c : tie.In-Number-read_field) where
   abbrev from₁ : tie.In-Number
@@ -45,27 +45,21 @@ module _ (c : tie.In-Number-read_field-2) where
 
 returns-2 : tie.Need-returns-in_default-read_field
 returns-2 c =
-    let r = c.before.before in
-    no_second _ _ _ _ (one r.before) _ r.read_field-2.ensures c.in_default-read_field.is
+    no_second _ _ _ _ (one c.before.before) _ c.read_field-2.ensures c.in_default-read_field.is
 
 returns-3 : tie.Need-returns-in_default-read_field-2
 returns-3 c =
-    let r = c.before.before in
-    no_third _ _ _ _ (one (from₁ r.before)) _ _ (two r.before) _ r.read_field-3.ensures c.in_default-read_field-2.is
+    no_third _ _ _ _ (one (from₁ c.before.before)) _ _ (two c.before.before) _ c.read_field-3.ensures c.in_default-read_field-2.is
 
 returns-4 : tie.Need-returns-in_default-read_number
 returns-4 c =
-    let r = c.before.before in
-    let d = r.before.before in
-    let b = from₂ d in
-    no_fourth _ _ _ _ (one (from₁ b)) _ _ (two b) _ _ (three d) _ r.read_number.ensures.0 c.in_default-read_number.is
+    let b = from₂ c.before.before.before in
+    no_fourth _ _ _ _ (one (from₁ c.before.before.before.before.before)) _ _ (two c.before.before.before.before.before) _ _ (three c.before.before.before) _ c.read_number.ensures.0 c.in_default-read_number.is
 
 returns-5 : tie.Need-returns
 returns-5 c =
-    let r = c.before.before.before in
-    let d = r.before.before in
-    let b = from₂ d in
-    all_four _ _ _ _ (one (from₁ b)) _ _ (two b) _ _ (three d) _ r.read_number.ensures.0 _ c.in-Number-read_number.is
+    let b = from₂ c.before.before.before in
+    all_four _ _ _ _ (one (from₁ c.before.before.before.before.before)) _ _ (two c.before.before.before.before.before) _ _ (three c.before.before.before) _ c.read_number.ensures.0 _ c.in-Number-read_number.is
 
 pub four_from_spec : {M : Type 1} → statement M
 four_from_spec =

@@ -13,7 +13,7 @@ use Rattle.script_lines.proofs.put_end.Tie as tie
 -- at entry there is room for the line
 module _ (c : tie.Start) where
   room : c.args.at + (length (decimal c.args.accepted) + length (decimal c.args.holders) + length (decimal c.args.downs) + 7)
-      ≤ length c.args.out-1.now
+      ≤ length c.args.out.now
   room = omega (arith, length_end c.args.accepted c.args.holders c.args.downs, c.requires)
 
 -- the word is put, the events accepted, the holders
@@ -35,12 +35,11 @@ returns c =
     let d₄ = c.before.before in
     let d₃ = d₄.before.before.before.before in
     let d₂ = two d₃ in
-    let d₁ = one d₂ in
-    let a = (entry d₁).args in
-    let e₁ = puts-more (puts_none a.out-1.now a.at) (text "end") d₁.put_word-p.ensures in
-    let e₂ = puts-more e₁ (decimal a.accepted) d₂.put_number-q.ensures in
-    let e₃ = puts-more e₂ (decimal a.holders) d₃.put_number-t.ensures in
-    puts-last e₃ (decimal a.downs) d₄.put_number.ensures
+    let a = c.args in
+    let e₁ = puts-more (puts_none a.out-1.now a.at) (text "end") c.put_word-p.ensures in
+    let e₂ = puts-more e₁ (decimal a.accepted) c.put_number-q.ensures in
+    let e₃ = puts-more e₂ (decimal a.holders) c.put_number-t.ensures in
+    puts-last e₃ (decimal a.downs) c.put_number.ensures
 
 pub put_end_spec : {M : Type 1} → statement M
 put_end_spec =

@@ -13,10 +13,7 @@ use Rattle.script_lines.proofs.put_event.Tie as tie
 
 -- the event's word is found
 module _ (c : tie.After-word_end-to) where
-  abbrev entry : tie.Start
-  entry = c.before.before.before.before
-
-  named : take (c.word_end-to.result - c.name_at-from.result) (drop c.name_at-from.result names) ≡ word_of entry.args.e
+  named : take (c.word_end-to.result - c.name_at-from.result) (drop c.name_at-from.result names) ≡ word_of c.args.e
   named = cut_word names _ _ c.word_end-to.ensures.0 ∙ c.name_at-from.ensures.1
 
 -- and put
@@ -26,22 +23,19 @@ module _ (c : tie.After-put_word-p) where
 
 put-word-requires : tie.Need-put_word-p-requires
 put-word-requires c κs =
-    let d = c.before.before in
-    word_room (entry d).args.e _ (named d) _ _ (entry d).requires
+    word_room c.args.e _ (named c.before.before) _ _ c.requires
 
 put-decimal-requires : tie.Need-put_decimal-requires
 put-decimal-requires c κs =
-    let p = c.before.before.before.before in
-    let d = found p in
-    omega (arith, number-room (entry d).args.e _ (named d) _ _ _ c.number_of_lem.ensures _ p.put_word-p.ensures.0 (entry d).requires)
+    let d = found c.before.before.before.before in
+    omega (arith, number-room c.args.e _ (named c.before.before.before.before.before.before.before) _ _ _ c.number_of_lem.ensures _ c.put_word-p.ensures.0 c.requires)
 
 returns : tie.Need-returns
 returns c =
     let q = c.before.before in
-    let p = q.before.before.before.before.before in
-    let d = found p in
-    put-line (entry d).args.e _ (named d) _ _ _ q.before.number_of_lem.ensures
-    (entry d).args.out-1.now _ _ _ p.put_word-p.ensures q.put_decimal.ensures
+    let d = found c.before.before.before.before.before.before.before in
+    put-line c.args.e _ (named c.before.before.before.before.before.before.before.before.before.before) _ _ _ q.before.number_of_lem.ensures
+    c.args.out.now _ _ _ c.put_word-p.ensures c.put_decimal.ensures
 
 pub put_event_spec : {M : Type 1} → statement M
 put_event_spec =

@@ -11,7 +11,7 @@ use Rattle.script_lines.proofs.put_four.Tie as tie
 -- at entry there is room for all four
 module _ (c : tie.Start) where
   room : c.args.at + (length (decimal c.args.s.n) + length (decimal c.args.s.m) + length (decimal c.args.s.f)
-      + length (decimal c.args.s.clients) + 3) ≤ length c.args.out-1.now
+      + length (decimal c.args.s.clients) + 3) ≤ length c.args.out.now
   room = omega (arith, length_four c.args.s, c.requires)
 
 -- the first number is put, the second, the third
@@ -29,15 +29,12 @@ module _ (c : tie.After-put_number-t) where
 
 returns : tie.Need-returns
 returns c =
-    let d₄ = c.before.before in
-    let d₃ = d₄.before.before.before.before in
-    let d₂ = two d₃ in
-    let d₁ = one d₂ in
-    let a = (entry d₁).args in
-    let e₁ = puts-more (puts_none a.out-1.now a.at) (decimal a.s.n) d₁.put_number-p.ensures in
-    let e₂ = puts-more e₁ (decimal a.s.m) d₂.put_number-q.ensures in
-    let e₃ = puts-more e₂ (decimal a.s.f) d₃.put_number-t.ensures in
-    puts_end e₃ (decimal a.s.clients) d₄.put_decimal.ensures
+    let d₂ = two c.before.before.before.before.before.before in
+    let a = c.args in
+    let e₁ = puts-more (puts_none a.out-1.now a.at) (decimal a.s.n) c.put_number-p.ensures in
+    let e₂ = puts-more e₁ (decimal a.s.m) c.put_number-q.ensures in
+    let e₃ = puts-more e₂ (decimal a.s.f) c.put_number-t.ensures in
+    puts_end e₃ (decimal a.s.clients) c.put_decimal.ensures
 
 pub put_four_spec : {M : Type 1} → statement M
 put_four_spec =

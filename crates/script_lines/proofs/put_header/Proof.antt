@@ -6,16 +6,11 @@ use borrow.Author.Rules.{rules}
 use Rattle.script_lines.proofs.put_header.Statement.{statement}
 use Rattle.script_lines.proofs.put_header.Tie as tie
 
--- the word is put
-module _ (c : tie.After-put_word-p) where
-  abbrev entry : tie.Start
-  entry = c.before.before.before.before
-
 returns : tie.Need-returns
 returns c =
     let d = c.before.before.before.before.before.before in
-    let a = (entry d).args in
-    put_heading a.s a.out-1.now _ _ _ _ _ c.put_four-q.ensures d.put_word-p.ensures
+    let a = c.args in
+    put_heading a.s a.out-1.now _ _ _ _ _ c.put_four-q.ensures c.put_word-p.ensures
 
 pub put_header_spec : {M : Type 1} → statement M
 put_header_spec =
@@ -23,8 +18,8 @@ put_header_spec =
     (tie.spec
     (λ c. search rules)
     (λ c κs. omega (arith, length-header c.args.s))
-    (λ c κs. omega (arith, length-header (entry c.before.before.before).args.s))
-    (λ c. omega (arith, length-header (entry c.before.before.before.before.before.before).args.s))
-    (λ c. omega (arith, length-header (entry c.before.before.before.before.before.before).args.s))
+    (λ c κs. omega (arith, length-header c.args.s))
+    (λ c. omega (arith, length-header c.args.s))
+    (λ c. omega (arith, length-header c.args.s))
     (λ c. let d = c.put_four-q in omega (arith, length-set d.new.0 d.result 10))
     returns)

@@ -7,9 +7,8 @@ use Rattle.script_lines.proofs.put_number.Tie as tie
 
 returns : tie.Need-returns
 returns c =
-    let d = c.before.before in
-    let a = d.args in
-    put-behind a.out-1.now _ _ _ _ (decimal a.x) d.put_decimal-p.ensures
+    let a = c.args in
+    put-behind a.out-1.now _ _ _ _ (decimal a.x) c.put_decimal-p.ensures
 
 pub put_number_spec : {M : Type 1} → statement M
 put_number_spec =

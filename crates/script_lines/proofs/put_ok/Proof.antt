@@ -13,7 +13,7 @@ use Rattle.script_lines.proofs.put_ok.Tie as tie
 -- at entry there is room for the line
 module _ (c : tie.Start) where
   room : c.args.at + (length (decimal c.args.number) + length (decimal c.args.sent) + length (decimal c.args.holders) + 6)
-      ≤ length c.args.out-1.now
+      ≤ length c.args.out.now
   room = omega (arith, length_ok c.args.number c.args.sent c.args.holders, c.requires)
 
 -- the number is put, the word, the messages sent
@@ -35,12 +35,11 @@ returns c =
     let d₄ = c.before.before in
     let d₃ = d₄.before.before.before.before in
     let d₂ = two d₃ in
-    let d₁ = one d₂ in
-    let a = (entry d₁).args in
-    let e₁ = puts-more (puts_none a.out-1.now a.at) (decimal a.number) d₁.put_number-p.ensures in
-    let e₂ = puts-more e₁ (text "ok") d₂.put_word-q.ensures in
-    let e₃ = puts-more e₂ (decimal a.sent) d₃.put_number-t.ensures in
-    puts-last e₃ (decimal a.holders) d₄.put_number.ensures
+    let a = c.args in
+    let e₁ = puts-more (puts_none a.out-1.now a.at) (decimal a.number) c.put_number-p.ensures in
+    let e₂ = puts-more e₁ (text "ok") c.put_word-q.ensures in
+    let e₃ = puts-more e₂ (decimal a.sent) c.put_number-t.ensures in
+    puts-last e₃ (decimal a.holders) c.put_number.ensures
 
 pub put_ok_spec : {M : Type 1} → statement M
 put_ok_spec =

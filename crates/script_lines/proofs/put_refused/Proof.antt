@@ -10,23 +10,17 @@ use borrow.Author.Rules.{rules}
 use Rattle.script_lines.proofs.put_refused.Statement.{statement}
 use Rattle.script_lines.proofs.put_refused.Tie as tie
 
--- the word is put
-module _ (c : tie.After-put_word-p) where
-  abbrev entry : tie.Start
-  entry = c.before.before.before.before
-
 put-number-requires : tie.Need-put_number-requires
 put-number-requires c κs =
-    omega (arith, length-refused (entry c.before.before.before.before).args.refusal, ap (λ x. length (decimal x)) c.code_of_lem.ensures)
+    omega (arith, length-refused c.args.refusal, ap (λ x. length (decimal x)) c.code_of_lem.ensures)
 
 returns : tie.Need-returns
 unfolding refused_line
 returns c =
     let d₂ = c.before.before in
-    let d₁ = d₂.before.before.before.before.before in
-    let a = (entry d₁).args in
-    let e₁ = puts-more (puts_none a.out-1.now a.at) (text "no") d₁.put_word-p.ensures in
-    rw d₂.before.code_of_lem.ensures at (puts-last e₁ (decimal d₂.before.code_of_lem.result) d₂.put_number.ensures)
+    let a = c.args in
+    let e₁ = puts-more (puts_none a.out-1.now a.at) (text "no") c.put_word-p.ensures in
+    rw d₂.before.code_of_lem.ensures at (puts-last e₁ (decimal d₂.before.code_of_lem.result) c.put_number.ensures)
 
 pub put_refused_spec : {M : Type 1} → statement M
 put_refused_spec =

@@ -5,16 +5,10 @@ use borrow.Author.Rules.{rules}
 use Rattle.script_lines.proofs.put_setting.Statement.{statement}
 use Rattle.script_lines.proofs.put_setting.Tie as tie
 
--- the word is put
-module _ (c : tie.After-put_word-p) where
-  abbrev entry : tie.Start
-  entry = c.before.before.before.before
-
 returns : tie.Need-returns
 returns c =
-    let d = c.before.before.before.before.before.before in
-    let a = (entry d).args in
-    put-opening a.s a.out-1.now _ _ _ _ _ c.put_four.ensures d.put_word-p.ensures
+    let a = c.args in
+    put-opening a.s a.out-1.now _ _ _ _ _ c.put_four.ensures c.put_word-p.ensures
 
 pub put_setting_spec : {M : Type 1} → statement M
 put_setting_spec =
@@ -22,6 +16,6 @@ put_setting_spec =
     (tie.spec
     (λ c. search rules)
     (λ c κs. omega (arith, length-setting c.args.s))
-    (λ c κs. omega (arith, length-setting (entry c.before.before.before).args.s))
+    (λ c κs. omega (arith, length-setting c.args.s))
     (λ c. search rules)
     returns)

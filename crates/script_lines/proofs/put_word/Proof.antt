@@ -6,9 +6,8 @@ use Rattle.script_lines.proofs.put_word.Tie as tie
 
 returns : tie.Need-returns
 returns c =
-    let d = c.before.before in
-    let a = d.args in
-    put-behind a.out-1.now _ _ _ _ a.w.now d.put_bytes-p.ensures
+    let a = c.args in
+    put-behind a.out-1.now _ _ _ _ a.w.now c.put_bytes-p.ensures
 
 pub put_word_spec : {M : Type 1} → statement M
 put_word_spec =

@@ -8,13 +8,13 @@ returns-2 : tie.Need-returns-in-Number
 returns-2 c =
     let r = c.before.before.before in
     let d = r.before.before in
-    field_found _ _ _ d.word_end-p.ensures d.if-p-line.false _ r.read_number.ensures.0 _ c.in-Number.is
+    field_found _ _ _ c.word_end-p.ensures c.if-p-line.false _ c.read_number.ensures.0 _ c.in-Number.is
 
 returns-3 : tie.Need-returns-in-Nothing
 returns-3 c =
     let r = c.before.before in
     let d = r.before.before in
-    field_unread _ _ _ d.word_end-p.ensures d.if-p-line.false _ r.read_number.ensures.0 c.in-Nothing.is
+    field_unread _ _ _ c.word_end-p.ensures c.if-p-line.false _ c.read_number.ensures.0 c.in-Nothing.is
 
 pub read_field_spec : {M : Type 1} → statement M
 read_field_spec =

@@ -37,16 +37,16 @@ module _ (c : tie.After-valid_request invariant-loop decreases-loop) where
   abbrev turn : tie.In-loop-i invariant-loop decreases-loop
   turn = c.before.before
 
-  tested : c.valid_request.result ≡ valid_request (get_or (places (entry turn)) turn.loop-i.i no_request)
+  tested : c.valid_request.result ≡ valid_request (get_or (places (entry turn)) c.loop-i.i no_request)
   tested = c.valid_request.ensures ∙ ap valid_request c.request_at.ensures
 
 returns : tie.Need-returns-then-not-valid_request invariant-loop decreases-loop
-returns c = let t = turn c.before in valid_stops _ _ (within (entry t)) _ t.loop-i-test.true _ _ (tested c.before)
-    t.loop-i.invariant c.if-not-valid_request.true
+returns c = let t = turn c.before in valid_stops _ _ (within (entry c.before.before.before)) _ c.loop-i-test.true _ _ (tested c.before)
+    c.loop-i.invariant c.if-not-valid_request.true
 
 loop-again : tie.Need-loop-i-preserved invariant-loop decreases-loop
-loop-again c = let t = turn c.before in valid_on _ _ (within (entry t)) _ t.loop-i-test.true _ _ (tested c.before)
-    t.loop-i.invariant c.if-not-valid_request.false
+loop-again c = let t = turn c.before in valid_on _ _ (within (entry c.before.before.before)) _ c.loop-i-test.true _ _ (tested c.before)
+    c.loop-i.invariant c.if-not-valid_request.false
 
 pub all_valid_spec : {M : Type 1} → statement M
 all_valid_spec =

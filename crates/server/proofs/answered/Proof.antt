@@ -6,9 +6,7 @@ use Rattle.server.proofs.answered.Tie as tie
 
 returns : tie.Need-returns-in-Done
 returns c =
-    let sent = c.before.before in
-    let told = sent.before.before in
-    answers-done told.args.t _ _ _ told.in-Done.is sent.send.ensures
+    answers-done c.args.t _ _ _ c.in-Done.is c.send.ensures
 
 returns-2 : tie.Need-returns-in-Refused
 returns-2 c = answers-refused c.args.t _ _ c.in-Refused.is

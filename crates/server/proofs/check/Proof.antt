@@ -4,13 +4,8 @@ use borrow.Author.Rules.{rules}
 use Rattle.server.proofs.check.Statement.{statement}
 use Rattle.server.proofs.check.Tie as tie
 
--- the call on the row is made
-module _ (c : tie.After-check_row-t) where
-  abbrev entry : tie.Start
-  entry = c.before.before.before.before.before
-
 returns : tie.Need-returns
-returns c = let made = c.before.before.before.before in turns_by_value (entry made).args.s _ _ _ _ _ _ made.check_row-t.ensures
+returns c = let made = c.before.before.before.before in turns_by_value c.args.s _ _ _ _ _ _ c.check_row-t.ensures
     c.finish.ensures
 
 pub check_spec : {M : Type 1} → statement M

@@ -38,21 +38,21 @@ module _ (c : tie.After-precedes invariant-loop decreases-loop) where
   abbrev turn : tie.In-loop-i invariant-loop decreases-loop
   turn = c.before.before.before
 
-  tested : c.precedes.result ≡ before (get_or (places (entry turn)) turn.loop-i.i no_request)
-      (get_or (places (entry turn)) (turn.loop-i.i + 1) no_request)
+  tested : c.precedes.result ≡ before (get_or (places (entry turn)) c.loop-i.i no_request)
+      (get_or (places (entry turn)) (c.loop-i.i + 1) no_request)
   tested =
       let a = c.request_at.ensures in
       let b = c.request_at-in-loop-i.ensures in
       c.precedes.ensures ∙ (λ i. before (a i) (b i))
 
 add-loop : tie.Need-overflow_add-i invariant-loop decreases-loop
-add-loop c = let e = c.before.before in omega (arith, passing-within _ _ (within e) ordered _ c.loop-i.invariant)
+add-loop c = omega (arith, passing-within _ _ (within c.before.before) ordered _ c.loop-i.invariant)
 
 returns : tie.Need-returns-then-not-precedes invariant-loop decreases-loop
-returns c = let t = turn c.before in order_stops _ _ (within (entry t)) _ t.loop-i-test.true _ (tested c.before) t.loop-i.invariant c.if-not-precedes.true
+returns c = let t = turn c.before in order_stops _ _ (within (entry c.before.before.before.before)) _ c.loop-i-test.true _ (tested c.before) c.loop-i.invariant c.if-not-precedes.true
 
 loop-again : tie.Need-loop-i-preserved invariant-loop decreases-loop
-loop-again c = let t = turn c.before in order_on _ _ (within (entry t)) _ t.loop-i-test.true _ (tested c.before) t.loop-i.invariant c.if-not-precedes.false
+loop-again c = let t = turn c.before in order_on _ _ (within (entry c.before.before.before.before)) _ c.loop-i-test.true _ (tested c.before) c.loop-i.invariant c.if-not-precedes.false
 
 pub in_order_spec : {M : Type 1} → statement M
 in_order_spec =

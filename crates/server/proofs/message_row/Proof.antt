@@ -8,10 +8,7 @@ use Rattle.server.proofs.message_row.Tie as tie
 
 -- the record is valid
 module _ (c : tie.Else-not-valid_row) where
-  abbrev entry : tie.Start
-  entry = c.before.before.before.before
-
-  padded : Padded entry.args.row-1.now entry.args.h.votes.len
+  padded : Padded c.args.row.now c.args.h.votes.len
   padded = server-padded _ _ c.valid_row.ensures c.if-not-valid_row.false
 
 pub message_row_spec : {M : Type 1} → statement M
@@ -28,7 +25,7 @@ message_row_spec =
     (λ c. search message-range)
     (λ c κs. search rules)
     (λ c. search rules)
-    (λ c κs. padded c.before.before.before.before.before.before.before)
+    (λ c κs. padded c.before.before.before.before.before)
     (λ c. search rules)
     (λ c κs. search rules)
     (λ c. search rules)

@@ -4,14 +4,9 @@ use borrow.Author.Rules.{rules}
 use Rattle.server.proofs.suspect.Statement.{statement}
 use Rattle.server.proofs.suspect.Tie as tie
 
--- the call on the row is made
-module _ (c : tie.After-suspect_row-t) where
-  abbrev entry : tie.Start
-  entry = c.before.before.before.before.before
-
 returns : tie.Need-returns
-returns c = let made = c.before.before.before.before.before in turns_by_value (entry made).args.s _ _ _ _ _ _
-    made.suspect_row-t.ensures c.finish.ensures
+returns c = let made = c.before.before.before.before.before in turns_by_value c.args.s _ _ _ _ _ _
+    c.suspect_row-t.ensures c.finish.ensures
 
 pub suspect_spec : {M : Type 1} → statement M
 suspect_spec =

@@ -6,29 +6,18 @@ use borrow.Author.Rules.{rules}
 use Rattle.server.proofs.suspect_row.Statement.{statement}
 use Rattle.server.proofs.suspect_row.Tie as tie
 
--- the record is tested
-module _ (c : tie.After-valid_row) where
-  abbrev entry : tie.Start
-  entry = c.before.before.before
-
 -- and valid
 module _ (c : tie.Else-not-valid_row) where
-  abbrev from : tie.Start
-  from = entry c.before
-
-  padded : Padded from.args.row-1.now from.args.h.votes.len
+  padded : Padded c.args.row.now c.args.h.votes.len
   padded = server-padded _ _ c.valid_row.ensures c.if-not-valid_row.false
 
 delete-requires : tie.Need-delete-m-requires
-delete-requires c κs = let owned = c.before.before in padded owned.before.before.before.before
+delete-requires c κs = padded c.before.before.before.before
 
 returns-3 : tie.Need-returns-in-Of
 returns-3 c =
-    let gone = c.before.before.before in
-    let owned = gone.before.before.before in
-    let v = owned.before.before.before.before in
-    suspect-done (from v).args.h _ _ _ v.valid_row.ensures v.if-not-valid_row.false (padded v) _ owned.in-Of.is _ _
-    gone.delete-m.ensures c.done.ensures
+    suspect-done c.args.h _ _ _ c.valid_row.ensures c.if-not-valid_row.false (padded c.before.before.before.before.before.before.before.before) _ c.in-Of.is _ _
+    c.delete-m.ensures c.done.ensures
 
 pub suspect_row_spec : {M : Type 1} → statement M
 suspect_row_spec =

@@ -7,13 +7,11 @@ use Rattle.sim_acts.proofs.check.Tie as tie
 
 returns : tie.Need-returns-then-not-has_server
 returns c =
-    let d = c.before.before.before.before in
-    server_missing _ d.args.j d.requires c.has_server.ensures _ (no_server_checks _ _ _ _) c.if-not-has_server.true
+    server_missing _ c.args.j c.requires c.has_server.ensures _ (no_server_checks _ _ _ _) c.if-not-has_server.true
 
 server-acts-requires : tie.Need-server_acts-requires
 server-acts-requires c κs =
-    let t = c.before.before in
-    server-here _ _ t.requires t.has_server.ensures c.if-not-has_server.false
+    server-here _ _ c.requires c.has_server.ensures c.if-not-has_server.false
 
 pub check_spec : {M : Type 1} → statement M
 check_spec =

@@ -11,11 +11,8 @@ use Rattle.sim_acts.proofs.down.Tie as tie
 
 -- the server is there
 module _ (c : tie.Else-not-has_server) where
-  abbrev entry : tie.Start
-  entry = c.before.before.before.before
-
-  here : HasServer entry.args.w-1.now entry.args.j
-  here = server-here _ _ entry.requires c.has_server.ensures c.if-not-has_server.false
+  here : HasServer c.args.w.now c.args.j
+  here = server-here _ _ c.requires c.has_server.ensures c.if-not-has_server.false
 
 -- it is up
 module _ (c : tie.Else-not-is_up) where
@@ -29,8 +26,7 @@ module _ (c : tie.After-sink_server) where
 
 returns : tie.Need-returns-then-not-has_server
 returns c =
-    let d = c.before.before.before.before in
-    server_missing _ d.args.j d.requires c.has_server.ensures _ (no_server-downs _ _ _ _) c.if-not-has_server.true
+    server_missing _ c.args.j c.requires c.has_server.ensures _ (no_server-downs _ _ _ _) c.if-not-has_server.true
 
 returns-2 : tie.Need-returns-then-not-is_up
 returns-2 c = server-down _ _ (here c.before.before) c.is_up.ensures _ (downs_twice _ _ _ _) c.if-not-is_up.true
@@ -38,22 +34,19 @@ returns-2 c = server-down _ _ (here c.before.before) c.is_up.ensures _ (downs_tw
 restart-messages-requires : tie.Need-restart_messages-requires
 restart-messages-requires c κs =
     let s = c.before.before.before in
-    sunk-server _ _ (here (present (running s))) s.sink_server.ensures
+    sunk-server _ _ (here (present (running c.before.before.before))) c.sink_server.ensures
 
 note-down-requires : tie.Need-note_down-requires
 note-down-requires c κs =
     let r = c.before.before.before in
     let s = r.before.before.before.before in
-    still-server _ _ (here (present (running s))) s.sink_server.ensures r.restart_messages.ensures
+    still-server _ _ (here (present (running c.before.before.before.before.before.before.before))) c.sink_server.ensures c.restart_messages.ensures
 
 returns-3 : tie.Need-returns
 returns-3 c =
-    let n = c.before.before in
-    let r = n.before.before.before.before in
-    let s = r.before.before.before.before in
-    let u = running s in
-    down_leaves _ _ (here (present u)) s.sink_server.ensures r.restart_messages.ensures n.note_down.ensures u.is_up.ensures
-    u.if-not-is_up.false
+    let u = running c.before.before.before.before.before.before.before.before.before.before in
+    down_leaves _ _ (here (present c.before.before.before.before.before.before.before.before.before.before.before.before)) c.sink_server.ensures c.restart_messages.ensures c.note_down.ensures c.is_up.ensures
+    c.if-not-is_up.false
 
 pub down_spec : {M : Type 1} → statement M
 down_spec =
@@ -62,7 +55,7 @@ down_spec =
     (λ c κs. search rules)
     (λ c. search rules)
     returns
-    (λ c κs. server_in_lem _ _ (here c.before))
+    (λ c κs. server_in_lem _ _ (here c))
     (λ c. search rules)
     returns-2
     (λ c κs. sinkable _ _ (here (present c.before)))

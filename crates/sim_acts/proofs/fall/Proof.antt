@@ -10,24 +10,19 @@ use Rattle.sim_acts.proofs.fall.Tie as tie
 
 returns : tie.Need-returns-then-not-has_client
 returns c =
-    let d = c.before.before.before.before in
-    client_missing _ d.args.k d.requires c.has_client.ensures _ (no_client_falls _ _ _ _) c.if-not-has_client.true
+    client_missing _ c.args.k c.requires c.has_client.ensures _ (no_client_falls _ _ _ _) c.if-not-has_client.true
 
 -- the client is there
 module _ (c : tie.Else-not-has_client) where
-  abbrev entry : tie.Start
-  entry = c.before.before.before.before
-
-  here : HasClient entry.args.w-1.now entry.args.k
-  here = client-here _ _ entry.requires c.has_client.ensures c.if-not-has_client.false
+  here : HasClient c.args.w.now c.args.k
+  here = client-here _ _ c.requires c.has_client.ensures c.if-not-has_client.false
 
 returns-2 : tie.Need-returns-then-not-is_living
 returns-2 c = fall_twice _ _ (here c.before.before) c.is_living.ensures c.if-not-is_living.true
 
 returns-3 : tie.Need-returns
 returns-3 c =
-    let t = c.before.before.before.before in
-    fall_leaves _ _ (here t.before.before.before) t.is_living.ensures t.if-not-is_living.false c.fall_client.ensures
+    fall_leaves _ _ (here c.before.before.before.before.before.before) c.is_living.ensures c.if-not-is_living.false c.fall_client.ensures
 
 pub fall_spec : {M : Type 1} → statement M
 fall_spec =
@@ -36,9 +31,9 @@ fall_spec =
     (λ c κs. search rules)
     (λ c. search rules)
     returns
-    (λ c κs. client_in_lem _ _ (here c.before))
+    (λ c κs. client_in_lem _ _ (here c))
     (λ c. search rules)
     returns-2
-    (λ c κs. client_in_lem _ _ (here c.before.before.before.before))
+    (λ c κs. client_in_lem _ _ (here c.before.before.before))
     (λ c. search rules)
     returns-3)

@@ -17,22 +17,19 @@ use Rattle.sim_acts.proofs.miss.Tie as tie
 
 -- the server is there
 module _ (c : tie.Else-not-has_server) where
-  abbrev entry : tie.Start
-  entry = c.before.before.before.before
-
   abbrev words : List ℕ
-  words = entry.args.w-1.now
+  words = c.args.w.now
 
-  here : HasServer words entry.args.j
-  here = server-here words entry.args.j entry.requires c.has_server.ensures c.if-not-has_server.false
+  here : HasServer words c.args.j
+  here = server-here words c.args.j c.requires c.has_server.ensures c.if-not-has_server.false
 
 -- it is up
 module _ (c : tie.Else-not-is_up) where
   abbrev present : tie.Else-not-has_server
   present = c.before.before.before
 
-  up : (server_at (view (words present)) (entry present).args.j).up ≡ true
-  up = server-runs (words present) (entry present).args.j (here present) c.is_up.ensures c.if-not-is_up.false
+  up : (server_at (view (words present)) c.args.j).up ≡ true
+  up = server-runs (words present) c.args.j (here present) c.is_up.ensures c.if-not-is_up.false
 
 -- it has an owner
 module _ (c : tie.In-Of-2) where
@@ -41,39 +38,32 @@ module _ (c : tie.In-Of-2) where
 
 returns : tie.Need-returns-then-not-has_server
 returns c =
-    let d = c.before.before.before.before in
-    server_missing _ d.args.j d.requires c.has_server.ensures _ (no_server-misses _ _ _ _) c.if-not-has_server.true
+    server_missing _ c.args.j c.requires c.has_server.ensures _ (no_server-misses _ _ _ _) c.if-not-has_server.true
 
 returns-2 : tie.Need-returns-then-not-is_up
 returns-2 c = server-down _ _ (here c.before.before) c.is_up.ensures _ (misses-down _ _ _ _) c.if-not-is_up.true
 
 is-living-requires : tie.Need-is_living-requires
 is-living-requires c κs =
-    let o = c.before.before.before in
-    let r = running o in
-    client_in_lem _ _ (owner-client _ _ (here (present r)) (up r) _ o.owner_of-owner.ensures _ o.in-Of.is)
+    let r = running c.before.before in
+    client_in_lem _ _ (owner-client _ _ (here (present c.before.before.before)) (up c.before.before.before) _ c.owner_of-owner.ensures _ c.in-Of.is)
 
 returns-3 : tie.Need-returns-then-is_living
 returns-3 c =
-    let o = c.before.before.before.before.before in
-    let r = running o in
-    miss-living _ _ (here (present r)) (up r) _ o.owner_of-owner.ensures _ o.in-Of.is _ c.is_living.ensures c.if-is_living.true
+    let r = running c.before.before.before.before in
+    miss-living _ _ (here (present c.before.before.before.before.before)) (up c.before.before.before.before.before) _ c.owner_of-owner.ensures _ c.in-Of.is _ c.is_living.ensures c.if-is_living.true
 
 server-steps-requires : tie.Need-server_steps-requires
 server-steps-requires c κs =
-    let l = c.before.before in
-    let o = l.before.before.before.before in
-    let r = running o in (
-      owner_missing _ _ (here (present r)) (up r) _ o.owner_of-owner.ensures _ o.in-Of.is _ l.is_living.ensures
+    let r = running c.before.before.before.before.before in (
+      owner_missing _ _ (here (present c.before.before.before.before.before.before)) (up c.before.before.before.before.before.before) _ c.owner_of-owner.ensures _ c.in-Of.is _ c.is_living.ensures
           c.if-is_living.false,
-      up r,
+      up c.before.before.before.before.before.before,
     )
 
 returns-4 : tie.Need-returns-in-Nobody
 returns-4 c =
-    let o = c.before.before in
-    let r = o.before.before in
-    miss_nobody _ _ (here (present r)) (up r) _ o.owner_of-owner.ensures c.in-Nobody.is
+    miss_nobody _ _ (here (present c.before.before)) (up c.before.before) _ c.owner_of-owner.ensures c.in-Nobody.is
 
 pub miss_spec : {M : Type 1} → statement M
 miss_spec =
@@ -82,10 +72,10 @@ miss_spec =
     (λ c κs. search rules)
     (λ c. search rules)
     returns
-    (λ c κs. server_in_lem _ _ (here c.before))
+    (λ c κs. server_in_lem _ _ (here c))
     (λ c. search rules)
     returns-2
-    (λ c κs. here (present c.before))
+    (λ c κs. here (present c))
     (λ c. search rules)
     (λ c. search rules)
     is-living-requires

@@ -7,13 +7,11 @@ use Rattle.sim_acts.proofs.try_enter.Tie as tie
 
 returns : tie.Need-returns-then-not-has_client
 returns c =
-    let d = c.before.before.before.before in
-    client_missing _ d.args.k d.requires c.has_client.ensures _ (no_client-tries _ _ _ _) c.if-not-has_client.true
+    client_missing _ c.args.k c.requires c.has_client.ensures _ (no_client-tries _ _ _ _) c.if-not-has_client.true
 
 client-acts-requires : tie.Need-client_acts-requires
 client-acts-requires c κs =
-    let t = c.before.before in
-    client-here _ _ t.requires t.has_client.ensures c.if-not-has_client.false
+    client-here _ _ c.requires c.has_client.ensures c.if-not-has_client.false
 
 pub try_enter_spec : {M : Type 1} → statement M
 try_enter_spec =

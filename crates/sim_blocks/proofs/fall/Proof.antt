@@ -10,8 +10,8 @@ use Rattle.sim_blocks.proofs.fall.Tie as tie
 
 same_length : tie.Need-shape_of-b
 same_length c = ap length c.clear_flags.ensures ∙
-    length-cleared (set c.args.b-1.now 0 0) ∙
-    length-set c.args.b-1.now 0 0
+    length-cleared (set c.args.b.now 0 0) ∙
+    length-set c.args.b.now 0 0
 
 pub fall_spec : {M : Type 1} → statement M
 fall_spec =

@@ -29,22 +29,21 @@ module _ (c : tie.After-valid_row) where
   abbrev entry : tie.Start
   entry = head.before.before
 
-  its : client_of head.client_head-h.result (take (client_record_size - client_head) (drop client_head (words entry))) ≡ client_from (words entry)
-  its = client-lent (words entry) _ entry.requires head.client_head-h.ensures
+  its : client_of c.client_head-h.result (take (client_record_size - client_head) (drop client_head (words entry))) ≡ client_from (words entry)
+  its = client-lent (words entry) _ c.requires c.client_head-h.ensures
 
 returns : tie.Need-returns-then-not-valid_row
-returns c = let v = c.before in client_broken _ _ _ _ _ _ (its v) _ v.valid_row.ensures c.if-not-valid_row.true
+returns c = client_broken _ _ _ _ _ _ (its c.before) _ c.valid_row.ensures c.if-not-valid_row.true
 
 returns-2 : tie.Need-returns-then-words-n
-returns-2 c = let v = c.before.before.before in servers_differ _ _ _ _ _ _ (its v) _ v.valid_row.ensures c.if-not-valid_row.false c.if-words-n.true
+returns-2 c = servers_differ _ _ _ _ _ _ (its c.before.before.before) _ c.valid_row.ensures c.if-not-valid_row.false c.if-words-n.true
 
 shared-slice-read-if3 : tie.Need-bounds-words-1
 shared-slice-read-if3 c = omega (arith, long (entry c.before.before.before.before))
 
 returns-3 : tie.Need-returns-then-words-m
 returns-3 c =
-    let v = c.before.before.before.before.before in
-    threshold_differs _ _ _ _ _ _ (its v) _ v.valid_row.ensures c.if-not-valid_row.false
+    threshold_differs _ _ _ _ _ _ (its c.before.before.before.before.before) _ c.valid_row.ensures c.if-not-valid_row.false
     c.if-words-n.false c.if-words-m.true
 
 shared-slice-read-if4 : tie.Need-bounds-words-2
@@ -57,30 +56,26 @@ module _ (c : tie.Else-words-m) where
 
 returns-4 : tie.Need-returns-then-words-k
 returns-4 c =
-    let t = c.before.before.before in
-    let v = tested t in
-    number_differs _ _ _ _ _ _ (its v) _ v.valid_row.ensures t.if-not-valid_row.false
-    t.if-words-n.false t.if-words-m.false c.if-words-k.true
+    let v = tested c.before.before.before in
+    number_differs _ _ _ _ _ _ (its c.before.before.before.before.before.before.before.before) _ c.valid_row.ensures c.if-not-valid_row.false
+    c.if-words-n.false c.if-words-m.false c.if-words-k.true
 
 requests-named-requires : tie.Need-requests_named-requires
 requests-named-requires c κs =
-    let t = c.before.before.before in
-    let v = tested t in
-    let a = (entry v).args in
+    let v = tested c.before.before.before in
+    let a = c.args in
     omega (
       arith,
-      long (entry v),
-      servers-few a.n a.m a.clients a.k _ _ (its v) _ v.valid_row.ensures
-          t.if-not-valid_row.false t.if-words-n.false (client-row response_words (words (entry v)) (entry v).requires),
+      long (entry c.before.before.before.before.before.before.before.before),
+      servers-few a.n a.m a.clients a.k _ _ (its c.before.before.before.before.before.before.before.before) _ c.valid_row.ensures
+          c.if-not-valid_row.false c.if-words-n.false (client-row response_words (words (entry c.before.before.before.before.before.before.before.before)) c.requires),
     )
 
 returns-5 : tie.Need-returns
 returns-5 c =
-    let e = c.before in
-    let t = e.before.before.before in
-    let v = tested t in
-    named_decides _ _ _ _ _ _ (its v) _ v.valid_row.ensures t.if-not-valid_row.false
-    t.if-words-n.false t.if-words-m.false e.if-words-k.false _ c.requests_named.ensures
+    let v = tested c.before.before.before.before in
+    named_decides _ _ _ _ _ _ (its c.before.before.before.before.before.before.before.before.before) _ c.valid_row.ensures c.if-not-valid_row.false
+    c.if-words-n.false c.if-words-m.false c.if-words-k.false _ c.requests_named.ensures
 
 pub fits_client_spec : {M : Type 1} → statement M
 fits_client_spec =

@@ -29,8 +29,8 @@ module _ (c : tie.After-valid_row) where
   abbrev entry : tie.Start
   entry = head.before.before
 
-  its : server_of head.server_head-h.result (take (server_record_size - server_head) (drop server_head (words entry))) ≡ server_from (words entry)
-  its = server-lent (words entry) _ entry.requires head.server_head-h.ensures
+  its : server_of c.server_head-h.result (take (server_record_size - server_head) (drop server_head (words entry))) ≡ server_from (words entry)
+  its = server-lent (words entry) _ c.requires c.server_head-h.ensures
 
 -- it is valid
 module _ (c : tie.Else-not-valid_row) where
@@ -39,23 +39,22 @@ module _ (c : tie.Else-not-valid_row) where
 
   queue-inside : server_head + 2 * get_or (words (entry tested)) 4 0 ≤ length (words (entry tested))
   queue-inside =
-      let a = (entry tested).args in
-      length-fits a.n a.clients a.j _ _ (its tested) _ tested.valid_row.ensures c.if-not-valid_row.false (entry tested).requires
+      let a = c.args in
+      length-fits a.n a.clients a.j _ _ (its tested) _ c.valid_row.ensures c.if-not-valid_row.false c.requires
 
 returns : tie.Need-returns-then-not-valid_row
-returns c = let v = c.before in server_broken _ _ _ _ _ (its v) _ v.valid_row.ensures c.if-not-valid_row.true
+returns c = server_broken _ _ _ _ _ (its c.before) _ c.valid_row.ensures c.if-not-valid_row.true
 
 returns-2 : tie.Need-returns-then-words-n
-returns-2 c = let e = c.before.before in let v = tested e in server_count_differs _ _ _ _ _ (its v) _ v.valid_row.ensures e.if-not-valid_row.false c.if-words-n.true
+returns-2 c = let v = tested c.before.before in server_count_differs _ _ _ _ _ (its c.before.before.before) _ c.valid_row.ensures c.if-not-valid_row.false c.if-words-n.true
 
 shared-slice-read-if3 : tie.Need-bounds-words-1
 shared-slice-read-if3 c = omega (arith, long (entry (tested c.before.before.before)))
 
 returns-3 : tie.Need-returns-then-words-j
 returns-3 c =
-    let e = c.before.before.before.before.before in
-    let v = tested e in
-    server_number_differs _ _ _ _ _ (its v) _ v.valid_row.ensures e.if-not-valid_row.false c.if-words-n.false c.if-words-j.true
+    let v = tested c.before.before.before.before.before in
+    server_number_differs _ _ _ _ _ (its c.before.before.before.before.before.before) _ c.valid_row.ensures c.if-not-valid_row.false c.if-words-n.false c.if-words-j.true
 
 -- its two numbers are the setting's and its own
 module _ (c : tie.Else-words-j) where
@@ -64,28 +63,25 @@ module _ (c : tie.Else-words-j) where
 
 returns-4 : tie.Need-returns-then-clients-words
 returns-4 c =
-    let t = c.before.before in
-    let e = good t in
-    let v = tested e in
-    owner_unknown _ _ _ _ _ (its v) _ v.valid_row.ensures e.if-not-valid_row.false t.if-words-n.false t.if-words-j.false c.if-clients-words.true
+    let e = good c.before.before in
+    let v = tested c.before.before.before.before.before.before.before in
+    owner_unknown _ _ _ _ _ (its c.before.before.before.before.before.before.before.before) _ c.valid_row.ensures c.if-not-valid_row.false c.if-words-n.false c.if-words-j.false c.if-clients-words.true
 
 shared-slice-read-requests-named : tie.Need-bounds-words-4
 shared-slice-read-requests-named c = omega (arith, long (entry (tested (good c.before.before.before))))
 
 cast-requests-named : tie.Need-overflow_cast-words
-cast-requests-named c = let e = good c.before.before.before in omega (arith, long (entry (tested e)), queue-inside e)
+cast-requests-named c = let e = good c.before.before.before in omega (arith, long (entry (tested c.before.before.before.before.before.before.before.before)), queue-inside c.before.before.before.before.before.before.before.before)
 
 requests-named-requires : tie.Need-requests_named-requires
 requests-named-requires c κs = queue-inside (good c.before.before.before)
 
 returns-5 : tie.Need-returns
 returns-5 c =
-    let u = c.before.before in
-    let t = u.before.before in
-    let e = good t in
-    let v = tested e in
-    queue_decides _ _ _ _ _ (its v) _ v.valid_row.ensures e.if-not-valid_row.false t.if-words-n.false t.if-words-j.false
-    u.if-clients-words.false _ c.requests_named.ensures
+    let e = good c.before.before.before.before in
+    let v = tested c.before.before.before.before.before.before.before.before.before in
+    queue_decides _ _ _ _ _ (its c.before.before.before.before.before.before.before.before.before.before) _ c.valid_row.ensures c.if-not-valid_row.false c.if-words-n.false c.if-words-j.false
+    c.if-clients-words.false _ c.requests_named.ensures
 
 pub fits_server_spec : {M : Type 1} → statement M
 fits_server_spec =

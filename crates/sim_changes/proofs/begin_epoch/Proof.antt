@@ -21,49 +21,41 @@ module _ (c : tie.After-put_flag invariant-loop decreases-loop) where
   abbrev turn : tie.In-loop-i invariant-loop decreases-loop
   turn = read.before.before
 
--- all flags are put, and the most noted
-module _ (c : tie.After-note_most invariant-loop decreases-loop) where
-  abbrev done : tie.After-loop-i invariant-loop decreases-loop
-  done = c.before.before
-
 slice-read-n : tie.Need-bounds-w-0 invariant-loop decreases-loop
-slice-read-n c = let d = c.before.before in omega (arith, words_long d.args.w-1.now d.requires.0.valid)
+slice-read-n c = omega (arith, words_long c.args.w.now c.requires.0.valid)
 
 cast-n : tie.Need-overflow_cast-n invariant-loop decreases-loop
-cast-n c = let d = c.before.before in record { fits = omega (arith, servers_fit d.args.w-1.now d.requires.0.valid) }
+cast-n c = record { fits = omega (arith, servers_fit c.args.w.now c.requires.0.valid) }
 
 loop-holds : tie.Need-loop-i-init invariant-loop decreases-loop
-loop-holds c = let d = c.before.before in flagging_none d.args.w-1.now d.args.k.0 d.requires.0
+loop-holds c = flagging_none c.args.w.now c.args.k.0 c.requires.0
 
 add-t11 : tie.Need-overflow_add-i invariant-loop decreases-loop
-add-t11 c = let t = c.before in omega (arith, flagging_fits _ _ _ _ _ t.loop-i.invariant, t.loop-i-test.true)
+add-t11 c = omega (arith, flagging_fits _ _ _ _ _ c.loop-i.invariant, c.loop-i-test.true)
 
 down-flag-requires : tie.Need-down_flag-x-requires invariant-loop decreases-loop
-down-flag-requires c κs = let t = c.before in flagging_server _ _ _ _ _ t.loop-i.invariant t.loop-i-test.true
+down-flag-requires c κs = flagging_server _ _ _ _ _ c.loop-i.invariant c.loop-i-test.true
 
 add-t11-2 : tie.Need-overflow_add-i-in-loop-i invariant-loop decreases-loop
-add-t11-2 c = let t = c.before.before.before in omega (arith, flagging_fits _ _ _ _ _ t.loop-i.invariant, t.loop-i-test.true)
+add-t11-2 c = omega (arith, flagging_fits _ _ _ _ _ c.loop-i.invariant, c.loop-i-test.true)
 
 put-flag-requires : tie.Need-put_flag-requires invariant-loop decreases-loop
-put-flag-requires c κs = let t = c.before.before.before in flagging_client _ _ _ _ _ t.loop-i.invariant t.loop-i-test.true
+put-flag-requires c κs = flagging_client _ _ _ _ _ c.loop-i.invariant c.loop-i-test.true
 
 add-i : tie.Need-overflow_add-i invariant-loop decreases-loop
-add-i c = let t = turn c.before.before in omega (arith, flagging_fits _ _ _ _ _ t.loop-i.invariant, t.loop-i-test.true)
+add-i c = let t = turn c.before.before in omega (arith, flagging_fits _ _ _ _ _ c.loop-i.invariant, c.loop-i-test.true)
 
 loop-again : tie.Need-loop-i-preserved invariant-loop decreases-loop
 loop-again c =
-    let p = c.before.before in
-    let t = turn p in
-    flagging_more _ _ _ _ _ t.loop-i.invariant t.loop-i-test.true _ (read p).down_flag-x.ensures _ p.put_flag.ensures
+    let t = turn c.before.before in
+    flagging_more _ _ _ _ _ c.loop-i.invariant c.loop-i-test.true _ c.down_flag-x.ensures _ c.put_flag.ensures
 
 same_length : tie.Need-shape_of-w invariant-loop decreases-loop
-same_length c = let m = c.before.before in flagging_same _ _ _ _ _ (done m).loop-i.invariant _ _ m.note_most.ensures
+same_length c = flagging_same _ _ _ _ _ c.loop-i.invariant _ _ c.note_most.ensures
 
 returns : tie.Need-returns invariant-loop decreases-loop
 returns c =
-    let m = c.before.before in
-    let l = done m in
-    flagging_all _ _ _ _ _ l.loop-i.invariant l.loop-i-test.false l.requires.1 _ m.note_most.ensures
+    flagging_all _ _ _ _ _ c.loop-i.invariant c.loop-i-test.false c.requires.1 _ c.note_most.ensures
 
 pub begin_epoch_spec : {M : Type 1} → statement M
 begin_epoch_spec =
@@ -79,7 +71,7 @@ begin_epoch_spec =
     add-t11-2
     put-flag-requires
     add-i
-    (λ c. omega (arith, (turn c.before.before).loop-i-test.true))
+    (λ c. omega (arith, c.loop-i-test.true))
     loop-again
     (λ c κs. flagging_sized _ _ _ _ _ c.loop-i.invariant)
     same_length

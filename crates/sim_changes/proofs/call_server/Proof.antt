@@ -9,12 +9,12 @@ returns c = rw c.in-Check.is c.check_row.ensures
 returns-2 : tie.Need-returns-in-Suspect
 returns-2 c =
     let r = c.before.before in
-    rw r.in-Suspect.is r.suspect_row.ensures
+    rw c.in-Suspect.is c.suspect_row.ensures
 
 returns-3 : tie.Need-returns-in-Take
 returns-3 c =
     let r = c.before.before in
-    rw r.in-Take.is r.take_row.ensures
+    rw c.in-Take.is c.take_row.ensures
 
 pub call_server_spec : {M : Type 1} → statement M
 call_server_spec =

@@ -23,7 +23,7 @@ use Rattle.sim_changes.proofs.client_acts.Tie as tie
 -- at entry
 module _ (c : tie.Start) where
   abbrev words : List ℕ
-  words = c.args.w-1.now
+  words = c.args.w.now
 
   there : HasClient words c.args.k
   there = act-client words c.args.k c.args.act c.requires
@@ -33,8 +33,8 @@ module _ (c : tie.Else-not-is_living) where
   abbrev entry : tie.Start
   entry = c.before.before.before.before
 
-  lives : (client_at (view (words entry)) entry.args.k).living ≡ true
-  lives = events.client-lives (words entry) entry.args.k entry.args.act entry.requires _ c.is_living.ensures c.if-not-is_living.false
+  lives : (client_at (view (words entry)) c.args.k).living ≡ true
+  lives = events.client-lives (words entry) c.args.k c.args.act c.requires _ c.is_living.ensures c.if-not-is_living.false
 
 -- its row and its head are its record
 module _ (c : tie.After-client_head) where
@@ -47,8 +47,8 @@ module _ (c : tie.After-client_head) where
   abbrev start : tie.Start
   start = entry alive
 
-  read : client_of c.client_head.result row_read.client_row.last.1.1.0 ≡ client_from (client_record (client_block_of (words start) start.args.k))
-  read = client-read _ _ _ c.client_head.ensures row_read.client_row.ensures
+  read : client_of c.client_head.result c.client_row.last.1.1.0 ≡ client_from (client_record (client_block_of (words start) c.args.k))
+  read = client-read _ _ _ c.client_head.ensures c.client_row.ensures
 
 -- its call is accepted: the step is the event's, and the buffer had room for all that it sends
 module _ (c : tie.In-Sent-2) where
@@ -64,11 +64,11 @@ module _ (c : tie.In-Sent-2) where
   abbrev count : ℕ
   count = c.in-Sent.count
 
-  called : ClientCalled (words from) from.args.k from.args.act call.call_client-s.result
-      call.call_client-s.last.1.0 call.call_client-s.last.1.1.1.0
+  called : ClientCalled (words from) c.args.k c.args.act c.call_client-s.result
+      c.call_client-s.last.1.0 c.call_client-s.last.1.1.1.0
   called =
-      events.client-called (words from) from.args.k from.args.act from.requires (lives (alive loaded)) _ _ (read loaded) _ _ _
-      call.call_client-s.ensures _ _ c.in-Sent.is
+      events.client-called (words from) c.args.k c.args.act c.requires (lives (alive loaded)) _ _ (read loaded) _ _ _
+      c.call_client-s.ensures _ _ c.in-Sent.is
 
   few : count ≤ system_servers
   few = events.client-few called _ _ c.in-Sent.is
@@ -78,13 +78,13 @@ module _ (c : tie.After-has_room) where
   abbrev accepted : tie.In-Sent-2
   accepted = c.before.before.before.before
 
-  tested : ClientTested (words (from accepted)) (from accepted).args.k (from accepted).args.act (call accepted).call_client-s.result
-      (call accepted).call_client-s.last.1.0 (call accepted).call_client-s.last.1.1.1.0 (count accepted) c.has_room.result
+  tested : ClientTested (words (from accepted)) c.args.k c.args.act c.call_client-s.result
+      c.call_client-s.last.1.0 c.call_client-s.last.1.1.1.0 (count accepted) c.has_room.result
   tested =
       record {
         called = called accepted;
         size = _;
-        answered = accepted.in-Sent.is;
+        answered = c.in-Sent.is;
         room = rw c.messages_gone.ensures at c.has_room.ensures;
       }
 
@@ -98,8 +98,7 @@ is-living-requires c κs = client_in_lem _ _ (there c.before)
 
 returns : tie.Need-returns-then-not-is_living
 returns c =
-    let d = c.before.before.before.before in
-    events.client-fallen (words d) d.args.k d.args.act d.requires _ c.is_living.ensures c.if-not-is_living.true
+    events.client-fallen (words c.before.before.before) c.args.k c.args.act c.requires _ c.is_living.ensures c.if-not-is_living.true
 
 client-row-requires : tie.Need-client_row-requires
 client-row-requires c κs = (client_in_lem _ _ (there (entry c.before)), search rules)
@@ -107,21 +106,19 @@ client-row-requires c κs = (client_in_lem _ _ (there (entry c.before)), search 
 client-head-requires : tie.Need-client_head-requires
 client-head-requires c κs =
     let d = entry c.before.before.before in
-    (client_in_lem _ _ (there d), client-held _ d.args.k (there d))
+    (client_in_lem _ _ (there c.before.before.before.before.before.before), client-held _ c.args.k (there c.before.before.before.before.before.before))
 
 call-client-requires : tie.Need-call_client-s-requires
 call-client-requires c κs =
-    let l = c.before.before in
-    let d = start l in
-    act-asks (words d) d.args.k d.args.act d.requires _ (read l)
+    let d = start c.before.before in
+    act-asks (words c.before.before.before.before.before.before.before.before.before) c.args.k c.args.act c.requires _ (read c.before.before)
 
 has-room-requires : tie.Need-has_room-requires
 has-room-requires c κs =
-    let a = c.before.before.before in
-    let d = from a in (
-      (there d).valid,
-      rw c.messages_gone.ensures (gone-few (words d) d.args.k d.args.act d.requires),
-      omega (arith, few a),
+    let d = from c.before.before in (
+      (there c.before.before.before.before.before.before.before.before.before.before.before.before.before.before).valid,
+      rw c.messages_gone.ensures (gone-few (words c.before.before.before.before.before.before.before.before.before.before.before.before.before.before) c.args.k c.args.act c.requires),
+      omega (arith, few c.before.before),
     )
 
 store-client-requires : tie.Need-store_client-requires
@@ -129,28 +126,22 @@ store-client-requires c κs = ((tested c.before.before.before.before).called.sto
 
 send-requires : tie.Need-send-requires
 send-requires c κs =
-    let p = c.before.before.before.before in
-    events.client_sendable (tested (roomy p).before) (roomy p).if-not-has_room.false _ p.store_client.ensures
+    events.client_sendable (tested (roomy c.before.before.before.before).before) c.if-not-has_room.false _ c.store_client.ensures
 
 cast-t31 : tie.Need-overflow_cast-result
 cast-t31 c =
-    let p = c.before.before.before.before.before.before.before in
-    record { fits = omega (arith, few (accepted (roomy p).before)) }
+    record { fits = omega (arith, few (accepted (roomy c.before.before.before.before.before.before.before).before)) }
 
 -- the call was refused, as the event is
 returns-3 : tie.Need-returns-in-Refused
 returns-3 c =
-    let m = c.before.before.before.before.before in
-    let l = m.before.before.before in
-    let d = start l in
-    events.client-refused (words d) d.args.k d.args.act d.requires (lives (alive l)) _ _ (read l) _ _ _
-    m.call_client-s.ensures _ c.in-Refused.is
+    let d = start c.before.before.before.before.before.before in
+    events.client-refused (words c.before.before.before.before.before.before.before.before.before.before.before.before.before) c.args.k c.args.act c.requires (lives (alive c.before.before.before.before.before.before)) _ _ (read c.before.before.before.before.before.before) _ _ _
+    c.call_client-s.ensures _ c.in-Refused.is
 
 returns-4 : tie.Need-returns-else-not-has_room
 returns-4 c =
-    let s = c.before.before in
-    let p = s.before.before.before.before.before in
-    events.client-sent (tested (roomy p).before) (roomy p).if-not-has_room.false _ p.store_client.ensures _ s.send.ensures
+    events.client-sent (tested (roomy c.before.before.before.before.before.before.before).before) c.if-not-has_room.false _ c.store_client.ensures _ c.send.ensures
 
 pub client_acts_spec : {M : Type 1} → statement M
 client_acts_spec =

@@ -8,8 +8,8 @@ use Rattle.sim_changes.proofs.end_epoch.Tie as tie
 clear-client-requires : tie.Need-clear_client-requires
 clear-client-requires c κs =
     let d = c.before.before in
-    let a = d.args in
-    client_in_lem a.w-1.now a.k.0 d.requires
+    let a = c.args in
+    client_in_lem a.w-1.now a.k.0 c.requires
 
 same_length : tie.Need-shape_of-w
 same_length c = search rules
@@ -17,8 +17,8 @@ same_length c = search rules
 returns : tie.Need-returns
 returns c =
     let d = c.before.before.before.before.before in
-    let a = d.args in
-    epoch_ends a.w-1.now a.k.0 d.requires _ c.clear_client.ensures
+    let a = c.args in
+    epoch_ends a.w-1.now a.k.0 c.requires _ c.clear_client.ensures
 
 pub end_epoch_spec : {M : Type 1} → statement M
 end_epoch_spec = tie.close (tie.spec clear-client-requires same_length returns)

@@ -9,32 +9,32 @@ use Rattle.sim_changes.proofs.has_room.Tie as tie
 returns : tie.Need-returns-then-count-eq0
 returns c =
     let d = c.before in
-    room-none d.args.w.now d.args.gone d.args.count c.if-count-eq0.true
+    room-none c.args.w.now c.args.gone c.args.count c.if-count-eq0.true
 
 shared-slice-read-if2 : tie.Need-bounds-w-4
 shared-slice-read-if2 c =
     let d = c.before.before in
-    omega (arith, words_long d.args.w.now d.requires.0)
+    omega (arith, words_long c.args.w.now c.requires.0)
 
 add-if2 : tie.Need-overflow_add-w
 add-if2 c =
     let d = c.before.before in
-    record { fits = omega (arith, transit-few d.args.w.now d.requires.0) }
+    record { fits = omega (arith, transit-few c.args.w.now c.requires.0) }
 
 returns-2 : tie.Need-returns-then-w-gone-gt-MAX_MESSAGES
 returns-2 c =
     let d = c.before.before.before in
-    room-short d.args.w.now d.args.gone d.args.count c.if-count-eq0.false c.if-w-gone-gt-MAX_MESSAGES.true
+    room-short c.args.w.now c.args.gone c.args.count c.if-count-eq0.false c.if-w-gone-gt-MAX_MESSAGES.true
 
 shared-slice-read-result : tie.Need-bounds-w-5
 shared-slice-read-result c =
     let d = c.before.before.before.before in
-    omega (arith, words_long d.args.w.now d.requires.0)
+    omega (arith, words_long c.args.w.now c.requires.0)
 
 returns-3 : tie.Need-returns
 returns-3 c =
     let d = c.before.before.before.before in
-    room-last d.args.w.now d.args.gone d.args.count c.if-count-eq0.false c.if-w-gone-gt-MAX_MESSAGES.false d.requires.2
+    room-last c.args.w.now c.args.gone c.args.count c.if-count-eq0.false c.if-w-gone-gt-MAX_MESSAGES.false c.requires.2
 
 pub has_room_spec : {M : Type 1} → statement M
 has_room_spec =

@@ -9,21 +9,13 @@ use Rattle.sim_changes.proofs.new_client.Tie as tie
 
 -- the block's words are stored
 module _ (c : tie.After-put_client) where
-  abbrev made : tie.After-fresh_head-head
-  made = c.before.before.before
-
-  abbrev entry : tie.Start
-  entry = made.before.before.before
-
-  opened : c.put_client.new.w ≡ new_client entry.args.n entry.args.m entry.args.k entry.args.w-1.now
-  opened = client-opened entry.args.n entry.args.m entry.args.k.0 entry.args.w-1.now entry.requires _ made.fresh_head-head.ensures _
+  opened : c.put_client.new.w ≡ new_client c.args.n c.args.m c.args.k c.args.w.now
+  opened = client-opened c.args.n c.args.m c.args.k.0 c.args.w.now c.requires _ c.fresh_head-head.ensures _
       c.put_client.ensures
 
 same_length : tie.Need-shape_of-w
 same_length c =
-    let p = c.before.before in
-    let d = entry p in
-    ap length (opened p) ∙ length-client d.args.n d.args.m d.args.k.0 d.args.w-1.now
+    ap length (opened c.before.before) ∙ length-client c.args.n c.args.m c.args.k.0 c.args.w.now
 
 pub new_client_spec : {M : Type 1} → statement M
 new_client_spec =

@@ -14,28 +14,22 @@ invariant-loop w₀ n m clients i₀ w i = Putting (λ (i : ℕ). new_client n m
 abbrev decreases-loop : tie.decreases-loop-i
 decreases-loop w₀ n m clients i₀ w i = clients - i
 
--- in a turn
-module _ (c : tie.In-loop-i invariant-loop decreases-loop) where
-  abbrev entry : tie.Start invariant-loop decreases-loop
-  entry = c.before.before.before
-
 -- its client is put
 module _ (c : tie.After-new_client invariant-loop decreases-loop) where
   abbrev turn : tie.In-loop-i invariant-loop decreases-loop
   turn = c.before.before
 
 new-client-requires : tie.Need-new_client-requires invariant-loop decreases-loop
-new-client-requires c κs = let t = c.before in putting_client _ _ _ _ _ t.loop-i.invariant (entry t).requires t.loop-i-test.true
+new-client-requires c κs = putting_client _ _ _ _ _ c.loop-i.invariant c.requires c.loop-i-test.true
 
 add-i : tie.Need-overflow_add-i invariant-loop decreases-loop
-add-i c = let t = turn c.before.before in omega (arith, (entry t).requires.1, t.loop-i-test.true)
+add-i c = let t = turn c.before.before in omega (arith, c.requires.1, c.loop-i-test.true)
 
 loop-again : tie.Need-loop-i-preserved invariant-loop decreases-loop
 loop-again c =
     let p = c.before.before in
-    let t = turn p in
-    let d = entry t in
-    putting_more _ _ _ _ _ t.loop-i.invariant (λ k l. length-client d.args.n d.args.m k l) t.loop-i-test.true _ p.new_client_lem.ensures
+    let t = turn c.before.before in
+    putting_more _ _ _ _ _ c.loop-i.invariant (λ k l. length-client c.args.n c.args.m k l) c.loop-i-test.true _ p.new_client_lem.ensures
 
 pub new_clients_spec : {M : Type 1} → statement M
 new_clients_spec =
@@ -47,7 +41,7 @@ new_clients_spec =
     (λ c. search rules)
     new-client-requires
     add-i
-    (λ c. omega (arith, (turn c.before.before).loop-i-test.true))
+    (λ c. omega (arith, c.loop-i-test.true))
     loop-again
     (λ c. c.loop-i.invariant.same)
     (λ c. putting_all _ _ _ _ _ c.loop-i.invariant c.loop-i-test.false))

@@ -14,28 +14,22 @@ invariant-loop w₀ n i₀ w i = Putting (λ (i : ℕ). new_server n (server_no 
 abbrev decreases-loop : tie.decreases-loop-i
 decreases-loop w₀ n i₀ w i = n - i
 
--- in a turn
-module _ (c : tie.In-loop-i invariant-loop decreases-loop) where
-  abbrev entry : tie.Start invariant-loop decreases-loop
-  entry = c.before.before.before
-
 -- its server is put
 module _ (c : tie.After-new_server invariant-loop decreases-loop) where
   abbrev turn : tie.In-loop-i invariant-loop decreases-loop
   turn = c.before.before
 
 new-server-requires : tie.Need-new_server-requires invariant-loop decreases-loop
-new-server-requires c κs = let t = c.before in putting_server _ _ _ _ _ t.loop-i.invariant (entry t).requires t.loop-i-test.true
+new-server-requires c κs = putting_server _ _ _ _ _ c.loop-i.invariant c.requires c.loop-i-test.true
 
 add-i : tie.Need-overflow_add-i invariant-loop decreases-loop
-add-i c = let t = turn c.before.before in omega (arith, (entry t).requires.1, t.loop-i-test.true)
+add-i c = let t = turn c.before.before in omega (arith, c.requires.1, c.loop-i-test.true)
 
 loop-again : tie.Need-loop-i-preserved invariant-loop decreases-loop
 loop-again c =
     let p = c.before.before in
-    let t = turn p in
-    let d = entry t in
-    putting_more _ _ _ _ _ t.loop-i.invariant (λ k l. length-server d.args.n k l) t.loop-i-test.true _ p.new_server_lem.ensures
+    let t = turn c.before.before in
+    putting_more _ _ _ _ _ c.loop-i.invariant (λ k l. length-server c.args.n k l) c.loop-i-test.true _ p.new_server_lem.ensures
 
 pub new_servers_spec : {M : Type 1} → statement M
 new_servers_spec =
@@ -47,7 +41,7 @@ new_servers_spec =
     (λ c. search rules)
     new-server-requires
     add-i
-    (λ c. omega (arith, (turn c.before.before).loop-i-test.true))
+    (λ c. omega (arith, c.loop-i-test.true))
     loop-again
     (λ c. c.loop-i.invariant.same)
     (λ c. putting_all _ _ _ _ _ c.loop-i.invariant c.loop-i-test.false))

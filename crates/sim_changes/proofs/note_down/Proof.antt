@@ -17,43 +17,35 @@ module _ (c : tie.After-mark_client invariant-loop decreases-loop) where
   abbrev turn : tie.In-loop-i invariant-loop decreases-loop
   turn = c.before.before
 
--- all have, and the most is noted
-module _ (c : tie.After-note_most invariant-loop decreases-loop) where
-  abbrev done : tie.After-loop-i invariant-loop decreases-loop
-  done = c.before.before
-
 slice-read-clients : tie.Need-bounds-w-3 invariant-loop decreases-loop
-slice-read-clients c = let d = c.before.before in omega (arith, words_long d.args.w-1.now d.requires.valid)
+slice-read-clients c = omega (arith, words_long c.args.w.now c.requires.valid)
 
 cast-clients : tie.Need-overflow_cast-clients invariant-loop decreases-loop
-cast-clients c = let d = c.before.before in record { fits = omega (arith, clients_fit d.args.w-1.now d.requires.valid) }
+cast-clients c = record { fits = omega (arith, clients_fit c.args.w.now c.requires.valid) }
 
 loop-holds : tie.Need-loop-i-init invariant-loop decreases-loop
-loop-holds c = let d = c.before.before in marking_none d.args.w-1.now d.args.j d.requires
+loop-holds c = marking_none c.args.w.now c.args.j c.requires
 
 add-t11 : tie.Need-overflow_add-i invariant-loop decreases-loop
-add-t11 c = let t = c.before in omega (arith, marking_fits _ _ _ _ _ t.loop-i.invariant, t.loop-i-test.true)
+add-t11 c = omega (arith, marking_fits _ _ _ _ _ c.loop-i.invariant, c.loop-i-test.true)
 
 mark-client-requires : tie.Need-mark_client-requires invariant-loop decreases-loop
-mark-client-requires c κs = let t = c.before in marking_in _ _ _ _ _ t.loop-i.invariant t.loop-i-test.true
+mark-client-requires c κs = marking_in _ _ _ _ _ c.loop-i.invariant c.loop-i-test.true
 
 add-i : tie.Need-overflow_add-i invariant-loop decreases-loop
-add-i c = let t = turn c.before.before in omega (arith, marking_fits _ _ _ _ _ t.loop-i.invariant, t.loop-i-test.true)
+add-i c = let t = turn c.before.before in omega (arith, marking_fits _ _ _ _ _ c.loop-i.invariant, c.loop-i-test.true)
 
 loop-again : tie.Need-loop-i-preserved invariant-loop decreases-loop
 loop-again c =
-    let m = c.before.before in
-    let t = turn m in
-    marking_more _ _ _ _ _ t.loop-i.invariant t.loop-i-test.true _ m.mark_client.ensures
+    let t = turn c.before.before in
+    marking_more _ _ _ _ _ c.loop-i.invariant c.loop-i-test.true _ c.mark_client.ensures
 
 same_length : tie.Need-shape_of-w invariant-loop decreases-loop
-same_length c = let m = c.before.before in marking_same _ _ _ _ _ (done m).loop-i.invariant _ _ m.note_most.ensures
+same_length c = marking_same _ _ _ _ _ c.loop-i.invariant _ _ c.note_most.ensures
 
 returns : tie.Need-returns invariant-loop decreases-loop
 returns c =
-    let m = c.before.before in
-    let l = done m in
-    marking_all _ _ _ _ _ l.loop-i.invariant l.loop-i-test.false _ m.note_most.ensures
+    marking_all _ _ _ _ _ c.loop-i.invariant c.loop-i-test.false _ c.note_most.ensures
 
 pub note_down_spec : {M : Type 1} → statement M
 note_down_spec =
@@ -67,7 +59,7 @@ note_down_spec =
     add-t11
     mark-client-requires
     add-i
-    (λ c. omega (arith, (turn c.before.before).loop-i-test.true))
+    (λ c. omega (arith, c.loop-i-test.true))
     loop-again
     (λ c κs. marking_sized _ _ _ _ _ c.loop-i.invariant)
     same_length

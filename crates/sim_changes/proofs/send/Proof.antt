@@ -20,23 +20,23 @@ use Rattle.sim_changes.proofs.send.Tie as tie
 -- at entry
 module _ (d : tie.Start) where
   abbrev words : List ℕ
-  words = d.args.w-1.now
+  words = c.args.w.now
 
   abbrev new : List Message
-  new = messages_in d.args.count d.args.bytes.now
+  new = messages_in c.args.count c.args.bytes.now
 
   long : length words ≡ simulation_size
-  long = words_long words d.requires.valid
+  long = words_long words c.requires.valid
 
 -- the two counts are read
 module _ (c : tie.After-slice_known-3-1) where
   abbrev entry : tie.Start
   entry = c.before.before.before.before
 
-  room : (length_of (words entry) + entry.args.count ≤ system_messages) × (sent_of (words entry) + entry.args.count ≤ last_number)
+  room : (length_of (words entry) + c.args.count ≤ system_messages) × (sent_of (words entry) + c.args.count ≤ last_number)
   room =
-      let p = entry.requires in
-      room-left (words entry) entry.args.count (new entry) p.valid p.whole p.room p.named
+      let p = c.requires in
+      room-left (words entry) c.args.count (new entry) p.valid p.whole p.room p.named
       (omega (arith, c.slice_known-1.given 5))
 
 -- the messages are posted
@@ -52,14 +52,14 @@ slice-read-len : tie.Need-bounds-w-4
 slice-read-len c = omega (arith, long c.before.before.before)
 
 cast-len : tie.Need-overflow_cast-len
-cast-len c = let d = c.before.before.before in record { fits = omega (arith, transit-few (words d) d.requires.valid) }
+cast-len c = let d = c.before.before.before in record { fits = omega (arith, transit-few (words d) c.requires.valid) }
 
 post-requires : tie.Need-post-requires
 post-requires c κs =
     let d = entry c.before in
-    let p = d.requires in
+    let p = c.requires in
     let r = room c.before in
-    (can_post (words d) d.args.count (new d) p.valid p.whole p.room p.named r, p.whole)
+    (can_post (words d) c.args.count (new d) p.valid p.whole p.room p.named r, p.whole)
 
 add-w : tie.Need-overflow_add-w
 add-w c = let r = room (read c) in record { fits = omega (arith, r.0, r.1) }
@@ -70,8 +70,8 @@ cast-w c = let r = room (read c) in record { fits = omega (arith, r.0, r.1) }
 slice-write-w : tie.Need-bounds-w-4-2
 slice-write-w c =
     let d = entry (read c) in
-    let p = d.requires in
-    omega (arith, posted-long (words d) d.args.count (new d) p.valid p.whole p.room p.named _ (done c))
+    let p = c.requires in
+    omega (arith, posted-long (words d) c.args.count (new d) p.valid p.whole p.room p.named _ (done c))
 
 cast-w-2 : tie.Need-overflow_cast-w-2
 cast-w-2 c = let r = room (read c) in record { fits = omega (arith, r.0, r.1) }
@@ -82,18 +82,18 @@ add-w-2 c = let r = room (read c) in record { fits = omega (arith, r.0, r.1) }
 slice-write-w-2 : tie.Need-bounds-w-5-2
 slice-write-w-2 c =
     let d = entry (read c) in
-    let p = d.requires in
+    let p = c.requires in
     omega (
       arith,
-      counted-long (words d) d.args.count (new d) p.valid p.whole p.room p.named _ (done c)
-          (length_of (words d) + d.args.count),
+      counted-long (words d) c.args.count (new d) p.valid p.whole p.room p.named _ (done c)
+          (length_of (words d) + c.args.count),
     )
 
 returns : tie.Need-returns
 returns c =
     let d = entry (read c) in
-    let p = d.requires in
-    send_becomes (words d) d.args.count (new d) p.valid p.whole p.room p.named _ (done c)
+    let p = c.requires in
+    send_becomes (words d) c.args.count (new d) p.valid p.whole p.room p.named _ (done c)
 
 pub send_spec : {M : Type 1} → statement M
 send_spec =

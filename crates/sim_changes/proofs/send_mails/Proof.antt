@@ -5,20 +5,20 @@ use Rattle.sim_changes.proofs.send_mails.Statement.{statement}
 use Rattle.sim_changes.proofs.send_mails.Tie as tie
 
 send-mail-requires : tie.Need-send_mail-requires
-send-mail-requires c κs = let d = c.before.before in first-asked d.args.w-1.now d.args.first d.args.second d.args.third d.requires
+send-mail-requires c κs = let d = c.before.before in first-asked c.args.w.now c.args.first c.args.second c.args.third c.requires
 
 send-mail-requires-2 : tie.Need-send_mail-requires-2
 send-mail-requires-2 c κs =
     let one = c.before.before.before in
     let d = one.before.before.before in
-    second-asked d.args.w-1.now d.args.first d.args.second d.args.third d.requires _ one.send_mail.ensures
+    second-asked c.args.w.now c.args.first c.args.second c.args.third c.requires _ c.send_mail.ensures
 
 send-mail-requires-3 : tie.Need-send_mail-requires-3
 send-mail-requires-3 c κs =
     let two = c.before.before.before in
     let one = two.before.before.before.before in
     let d = one.before.before.before in
-    third-asked d.args.w-1.now d.args.first d.args.second d.args.third d.requires _ one.send_mail.ensures _ two.send_mail-2.ensures
+    third-asked c.args.w.now c.args.first c.args.second c.args.third c.requires _ c.send_mail.ensures _ c.send_mail-2.ensures
 
 returns : tie.Need-returns
 returns c =
@@ -26,8 +26,8 @@ returns c =
     let two = three.before.before.before.before in
     let one = two.before.before.before.before in
     let d = one.before.before.before in
-    three_sent d.args.w-1.now d.args.first d.args.second d.args.third d.requires _ one.send_mail.ensures _ two.send_mail-2.ensures _
-    three.send_mail-3.ensures
+    three_sent c.args.w.now c.args.first c.args.second c.args.third c.requires _ c.send_mail.ensures _ c.send_mail-2.ensures _
+    c.send_mail-3.ensures
 
 pub send_mails_spec : {M : Type 1} → statement M
 send_mails_spec =

@@ -22,13 +22,13 @@ use Rattle.sim_changes.proofs.send_message.Tie as tie
 -- at entry
 module _ (d : tie.Start) where
   abbrev words : List ℕ
-  words = d.args.w-1.now
+  words = c.args.w.now
 
   abbrev new : List Message
-  new = d.args.m ∷ []
+  new = c.args.m ∷ []
 
   long : length words ≡ simulation_size
-  long = words_long words d.requires.valid
+  long = words_long words c.requires.valid
 
 -- the two counts are read
 module _ (c : tie.After-slice_known-3-1) where
@@ -37,7 +37,7 @@ module _ (c : tie.After-slice_known-3-1) where
 
   room : (length_of (words entry) + 1 ≤ system_messages) × (sent_of (words entry) + 1 ≤ last_number)
   room =
-      let p = entry.requires in
+      let p = c.requires in
       room-left (words entry) 1 (new entry) p.valid refl p.room p.named
       (omega (arith, c.slice_known-1.given 5))
 
@@ -54,14 +54,14 @@ slice-read-len : tie.Need-bounds-w-4
 slice-read-len c = omega (arith, long c.before.before)
 
 cast-len : tie.Need-overflow_cast-len
-cast-len c = let d = c.before.before in record { fits = omega (arith, transit-few (words d) d.requires.valid) }
+cast-len c = let d = c.before.before in record { fits = omega (arith, transit-few (words d) c.requires.valid) }
 
 post-message-requires : tie.Need-post_message-requires
 post-message-requires c κs =
     let d = entry c.before in
-    let p = d.requires in
+    let p = c.requires in
     let r = room c.before in
-    (can_post (words d) 1 (new d) p.valid refl p.room p.named r, (both (format.valid d.args.m) true p.range).0)
+    (can_post (words d) 1 (new d) p.valid refl p.room p.named r, (both (format.valid c.args.m) true p.range).0)
 
 add-w : tie.Need-overflow_add-w
 add-w c = let r = room (read c) in record { fits = omega (arith, r.0, r.1) }
@@ -72,7 +72,7 @@ cast-w c = let r = room (read c) in record { fits = omega (arith, r.0, r.1) }
 slice-write-w : tie.Need-bounds-w-4-2
 slice-write-w c =
     let d = entry (read c) in
-    let p = d.requires in
+    let p = c.requires in
     omega (arith, posted-long (words d) 1 (new d) p.valid refl p.room p.named _ (done c))
 
 add-w-2 : tie.Need-overflow_add-w-2
@@ -81,7 +81,7 @@ add-w-2 c = let r = room (read c) in record { fits = omega (arith, r.0, r.1) }
 slice-write-w-2 : tie.Need-bounds-w-5-2
 slice-write-w-2 c =
     let d = entry (read c) in
-    let p = d.requires in
+    let p = c.requires in
     omega (
       arith,
       counted-long (words d) 1 (new d) p.valid refl p.room p.named _ (done c)
@@ -91,7 +91,7 @@ slice-write-w-2 c =
 returns : tie.Need-returns
 returns c =
     let d = entry (read c) in
-    let p = d.requires in
+    let p = c.requires in
     send_becomes (words d) 1 (new d) p.valid refl p.room p.named _ (done c)
 
 pub send_message_spec : {M : Type 1} → statement M

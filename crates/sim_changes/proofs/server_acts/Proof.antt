@@ -8,18 +8,18 @@ use Rattle.sim_changes.proofs.server_acts.Tie as tie
 is-up-requires : tie.Need-is_up-requires
 is-up-requires c κs =
     let d = c.before.before in
-    server_in_lem _ _ (act-server d.args.w-1.now d.args.j d.args.act d.requires)
+    server_in_lem _ _ (act-server c.args.w.now c.args.j c.args.act c.requires)
 
 returns : tie.Need-returns-then-not-is_up
 returns c =
     let d = c.before.before.before.before in
-    server-down d.args.w-1.now d.args.j d.args.act d.requires _ c.is_up.ensures c.if-not-is_up.true
+    server-down c.args.w.now c.args.j c.args.act c.requires _ c.is_up.ensures c.if-not-is_up.true
 
 server-steps-requires : tie.Need-server_steps-requires
 server-steps-requires c κs =
     let t = c.before.before in
     let d = t.before.before.before in
-    (d.requires, server-runs d.args.w-1.now d.args.j d.args.act d.requires _ t.is_up.ensures c.if-not-is_up.false)
+    (c.requires, server-runs c.args.w.now c.args.j c.args.act c.requires _ c.is_up.ensures c.if-not-is_up.false)
 
 pub server_acts_spec : {M : Type 1} → statement M
 server_acts_spec =

@@ -21,7 +21,7 @@ use Rattle.sim_changes.proofs.server_steps.Tie as tie
 -- at entry
 module _ (c : tie.Start) where
   abbrev words : List ℕ
-  words = c.args.w-1.now
+  words = c.args.w.now
 
   there : HasServer words c.args.j
   there = act-server words c.args.j c.args.act c.requires.0
@@ -36,9 +36,9 @@ module _ (c : tie.After-server_head) where
   abbrev row_read : tie.After-server_row
   row_read = c.before.before.before
 
-  read : server_of c.server_head.result row_read.server_row.last.1.1.0
-      ≡ server_from (server_record (server_block_of (words (entry row_read)) (entry row_read).args.j))
-  read = server-read _ _ _ c.server_head.ensures row_read.server_row.ensures
+  read : server_of c.server_head.result c.server_row.last.1.1.0
+      ≡ server_from (server_record (server_block_of (words (entry row_read)) c.args.j))
+  read = server-read _ _ _ c.server_head.ensures c.server_row.ensures
 
 -- the call is made
 module _ (c : tie.After-call_server-t) where
@@ -48,8 +48,8 @@ module _ (c : tie.After-call_server-t) where
   abbrev start : tie.Start
   start = entry (row_read loaded)
 
-  called : ServerCalled (words start) start.args.j start.args.act c.call_server-t.result c.call_server-t.new.row
-  called = server-called (words start) start.args.j start.args.act start.requires.0 start.requires.1 _ _ (read loaded) _ _ c.call_server-t.ensures
+  called : ServerCalled (words start) c.args.j c.args.act c.call_server-t.result c.call_server-t.new.row
+  called = server-called (words start) c.args.j c.args.act c.requires.0 c.requires.1 _ _ (read loaded) _ _ c.call_server-t.ensures
 
 -- its messages are counted
 module _ (c : tie.After-counts-count) where
@@ -80,33 +80,29 @@ server-row-requires c κs = (server_in_lem _ _ (there c.before.before), search r
 server-head-requires : tie.Need-server_head-requires
 server-head-requires c κs =
     let d = entry c.before in
-    (server_in_lem _ _ (there d), record_held _ d.args.j (there d))
+    (server_in_lem _ _ (there c.before.before.before.before), record_held _ c.args.j (there c.before.before.before.before))
 
 call-server-requires : tie.Need-call_server-t-requires
 call-server-requires c κs =
-    let l = c.before in
-    let d = entry (row_read l) in
-    server-padded (words d) d.args.j (there d) _ _ (read l)
+    let d = entry (row_read c.before) in
+    server-padded (words c.before.before.before.before.before.before) c.args.j (there c.before.before.before.before.before.before) _ _ (read c.before)
 
 has-room-requires : tie.Need-has_room-requires
 has-room-requires c κs =
-    let n = c.before in
-    ((there (start (made n))).valid, zero-le, omega (arith, few n))
+    ((there (start (made c))).valid, zero-le, omega (arith, few c))
 
 returns : tie.Need-returns-then-not-has_room
 returns c =
-    let n = c.before.before.before in
-    ruled-full (called (made n)).ruled _ n.counts-count.ensures _ c.has_room.ensures c.if-not-has_room.true
+    ruled-full (called (made c.before.before)).ruled _ c.counts-count.ensures _ c.has_room.ensures c.if-not-has_room.true
 
 store-server-requires : tie.Need-store_server-requires
 store-server-requires c κs = ((called (made (counted c.before.before.before))).stores, search rules)
 
 send-mails-requires : tie.Need-send_mails-requires
 send-mails-requires c κs =
-    let p = c.before.before.before in
-    let r = roomy p in
-    let n = counted r in
-    server_sendable (called (made n)) _ n.counts-count.ensures _ r.has_room.ensures r.if-not-has_room.false _ p.store_server.ensures
+    let r = roomy c.before.before.before in
+    let n = counted c.before.before.before.before.before.before.before in
+    server_sendable (called (made c.before.before.before.before.before.before.before.before.before)) _ c.counts-count.ensures _ c.has_room.ensures c.if-not-has_room.false _ c.store_server.ensures
 
 cast-t35 : tie.Need-overflow-cast-t35
 cast-t35 c =
@@ -114,16 +110,15 @@ cast-t35 c =
     record { fits = omega (arith, few n) }
 
 returns-2 : tie.Need-returns-in-Refused
-returns-2 c = ruled-refused (called c.before.before.before.before).ruled _ c.in-Refused.is
+returns-2 c = ruled-refused (called c.before.before).ruled _ c.in-Refused.is
 
 returns-3 : tie.Need-returns-else-not-has_room
 returns-3 c =
-    let s = c.before.before in
-    let p = stored s in
-    let r = roomy p in
-    let n = counted r in
-    server-sent (called (made n)) _ n.counts-count.ensures _ r.has_room.ensures r.if-not-has_room.false _ p.store_server.ensures
-    _ s.send_mails.ensures
+    let p = stored c.before.before in
+    let r = roomy c.before.before.before.before.before.before in
+    let n = counted c.before.before.before.before.before.before.before.before.before.before in
+    server-sent (called (made c.before.before.before.before.before.before.before.before.before.before.before.before)) _ c.counts-count.ensures _ c.has_room.ensures c.if-not-has_room.false _ c.store_server.ensures
+    _ c.send_mails.ensures
 
 pub server_steps_spec : {M : Type 1} → statement M
 server_steps_spec =

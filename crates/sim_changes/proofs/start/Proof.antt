@@ -12,17 +12,14 @@ use Rattle.sim_changes.proofs.start.Tie as tie
 
 -- the words are cleared
 module _ (c : tie.After-clear_all) where
-  abbrev entry : tie.Start
-  entry = c.before.before.before
-
   abbrev words : List ℕ
-  words = entry.args.w-1.now
+  words = c.args.w.now
 
   abbrev chosen : Setting
-  chosen = entry.args.s
+  chosen = c.args.s
 
   fits : (chosen.n ≤ system_servers) × (chosen.m ≤ system_servers) × (chosen.clients ≤ system_clients)
-  fits = start_fits chosen words _ entry.requires c.clear_all.ensures
+  fits = start_fits chosen words _ c.requires c.clear_all.ensures
 
 -- the setting is stored
 module _ (c : tie.After-new_clients-arg-1) where
@@ -40,10 +37,10 @@ module _ (c : tie.After-new_servers) where
   peopled = c.before.before.before.before.before
 
 slice-write-w-3 : tie.Need-bounds-w-2
-slice-write-w-3 c = let z = c.before.before in start-two (chosen z) (words z) _ (entry z).requires z.clear_all.ensures
+slice-write-w-3 c = start-two (chosen c.before.before) (words c.before.before) _ c.requires c.clear_all.ensures
 
 slice-write-w-4 : tie.Need-bounds-w-3
-slice-write-w-4 c = let z = c.before.before in start_three (chosen z) (words z) _ (entry z).requires z.clear_all.ensures
+slice-write-w-4 c = start_three (chosen c.before.before) (words c.before.before) _ c.requires c.clear_all.ensures
 
 cast-new-clients : tie.Need-overflow_cast-s
 cast-new-clients c = record { fits = omega (arith, (fits (cleared c.before)).0) }
@@ -55,30 +52,27 @@ cast-new-clients-3 : tie.Need-overflow_cast-s-3
 cast-new-clients-3 c = record { fits = omega (arith, (fits (cleared c.before.before.before)).2) }
 
 new-clients-requires : tie.Need-new_clients-requires
-new-clients-requires c κs = let z = cleared c.before.before.before in start-clients (chosen z) (words z) _ (entry z).requires z.clear_all.ensures
+new-clients-requires c κs = let z = cleared c.before.before.before in start-clients (chosen c.before.before.before.before.before.before) (words c.before.before.before.before.before.before) _ c.requires c.clear_all.ensures
 
 cast-new-servers : tie.Need-overflow_cast-s-4
 cast-new-servers c = record { fits = omega (arith, (fits (blank c.before.before.before.before)).0) }
 
 new-servers-requires : tie.Need-new_servers-requires
 new-servers-requires c κs =
-    let p = c.before.before.before.before in
-    let z = blank p in
-    start-servers (chosen z) (words z) _ (entry z).requires z.clear_all.ensures _ p.new_clients.ensures
+    let z = blank c.before.before.before.before in
+    start-servers (chosen c.before.before.before.before.before.before.before.before.before.before.before) (words c.before.before.before.before.before.before.before.before.before.before.before) _ c.requires c.clear_all.ensures _ c.new_clients.ensures
 
 same_length : tie.Need-shape_of-w
 same_length c =
-    let q = c.before.before in
-    let p = peopled q in
-    let z = blank p in
-    start-same (chosen z) (words z) _ (entry z).requires z.clear_all.ensures _ p.new_clients.ensures _ q.new_servers.ensures
+    let p = peopled c.before.before in
+    let z = blank c.before.before.before.before.before.before.before in
+    start-same (chosen c.before.before.before.before.before.before.before.before.before.before.before.before.before.before) (words c.before.before.before.before.before.before.before.before.before.before.before.before.before.before) _ c.requires c.clear_all.ensures _ c.new_clients.ensures _ c.new_servers.ensures
 
 returns : tie.Need-returns
 returns c =
-    let q = c.before.before in
-    let p = peopled q in
-    let z = blank p in
-    start-done (chosen z) (words z) _ (entry z).requires z.clear_all.ensures _ p.new_clients.ensures _ q.new_servers.ensures
+    let p = peopled c.before.before in
+    let z = blank c.before.before.before.before.before.before.before in
+    start-done (chosen c.before.before.before.before.before.before.before.before.before.before.before.before.before.before) (words c.before.before.before.before.before.before.before.before.before.before.before.before.before.before) _ c.requires c.clear_all.ensures _ c.new_clients.ensures _ c.new_servers.ensures
 
 pub start_spec : {M : Type 1} → statement M
 start_spec =

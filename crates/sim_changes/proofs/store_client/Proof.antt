@@ -7,9 +7,7 @@ use Rattle.sim_changes.proofs.store_client.Tie as tie
 
 begin-epoch-requires : tie.Need-begin_epoch-requires
 begin-epoch-requires c κs =
-    let p = c.before.before.before in
-    let t = p.before.before in
-    epoch_begins t.requires.0 t.in-Try.is p.put_client.ensures
+    epoch_begins c.requires.0 c.in-Try.is c.put_client.ensures
 
 pub store_client_spec : {M : Type 1} → statement M
 store_client_spec =

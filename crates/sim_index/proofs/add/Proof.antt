@@ -13,19 +13,16 @@ module _ (c : tie.After-start-at) where
   abbrev begun : tie.Start
   begun = c.before.before.before
 
-  within : c.start-at.result ≤ begun.args.len
-  within = next-within _ _ _ begun.requires.0 _ c.start-at.ensures
+  within : c.start-at.result ≤ c.args.len
+  within = next-within _ _ _ c.requires.0 _ c.start-at.ensures
 
 -- the card is put in
 module _ (c : tie.After-insert) where
   abbrev started : tie.After-start-at
   started = c.before.before
 
-  abbrev start : tie.Start
-  start = begun started
-
-  left : Left start.args.c.place start.args.x-1.now c.insert.new.x
-  left = put-left _ _ _ start.requires.0 _ _ _ _ (within started) start.requires.1 c.insert.ensures
+  left : Left c.args.c.place c.args.x.now c.insert.new.x
+  left = put-left _ _ _ c.requires.0 _ _ _ _ (within started) c.requires.1 c.insert.ensures
 
 pub add_spec : {M : Type 1} → statement M
 add_spec =
@@ -33,11 +30,11 @@ add_spec =
     (tie.spec
     (λ c. search rules)
     (λ c κs. search next-asked)
-    (λ c κs. let s = begun c.before in (within c.before, s.requires.1, s.requires.0.size))
+    (λ c κs. let s = begun c.before in (within c.before, c.requires.1, c.requires.0.size))
     (λ c. search rules)
-    (λ c. let p = c.before.before.before in omega (arith, (left p).size, (start p).requires.0.size, (start p).requires.0.place))
+    (λ c. let p = c.before.before.before in omega (arith, (left p).size, c.requires.0.size, c.requires.0.place))
     (λ c. let p = c.before.before.before in
-    record { fits = omega (arith, (left p).count, entries_few _ _ _ (start p).requires.0, (start p).requires.1) })
-    (λ c. let p = c.before.before.before in omega (arith, (left p).size, (start p).requires.0.size, (start p).requires.0.place))
-    (λ c. let p = c.before.before.before in length-set p.insert.new.x _ _ ∙ (left p).size)
+    record { fits = omega (arith, (left p).count, entries_few _ _ _ c.requires.0, c.requires.1) })
+    (λ c. let p = c.before.before.before in omega (arith, (left p).size, c.requires.0.size, c.requires.0.place))
+    (λ c. let p = c.before.before.before in length-set c.insert.new.x _ _ ∙ (left p).size)
     (λ c. search added_is))

@@ -9,11 +9,8 @@ use Rattle.sim_index.proofs.find_entry.Tie as tie
 
 -- where the receiver's entries begin is known
 module _ (c : tie.After-start-from) where
-  abbrev begun : tie.Start
-  begun = c.before.before
-
-  few : c.start-from.result + get_or begun.args.x.now begun.args.p 0 ≤ begun.args.len
-  few = omega (arith, entries_few _ _ _ begun.requires, c.start-from.ensures)
+  few : c.start-from.result + get_or c.args.x.now c.args.p 0 ≤ c.args.len
+  few = omega (arith, entries_few _ _ _ c.requires, c.start-from.ensures)
 
 pub find_entry_spec : {M : Type 1} → statement M
 find_entry_spec =
@@ -26,6 +23,6 @@ find_entry_spec =
     (λ c. record { fits = omega (arith, few c.before) })
     (λ c. record { fits = omega (arith, few c.before) })
     (λ c. record { fits = omega (arith, few c.before) })
-    (λ c κs. (omega arith, omega (arith, few c.before, (begun c.before).requires.size)))
+    (λ c κs. (omega arith, omega (arith, few c.before, c.requires.size)))
     (λ c. search rules)
     (λ c. search entry_found))

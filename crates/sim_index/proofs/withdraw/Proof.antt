@@ -13,19 +13,16 @@ module _ (c : tie.After-find_entry-at) where
   abbrev begun : tie.Start
   begun = c.before.before.before
 
-  within : c.find_entry-at.result < begun.args.len
-  within = omega (arith, c.find_entry-at.ensures, begun.requires.1)
+  within : c.find_entry-at.result < c.args.len
+  within = omega (arith, c.find_entry-at.ensures, c.requires.1)
 
 -- it is taken out
 module _ (c : tie.After-delete) where
   abbrev found : tie.After-find_entry-at
   found = c.before.before
 
-  abbrev start : tie.Start
-  start = begun found
-
-  left : Left start.args.p start.args.x-1.now c.delete.new.x
-  left = taken-left _ _ _ start.requires.0 _ _ (within found) c.delete.ensures
+  left : Left c.args.p c.args.x.now c.delete.new.x
+  left = taken-left _ _ _ c.requires.0 _ _ (within found) c.delete.ensures
 
 pub withdraw_spec : {M : Type 1} → statement M
 withdraw_spec =
@@ -33,10 +30,10 @@ withdraw_spec =
     (tie.spec
     (λ c κs. search rules)
     (λ c. search rules)
-    (λ c κs. let f = c.before in let s = begun f in (omega (arith, within f), omega (arith, within f, s.requires.0.few), s.requires.0.size))
+    (λ c κs. let s = begun c.before in (omega (arith, within c.before), omega (arith, within c.before, s.requires.0.few), s.requires.0.size))
     (λ c. search rules)
-    (λ c. let p = c.before.before.before in omega (arith, (left p).size, (start p).requires.0.size, (start p).requires.0.place))
-    (λ c. let p = c.before.before.before in omega (arith, (left p).count, (start p).requires.2))
-    (λ c. let p = c.before.before.before in omega (arith, (left p).size, (start p).requires.0.size, (start p).requires.0.place))
-    (λ c. let p = c.before.before.before in length-set p.delete.new.x _ _ ∙ (left p).size)
+    (λ c. let p = c.before.before.before in omega (arith, (left c.before.before.before).size, c.requires.0.size, c.requires.0.place))
+    (λ c. let p = c.before.before.before in omega (arith, (left c.before.before.before).count, c.requires.2))
+    (λ c. let p = c.before.before.before in omega (arith, (left c.before.before.before).size, c.requires.0.size, c.requires.0.place))
+    (λ c. let p = c.before.before.before in length-set c.delete.new.x _ _ ∙ (left c.before.before.before).size)
     (λ c. search withdrawn-is))

@@ -9,6 +9,6 @@ list_into_spec =
     tie.close
     (tie.spec
     (λ c κs. search card_may)
-    (λ c κs. let d = c.before.before.before.before in add_may _ _ d.requires.0 _ _ d.requires.1 c.card_at-c.ensures)
+    (λ c κs. add_may _ _ c.requires.0 _ _ c.requires.1 c.card_at-c.ensures)
     (λ c. search listed-size)
     (λ c. search listed_next))

@@ -25,40 +25,36 @@ module _ (c : tie.After-put_mark-2) where
   marked = c.before.before.before.before
 
 find-entry-requires : tie.Need-find_entry-at-requires
-find-entry-requires c κs = let r = c.before.before in let s = entry r in change_sized _ _ _ s.requires.0 s.requires.1 _ r.card_at-c.ensures
+find-entry-requires c κs = let s = entry c.before in change_sized _ _ _ c.requires.0 c.requires.1 _ c.card_at-c.ensures
 
 put-mark-requires : tie.Need-put_mark-requires
 put-mark-requires c κs =
-    let f = c.before in
-    let r = read f in
-    let s = entry r in
-    mark-entry _ _ _ s.requires.0 s.requires.1 _ r.card_at-c.ensures _ f.find_entry-at.ensures
+    let r = read c.before in
+    let s = entry c.before.before.before in
+    mark-entry _ _ _ c.requires.0 c.requires.1 _ c.card_at-c.ensures _ c.find_entry-at.ensures
 
 put-mark-requires-2 : tie.Need-put_mark-requires-2
 put-mark-requires-2 c κs =
-    let m = c.before.before.before in
-    let f = found m in
-    let r = read f in
-    let s = entry r in
-    mark-slot _ _ _ s.requires.0 s.requires.1 _ r.card_at-c.ensures _ f.find_entry-at.ensures _ m.put_mark.ensures
+    let f = found c.before.before.before in
+    let r = read c.before.before.before.before.before in
+    let s = entry c.before.before.before.before.before.before.before in
+    mark-slot _ _ _ c.requires.0 c.requires.1 _ c.card_at-c.ensures _ c.find_entry-at.ensures _ c.put_mark.ensures
 
 same_length : tie.Need-shape_of-t
 same_length c =
-    let d = c.before.before in
-    let m = marked d in
-    let f = found m in
-    let r = read f in
-    let s = entry r in
-    marks_same _ _ _ s.requires.0 s.requires.1 _ r.card_at-c.ensures _ f.find_entry-at.ensures _ m.put_mark.ensures _ d.put_mark-2.ensures
+    let m = marked c.before.before in
+    let f = found c.before.before.before.before.before.before in
+    let r = read c.before.before.before.before.before.before.before.before in
+    let s = entry c.before.before.before.before.before.before.before.before.before.before in
+    marks_same _ _ _ c.requires.0 c.requires.1 _ c.card_at-c.ensures _ c.find_entry-at.ensures _ c.put_mark.ensures _ c.put_mark-2.ensures
 
 returns : tie.Need-returns
 returns c =
-    let d = c.before.before in
-    let m = marked d in
-    let f = found m in
-    let r = read f in
-    let s = entry r in
-    marks_both _ _ _ s.requires.0 s.requires.1 _ r.card_at-c.ensures _ f.find_entry-at.ensures _ m.put_mark.ensures _ d.put_mark-2.ensures
+    let m = marked c.before.before in
+    let f = found c.before.before.before.before.before.before in
+    let r = read c.before.before.before.before.before.before.before.before in
+    let s = entry c.before.before.before.before.before.before.before.before.before.before in
+    marks_both _ _ _ c.requires.0 c.requires.1 _ c.card_at-c.ensures _ c.find_entry-at.ensures _ c.put_mark.ensures _ c.put_mark-2.ensures
 
 pub mark_spec : {M : Type 1} → statement M
 mark_spec =
@@ -67,7 +63,7 @@ mark_spec =
     (λ c. search rules)
     (λ c. search rules)
     (λ c. search rules)
-    (λ c κs. let s = c.before.before.before in change_card _ _ _ s.requires.0 s.requires.1)
+    (λ c κs. let s = c.before.before.before in change_card _ _ _ c.requires.0 c.requires.1)
     (λ c. search rules)
     (λ c. search rules)
     (λ c. search rules)

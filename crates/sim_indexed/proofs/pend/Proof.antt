@@ -10,8 +10,8 @@ module _ (c : tie.After-find_present-i) where
   abbrev entry : tie.Start
   entry = c.before.before.before.before.before.before.before.before.before.before.before
 
-  found : Looked entry.args.len entry.args.at entry.args.t-1.now c.find_present-i.result
-  found = record { entry = entry.requires; number = _; read = c.number_at-number.ensures; slot = c.find_present-i.ensures }
+  found : Looked c.args.len c.args.at c.args.t.now c.find_present-i.result
+  found = record { entry = c.requires; number = _; read = c.number_at-number.ensures; slot = c.find_present-i.ensures }
 
 -- the entry is marked
 module _ (c : tie.After-put_mark) where
@@ -24,13 +24,13 @@ module _ (c : tie.After-put_mark-2) where
   marked = c.before.before.before.before
 
 put-mark-requires-2 : tie.Need-put_mark-requires-2
-put-mark-requires-2 c κs = let m = c.before.before.before in slot-may (found (looked m)) m.put_mark.ensures
+put-mark-requires-2 c κs = slot-may (found (looked c.before.before.before)) c.put_mark.ensures
 
 same-length-2 : tie.Need-shape_of-t
-same-length-2 c = let d = c.before.before in let m = marked d in pends_size (found (looked m)) m.put_mark.ensures d.put_mark-2.ensures
+same-length-2 c = let m = marked c.before.before in pends_size (found (looked c.before.before.before.before.before.before)) c.put_mark.ensures c.put_mark-2.ensures
 
 returns-2 : tie.Need-returns
-returns-2 c = let d = c.before.before in let m = marked d in pends (found (looked m)) m.put_mark.ensures d.put_mark-2.ensures
+returns-2 c = let m = marked c.before.before in pends (found (looked c.before.before.before.before.before.before)) c.put_mark.ensures c.put_mark-2.ensures
 
 pub pend_spec : {M : Type 1} → statement M
 pend_spec =

@@ -14,17 +14,17 @@ use Rattle.sim_indexed.proofs.post.Tie as tie
 -- at entry
 module _ (s : tie.Start) where
   abbrev new : List Message
-  new = messages_in s.args.count s.args.bytes.now
+  new = messages_in c.args.count c.args.bytes.now
 
 -- the slots have the messages
 module _ (c : tie.After-post) where
   abbrev entry : tie.Start
   entry = c.before.before.before.before
 
-  posted : Posts entry.args.len entry.args.sent (new entry) (table entry.args.t-1.now) c.post.new.t
+  posted : Posts c.args.len c.args.sent (new entry) (table c.args.t.now) c.post.new.t
   posted =
       let s = entry in
-      let p = s.requires in
+      let p = c.requires in
       let m = post_may _ _ _ _ p.0 in
       posts_read _ _ _ _ _ _ (rw p.1 at m.0) p.1 c.post.ensures
 
@@ -36,31 +36,28 @@ module _ (c : tie.After-list_slots) where
 post-requires : tie.Need-post-requires
 post-requires c κs =
     let s = c.before.before.before in
-    let m = post_may _ _ _ _ s.requires.0 in
-    (rw s.requires.1 at m.0, rw s.requires.1 at m.1, s.requires.1)
+    let m = post_may _ _ _ _ c.requires.0 in
+    (rw c.requires.1 at m.0, rw c.requires.1 at m.1, c.requires.1)
 
 add-list-slots : tie.Need-overflow_add-len
-add-list-slots c = let s = entry c.before.before.before in record { fits = omega (arith, s.requires.0.room, s.requires.1) }
+add-list-slots c = let s = entry c.before.before.before in record { fits = omega (arith, c.requires.0.room, c.requires.1) }
 
 list-slots-requires : tie.Need-list_slots-requires
 list-slots-requires c κs =
-    let p = c.before.before.before in
-    let s = entry p in
-    rw s.requires.1 at (post_unlisted _ _ _ _ s.requires.0 _ (posted p))
+    let s = entry c.before.before.before in
+    rw c.requires.1 at (post_unlisted _ _ _ _ c.requires.0 _ (posted c.before.before.before))
 
 same_length : tie.Need-shape_of-t
 same_length c =
-    let q = c.before.before in
-    let p = stored q in
-    let s = entry p in
-    posts_same _ _ _ _ s.requires.0 _ (posted p) q.list_slots.new.t (rw s.requires.1 q.list_slots.ensures)
+    let p = stored c.before.before in
+    let s = entry c.before.before.before.before.before.before in
+    posts_same _ _ _ _ c.requires.0 _ (posted c.before.before.before.before.before.before) c.list_slots.new.t (rw c.requires.1 c.list_slots.ensures)
 
 returns : tie.Need-returns
 returns c =
-    let q = c.before.before in
-    let p = stored q in
-    let s = entry p in
-    posts_both _ _ _ _ s.requires.0 _ (posted p) q.list_slots.new.t (rw s.requires.1 q.list_slots.ensures)
+    let p = stored c.before.before in
+    let s = entry c.before.before.before.before.before.before in
+    posts_both _ _ _ _ c.requires.0 _ (posted c.before.before.before.before.before.before) c.list_slots.new.t (rw c.requires.1 c.list_slots.ensures)
 
 pub post_spec : {M : Type 1} → statement M
 post_spec =

@@ -11,11 +11,8 @@ use Rattle.sim_indexed.proofs.post_message.Tie as tie
 
 -- a slot has the message
 module _ (c : tie.After-post_message) where
-  abbrev entry : tie.Start
-  entry = c.before.before.before
-
-  posted : Posts entry.args.len entry.args.sent (entry.args.m ∷ []) (table entry.args.t-1.now) c.post_message.new.t
-  posted = let p = entry.requires in posts_one _ _ _ _ _ (post_may _ _ _ _ p.0).0 p.1 c.post_message.ensures
+  posted : Posts c.args.len c.args.sent (c.args.m ∷ []) (table c.args.t.now) c.post_message.new.t
+  posted = let p = c.requires in posts_one _ _ _ _ _ (post_may _ _ _ _ p.0).0 p.1 c.post_message.ensures
 
 -- the index has it
 module _ (c : tie.After-list_slot) where
@@ -27,14 +24,13 @@ post-message-requires c κs = let p = c.requires in let m = post_may _ _ _ _ p.0
 
 list-slot-requires : tie.Need-list_slot-requires
 list-slot-requires c κs =
-    let p = c.before.before.before in
-    joining-slot _ _ _ _ _ (joining-none _ _ _ (post_unlisted _ _ _ _ (entry p).requires.0 _ (posted p))) (omega arith)
+    joining-slot _ _ _ _ _ (joining-none _ _ _ (post_unlisted _ _ _ _ c.requires.0 _ (posted c.before.before.before))) (omega arith)
 
 same_length : tie.Need-shape_of-t
-same_length c = let q = c.before.before in let p = stored q in posts_same _ _ _ _ (entry p).requires.0 _ (posted p) _ q.list_slot.ensures
+same_length c = let p = stored c.before.before in posts_same _ _ _ _ c.requires.0 _ (posted c.before.before.before.before.before.before) _ c.list_slot.ensures
 
 returns : tie.Need-returns
-returns c = let q = c.before.before in let p = stored q in posts_both _ _ _ _ (entry p).requires.0 _ (posted p) _ q.list_slot.ensures
+returns c = let p = stored c.before.before in posts_both _ _ _ _ c.requires.0 _ (posted c.before.before.before.before.before.before) _ c.list_slot.ensures
 
 pub post_message_spec : {M : Type 1} → statement M
 post_message_spec =

@@ -11,9 +11,6 @@ module _ (c : tie.After-start-end) where
   abbrev entry : tie.Start
   entry = c.before.before.before.before.before
 
-  abbrev begun : tie.After-start-from
-  begun = c.before.before
-
 -- the entry is there
 module _ (c : tie.Else-end-from) where
   abbrev both : tie.After-start-end
@@ -21,34 +18,29 @@ module _ (c : tie.Else-end-from) where
 
 entry-requires : tie.Need-number_at-number-requires
 entry-requires c κs =
-    let e = c.before in
-    let b = both e in
-    entry-may _ _ _ (entry b).requires.0 (entry b).requires.1 _ _ (begun b).start-from.ensures b.start-end.ensures _ e.if-end-from.false
+    let b = both c.before in
+    entry-may _ _ _ c.requires.0 c.requires.1 _ _ c.start-from.ensures c.start-end.ensures _ c.if-end-from.false
 
 mark-requires : tie.Need-mark_at-mark-requires
 mark-requires c κs =
-    let e = c.before.before.before in
-    let b = both e in
-    entry-may _ _ _ (entry b).requires.0 (entry b).requires.1 _ _ (begun b).start-from.ensures b.start-end.ensures _ e.if-end-from.false
+    let b = both c.before.before.before in
+    entry-may _ _ _ c.requires.0 c.requires.1 _ _ c.start-from.ensures c.start-end.ensures _ c.if-end-from.false
 
 add_at : tie.Need-overflow_add-at
 add_at c =
     let b = both c in
-    let m = entry-may _ _ _ (entry b).requires.0 (entry b).requires.1 _ _ (begun b).start-from.ensures b.start-end.ensures _ c.if-end-from.false in
+    let m = entry-may _ _ _ c.requires.0 c.requires.1 _ _ c.start-from.ensures c.start-end.ensures _ c.if-end-from.false in
     record { fits = omega (arith, m.1) }
 
 returns : tie.Need-returns-then-end-from
 returns c =
-    let b = c.before in
-    none-there _ _ _ (entry b).requires.0 (entry b).requires.1 _ _ (begun b).start-from.ensures b.start-end.ensures _ c.if-end-from.true
+    none-there _ _ _ c.requires.0 c.requires.1 _ _ c.start-from.ensures c.start-end.ensures _ c.if-end-from.true
 
 returns-2 : tie.Need-returns
 returns-2 c =
-    let n = c.before.before in
-    let e = n.before.before in
-    let b = both e in
-    entry-there _ _ _ (entry b).requires.0 (entry b).requires.1 _ _ (begun b).start-from.ensures b.start-end.ensures _ e.if-end-from.false
-    _ _ n.number_at-number.ensures c.mark_at-mark.ensures
+    let b = both c.before.before.before.before in
+    entry-there _ _ _ c.requires.0 c.requires.1 _ _ c.start-from.ensures c.start-end.ensures _ c.if-end-from.false
+    _ _ c.number_at-number.ensures c.mark_at-mark.ensures
 
 pub read_entry_spec : {M : Type 1} → statement M
 read_entry_spec =
@@ -57,13 +49,13 @@ read_entry_spec =
     (λ c. search rules)
     (λ c. search rules)
     (λ c. search rules)
-    (λ c κs. let s = c.before.before in first-may _ _ s.requires.0 _ s.requires.1)
+    (λ c κs. let s = c.before.before in first-may _ _ c.requires.0 _ c.requires.1)
     (λ c. search rules)
     (λ c. search rules)
     (λ c. search rules)
     (λ c. search rules)
-    (λ c κs. let s = c.before.before.before.before in last-may _ _ s.requires.0 _ s.requires.1)
-    (λ c. end_after _ _ _ (entry c).requires.0 (entry c).requires.1 _ _ (begun c).start-from.ensures c.start-end.ensures)
+    (λ c κs. let s = c.before.before.before.before in last-may _ _ c.requires.0 _ c.requires.1)
+    (λ c. end_after _ _ _ c.requires.0 c.requires.1 _ _ c.start-from.ensures c.start-end.ensures)
     returns
     add_at
     (λ c. search rules)

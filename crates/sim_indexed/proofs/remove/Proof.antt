@@ -20,30 +20,27 @@ module _ (c : tie.After-remove) where
   withdrawn = c.before.before.before.before
 
 withdraw-requires : tie.Need-withdraw-requires
-withdraw-requires c κs = let r = c.before in let s = entry r in withdraw_may _ _ _ s.requires.0 s.requires.1 _ r.card_at-c.ensures
+withdraw-requires c κs = let s = entry c.before in withdraw_may _ _ _ c.requires.0 c.requires.1 _ c.card_at-c.ensures
 
 remove-requires : tie.Need-remove-requires
 remove-requires c κs =
-    let w = c.before.before.before in
-    let r = read w in
-    let s = entry r in
-    remove_slot _ _ _ s.requires.0 s.requires.1 _ r.card_at-c.ensures _ w.withdraw.ensures
+    let r = read c.before.before.before in
+    let s = entry c.before.before.before.before.before in
+    remove_slot _ _ _ c.requires.0 c.requires.1 _ c.card_at-c.ensures _ c.withdraw.ensures
 
 same_length : tie.Need-shape_of-t
 same_length c =
-    let d = c.before.before in
-    let w = withdrawn d in
-    let r = read w in
-    let s = entry r in
-    removes_same _ _ _ s.requires.0 s.requires.1 _ r.card_at-c.ensures _ w.withdraw.ensures _ d.remove.ensures
+    let w = withdrawn c.before.before in
+    let r = read c.before.before.before.before.before.before in
+    let s = entry c.before.before.before.before.before.before.before.before in
+    removes_same _ _ _ c.requires.0 c.requires.1 _ c.card_at-c.ensures _ c.withdraw.ensures _ c.remove.ensures
 
 returns : tie.Need-returns
 returns c =
-    let d = c.before.before in
-    let w = withdrawn d in
-    let r = read w in
-    let s = entry r in
-    removes_both _ _ _ s.requires.0 s.requires.1 _ r.card_at-c.ensures _ w.withdraw.ensures _ d.remove.ensures
+    let w = withdrawn c.before.before in
+    let r = read c.before.before.before.before.before.before in
+    let s = entry c.before.before.before.before.before.before.before.before in
+    removes_both _ _ _ c.requires.0 c.requires.1 _ c.card_at-c.ensures _ c.withdraw.ensures _ c.remove.ensures
 
 pub remove_spec : {M : Type 1} → statement M
 remove_spec =
@@ -52,7 +49,7 @@ remove_spec =
     (λ c. search rules)
     (λ c. search rules)
     (λ c. search rules)
-    (λ c κs. let s = c.before.before.before in change_card _ _ _ s.requires.0 s.requires.1)
+    (λ c κs. let s = c.before.before.before in change_card _ _ _ c.requires.0 c.requires.1)
     (λ c. search rules)
     (λ c. search rules)
     (λ c. search rules)

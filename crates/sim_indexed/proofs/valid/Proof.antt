@@ -17,10 +17,8 @@ decreases-loop t len sent n clients made₀ i₀ made i = len - i
 
 returns-3 : tie.Need-returns invariant-loop decreases-loop
 returns-3 c =
-    let l = c.before.before.before.before in
-    let v = l.before.before in
-    index_decides _ _ _ _ _ v.if-t-ne-INDEXED_WORDS.false _ v.valid.ensures l.if-not-valid.false
-    _ (making_all _ _ _ _ _ _ _ l.loop-i.invariant (omega arith)) _ c.same.ensures
+    index_decides _ _ _ _ _ c.if-t-ne-INDEXED_WORDS.false _ c.valid.ensures c.if-not-valid.false
+    _ (making_all _ _ _ _ _ _ _ c.loop-i.invariant (omega arith)) _ c.same.ensures
 
 pub valid_spec : {M : Type 1} → statement M
 valid_spec =

@@ -8,9 +8,8 @@ use Rattle.sim_layout.proofs.clear_client.Tie as tie
 
 returns : tie.Need-returns
 returns c =
-    let d = c.before.before.before.before.before.before in
-    let a = d.args in
-    client-written a.w-1.now a.k d.requires cleared _ (λ l. length-flags l) c.clear_flags.ensures
+    let a = c.args in
+    client-written a.w-1.now a.k c.requires cleared _ (λ l. length-flags l) c.clear_flags.ensures
 
 pub clear_client_spec : {M : Type 1} → statement M
 clear_client_spec =

@@ -10,16 +10,16 @@ use Rattle.sim_layout.proofs.client_head.Tie as tie
 client-head-requires : tie.Need-client_head-requires
 client-head-requires c κs =
     let d = c.before.before.before in
-    let a = d.args in
-    let i = d.requires.0 in (
+    let a = c.args in
+    let i = c.requires.0 in (
       client-lent a.w.now a.k i length client_block (client_block-long a.w.now a.k.0 i.long i.first i.last),
-      client-lent a.w.now a.k i (λ b. holds_client_record (client_record b)) _ d.requires.1,
+      client-lent a.w.now a.k i (λ b. holds_client_record (client_record b)) _ c.requires.1,
     )
 
 returns : tie.Need-returns
 returns c =
     let d = c.before.before.before.before in
-    client-read d.args.w.now d.args.k d.requires.0 (λ b. client_head_from (client_record b)) _ c.client_head.ensures
+    client-read c.args.w.now c.args.k c.requires.0 (λ b. client_head_from (client_record b)) _ c.client_head.ensures
 
 pub client_head_spec : {M : Type 1} → statement M
 client_head_spec =

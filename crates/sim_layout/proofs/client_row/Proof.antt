@@ -9,8 +9,7 @@ use Rattle.sim_layout.proofs.client_row.Tie as tie
 
 returns : tie.Need-returns
 returns c =
-    let d = c.before.before.before.before.before.before.before.before in
-    client-read d.args.w.now d.args.k d.requires.0 (λ b. drop client_head (client_record b)) _ c.client_row.ensures
+    client-read c.args.w.now c.args.k c.requires.0 (λ b. drop client_head (client_record b)) _ c.client_row.ensures
 
 pub client_row_spec : {M : Type 1} → statement M
 client_row_spec =

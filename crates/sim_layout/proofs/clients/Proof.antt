@@ -5,7 +5,7 @@ use Rattle.sim_layout.proofs.clients.Statement.{statement}
 use Rattle.sim_layout.proofs.clients.Tie as tie
 
 cast-result : tie.Need-overflow_cast-result
-cast-result c = let d = c.before in record { fits = omega (arith, clients-word d.args.w.now, few-clients _ d.requires) }
+cast-result c = record { fits = omega (arith, clients-word c.args.w.now, few-clients _ c.requires) }
 
 pub clients_spec : {M : Type 1} → statement M
 clients_spec =

@@ -17,10 +17,9 @@ decreases-loop w clients found₀ i₀ found i = clients - i
 
 loop-again : tie.Need-loop-i-preserved invariant-loop decreases-loop
 loop-again c =
-    let d = c.before.before.before in
-    let l = client_words d.args.w.now in
-    let more = found-one client_place l _ _ d.loop-i.invariant.1 _ c.is_inside.ensures in
-    let same = found-same client_place l _ _ d.loop-i.invariant.1 _ c.is_inside.ensures in
+    let l = client_words c.args.w.now in
+    let more = found-one client_place l _ _ c.loop-i.invariant.1 _ c.is_inside.ensures in
+    let same = found-same client_place l _ _ c.loop-i.invariant.1 _ c.is_inside.ensures in
     (omega (arith, c.loop-i-test.true), ⊎_elim (λ x. more _ x.0.true x.1) (λ x. same _ x.0.false x.1) c.if-is_inside.branch)
 
 pub count_inside_spec : {M : Type 1} → statement M

@@ -15,5 +15,5 @@ entry_at_spec =
     (λ c. search rules)
     (λ c. search rules)
     (λ c. omega (arith, words_long _ c.requires.0))
-    (λ c κs. let d = c.before.before.before in (held-lent _ d.requires.0, d.requires.1))
-    (λ c. let d = c.before.before.before.before in entries_lent _ d.requires.0 _ _ _ c.read_entry.ensures))
+    (λ c κs. let d = c.before.before.before in (held-lent _ c.requires.0, c.requires.1))
+    (λ c. let d = c.before.before.before.before in entries_lent _ c.requires.0 _ _ _ c.read_entry.ensures))

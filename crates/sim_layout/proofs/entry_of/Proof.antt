@@ -16,57 +16,43 @@ module _ (c : tie.Else-not-has_server) where
 
 sub-entry-at : tie.Need-overflow_sub-k
 sub-entry-at c =
-    let e = c.before in
-    let a = client-asked e in
-    let s = a.before.before.before.before.before in
-    (client-there _ s.requires _ s.args.i _ a.in-Client.is _ a.has_client.ensures e.if-not-has_client.false).0
+    let a = client-asked c.before in
+    (client-there _ c.requires _ c.args.i _ c.in-Client.is _ c.has_client.ensures c.if-not-has_client.false).0
 
 entry-at-requires : tie.Need-entry_at-requires
 entry-at-requires c κs =
-    let e = c.before in
-    let a = client-asked e in
+    let a = client-asked c.before in
     let s = a.before.before.before.before.before in
-    (s.requires, (client-there _ s.requires _ s.args.i _ a.in-Client.is _ a.has_client.ensures e.if-not-has_client.false).1)
+    (c.requires, (client-there _ c.requires _ c.args.i _ c.in-Client.is _ c.has_client.ensures c.if-not-has_client.false).1)
 
 returns : tie.Need-returns-then-not-has_client
 returns c =
-    let a = c.before in
-    let s = a.before.before.before.before.before in
-    client_lacking _ s.requires _ s.args.i _ a.in-Client.is _ a.has_client.ensures c.if-not-has_client.true
+    client_lacking _ c.requires _ c.args.i _ c.in-Client.is _ c.has_client.ensures c.if-not-has_client.true
 
 returns-3 : tie.Need-returns-else-not-has_client
 returns-3 c =
-    let e = c.before.before in
-    let a = client-asked e in
-    let s = a.before.before.before.before.before in
-    client-entry _ s.requires _ s.args.i _ a.in-Client.is _ a.has_client.ensures e.if-not-has_client.false _ c.entry_at.ensures
+    let a = client-asked c.before.before in
+    client-entry _ c.requires _ c.args.i _ c.in-Client.is _ c.has_client.ensures c.if-not-has_client.false _ c.entry_at.ensures
 
 sub-entry-at-2 : tie.Need-overflow_sub-j
 sub-entry-at-2 c =
-    let e = c.before in
-    let a = server-asked e in
-    let s = a.before.before.before.before.before in
-    (server-there _ s.requires _ s.args.i _ a.in-Server.is _ a.has_server.ensures e.if-not-has_server.false).0
+    let a = server-asked c.before in
+    (server-there _ c.requires _ c.args.i _ c.in-Server.is _ c.has_server.ensures c.if-not-has_server.false).0
 
 entry-at-requires-2 : tie.Need-entry_at-requires-in-Server
 entry-at-requires-2 c κs =
-    let e = c.before in
-    let a = server-asked e in
+    let a = server-asked c.before in
     let s = a.before.before.before.before.before in
-    (s.requires, (server-there _ s.requires _ s.args.i _ a.in-Server.is _ a.has_server.ensures e.if-not-has_server.false).1)
+    (c.requires, (server-there _ c.requires _ c.args.i _ c.in-Server.is _ c.has_server.ensures c.if-not-has_server.false).1)
 
 returns-2 : tie.Need-returns-then-not-has_server
 returns-2 c =
-    let a = c.before in
-    let s = a.before.before.before.before.before in
-    server_lacking _ s.requires _ s.args.i _ a.in-Server.is _ a.has_server.ensures c.if-not-has_server.true
+    server_lacking _ c.requires _ c.args.i _ c.in-Server.is _ c.has_server.ensures c.if-not-has_server.true
 
 returns-4 : tie.Need-returns-else-not-has_server
 returns-4 c =
-    let e = c.before.before in
-    let a = server-asked e in
-    let s = a.before.before.before.before.before in
-    server-entry _ s.requires _ s.args.i _ a.in-Server.is _ a.has_server.ensures e.if-not-has_server.false _ c.entry_at-in-Server.ensures
+    let a = server-asked c.before.before in
+    server-entry _ c.requires _ c.args.i _ c.in-Server.is _ c.has_server.ensures c.if-not-has_server.false _ c.entry_at-in-Server.ensures
 
 pub entry_of_spec : {M : Type 1} → statement M
 entry_of_spec =

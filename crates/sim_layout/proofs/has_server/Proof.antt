@@ -13,8 +13,7 @@ shared-slice-read-within-limit c = omega (arith, words_long _ c.requires)
 
 returns : tie.Need-returns
 returns c =
-    let d = c.before.before.before.before in
-    c.within_limit.ensures ∙ ap (λ (x : ℕ). within d.args.j.0 x) (servers-word d.args.w.now)
+    c.within_limit.ensures ∙ ap (λ (x : ℕ). within c.args.j.0 x) (servers-word c.args.w.now)
 
 pub has_server_spec : {M : Type 1} → statement M
 has_server_spec =

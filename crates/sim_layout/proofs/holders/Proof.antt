@@ -6,7 +6,7 @@ use Rattle.sim_layout.proofs.holders.Statement.{statement}
 use Rattle.sim_layout.proofs.holders.Tie as tie
 
 count-inside-requires : tie.Need-count_inside-requires
-count-inside-requires c κs = let d = c.before.before in (words_long _ d.requires, omega (arith, few-clients _ d.requires, c.clients-all.ensures))
+count-inside-requires c κs = (words_long _ c.requires, omega (arith, few-clients _ c.requires, c.clients-all.ensures))
 
 pub holders_spec : {M : Type 1} → statement M
 holders_spec =

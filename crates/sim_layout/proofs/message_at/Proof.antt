@@ -6,7 +6,7 @@ use Rattle.sim_layout.proofs.message_at.Statement.{statement}
 use Rattle.sim_layout.proofs.message_at.Tie as tie
 
 message-at-requires : tie.Need-message_at-requires
-message-at-requires c κs = let d = c.before.before in slot_lent _ d.requires.0 _ d.requires.1
+message-at-requires c κs = slot_lent _ c.requires.0 _ c.requires.1
 
 pub message_at_spec : {M : Type 1} → statement M
 message_at_spec =

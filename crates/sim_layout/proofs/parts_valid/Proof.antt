@@ -6,8 +6,7 @@ use Rattle.sim_layout.proofs.parts_valid.Tie as tie
 
 returns-4 : tie.Need-returns
 returns-4 c =
-    let d = c.before.before.before.before.before.before.before.before in
-    let a = d.args in
+    let a = c.args in
     most_noted a.n a.m a.clients a.w.now _ c.blocks_valid.ensures
     c.if-not-blocks_valid.false _ c.transit_valid.ensures
     c.if-not-transit_valid.false _ c.if-n-most.false c.worst_down.ensures

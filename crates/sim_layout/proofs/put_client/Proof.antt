@@ -9,9 +9,8 @@ use Rattle.sim_layout.proofs.put_client.Tie as tie
 
 returns : tie.Need-returns
 returns c =
-    let d = c.before.before.before.before.before.before.before in
-    let a = d.args in
-    client-written a.w-1.now a.k d.requires.0 (λ b. sets b 1 (client_words (client_of a.h a.row.now))) _
+    let a = c.args in
+    client-written a.w-1.now a.k c.requires.0 (λ b. sets b 1 (client_words (client_of a.h a.row.now))) _
     (λ l. length-sets l 1 (client_words (client_of a.h a.row.now))) c.put_client.ensures
 
 pub put_client_spec : {M : Type 1} → statement M

@@ -10,16 +10,16 @@ use Rattle.sim_layout.proofs.server_head.Tie as tie
 server-head-requires : tie.Need-server_head-requires
 server-head-requires c κs =
     let d = c.before.before.before in
-    let a = d.args in
-    let i = d.requires.0 in (
+    let a = c.args in
+    let i = c.requires.0 in (
       server-lent a.w.now a.j i length server_block (server_block-long a.w.now a.j.0 i.long i.first i.last),
-      server-lent a.w.now a.j i (λ b. holds_server_record (server_record b)) _ d.requires.1,
+      server-lent a.w.now a.j i (λ b. holds_server_record (server_record b)) _ c.requires.1,
     )
 
 returns : tie.Need-returns
 returns c =
     let d = c.before.before.before.before in
-    server-read d.args.w.now d.args.j d.requires.0 (λ b. server_head_from (server_record b)) _ c.server_head.ensures
+    server-read c.args.w.now c.args.j c.requires.0 (λ b. server_head_from (server_record b)) _ c.server_head.ensures
 
 pub server_head_spec : {M : Type 1} → statement M
 server_head_spec =

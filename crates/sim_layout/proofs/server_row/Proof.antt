@@ -9,8 +9,7 @@ use Rattle.sim_layout.proofs.server_row.Tie as tie
 
 returns : tie.Need-returns
 returns c =
-    let d = c.before.before.before.before.before.before.before.before in
-    server-read d.args.w.now d.args.j d.requires.0 (λ b. drop server_head (server_record b)) _ c.server_row.ensures
+    server-read c.args.w.now c.args.j c.requires.0 (λ b. drop server_head (server_record b)) _ c.server_row.ensures
 
 pub server_row_spec : {M : Type 1} → statement M
 server_row_spec =

@@ -5,7 +5,7 @@ use Rattle.sim_layout.proofs.servers.Statement.{statement}
 use Rattle.sim_layout.proofs.servers.Tie as tie
 
 cast-result : tie.Need-overflow_cast-result
-cast-result c = let d = c.before in record { fits = omega (arith, servers-word d.args.w.now, few-servers _ d.requires) }
+cast-result c = record { fits = omega (arith, servers-word c.args.w.now, few-servers _ c.requires) }
 
 pub servers_spec : {M : Type 1} → statement M
 servers_spec =

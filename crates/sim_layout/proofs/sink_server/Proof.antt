@@ -14,10 +14,10 @@ use Rattle.sim_layout.proofs.sink_server.Tie as tie
 sink-requires : tie.Need-sink-requires
 sink-requires c κs =
     let d = c.before.before.before in
-    let a = d.args in
-    let i = d.requires.0 in (
+    let a = c.args in
+    let i = c.requires.0 in (
       server-lent a.w-1.now a.j i length server_block (server_block-long a.w-1.now a.j.0 i.long i.first i.last),
-      server-lent a.w-1.now a.j i (λ b. holds_server_record (server_record b)) _ d.requires.1,
+      server-lent a.w-1.now a.j i (λ b. holds_server_record (server_record b)) _ c.requires.1,
     )
 
 abbrev sunk : List ℕ → List ℕ
@@ -30,8 +30,8 @@ length-sunk b = length-set (sets b 1 (server_words (emptied (server_from (server
 returns : tie.Need-returns
 returns c =
     let d = c.before.before.before.before.before.before in
-    let a = d.args in
-    server-written a.w-1.now a.j d.requires.0 sunk _ length-sunk c.sink.ensures
+    let a = c.args in
+    server-written a.w-1.now a.j c.requires.0 sunk _ length-sunk c.sink.ensures
 
 pub sink_server_spec : {M : Type 1} → statement M
 sink_server_spec =

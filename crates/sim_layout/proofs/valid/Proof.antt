@@ -19,7 +19,7 @@ module _ (c : tie.Else-not-within_limit) where
   inside : (length words ≡ simulation_size) × (get_or words 0 0 ≤ system_servers) × (get_or words 3 0 ≤ system_clients)
   inside =
       let r = c.before.before.before in
-      bounds words r.if-w-ne-SIMULATION_WORDS.false _ r.in_range_up_to.ensures r.if-not-in_range_up_to.false
+      bounds words c.if-w-ne-SIMULATION_WORDS.false _ c.in_range_up_to.ensures c.if-not-in_range_up_to.false
       _ c.within_limit.ensures c.if-not-within_limit.false
 
 pub valid_spec : {M : Type 1} → statement M

@@ -19,10 +19,9 @@ decreases-loop w clients most₀ i₀ most i = clients - i
 
 loop-again : tie.Need-loop-i-preserved invariant-loop decreases-loop
 loop-again c =
-    let d = c.before.before.before in
-    let a = d.args in
+    let a = c.args in
     let lt = c.loop-i-test.true in
-    (omega (arith, lt), worst-step client_place (client_words a.w.now) _ _ _ _ d.loop-i.invariant.1 c.downs_of-x.ensures c.larger-most.ensures)
+    (omega (arith, lt), worst-step client_place (client_words a.w.now) _ _ _ _ c.loop-i.invariant.1 c.downs_of-x.ensures c.larger-most.ensures)
 
 pub worst_down_spec : {M : Type 1} → statement M
 worst_down_spec =

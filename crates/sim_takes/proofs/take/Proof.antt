@@ -10,36 +10,29 @@ use Rattle.sim_takes.proofs.take.Tie as tie
 
 -- the message is found
 module _ (c : tie.Else-i-in_transit) where
-  abbrev entry : tie.Start
-  entry = c.before.before.before.before.before.before
-
   abbrev words : List ℕ
-  words = entry.args.w-1.now
+  words = c.args.w.now
 
   found : c.find_pending-i.result ≡ length_of words → ⊥
   found e = c.if-i-in_transit.false (e ∙ sym c.before.in_transit_lem.ensures)
 
 returns : tie.Need-returns-then-i-in_transit
 returns c =
-    let d = c.before.before.before.before.before.before in
-    take-nothing d.args.w-1.now d.args.number d.requires _ c.find_pending-i.ensures
+    take-nothing c.args.w.now c.args.number c.requires _ c.find_pending-i.ensures
     (c.if-i-in_transit.true ∙ c.before.in_transit_lem.ensures)
 
 message-at-requires : tie.Need-message_at-m-requires
 message-at-requires c κs =
-    let f = c.before in
-    ((entry f).requires, take-used (words f) (entry f).args.number (entry f).requires _ f.find_pending-i.ensures (found f))
+    (c.requires, take-used (words c) c.args.number c.requires _ c.find_pending-i.ensures (found c))
 
 deliver-requires : tie.Need-deliver-requires
 deliver-requires c κs =
-    let f = c.before.before.before in
-    take_pends (words f) (entry f).args.number (entry f).requires _ f.find_pending-i.ensures (found f) _
+    take_pends (words c.before.before) c.args.number c.requires _ c.find_pending-i.ensures (found c.before.before) _
     c.message_at-m.ensures _ refl
 
 returns-2 : tie.Need-returns
 returns-2 c =
-    let f = c.before.before.before.before.before.before in
-    take_leaves (words f) (entry f).args.number (entry f).requires _ f.find_pending-i.ensures (found f) _ _
+    take_leaves (words c.before.before.before.before.before) c.args.number c.requires _ c.find_pending-i.ensures (found c.before.before.before.before.before) _ _
     c.deliver.ensures
 
 pub take_spec : {M : Type 1} → statement M

@@ -13,11 +13,10 @@ use Rattle.sim_transit.proofs.post_message.Tie as tie
 
 returns : tie.Need-returns
 returns c =
-    let d = c.before.before.before.before.before.before in
-    let t = d.args.t-1.now in
-    one_post d.args.len d.args.sent d.args.m t _
+    let t = c.args.t.now in
+    one_post c.args.len c.args.sent c.args.m t _
     (c.put_slot.ensures ∙
-    ap (λ (f : Fields). sets t (slot_size * d.args.len) ((d.args.sent + 1) ∷ (0 ∷ words f))) c.fields_of-f.ensures)
+    ap (λ (f : Fields). sets t (slot_size * c.args.len) ((c.args.sent + 1) ∷ (0 ∷ words f))) c.fields_of-f.ensures)
 
 pub post_message_spec : {M : Type 1} → statement M
 post_message_spec =

@@ -10,11 +10,10 @@ add-result : tie.Need-overflow_add-result
 add-result c =
     let p = c.before.before.before.before.before in
     let r = p.before.before in
-    let e = r.before.before.before.before in
     omega (
       arith,
-      fitting_inside e.args.at e.args.number e.args.from e.args.bytes.now e.args.t-1.now
-          _ (read-rest e.args.bytes.now e.args.from _ r.read_fields-p.ensures.0) e.requires.1 _ _ p.in-Fitting.is,
+      fitting_inside c.args.at c.args.number c.args.from c.args.bytes.now c.args.t.now
+          _ (read-rest c.args.bytes.now c.args.from _ c.read_fields-p.ensures.0) c.requires.1 _ _ c.in-Fitting.is,
     )
 
 pub post_one_spec : {M : Type 1} → statement M

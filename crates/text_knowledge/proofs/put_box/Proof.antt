@@ -11,8 +11,7 @@ returns c =
     let d₄ = c.before.before in
     let d₃ = d₄.before.before.before.before.before in
     let d₂ = d₃.before.before.before.before in
-    let d₁ = d₂.before.before.before.before.before in
-    then _ _ _ d₁.put_receiver-p.ensures (then _ _ _ d₂.put-q.ensures (then _ _ _ d₃.put_entries-e.ensures d₄.put.ensures))
+    then _ _ _ c.put_receiver-p.ensures (then _ _ _ c.put-q.ensures (then _ _ _ c.put_entries-e.ensures c.put.ensures))
 
 pub put_box_spec : {M : Type 1} → statement M
 put_box_spec =

@@ -4,17 +4,10 @@ use borrow.Author.Rules.{rules}
 use Rattle.text_knowledge.proofs.put_boxes.Statement.{statement}
 use Rattle.text_knowledge.proofs.put_boxes.Tie as tie
 
--- the servers' boxes are put
-module _ (c : tie.After-put_server_boxes-p) where
-  abbrev counted : tie.After-clients-clients
-  counted = c.before.before
-
 returns : tie.Need-returns
 returns c =
     let d₂ = c.before.before in
-    let d₁ = d₂.before.before.before.before in
-    let k = counted d₁ in
-    rw (← k.servers-n.ensures, ← k.clients-clients.ensures) (then _ _ _ d₁.put_server_boxes-p.ensures d₂.put_client_boxes.ensures)
+    rw (← c.servers-n.ensures, ← c.clients-clients.ensures) (then _ _ _ c.put_server_boxes-p.ensures c.put_client_boxes.ensures)
 
 pub put_boxes_spec : {M : Type 1} → statement M
 put_boxes_spec =

@@ -9,8 +9,7 @@ returns : tie.Need-returns
 unfolding message_text
 returns c =
     let d₂ = c.before.before in
-    let d₁ = d₂.before.before.before.before.before in
-    then _ _ _ d₁.put_to_client-p.ensures d₂.put_with.ensures
+    then _ _ _ c.put_to_client-p.ensures c.put_with.ensures
 
 pub put_check_spec : {M : Type 1} → statement M
 put_check_spec =

@@ -16,16 +16,10 @@ use Rattle.text_knowledge.proofs.put_client.Tie as tie
 
 -- the record is read
 module _ (c : tie.After-client_head-h) where
-  abbrev tested : tie.After-is_living-living
-  tested = c.before.before.before.before
-
-  abbrev entry : tie.Start
-  entry = tested.before.before.before
-
   abbrev row : List ℕ
   row = c.client_row.new.row
 
-  read : client_of c.client_head-h.result row ≡ client_from (client_record (client_block_of entry.args.w.now entry.args.k))
+  read : client_of c.client_head-h.result row ≡ client_from (client_record (client_block_of c.args.w.now c.args.k))
   read = client-read _ _ _ c.client_head-h.ensures c.client_row.ensures
 
 -- and what it says is put behind the number
@@ -35,12 +29,9 @@ module _ (c : tie.After-put_with-p) where
 
 returns : tie.Need-returns
 returns c =
-    let d₃ = c.before.before in
-    let d₂ = d₃.before.before.before.before.before in
-    let d₁ = d₂.before.before.before.before.before in
-    let m = known d₁ in
-    rw (client-text _ _ (entry m).requires _ _ (read m) _ (tested m).is_living-living.ensures)
-    (then _ _ _ (then _ _ _ d₁.put_with-p.ensures d₂.put_life-e.ensures) d₃.put.ensures)
+    let m = known c.before.before.before.before.before.before.before.before.before.before.before.before.before in
+    rw (client-text _ _ c.requires _ _ (read c.before.before.before.before.before.before.before.before.before.before.before.before.before.before.before.before.before.before) _ c.is_living-living.ensures)
+    (then _ _ _ (then _ _ _ c.put_with-p.ensures c.put_life-e.ensures) c.put.ensures)
 
 pub put_client_spec : {M : Type 1} → statement M
 put_client_spec =
@@ -49,12 +40,12 @@ put_client_spec =
     (λ c κs. client_in_lem _ _ c.requires)
     (λ c. search rules)
     (λ c κs. (client_in_lem _ _ c.requires, search rules))
-    (λ c κs. let d = c.before.before.before.before.before.before in (client_in_lem _ _ d.requires, client-held _ d.args.k d.requires))
+    (λ c κs. (client_in_lem _ _ c.requires, client-held _ c.args.k c.requires))
     (λ c. search rules)
     (λ c. search rules)
     (λ c κs. search rules)
     (λ c. search rules)
-    (λ c κs. let m = known c.before.before.before.before in responses-padded _ _ (entry m).requires _ _ (read m))
+    (λ c κs. let m = known c.before.before.before.before in responses-padded _ _ c.requires _ _ (read m))
     (λ c. search rules)
     (λ c κs. search rules)
     (λ c. search rules)

@@ -52,23 +52,21 @@ module _ (c : tie.After-put_entry-end invariant-loop decreases-loop) where
 
 returns : tie.Need-returns-in_default invariant-loop decreases-loop
 returns c =
-    let d = c.before.before in
-    let l = (turn d).loop-i in
-    let nothing = sym c.in_default.is ∙ d.entry_of.ensures in
-    entries_all (entries (entry (turn d))) _ l.i (none_past _ _ nothing) l.invariant.0
+    let l = c.loop-i in
+    let nothing = sym c.in_default.is ∙ c.entry_of.ensures in
+    entries_all (entries (entry (turn c.before))) _ l.i (none_past _ _ nothing) l.invariant.0
 
 loop-again : tie.Need-loop-i-preserved invariant-loop decreases-loop
 loop-again c =
-    let d = c.before.before in
-    let l = (turn (read d)).loop-i in
-    let there = sym d.in-Entry.is ∙ (read d).entry_of.ensures in
-    (entries_more (entries (entry (turn (read d)))) _ l.i _ _ there l.invariant.0 d.put_entry-end.ensures, omega arith, omega arith)
+    let l = c.loop-i in
+    let there = sym c.in-Entry.is ∙ c.entry_of.ensures in
+    (entries_more (entries (entry (turn (read c.before.before)))) _ l.i _ _ there l.invariant.0 c.put_entry-end.ensures, omega arith, omega arith)
 
 returns-2 : tie.Need-returns invariant-loop decreases-loop
 returns-2 c =
     let l = c.loop-i in
     let start = entry c.before in
-    entries_all (entries start) _ l.i (omega (arith, entries_few (words start) start.args.r)) l.invariant.0
+    entries_all (entries c.before.before.before.before.before) _ l.i (omega (arith, entries_few (words c.before.before.before.before.before) c.args.r)) l.invariant.0
 
 pub put_entries_spec : {M : Type 1} → statement M
 put_entries_spec =

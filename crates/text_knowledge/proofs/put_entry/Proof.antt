@@ -7,8 +7,7 @@ use Rattle.text_knowledge.proofs.put_entry.Tie as tie
 returns : tie.Need-returns
 returns c =
     let d₂ = c.before.before in
-    let d₁ = d₂.before.before.before.before in
-    then _ _ _ d₁.put_with-p.ensures d₂.put_standing.ensures
+    then _ _ _ c.put_with-p.ensures c.put_standing.ensures
 
 pub put_entry_spec : {M : Type 1} → statement M
 put_entry_spec = tie.close (tie.spec (λ c. search rules) (λ c κs. search rules) (λ c κs. search rules) (λ c. search rules) returns)

@@ -11,10 +11,7 @@ use Rattle.text_knowledge.proofs.put_in_transit.Tie as tie
 
 -- the slot is read
 module _ (c : tie.After-message_at-m) where
-  abbrev entry : tie.Start
-  entry = c.before.before.before.before.before
-
-  its-slot : slot_in (transit_words entry.args.w.now) entry.args.i
+  its-slot : slot_in (transit_words c.args.w.now) c.args.i
       ≡ record { number = c.number_at-number.result.0; delivered = c.is_delivered-delivered.result; message = c.message_at-m.result }
   its-slot =
       let e = c.number_at-number.ensures in
@@ -29,8 +26,8 @@ returns c =
     let d₃ = d₄.before.before.before.before.before in
     let d₂ = d₃.before.before.before.before in
     let d₁ = d₂.before.before.before.before in
-    let marked = then _ _ _ d₃.put_standing-e.ensures d₄.put.ensures in
-    rw (its-slot d₁.before.before.before) (then _ _ _ d₁.put_with-p.ensures (then _ _ _ d₂.put_message-q.ensures marked))
+    let marked = then _ _ _ c.put_standing-e.ensures c.put.ensures in
+    rw (its-slot d₁.before.before.before) (then _ _ _ c.put_with-p.ensures (then _ _ _ c.put_message-q.ensures marked))
 
 pub put_in_transit_spec : {M : Type 1} → statement M
 put_in_transit_spec =

@@ -43,16 +43,15 @@ module _ (c : tie.After-put_in_transit-end invariant-loop decreases-loop) where
 
 loop-again : tie.Need-loop-i-preserved invariant-loop decreases-loop
 loop-again c =
-    let d = c.before.before in
-    let l = (turn d).loop-i in
-    (mail_more _ l.i _ l.invariant.0 d.put_in_transit-end.ensures, omega arith, omega arith)
+    let l = c.loop-i in
+    (mail_more _ l.i _ l.invariant.0 c.put_in_transit-end.ensures, omega arith, omega arith)
 
 returns : tie.Need-returns invariant-loop decreases-loop
 returns c =
     let l = c.loop-i in
     let start = entry c.before in
-    let e : l.i ≡ length_of (words start) = omega arith in
-    rw (← its-transit (words start), ← e) l.invariant.0
+    let e : l.i ≡ length_of (words c.before.before.before.before.before) = omega arith in
+    rw (← its-transit (words c.before.before.before.before.before), ← e) l.invariant.0
 
 pub put_mail_spec : {M : Type 1} → statement M
 put_mail_spec =
@@ -62,7 +61,7 @@ put_mail_spec =
     decreases-loop
     (λ c κs. search rules)
     (λ c. (mail_none _ _, omega arith, refl))
-    (λ c κs. ((entry c.before.before).requires, omega arith))
+    (λ c κs. (c.requires, omega arith))
     (λ c. record { fits = omega (arith, few (entry (turn c.before.before))) })
     (λ c. omega arith)
     loop-again

@@ -9,8 +9,7 @@ returns : tie.Need-returns
 unfolding requests_text
 returns c =
     let d₂ = c.before.before in
-    let d₁ = d₂.before.before.before.before in
-    then _ _ _ d₁.put-p.ensures d₂.put_request.ensures
+    then _ _ _ c.put-p.ensures c.put_request.ensures
 
 pub put_next_spec : {M : Type 1} → statement M
 put_next_spec =

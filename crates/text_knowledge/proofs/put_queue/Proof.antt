@@ -9,9 +9,7 @@ use Rattle.text_knowledge.proofs.put_queue.Tie as tie
 returns-2 : tie.Need-returns
 returns-2 c =
     let d₂ = c.before.before in
-    let d₁ = d₂.before.before.before.before in
-    let e = d₁.before.before.before in
-    rw (queue_some _ _ e.requires e.if-len-eq0.false) (then _ _ _ d₁.put-p.ensures d₂.put_requests.ensures)
+    rw (queue_some _ _ c.requires c.if-len-eq0.false) (then _ _ _ c.put-p.ensures c.put_requests.ensures)
 
 pub put_queue_spec : {M : Type 1} → statement M
 unfolding puts

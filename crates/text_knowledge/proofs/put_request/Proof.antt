@@ -7,8 +7,7 @@ use Rattle.text_knowledge.proofs.put_request.Tie as tie
 returns : tie.Need-returns
 returns c =
     let d₂ = c.before.before in
-    let d₁ = d₂.before.before.before.before.before in
-    then _ _ _ d₁.put_number-p.ensures d₂.put_with.ensures
+    then _ _ _ c.put_number-p.ensures c.put_with.ensures
 
 pub put_request_spec : {M : Type 1} → statement M
 put_request_spec =

@@ -22,9 +22,8 @@ loop-again : tie.Need-loop-i-preserved invariant-loop decreases-loop
 loop-again c =
     let p = c.before.before in
     let q = p.before in
-    let t = q.before.before.before in
-    let l = t.loop-i in (
-      requests-more _ _ t.requires l.i (omega arith) _ _ q.request_at.ensures l.invariant.0 p.put_next-end.ensures,
+    let l = c.loop-i in (
+      requests-more _ _ c.requires l.i (omega arith) _ _ c.request_at.ensures l.invariant.0 c.put_next-end.ensures,
       omega arith,
       omega arith,
     )

@@ -16,16 +16,10 @@ use Rattle.text_knowledge.proofs.put_server.Tie as tie
 
 -- the record is read
 module _ (c : tie.After-server_head-h) where
-  abbrev tested : tie.After-is_up-up
-  tested = c.before.before.before.before
-
-  abbrev entry : tie.Start
-  entry = tested.before.before.before
-
   abbrev row : List ℕ
   row = c.server_row.new.row
 
-  read : server_of c.server_head-h.result row ≡ server_from (server_record (server_block_of entry.args.w.now entry.args.j))
+  read : server_of c.server_head-h.result row ≡ server_from (server_record (server_block_of c.args.w.now c.args.j))
   read = server-read _ _ _ c.server_head-h.ensures c.server_row.ensures
 
 -- and what it says is put behind the number
@@ -35,12 +29,9 @@ module _ (c : tie.After-put_with-p) where
 
 returns : tie.Need-returns
 returns c =
-    let d₃ = c.before.before in
-    let d₂ = d₃.before.before.before.before.before in
-    let d₁ = d₂.before.before.before.before.before in
-    let m = known d₁ in
-    rw (server-text _ _ (entry m).requires _ _ (read m) _ (tested m).is_up-up.ensures)
-    (then _ _ _ (then _ _ _ d₁.put_with-p.ensures d₂.put_knowledge-e.ensures) d₃.put.ensures)
+    let m = known c.before.before.before.before.before.before.before.before.before.before.before.before.before.before in
+    rw (server-text _ _ c.requires _ _ (read c.before.before.before.before.before.before.before.before.before.before.before.before.before.before.before.before.before.before.before) _ c.is_up-up.ensures)
+    (then _ _ _ (then _ _ _ c.put_with-p.ensures c.put_knowledge-e.ensures) c.put.ensures)
 
 pub put_server_spec : {M : Type 1} → statement M
 put_server_spec =
@@ -49,12 +40,12 @@ put_server_spec =
     (λ c κs. server_in_lem _ _ c.requires)
     (λ c. search rules)
     (λ c κs. (server_in_lem _ _ c.requires, search rules))
-    (λ c κs. let d = c.before.before.before.before.before.before in (server_in_lem _ _ d.requires, server-held _ d.args.j d.requires))
+    (λ c κs. (server_in_lem _ _ c.requires, server-held _ c.args.j c.requires))
     (λ c. search rules)
     (λ c. search rules)
     (λ c κs. search rules)
     (λ c. search rules)
-    (λ c κs. let m = known c.before.before.before.before in queue-padded _ _ (entry m).requires _ _ (read m))
+    (λ c κs. let m = known c.before.before.before.before in queue-padded _ _ c.requires _ _ (read m))
     (λ c. search rules)
     (λ c κs. search rules)
     (λ c. search rules)

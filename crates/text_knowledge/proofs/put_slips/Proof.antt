@@ -12,10 +12,8 @@ module _ (c : tie.After-put_servers-p) where
 
 returns : tie.Need-returns
 returns c =
-    let d₂ = c.before.before in
-    let d₁ = d₂.before.before.before.before in
-    let k = counted d₁ in
-    rw (← k.servers-n.ensures, ← k.clients-clients.ensures) (then _ _ _ d₁.put_servers-p.ensures d₂.put_clients.ensures)
+    let k = counted c.before.before.before.before.before.before in
+    rw (← c.servers-n.ensures, ← c.clients-clients.ensures) (then _ _ _ c.put_servers-p.ensures c.put_clients.ensures)
 
 pub put_slips_spec : {M : Type 1} → statement M
 put_slips_spec =
@@ -24,6 +22,6 @@ put_slips_spec =
     (λ c κs. search rules)
     (λ c κs. search rules)
     (λ c κs. (c.requires, omega (arith, c.servers-n.ensures)))
-    (λ c κs. let k = counted c.before.before.before in (k.requires, omega (arith, k.clients-clients.ensures)))
+    (λ c κs. let k = counted c.before.before.before in (c.requires, omega (arith, c.clients-clients.ensures)))
     (λ c. search rules)
     returns)

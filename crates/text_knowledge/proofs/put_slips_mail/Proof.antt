@@ -7,8 +7,7 @@ use Rattle.text_knowledge.proofs.put_slips_mail.Tie as tie
 returns : tie.Need-returns
 returns c =
     let d₂ = c.before.before in
-    let d₁ = d₂.before.before.before.before in
-    then _ _ _ d₁.put_slips-p.ensures d₂.put_mail.ensures
+    then _ _ _ c.put_slips-p.ensures c.put_mail.ensures
 
 pub put_slips_mail_spec : {M : Type 1} → statement M
 put_slips_mail_spec = tie.close (tie.spec (λ c κs. search rules) (λ c κs. search rules) (λ c. search rules) returns)

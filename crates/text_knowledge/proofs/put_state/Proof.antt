@@ -11,8 +11,7 @@ unfolding state_text view
 returns c =
     let d₃ = c.before.before in
     let d₂ = d₃.before.before.before.before in
-    let d₁ = d₂.before.before.before.before.before in
-    then _ _ _ (then _ _ _ d₁.put_section-p.ensures d₂.put_with-q.ensures) d₃.put_supporters_of.ensures
+    then _ _ _ (then _ _ _ c.put_section-p.ensures c.put_with-q.ensures) c.put_supporters_of.ensures
 
 pub put_state_spec : {M : Type 1} → statement M
 put_state_spec =

@@ -23,9 +23,8 @@ loop-again : tie.Need-loop-i-preserved invariant-loop decreases-loop
 loop-again c =
     let p = c.before.before in
     let q = p.before.before in
-    let t = q.before.before in
-    let l = t.loop-i in (
-      support_more _ _ _ t.requires l.i (omega arith) _ _ q.request_at-q.ensures l.invariant.0 p.put_support-end.ensures,
+    let l = c.loop-i in (
+      support_more _ _ _ c.requires l.i (omega arith) _ _ c.request_at-q.ensures l.invariant.0 c.put_support-end.ensures,
       omega arith,
       omega arith,
     )

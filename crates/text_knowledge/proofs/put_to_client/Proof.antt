@@ -8,8 +8,7 @@ returns : tie.Need-returns
 returns c =
     let d₃ = c.before.before in
     let d₂ = d₃.before.before.before.before.before.before in
-    let d₁ = d₂.before.before.before.before.before.before in
-    then _ _ _ d₁.put-p.ensures (then _ _ _ d₂.put_with-q.ensures d₃.put_with.ensures)
+    then _ _ _ c.put-p.ensures (then _ _ _ c.put_with-q.ensures c.put_with.ensures)
 
 pub put_to_client_spec : {M : Type 1} → statement M
 put_to_client_spec =

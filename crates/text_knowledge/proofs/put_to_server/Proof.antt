@@ -9,8 +9,7 @@ returns c =
     let d₄ = c.before.before in
     let d₃ = d₄.before.before.before.before.before in
     let d₂ = d₃.before.before.before.before.before.before in
-    let d₁ = d₂.before.before.before.before.before.before in
-    then _ _ _ d₁.put-p.ensures (then _ _ _ d₂.put_with-q.ensures (then _ _ _ d₃.put_with-e.ensures d₄.put_with.ensures))
+    then _ _ _ c.put-p.ensures (then _ _ _ c.put_with-q.ensures (then _ _ _ c.put_with-e.ensures c.put_with.ensures))
 
 pub put_to_server_spec : {M : Type 1} → statement M
 put_to_server_spec =

@@ -10,8 +10,7 @@ unfolding votes_text
 returns-2 c =
     let d₃ = c.before.before in
     let d₂ = d₃.before.before.before.before in
-    let d₁ = d₂.before.before.before.before in
-    rw d₁.in-Of.is (then _ _ _ (then _ _ _ d₁.put-p.ensures d₂.put_request-e.ensures) d₃.put_queue.ensures)
+    rw c.in-Of.is (then _ _ _ (then _ _ _ c.put-p.ensures c.put_request-e.ensures) c.put_queue.ensures)
 
 pub put_votes_spec : {M : Type 1} → statement M
 unfolding votes_text

@@ -6,9 +6,7 @@ use Rattle.text_screen.proofs.put_counts.Tie as tie
 
 returns : tie.Need-returns
 returns c =
-    let d₂ = c.before.before in
-    let d₁ = d₂.before.before.before.before in
-    then _ _ _ d₁.put_with-p.ensures d₂.put_count.ensures
+    then _ _ _ c.put_with-p.ensures c.put_count.ensures
 
 pub put_counts_spec : {M : Type 1} → statement M
 put_counts_spec =

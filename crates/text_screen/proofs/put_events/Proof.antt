@@ -8,8 +8,7 @@ use Rattle.text_screen.proofs.put_events.Tie as tie
 returns : tie.Need-returns-in-Unsafe
 unfolding events_text
 returns c =
-    let d = c.before.before in
-    rw d.in-Unsafe.is d.put_count.ensures
+    rw c.in-Unsafe.is c.put_count.ensures
 
 pub put_events_spec : {M : Type 1} → statement M
 unfolding events_text puts

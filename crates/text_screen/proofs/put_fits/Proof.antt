@@ -8,8 +8,7 @@ use Rattle.text_screen.proofs.put_fits.Tie as tie
 returns : tie.Need-returns-in-Unsafe
 unfolding fits_text
 returns c =
-    let d = c.before.before in
-    rw d.in-Unsafe.is d.put_limit.ensures
+    rw c.in-Unsafe.is c.put_limit.ensures
 
 pub put_fits_spec : {M : Type 1} → statement M
 unfolding fits_text puts

@@ -8,37 +8,32 @@ use borrow.Author.Rules.{rules}
 use Rattle.text_screen.proofs.put_margin.Statement.{statement}
 use Rattle.text_screen.proofs.put_margin.Tie as tie
 
--- the range is tested
-module _ (c : tie.After-in_range) where
-  abbrev entry : tie.Start
-  entry = c.before.before
-
 returns : tie.Need-returns-then-not-in_range
 unfolding puts
 returns c =
-    let x = (entry c.before).args in
+    let x = c.args in
     rw (margin-none x.n x.m x.f _ c.before.in_range_lem.ensures c.if-not-in_range.true)
 
 mul-put-difference : tie.Need-overflow_mul-m
 mul-put-difference c =
     let e = c.before in
-    let x = (entry e.before).args in
-    omega (arith, in_bounds x.n x.m x.f _ e.before.in_range_lem.ensures e.if-not-in_range.false)
+    let x = c.args in
+    omega (arith, in_bounds x.n x.m x.f _ e.before.in_range_lem.ensures c.if-not-in_range.false)
 
 add-put-difference : tie.Need-overflow_add-n
 add-put-difference c =
     let e = c.before in
-    let x = (entry e.before).args in
-    omega (arith, in_bounds x.n x.m x.f _ e.before.in_range_lem.ensures e.if-not-in_range.false)
+    let x = c.args in
+    omega (arith, in_bounds x.n x.m x.f _ e.before.in_range_lem.ensures c.if-not-in_range.false)
 
 returns-2 : tie.Need-returns
 returns-2 c =
     let d₂ = c.before.before in
     let d₁ = d₂.before.before.before.before.before in
     let e = d₁.before.before in
-    let x = (entry e.before).args in
-    rw (margin_some x.n x.m x.f _ e.before.in_range_lem.ensures e.if-not-in_range.false)
-    (then _ _ _ d₁.put_difference-p.ensures d₂.put.ensures)
+    let x = c.args in
+    rw (margin_some x.n x.m x.f _ e.before.in_range_lem.ensures c.if-not-in_range.false)
+    (then _ _ _ c.put_difference-p.ensures c.put.ensures)
 
 pub put_margin_spec : {M : Type 1} → statement M
 put_margin_spec =

@@ -21,11 +21,7 @@ module _ (c : tie.Start) where
 
 returns : tie.Need-returns
 returns c =
-    let d₃ = c.before.before in
-    let d₂ = d₃.before.before.before.before.before in
-    let d₁ = d₂.before.before.before.before.before in
-    let s = d₁.before.before.before in
-    then _ _ _ (put_front _ _ (setting_line (first s)) _ (short s) d₁.put_setting-k.ensures _ _ d₂.put-p.ensures) d₃.put.ensures
+    then _ _ _ (put_front _ _ (setting_line (first c.before.before.before.before.before.before.before.before.before.before.before.before.before.before.before)) _ (short c.before.before.before.before.before.before.before.before.before.before.before.before.before.before.before) c.put_setting-k.ensures _ _ c.put-p.ensures) c.put.ensures
 
 pub put_opening_spec : {M : Type 1} → statement M
 put_opening_spec =
@@ -35,7 +31,7 @@ put_opening_spec =
     (λ c κs. omega (arith, short c.before.before))
     (λ c. search rules)
     (λ c. search rules)
-    (λ c. let d = c.before.before.before in omega (arith, short d.before.before.before, d.put_setting-k.ensures.0))
+    (λ c. let d = c.before.before.before in omega (arith, short d.before.before.before, c.put_setting-k.ensures.0))
     (λ c κs. search rules)
     (λ c. search rules)
     (λ c κs. search rules)

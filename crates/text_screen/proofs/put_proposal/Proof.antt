@@ -6,10 +6,8 @@ use Rattle.text_screen.proofs.put_proposal.Tie as tie
 
 returns : tie.Need-returns
 returns c =
-    let d₂ = c.before.before in
-    let d₁ = d₂.before.before.before.before.before in
-    rw (← d₁.propose.ensures.0.0, ← d₂.default_threshold.ensures.0)
-    (then _ _ _ d₁.put_thresholds-p.ensures d₂.put_threshold.ensures)
+    rw (← c.propose.ensures.0.0, ← c.default_threshold.ensures.0)
+    (then _ _ _ c.put_thresholds-p.ensures c.put_threshold.ensures)
 
 pub put_proposal_spec : {M : Type 1} → statement M
 put_proposal_spec =

@@ -10,7 +10,7 @@ returns c =
     let d₃ = d₄.before.before.before.before.before in
     let d₂ = d₃.before.before.before.before in
     let d₁ = d₂.before in
-    rw (← d₁.code_of_lem.ensures) (then _ _ _ (then _ _ _ d₂.put_with-p.ensures d₃.put-q.ensures) d₄.put.ensures)
+    rw (← d₁.code_of_lem.ensures) (then _ _ _ (then _ _ _ c.put_with-p.ensures c.put-q.ensures) c.put.ensures)
 
 pub put_refused_spec : {M : Type 1} → statement M
 put_refused_spec =

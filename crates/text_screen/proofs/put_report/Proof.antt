@@ -11,10 +11,9 @@ returns c =
     let d₄ = d₅.before.before.before.before in
     let d₃ = d₄.before.before.before.before in
     let d₂ = d₃.before.before.before.before in
-    let d₁ = d₂.before.before in
-    let three = then _ _ _ (then _ _ _ d₂.put_verdict-p.ensures d₃.put_margin-q.ensures) d₄.put_events-t.ensures in
-    let four = then _ _ _ three d₅.put_fits-u.ensures in
-    rw (← d₁.check-v.ensures.0.0, ← d₆.default_threshold.ensures.0) (then _ _ _ four d₆.put_threshold.ensures)
+    let three = then _ _ _ (then _ _ _ c.put_verdict-p.ensures c.put_margin-q.ensures) c.put_events-t.ensures in
+    let four = then _ _ _ three c.put_fits-u.ensures in
+    rw (← c.check-v.ensures.0.0, ← c.default_threshold.ensures.0) (then _ _ _ four c.put_threshold.ensures)
 
 pub put_report_spec : {M : Type 1} → statement M
 put_report_spec =

@@ -8,9 +8,7 @@ use Rattle.text_screen.proofs.put_threshold.Tie as tie
 returns : tie.Need-returns-in-Default
 unfolding threshold_text
 returns c =
-    let d = c.before.before in
-    let t = d.before.before.before.before.before.before in
-    rw (t.in-Default.is, ← d.most_faults.ensures.0) d.put_counts.ensures
+    rw (c.in-Default.is, ← c.most_faults.ensures.0) c.put_counts.ensures
 
 pub put_threshold_spec : {M : Type 1} → statement M
 unfolding threshold_text puts

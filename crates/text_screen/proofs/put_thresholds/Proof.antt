@@ -7,8 +7,7 @@ use Rattle.text_screen.proofs.put_thresholds.Tie as tie
 returns : tie.Need-returns-in-Thresholds
 unfolding thresholds_text
 returns c =
-    let d = c.before.before in
-    rw d.in-Thresholds.is d.put_counts.ensures
+    rw c.in-Thresholds.is c.put_counts.ensures
 
 returns-2 : tie.Need-returns-in-NoThreshold
 unfolding thresholds_text

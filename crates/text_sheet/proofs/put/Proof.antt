@@ -7,9 +7,8 @@ use Rattle.text_sheet.proofs.put.Tie as tie
 
 returns-3 : tie.Need-returns
 returns-3 c =
-    let d = c.before.before in
-    let a = d.args in
-    put_whole a.out-1.now a.text.now _ _ _ (omega arith) d.copy.ensures
+    let a = c.args in
+    put_whole a.out-1.now a.text.now _ _ _ (omega arith) c.copy.ensures
 
 pub put_spec : {M : Type 1} → statement M
 put_spec =

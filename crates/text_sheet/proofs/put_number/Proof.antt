@@ -16,9 +16,7 @@ module _ (c : tie.Start) where
 
 returns : tie.Need-returns
 returns c =
-    let d = c.before.before.before.before.before.before.before in
-    let s = d.before.before.before in
-    put_front _ _ (decimal s.args.x) _ (short s) d.put_decimal-n.ensures _ _ c.put.ensures
+    put_front _ _ (decimal c.args.x) _ (short c.before.before.before.before.before.before.before.before.before) c.put_decimal-n.ensures _ _ c.put.ensures
 
 pub put_number_spec : {M : Type 1} → statement M
 put_number_spec =
@@ -28,7 +26,7 @@ put_number_spec =
     (λ c κs. omega (arith, short c.before.before))
     (λ c. search rules)
     (λ c. search rules)
-    (λ c. omega (arith, short c.before.before.before.before.before.before, c.put_decimal-n.ensures.0))
+    (λ c. omega (arith, short c.before.before.before.before.before, c.put_decimal-n.ensures.0))
     (λ c κs. search rules)
     (λ c. search rules)
     returns)
