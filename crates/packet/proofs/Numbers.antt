@@ -37,7 +37,7 @@ read_told p g x h =
     (λ _. chosen (not (known (kind_in p))) KindUnknown x _ (λ _. kind)
     (λ _. chosen (not (eqb (length_in p) (length_of (kind_in p)))) LengthWrong x _ (λ _. wrong)
     (λ l. chosen (ltb (length p) (length_of (kind_in p))) MessageCut x _
-    (λ c. absurd (omega (arith, ltb-true (length p) (length_of (kind_in p)) c, eqb-true (length_in p) (length_of (kind_in p)) l, g.is)))
+    (λ c. absurd (omega (arith, ltb-true (length p) (length_of (kind_in p)) c, eqb-true (length_in p) (length_of (kind_in p)) (not-false _ l), g.is)))
     (λ _. chosen (not (valid (message_of (fields_in p)))) NumberOutOfRange x _ (λ _. range) (λ _ a. let z : ◌≡◌ {A = ℕ} 0 1 = cc in absurd (omega arith)))))) h
 
 first-told : (p : List ℕ) (q : Parsed) (rest : Contents) (x : Refusal) → (q ≡ NotRead x → PacketRefusal x) → (rest ≡ refused x → PacketRefusal x)

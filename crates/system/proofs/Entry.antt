@@ -228,7 +228,7 @@ module _ (n : ℕ) (wins : Quorum) (k : ℕ) (t : Timestamp) (d : List ℕ) wher
       let hd : Heard w (suc i) (Place t (later before t) js (put l j (Of (pair k t))) d) (next n wins w (takes (suc i))) = heard_by w (suc i) _
       (ap (λ (c : ClientPlace). c.living) here) e in
       lead_cons (rw e)
-      (lead_map (hears (suc i) df o' tips.1 hd.clients.here (answers-later k t w _ (suc i) js (λ x m lt. hd.waits x m (λ q. omega arith)) a.1))
+      (lead_map (hears {w = next n wins w (takes (suc i))} (suc i) df o' tips.1 hd.clients.here (answers-later k t w (next n wins w (takes (suc i))) (suc i) js (λ x m lt. hd.waits x m (λ q. omega arith)) a.1))
       (λ u z. record {
         servers = z.servers ∙ hd.servers;
         sent = z.sent ∙ hd.sent;

@@ -194,4 +194,4 @@ module _ (n : ℕ) (wins : Quorum) (d : List ℕ) where
   pub silent-from : {w : System} → Inv n wins w → Silent d w → {es : List Event} → All (Stays d) es → Silent d (run_from n wins w es)
   unfolding run_by
   silent-from i s empty = s
-  silent-from {w} i s (more {x = e} a g) = silent-from (inv_event n wins w i e) (keeps s (event n wins w e) (silent w s i a (effect n wins w e))) g
+  silent-from {w} i s (more {x = e} a g) = silent-from {w = after w (event n wins w e)} (inv_event n wins w i e) (keeps s (event n wins w e) (silent w s i a (effect n wins w e))) g
