@@ -122,7 +122,7 @@ module _ (n m clients k : ℕ) (b : List ℕ) (ok : valid_client_block n m clien
   abbrev facts : ClientBlock n m clients k b
   facts = client-facts n m clients k b ok
 
-  outside : (x y : Bool) → (x ≡ false) ⊎ (y ≡ true) → x && y ≡ true
+  outside : (x y : Bool) → (x ≡ false) ⊎ (y ≡ true) → x && not y ≡ false
   outside true true e = refl
   outside false y e = refl
   outside true false (inl e) = e

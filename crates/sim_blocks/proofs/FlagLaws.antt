@@ -95,7 +95,7 @@ flag_adds i (suc d) (x ∷ l) h =
     let s = flag_adds (suc i) d l (omega arith) in
     ⊎_elim
     (λ (t : eqb x 0 ≡ true). rw (t, z) s)
-    (λ (t : eqb x 0 ≡ false). rw (t, z, ne_eqb (suc i + d) i (λ e. omega arith), le-ltb (suc i + d) i (omega arith)) (ap (λ (r : List ℕ). i ∷ r) s))
+    (λ (t : eqb x 0 ≡ false). rw (t, z, ne_eqb (suc i + d) i (λ e. omega arith), le-ltb (suc i + d) i (omega arith)) (ap (λ (r : List ℕ). i ∷ r) (s ∙ ap (λ (q : ℕ). added q (flagged (suc i) l)) (sym z))))
     (decided (eqb x 0))
 
 -- the flag of a server when an epoch begins: 1 for one that is down

@@ -18,10 +18,10 @@ module _ (c : tie.Else-not-holds_client) where
 -- its head is read
 module _ (c : tie.After-client_head-h) where
   abbrev tested : tie.Else-not-holds_client
-  tested = c.before.before
+  tested = c.before
 
   abbrev entry : tie.Start
-  entry = c.before.before.before.before.before.before.before.before
+  entry = c.before.before.before.before.before.before
 
 -- the step is made
 module _ (c : tie.After-client_step-t) where

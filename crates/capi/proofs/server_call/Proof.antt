@@ -20,7 +20,7 @@ module _ (c : tie.Else-not-holds_server) where
 -- the step is made
 module _ (c : tie.After-server_step-t) where
   abbrev tested : tie.Else-not-holds_server
-  tested = c.before.before.before.before.before.before.before.before.before
+  tested = c.before.before.before.before.before.before.before
 
   kept : length c.server_step-t.new.row ≡ server.row_words
   kept = server-kept _ _ c.holds_server.ensures c.if-not-holds_server.false _ _ c.server_head-h.ensures

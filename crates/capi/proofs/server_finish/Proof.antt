@@ -19,7 +19,7 @@ returns-2 : tie.Need-returns-in-Refused
 returns-2 c =
     let arm = c.before.before in
     let e = arm.before.before.before.before.before.before in
-    rw c.in-Refused.is (refused_leaves _ _ _ c.args.state.now c.args.out.now c.args.sent.now refl c.code_of_lem.ensures)
+    rw c.in-Refused.is (refused_leaves _ _ _ c.args.state.now c.args.out.now c.args.sent.now refl c.code_of.ensures)
 
 pub server_finish_spec : {M : Type 1} → statement M
 server_finish_spec =

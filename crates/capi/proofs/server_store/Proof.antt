@@ -17,7 +17,7 @@ returns c =
     (rw c.in-Sent.is, rw c.in-Sent.is c.put_server.ensures, rw c.in-Sent.is c.put_counts.ensures)
 
 returns-2 : tie.Need-returns-in-Refused
-returns-2 c = let arm = c.before.before in (rw c.in-Refused.is c.code_of_lem.ensures, rw c.in-Refused.is, rw c.in-Refused.is)
+returns-2 c = let arm = c.before.before in (rw c.in-Refused.is c.code_of.ensures, rw c.in-Refused.is, rw c.in-Refused.is)
 
 pub server_store_spec : {M : Type 1} → statement M
 server_store_spec =

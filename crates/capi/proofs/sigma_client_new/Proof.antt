@@ -9,7 +9,7 @@ use Rattle.capi.proofs.sigma_client_new.Statement.{statement}
 use Rattle.capi.proofs.sigma_client_new.Tie as tie
 
 returns : tie.Need-returns-then-state-lt-CLIENT_WORDS
-returns c = client_new-room _ _ _ c.args.state.now _ c.if-state-lt-CLIENT_WORDS.true c.code_of_lem.ensures
+returns c = client_new-room _ _ _ c.args.state.now _ c.if-state-lt-CLIENT_WORDS.true c.code_of.ensures
 
 returns-2 : tie.Need-returns-then-not-fits_head
 returns-2 c =

@@ -7,7 +7,7 @@ use Rattle.capi.proofs.sigma_client_upgrade.Statement.{statement}
 use Rattle.capi.proofs.sigma_client_upgrade.Tie as tie
 
 returns : tie.Need-returns-then-not-valid_client
-returns c = upgrade_broken _ _ _ _ _ c.valid_client.ensures _ c.if-not-valid_client.true c.code_of_lem.ensures
+returns c = upgrade_broken _ _ _ _ _ c.valid_client.ensures _ c.if-not-valid_client.true c.code_of.ensures
 
 returns-2 : tie.Need-returns-then-state-lt-CLIENT_WORDS
 returns-2 c =

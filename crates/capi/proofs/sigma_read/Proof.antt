@@ -8,7 +8,7 @@ use Rattle.capi.proofs.sigma_read.Tie as tie
 
 returns : tie.Need-returns-then-words-lt-READ_WORDS
 returns c = read-room _ _ _ c.read_fields-p.ensures.0 _ _ c.in-Fitting.is _
-    c.if-words-lt-READ_WORDS.true c.code_of_lem.ensures
+    c.if-words-lt-READ_WORDS.true c.code_of.ensures
 
 cast-put-words : tie.Need-overflow_cast-used
 cast-put-words c =

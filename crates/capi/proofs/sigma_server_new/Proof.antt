@@ -9,7 +9,7 @@ use Rattle.capi.proofs.sigma_server_new.Statement.{statement}
 use Rattle.capi.proofs.sigma_server_new.Tie as tie
 
 returns : tie.Need-returns-then-state-lt-SERVER_WORDS
-returns c = server_new-room _ _ c.args.state.now _ c.if-state-lt-SERVER_WORDS.true c.code_of_lem.ensures
+returns c = server_new-room _ _ c.args.state.now _ c.if-state-lt-SERVER_WORDS.true c.code_of.ensures
 
 returns-2 : tie.Need-returns-then-not-fits_head
 returns-2 c =

@@ -7,7 +7,7 @@ use Rattle.capi.proofs.sigma_server_upgrade.Statement.{statement}
 use Rattle.capi.proofs.sigma_server_upgrade.Tie as tie
 
 returns : tie.Need-returns-then-not-valid_server
-returns c = upgrade_broken _ _ _ _ _ c.valid_server.ensures _ c.if-not-valid_server.true c.code_of_lem.ensures
+returns c = upgrade_broken _ _ _ _ _ c.valid_server.ensures _ c.if-not-valid_server.true c.code_of.ensures
 
 returns-2 : tie.Need-returns-then-state-lt-SERVER_WORDS
 returns-2 c =

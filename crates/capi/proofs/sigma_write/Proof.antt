@@ -10,7 +10,7 @@ returns c =
     c.write_fields.ensures.0.1 c.written_code.ensures
 
 returns-2 : tie.Need-returns-in-TooLarge
-returns-2 c = write_large _ _ _ c.cross-g.ensures.0 _ c.in-TooLarge.is c.code_of_lem.ensures
+returns-2 c = write_large _ _ _ c.cross-g.ensures.0 _ c.in-TooLarge.is c.code_of.ensures
 
 pub sigma_write_spec : {M : Type 1} → statement M
 sigma_write_spec =

@@ -9,9 +9,9 @@ answer_spec =
     tie.close
     (tie.spec
     (λ c κs. search rules)
-    (λ c. answer-short _ _ _ _ c.if-words-lt-READ_WORDS.true c.code_of_lem.ensures)
+    (λ c. answer-short _ _ _ _ c.if-words-lt-READ_WORDS.true c.code_of.ensures)
     (λ c κs. search rules)
     (λ c. search rules)
     (λ c.
     let a = c.args in
-    answer-put a.words-1.now a.f a.used _ c.if-words-lt-READ_WORDS.false c.put_words.ensures))
+    answer-put a.words.now a.f a.used _ c.if-words-lt-READ_WORDS.false c.put_words.ensures))

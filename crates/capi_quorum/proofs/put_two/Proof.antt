@@ -7,7 +7,7 @@ use Rattle.capi_quorum.proofs.put_two.Tie as tie
 returns : tie.Need-returns-then-words-lt2
 returns c =
     let a = c.args in
-    two-short a.words.now a.a a.b a.code _ c.if-words-lt2.true c.code_of_lem.ensures
+    two-short a.words.now a.a a.b a.code _ c.if-words-lt2.true c.code_of.ensures
 
 returns-2 : tie.Need-returns
 returns-2 c =

@@ -9,7 +9,7 @@ returns c =
     let d = c.before.before.before.before.before in
     let a = c.args in
     threshold_short a.n a.words.now _ c.default_threshold-t.ensures.0 _ _ c.in-Default.is
-    c.if-words-lt1.true c.code_of_lem.ensures
+    c.if-words-lt1.true c.code_of.ensures
 
 returns-2 : tie.Need-returns-else-words-lt1
 returns-2 c =

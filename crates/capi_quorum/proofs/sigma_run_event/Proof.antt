@@ -9,15 +9,15 @@ returns : tie.Need-returns-in-Event
 returns c =
     let d = c.before.before.before.before.before.before.before.before.before in
     let a = c.args in
-    event-given a.n a.m a.f a.i a.words-1.now _ _ _ c.run_event-a.ensures.0 _ _ _
+    event-given a.n a.m a.f a.i a.words.now _ _ _ c.run_event-a.ensures.0 _ _ _
     c.in-Event.is c.kind_of.ensures
-    c.before.before.before.number_of_lem.ensures c.put_two.ensures
+    c.before.before.before.number_of.ensures c.put_two.ensures
 
 returns-2 : tie.Need-returns-in-Refused
 returns-2 c =
     let d = c.before.before.before.before in
     let a = c.args in
-    event-refused a.n a.m a.f a.i a.words-1.now [] _ _ c.run_event-a.ensures.0 _ c.in-Refused.is c.code_of_lem.ensures
+    event-refused a.n a.m a.f a.i a.words.now [] _ _ c.run_event-a.ensures.0 _ c.in-Refused.is c.code_of.ensures
 
 pub sigma_run_event_spec : {M : Type 1} → statement M
 sigma_run_event_spec =

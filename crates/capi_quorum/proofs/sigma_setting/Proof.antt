@@ -9,7 +9,7 @@ returns : tie.Need-returns-in-Accepted
 returns c =
     let d = c.before.before.before.before.before.before.before.before in
     let a = c.args in
-    setting-accepted a.n a.m a.f a.words-1.now _ _ _ c.check-v.ensures.0 _ _
+    setting-accepted a.n a.m a.f a.words.now _ _ _ c.check-v.ensures.0 _ _
     c.in-Accepted.is c.signed_word.ensures
     c.put_two.ensures
 
@@ -17,15 +17,15 @@ returns-2 : tie.Need-returns-in-Unsafe
 returns-2 c =
     let d = c.before.before.before.before.before.before.before.before.before in
     let a = c.args in
-    setting-unsafe a.n a.m a.f a.words-1.now _ _ _ c.check-v.ensures.0 _ _ _ _
+    setting-unsafe a.n a.m a.f a.words.now _ _ _ c.check-v.ensures.0 _ _ _ _
     c.in-Unsafe.is c.signed_word-in-Unsafe.ensures
-    c.before.before.before.code_of_lem.ensures c.put_two-in-Unsafe.ensures
+    c.before.before.before.code_of.ensures c.put_two-in-Unsafe.ensures
 
 returns-3 : tie.Need-returns-in-Stalls
 returns-3 c =
     let d = c.before.before.before.before.before.before.before.before.before in
     let a = c.args in
-    setting-stalls a.n a.m a.f a.words-1.now _ _ _ c.check-v.ensures.0 _ _ _
+    setting-stalls a.n a.m a.f a.words.now _ _ _ c.check-v.ensures.0 _ _ _
     c.in-Stalls.is c.signed_word-in-Stalls.ensures
     c.code_of-in-Stalls.ensures c.put_two-in-Stalls.ensures
 
@@ -33,7 +33,7 @@ returns-4 : tie.Need-returns-in-OutOfRange
 returns-4 c =
     let d = c.before.before.before in
     let a = c.args in
-    setting-refused a.n a.m a.f a.words-1.now [] _ _ c.check-v.ensures.0 c.in-OutOfRange.is c.code_of-in-OutOfRange.ensures
+    setting-refused a.n a.m a.f a.words.now [] _ _ c.check-v.ensures.0 c.in-OutOfRange.is c.code_of-in-OutOfRange.ensures
 
 pub sigma_setting_spec : {M : Type 1} → statement M
 sigma_setting_spec =

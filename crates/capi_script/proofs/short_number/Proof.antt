@@ -7,7 +7,7 @@ use Rattle.capi_script.proofs.short_number.Tie as tie
 returns : tie.Need-returns-then-valid
 returns c =
     let v = c.before.before in
-    short-valid c.args.state.now _ c.valid.ensures _ c.if-valid.true c.code_of_lem.ensures
+    short-valid c.args.state.now _ c.valid.ensures _ c.if-valid.true c.code_of.ensures
 
 returns-2 : tie.Need-returns
 returns-2 c =

@@ -7,13 +7,13 @@ use Rattle.capi_script.proofs.sigma_script_feed.Tie as tie
 returns : tie.Need-returns-then-counts-lt2
 returns c =
     let a = c.args in
-    feed_short a.state-1.now a.out-1.now a.counts-1.now _ a.input.now c.if-counts-lt2.true c.short_number.ensures
+    feed_short a.state.now a.out.now a.counts.now _ a.input.now c.if-counts-lt2.true c.short_number.ensures
 
 returns-2 : tie.Need-returns
 returns-2 c =
     let k = c.before.before.before in
     let a = c.args in
-    feed_lent a.state-1.now a.out-1.now a.counts-1.now _ c.if-counts-lt2.false _ _ _ _ c.put_counts.ensures c.number_of_lem.ensures
+    feed_lent a.state.now a.out.now a.counts.now _ c.if-counts-lt2.false _ _ _ _ c.put_counts.ensures c.number_of.ensures
     a.input.now c.feed-p.ensures.0
 
 pub sigma_script_feed_spec : {M : Type 1} → statement M

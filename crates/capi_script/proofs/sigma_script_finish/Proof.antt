@@ -7,13 +7,13 @@ use Rattle.capi_script.proofs.sigma_script_finish.Tie as tie
 returns : tie.Need-returns-then-counts-lt2
 returns c =
     let a = c.args in
-    finish_short a.state-1.now a.out-1.now a.counts-1.now _ c.if-counts-lt2.true c.short_number.ensures
+    finish_short a.state.now a.out.now a.counts.now _ c.if-counts-lt2.true c.short_number.ensures
 
 returns-2 : tie.Need-returns
 returns-2 c =
     let k = c.before.before.before in
     let a = c.args in
-    finish_lent a.state-1.now a.out-1.now a.counts-1.now _ c.if-counts-lt2.false _ _ _ _ c.put_counts.ensures c.number_of_lem.ensures
+    finish_lent a.state.now a.out.now a.counts.now _ c.if-counts-lt2.false _ _ _ _ c.put_counts.ensures c.number_of.ensures
     c.finish-p.ensures.0
 
 pub sigma_script_finish_spec : {M : Type 1} → statement M

@@ -6,7 +6,7 @@ use Rattle.capi_script.proofs.sigma_script_new.Tie as tie
 
 returns : tie.Need-returns
 returns c =
-    new_done c.args.state.now _ _ _ c.new-p.ensures.0 c.number_of_lem.ensures
+    new_done c.args.state.now _ _ _ c.new-p.ensures.0 c.number_of.ensures
 
 pub sigma_script_new_spec : {M : Type 1} → statement M
 sigma_script_new_spec =

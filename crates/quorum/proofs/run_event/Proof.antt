@@ -8,7 +8,7 @@ use Rattle.quorum.proofs.run_event.Tie as tie
 listed-requires : tie.Need-listed-requires
 listed-requires c κs =
     let a = c.args in
-    in_bounds a.n a.m a.f _ c.before.in_range_lem.ensures c.if-not-in_range.false
+    in_bounds a.n a.m a.f _ c.before.in_range.ensures c.if-not-in_range.false
 
 pub run_event_spec : {M : Type 1} → statement M
 run_event_spec =

@@ -17,7 +17,7 @@ module _ (c : tie.Else-w-ge-MAX_LINES) where
 -- it is read
 module _ (c : tie.After-read_event-line) where
   abbrev more : tie.Else-w-ge-MAX_LINES
-  more = c.before.before
+  more = c.before
 
 returns : tie.Need-returns-then-w-ge-MAX_LINES
 returns c =

@@ -18,7 +18,7 @@ module _ (c : tie.After-last-at) where
 -- the end is printed, which leaves the words
 module _ (c : tie.After-end-wrote) where
   abbrev done : tie.After-last-at
-  done = c.before.before.before.before.before.before.before
+  done = c.before.before.before.before.before.before
 
 last-requires : tie.Need-last-at-requires
 last-requires c κs =

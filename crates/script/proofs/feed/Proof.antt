@@ -8,19 +8,19 @@ use Rattle.script.proofs.feed.Tie as tie
 returns : tie.Need-returns-then-not-valid
 returns c =
     let a = c.args in
-    feed_said _ _ _ _ (feed_invalid a.w-1.now a.input.now a.out-1.now _ c.valid.ensures c.if-not-valid.true)
+    feed_said _ _ _ _ (feed_invalid a.w.now a.input.now a.out.now _ c.valid.ensures c.if-not-valid.true)
 
 returns-2 : tie.Need-returns-then-out-lt-MAX_PRINTED
 returns-2 c =
     let v = c.before in
     let a = c.args in
-    feed_said _ _ _ _ (feed_short a.w-1.now a.input.now a.out-1.now _ c.valid.ensures c.if-not-valid.false c.if-out-lt-MAX_PRINTED.true)
+    feed_said _ _ _ _ (feed_short a.w.now a.input.now a.out.now _ c.valid.ensures c.if-not-valid.false c.if-out-lt-MAX_PRINTED.true)
 
 take-all-requires : tie.Need-take_all-requires
 take-all-requires c κs =
     let v = c.before.before.before in
     let a = c.args in
-    feed_sound a.w-1.now a.input.now a.out-1.now _ c.valid.ensures c.if-not-valid.false
+    feed_sound a.w.now a.input.now a.out.now _ c.valid.ensures c.if-not-valid.false
 
 returns-3 : tie.Need-returns
 returns-3 c =
@@ -28,7 +28,7 @@ returns-3 c =
     let r = t.before.before.before in
     let v = r.before in
     let a = c.args in
-    feed_said _ _ _ _ (feed_done a.w-1.now a.input.now a.out-1.now _ c.valid.ensures c.if-not-valid.false c.if-out-lt-MAX_PRINTED.false
+    feed_said _ _ _ _ (feed_done a.w.now a.input.now a.out.now _ c.valid.ensures c.if-not-valid.false c.if-out-lt-MAX_PRINTED.false
     _ _ _ c.take_all.ensures)
 
 pub feed_spec : {M : Type 1} → statement M

@@ -8,20 +8,20 @@ use Rattle.script.proofs.finish.Tie as tie
 returns : tie.Need-returns-then-not-valid
 returns c =
     let a = c.args in
-    finish_said _ _ _ (finish_invalid a.w-1.now a.out-1.now _ c.valid.ensures c.if-not-valid.true)
+    finish_said _ _ _ (finish_invalid a.w.now a.out.now _ c.valid.ensures c.if-not-valid.true)
 
 returns-2 : tie.Need-returns-then-out-lt-MAX_ENDING
 returns-2 c =
     let v = c.before in
     let a = c.args in
-    finish_said _ _ _ (finish_short a.w-1.now a.out-1.now _ c.valid.ensures c.if-not-valid.false c.if-out-lt-MAX_ENDING.true)
+    finish_said _ _ _ (finish_short a.w.now a.out.now _ c.valid.ensures c.if-not-valid.false c.if-out-lt-MAX_ENDING.true)
 
 close-requires : tie.Need-close-wrote-requires
 close-requires c κs =
     let r = c.before.before in
     let v = r.before in
     let a = c.args in
-    (finish_sound a.w-1.now a.out-1.now _ c.valid.ensures c.if-not-valid.false, c.if-out-lt-MAX_ENDING.false)
+    (finish_sound a.w.now a.out.now _ c.valid.ensures c.if-not-valid.false, c.if-out-lt-MAX_ENDING.false)
 
 returns-3 : tie.Need-returns
 returns-3 c =
@@ -29,7 +29,7 @@ returns-3 c =
     let r = t.before.before.before in
     let v = r.before in
     let a = c.args in
-    finish_said _ _ _ (finish_done a.w-1.now a.out-1.now _ c.valid.ensures c.if-not-valid.false c.if-out-lt-MAX_ENDING.false _ _ _ c.close-wrote.ensures)
+    finish_said _ _ _ (finish_done a.w.now a.out.now _ c.valid.ensures c.if-not-valid.false c.if-out-lt-MAX_ENDING.false _ _ _ c.close-wrote.ensures)
 
 pub finish_spec : {M : Type 1} → statement M
 finish_spec =

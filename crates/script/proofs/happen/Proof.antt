@@ -7,7 +7,7 @@ use Rattle.script.proofs.happen.Tie as tie
 -- the counts are read, the event has happened, the counts are stored
 module _ (c : tie.After-counts_in-counts) where
   abbrev entry : tie.Start
-  entry = c.before.before.before.before.before
+  entry = c.before.before.before.before
 
 module _ (c : tie.After-event-went) where
   abbrev counted : tie.After-counts_in-counts
@@ -15,20 +15,20 @@ module _ (c : tie.After-event-went) where
 
 module _ (c : tie.After-put_counts) where
   abbrev went : tie.After-event-went
-  went = c.before.before.before.before
+  went = c.before.before.before.before.before
 
 event-requires : tie.Need-event-went-requires
 event-requires c κs =
     let d = entry c.before in
     let a = c.args in
-    (simulation_valid a.w-1.now a.out-1.now a.at c.requires.0 c.requires.1, counts-small a.w-1.now c.requires.1 _ c.counts_in-counts.ensures)
+    (simulation_valid a.w.now a.out.now a.at c.requires.0 c.requires.1, counts-small a.w.now c.requires.1 _ c.counts_in-counts.ensures)
 
 put-counts-requires : tie.Need-put_counts-requires
 put-counts-requires c κs =
     let k = counted c.before.before.before.before in
     let d = entry c.before.before.before.before.before.before in
     let a = c.args in
-    event-long a.w-1.now a.out-1.now a.at c.requires.0 c.requires.1 a.e _ _ c.counts_in-counts.ensures _ c.event-went.ensures
+    event-long a.w.now a.out.now a.at c.requires.0 c.requires.1 a.e _ _ c.counts_in-counts.ensures _ c.event-went.ensures
 
 same_length : tie.Need-shape_of-w
 same_length c =
@@ -36,7 +36,7 @@ same_length c =
     let k = counted c.before.before.before.before.before.before.before.before.before.before.before in
     let d = entry c.before.before.before.before.before.before.before.before.before.before.before.before.before in
     let a = c.args in
-    event-same a.w-1.now a.out-1.now a.at c.requires.0 c.requires.1 a.e _ _ c.counts_in-counts.ensures _ c.event-went.ensures
+    event-same a.w.now a.out.now a.at c.requires.0 c.requires.1 a.e _ _ c.counts_in-counts.ensures _ c.event-went.ensures
     _ c.put_counts.ensures
 
 returns : tie.Need-returns
@@ -45,7 +45,7 @@ returns c =
     let k = counted c.before.before.before.before.before.before.before.before.before.before.before in
     let d = entry c.before.before.before.before.before.before.before.before.before.before.before.before.before in
     let a = c.args in
-    event-happened a.w-1.now a.out-1.now a.at c.requires.0 c.requires.1 a.e _ _ c.counts_in-counts.ensures _ c.event-went.ensures
+    event-happened a.w.now a.out.now a.at c.requires.0 c.requires.1 a.e _ _ c.counts_in-counts.ensures _ c.event-went.ensures
     _ c.put_counts.ensures _ _ c.put_reply.ensures
 
 pub happen_spec : {M : Type 1} → statement M

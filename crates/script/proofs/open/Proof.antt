@@ -8,7 +8,7 @@ use Rattle.script.proofs.open.Tie as tie
 -- the line is read
 module _ (c : tie.After-read_setting-first) where
   abbrev entry : tie.Start
-  entry = c.before.before.before.before
+  entry = c.before.before.before
 
 returns : tie.Need-returns-in-Bad
 returns c =

@@ -10,7 +10,7 @@ returns : tie.Need-returns
 returns c =
     let d = c.before.before.before.before.before.before in
     let a = c.args in
-    refused_does a.w.now a.out-1.now a.at c.requires.0 c.requires.1 a.x _ _ c.before.before.Put-refused.ensures
+    refused_does a.w.now a.out.now a.at c.requires.0 c.requires.1 a.x _ _ c.before.before.Put-refused.ensures
 
 pub refuse_spec : {M : Type 1} → statement M
 refuse_spec =

@@ -10,14 +10,14 @@ returns c =
     let t = o.before.before.before in
     let d = t.before.before.before.before in
     let a = c.args in
-    opening_does a.w-1.now a.out-1.now a.at c.requires _ _ _ c.if-w-eq-OPENING.true o.«open».ensures
+    opening_does a.w.now a.out.now a.at c.requires _ _ _ c.if-w-eq-OPENING.true o.«open».ensures
 
 returns-3 : tie.Need-returns
 returns-3 c =
     let e = c.before.before in
     let d = e.before.before.before.before in
     let a = c.args in
-    closed_does a.w-1.now a.out-1.now a.at c.requires c.if-w-eq-OPENING.false c.if-w-eq-RUNNING.false
+    closed_does a.w.now a.out.now a.at c.requires c.if-w-eq-OPENING.false c.if-w-eq-RUNNING.false
 
 pub work_spec : {M : Type 1} → statement M
 work_spec =

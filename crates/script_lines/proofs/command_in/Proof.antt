@@ -17,7 +17,7 @@ module _ (c : tie.Else-equal) where
 
 module _ (c : tie.Else-equal-2) where
   abbrev last₂ : tie.Else-equal
-  last₂ = c.before.before.before
+  last₂ = c.before.before.before.before
 
   abbrev its₂ : List ℕ
   its₂ = its₁ last₂
@@ -27,7 +27,7 @@ module _ (c : tie.Else-equal-2) where
 
 module _ (c : tie.Else-equal-3) where
   abbrev last₃ : tie.Else-equal-2
-  last₃ = c.before.before.before
+  last₃ = c.before.before.before.before
 
   abbrev its₃ : List ℕ
   its₃ = its₂ last₃
@@ -37,7 +37,7 @@ module _ (c : tie.Else-equal-3) where
 
 module _ (c : tie.Else-equal-4) where
   abbrev last₄ : tie.Else-equal-3
-  last₄ = c.before.before.before
+  last₄ = c.before.before.before.before
 
   abbrev its₄ : List ℕ
   its₄ = its₃ last₄
@@ -47,7 +47,7 @@ module _ (c : tie.Else-equal-4) where
 
 module _ (c : tie.Else-equal-5) where
   abbrev last₅ : tie.Else-equal-4
-  last₅ = c.before.before.before
+  last₅ = c.before.before.before.before
 
   abbrev its₅ : List ℕ
   its₅ = its₄ last₅
@@ -57,7 +57,7 @@ module _ (c : tie.Else-equal-5) where
 
 module _ (c : tie.Else-equal-6) where
   abbrev last₆ : tie.Else-equal-5
-  last₆ = c.before.before.before
+  last₆ = c.before.before.before.before
 
   abbrev its₆ : List ℕ
   its₆ = its₅ last₆
@@ -67,7 +67,7 @@ module _ (c : tie.Else-equal-6) where
 
 module _ (c : tie.Else-equal-7) where
   abbrev last₇ : tie.Else-equal-6
-  last₇ = c.before.before.before
+  last₇ = c.before.before.before.before
 
   abbrev its₇ : List ℕ
   its₇ = its₆ last₇
@@ -77,7 +77,7 @@ module _ (c : tie.Else-equal-7) where
 
 module _ (c : tie.Else-equal-8) where
   abbrev last₈ : tie.Else-equal-7
-  last₈ = c.before.before.before
+  last₈ = c.before.before.before.before
 
   abbrev its₈ : List ℕ
   its₈ = its₇ last₈
@@ -87,7 +87,7 @@ module _ (c : tie.Else-equal-8) where
 
 module _ (c : tie.Else-equal-9) where
   abbrev last₉ : tie.Else-equal-8
-  last₉ = c.before.before.before
+  last₉ = c.before.before.before.before
 
   abbrev its₉ : List ℕ
   its₉ = its₈ last₉
@@ -99,31 +99,22 @@ pub command_in_spec : {M : Type 1} → statement M
 command_in_spec =
     tie.close
     (tie.spec
-    (λ c. search rules)
     (λ c κs. search rules)
     (λ c. left_is _ _ _ (left-all _) _ c.equal.ensures c.if-equal.true)
-    (λ c. search rules)
     (λ c κs. search rules)
-    (λ c. left_is _ _ _ (left₁ c.before.before.before) _ c.equal-2.ensures c.if-equal-2.true)
-    (λ c. search rules)
+    (λ c. left_is _ _ _ (left₁ c.before.before.before.before) _ c.equal-2.ensures c.if-equal-2.true)
     (λ c κs. search rules)
-    (λ c. left_is _ _ _ (left₂ c.before.before.before) _ c.equal-3.ensures c.if-equal-3.true)
-    (λ c. search rules)
+    (λ c. left_is _ _ _ (left₂ c.before.before.before.before) _ c.equal-3.ensures c.if-equal-3.true)
     (λ c κs. search rules)
-    (λ c. left_is _ _ _ (left₃ c.before.before.before) _ c.equal-4.ensures c.if-equal-4.true)
-    (λ c. search rules)
+    (λ c. left_is _ _ _ (left₃ c.before.before.before.before) _ c.equal-4.ensures c.if-equal-4.true)
     (λ c κs. search rules)
-    (λ c. left_is _ _ _ (left₄ c.before.before.before) _ c.equal-5.ensures c.if-equal-5.true)
-    (λ c. search rules)
+    (λ c. left_is _ _ _ (left₄ c.before.before.before.before) _ c.equal-5.ensures c.if-equal-5.true)
     (λ c κs. search rules)
-    (λ c. left_is _ _ _ (left₅ c.before.before.before) _ c.equal-6.ensures c.if-equal-6.true)
-    (λ c. search rules)
+    (λ c. left_is _ _ _ (left₅ c.before.before.before.before) _ c.equal-6.ensures c.if-equal-6.true)
     (λ c κs. search rules)
-    (λ c. left_is _ _ _ (left₆ c.before.before.before) _ c.equal-7.ensures c.if-equal-7.true)
-    (λ c. search rules)
+    (λ c. left_is _ _ _ (left₆ c.before.before.before.before) _ c.equal-7.ensures c.if-equal-7.true)
     (λ c κs. search rules)
-    (λ c. left_is _ _ _ (left₇ c.before.before.before) _ c.equal-8.ensures c.if-equal-8.true)
-    (λ c. search rules)
+    (λ c. left_is _ _ _ (left₇ c.before.before.before.before) _ c.equal-8.ensures c.if-equal-8.true)
     (λ c κs. search rules)
-    (λ c. left_is _ _ _ (left₈ c.before.before.before) _ c.equal-9.ensures c.if-equal-9.true)
+    (λ c. left_is _ _ _ (left₈ c.before.before.before.before) _ c.equal-9.ensures c.if-equal-9.true)
     (λ c. left-none _ (left₉ c)))

@@ -15,10 +15,10 @@ module _ (c : tie.Start) where
 -- the first number is found, the second, the third: each with the place behind the space that ended it
 module _ (c : tie.In-Number) where
   abbrev entry : tie.Start
-  entry = c.before.before.before.before.before
+  entry = c.before.before.before
 
   abbrev n : ℕ
-  n = c.in-Number.n-1
+  n = c.in-Number.n
 
   abbrev behind₁ : ℕ
   behind₁ = c.in-Number.a
@@ -28,19 +28,19 @@ module _ (c : tie.In-Number) where
 
 module _ (c : tie.In-Number-read_field) where
   abbrev from₁ : tie.In-Number
-  from₁ = c.before.before.before.before
+  from₁ = c.before.before
 
   abbrev behind₂ : ℕ
   behind₂ = c.in-Number-read_field.b
 
-  two : Found (line (entry from₁)) (behind₁ from₁) c.in-Number-read_field.m-1 behind₂
+  two : Found (line (entry from₁)) (behind₁ from₁) c.in-Number-read_field.m behind₂
   two = found _ _ _ _ _ (one from₁).within c.read_field-2.ensures c.in-Number-read_field.is
 
 module _ (c : tie.In-Number-read_field-2) where
   abbrev from₂ : tie.In-Number-read_field
-  from₂ = c.before.before.before.before
+  from₂ = c.before.before
 
-  three : Found (line (entry (from₁ from₂))) (behind₂ from₂) c.in-Number-read_field-2.f-1 c.in-Number-read_field-2.c
+  three : Found (line (entry (from₁ from₂))) (behind₂ from₂) c.in-Number-read_field-2.f c.in-Number-read_field-2.c
   three = found _ _ _ _ _ (two from₂).within c.read_field-3.ensures c.in-Number-read_field-2.is
 
 returns-2 : tie.Need-returns-in_default-read_field

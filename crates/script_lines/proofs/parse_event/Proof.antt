@@ -11,7 +11,7 @@ returns-3 c =
     let r = x.before.before in
     let d = r.before.before in
     line-said _ _ (event_command _ _ c.if-n-gt-MAX_LINE.false c.word_end-p.ensures c.if-p-n.false _ c.read_number.ensures.0
-    _ _ _ c.in-Number.is c.command_in.ensures c.Line-of.ensures)
+    _ _ _ c.in-Number.is c.command_in.ensures c.line_of.ensures)
 
 returns-4 : tie.Need-returns-in-Nothing
 returns-4 c =

@@ -27,7 +27,6 @@ parse_setting_spec =
     (λ c. search rules)
     (λ c. search rules)
     (λ c. search rules)
-    (λ c. search rules)
     (λ c κs. search rules)
     returns-3
     (λ c. search rules)

@@ -19,7 +19,7 @@ module _ (c : tie.Start) where
 -- the word is put, the events accepted, the holders
 module _ (c : tie.After-put_word-p) where
   abbrev entry : tie.Start
-  entry = c.before.before.before.before
+  entry = c.before.before.before.before.before
 
 module _ (c : tie.After-put_number-q) where
   abbrev one : tie.After-put_word-p
@@ -36,7 +36,7 @@ returns c =
     let d₃ = d₄.before.before.before.before in
     let d₂ = two d₃ in
     let a = c.args in
-    let e₁ = puts-more (puts_none a.out-1.now a.at) (text "end") c.put_word-p.ensures in
+    let e₁ = puts-more (puts_none a.out.now a.at) (text "end") c.put_word-p.ensures in
     let e₂ = puts-more e₁ (decimal a.accepted) c.put_number-q.ensures in
     let e₃ = puts-more e₂ (decimal a.holders) c.put_number-t.ensures in
     puts-last e₃ (decimal a.downs) c.put_number.ensures
@@ -45,8 +45,7 @@ pub put_end_spec : {M : Type 1} → statement M
 put_end_spec =
     tie.close
     (tie.spec
-    (λ c. search rules)
-    (λ c κs. omega (arith, room c.before.before.before))
+    (λ c κs. omega (arith, room c.before.before.before.before))
     (λ c κs. omega (arith, room (entry c.before.before.before)))
     (λ c κs. omega (arith, room (entry (one c.before.before.before))))
     (λ c κs. omega (arith, room (entry (one (two c.before.before.before)))))

@@ -28,20 +28,19 @@ put-word-requires c κs =
 put-decimal-requires : tie.Need-put_decimal-requires
 put-decimal-requires c κs =
     let d = found c.before.before.before.before in
-    omega (arith, number-room c.args.e _ (named c.before.before.before.before.before.before.before) _ _ _ c.number_of_lem.ensures _ c.put_word-p.ensures.0 c.requires)
+    omega (arith, number-room c.args.e _ (named c.before.before.before.before.before.before.before) _ _ _ c.number_of.ensures _ c.put_word-p.ensures.0 c.requires)
 
 returns : tie.Need-returns
 returns c =
     let q = c.before.before in
     let d = found c.before.before.before.before.before.before.before in
-    put-line c.args.e _ (named c.before.before.before.before.before.before.before.before.before.before) _ _ _ q.before.number_of_lem.ensures
+    put-line c.args.e _ (named c.before.before.before.before.before.before.before.before.before.before) _ _ _ q.before.number_of.ensures
     c.args.out.now _ _ _ c.put_word-p.ensures c.put_decimal.ensures
 
 pub put_event_spec : {M : Type 1} → statement M
 put_event_spec =
     tie.close
     (tie.spec
-    (λ c. search rules)
     (λ c κs. search rules)
     (λ c κs. search rules)
     (λ c. search rules)

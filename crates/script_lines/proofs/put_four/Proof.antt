@@ -31,7 +31,7 @@ returns : tie.Need-returns
 returns c =
     let d₂ = two c.before.before.before.before.before.before in
     let a = c.args in
-    let e₁ = puts-more (puts_none a.out-1.now a.at) (decimal a.s.n) c.put_number-p.ensures in
+    let e₁ = puts-more (puts_none a.out.now a.at) (decimal a.s.n) c.put_number-p.ensures in
     let e₂ = puts-more e₁ (decimal a.s.m) c.put_number-q.ensures in
     let e₃ = puts-more e₂ (decimal a.s.f) c.put_number-t.ensures in
     puts_end e₃ (decimal a.s.clients) c.put_decimal.ensures

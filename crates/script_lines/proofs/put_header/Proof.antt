@@ -10,13 +10,12 @@ returns : tie.Need-returns
 returns c =
     let d = c.before.before.before.before.before.before in
     let a = c.args in
-    put_heading a.s a.out-1.now _ _ _ _ _ c.put_four-q.ensures c.put_word-p.ensures
+    put_heading a.s a.out.now _ _ _ _ _ c.put_four-q.ensures c.put_word-p.ensures
 
 pub put_header_spec : {M : Type 1} → statement M
 put_header_spec =
     tie.close
     (tie.spec
-    (λ c. search rules)
     (λ c κs. omega (arith, length-header c.args.s))
     (λ c κs. omega (arith, length-header c.args.s))
     (λ c. omega (arith, length-header c.args.s))

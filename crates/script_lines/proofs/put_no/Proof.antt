@@ -12,28 +12,27 @@ use Rattle.script_lines.proofs.put_no.Tie as tie
 
 module _ (c : tie.After-put_word-q) where
   abbrev one : tie.After-put_number-p
-  one = c.before.before.before.before.before
+  one = c.before.before.before.before.before.before
 
 put-number-requires-2 : tie.Need-put_number-requires
 put-number-requires-2 c κs =
     let a = c.args in
-    omega (arith, length_no a.number a.refusal, ap (λ x. length (decimal x)) c.code_of_lem.ensures)
+    omega (arith, length_no a.number a.refusal, ap (λ x. length (decimal x)) c.code_of.ensures)
 
 returns : tie.Need-returns
 unfolding no_line
 returns c =
     let d₃ = c.before.before in
     let a = c.args in
-    let e₁ = puts-more (puts_none a.out-1.now a.at) (decimal a.number) c.put_number-p.ensures in
+    let e₁ = puts-more (puts_none a.out.now a.at) (decimal a.number) c.put_number-p.ensures in
     let e₂ = puts-more e₁ (text "no") c.put_word-q.ensures in
-    rw d₃.before.code_of_lem.ensures at (puts-last e₂ (decimal d₃.before.code_of_lem.result) c.put_number.ensures)
+    rw d₃.before.code_of.ensures at (puts-last e₂ (decimal d₃.before.code_of.result) c.put_number.ensures)
 
 pub put_no_spec : {M : Type 1} → statement M
 put_no_spec =
     tie.close
     (tie.spec
     (λ c κs. let a = c.args in omega (arith, length_no a.number a.refusal))
-    (λ c. search rules)
     (λ c κs. let a = c.args in omega (arith, length_no a.number a.refusal))
     (λ c κs. search rules)
     put-number-requires-2

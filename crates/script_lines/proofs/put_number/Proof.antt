@@ -8,7 +8,7 @@ use Rattle.script_lines.proofs.put_number.Tie as tie
 returns : tie.Need-returns
 returns c =
     let a = c.args in
-    put-behind a.out-1.now _ _ _ _ (decimal a.x) c.put_decimal-p.ensures
+    put-behind a.out.now _ _ _ _ (decimal a.x) c.put_decimal-p.ensures
 
 pub put_number_spec : {M : Type 1} → statement M
 put_number_spec =

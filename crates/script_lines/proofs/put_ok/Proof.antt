@@ -23,7 +23,7 @@ module _ (c : tie.After-put_number-p) where
 
 module _ (c : tie.After-put_word-q) where
   abbrev one : tie.After-put_number-p
-  one = c.before.before.before.before.before
+  one = c.before.before.before.before.before.before
 
 module _ (c : tie.After-put_number-t) where
   abbrev two : tie.After-put_word-q
@@ -36,7 +36,7 @@ returns c =
     let d₃ = d₄.before.before.before.before in
     let d₂ = two d₃ in
     let a = c.args in
-    let e₁ = puts-more (puts_none a.out-1.now a.at) (decimal a.number) c.put_number-p.ensures in
+    let e₁ = puts-more (puts_none a.out.now a.at) (decimal a.number) c.put_number-p.ensures in
     let e₂ = puts-more e₁ (text "ok") c.put_word-q.ensures in
     let e₃ = puts-more e₂ (decimal a.sent) c.put_number-t.ensures in
     puts-last e₃ (decimal a.holders) c.put_number.ensures
@@ -46,8 +46,7 @@ put_ok_spec =
     tie.close
     (tie.spec
     (λ c κs. omega (arith, room c.before.before))
-    (λ c. search rules)
-    (λ c κs. omega (arith, room (entry c.before.before.before.before)))
+    (λ c κs. omega (arith, room (entry c.before.before.before.before.before)))
     (λ c κs. omega (arith, room (entry (one c.before.before.before))))
     (λ c κs. omega (arith, room (entry (one (two c.before.before.before)))))
     (λ c. search rules)

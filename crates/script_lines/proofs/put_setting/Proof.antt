@@ -8,13 +8,12 @@ use Rattle.script_lines.proofs.put_setting.Tie as tie
 returns : tie.Need-returns
 returns c =
     let a = c.args in
-    put-opening a.s a.out-1.now _ _ _ _ _ c.put_four.ensures c.put_word-p.ensures
+    put-opening a.s a.out.now _ _ _ _ _ c.put_four.ensures c.put_word-p.ensures
 
 pub put_setting_spec : {M : Type 1} → statement M
 put_setting_spec =
     tie.close
     (tie.spec
-    (λ c. search rules)
     (λ c κs. omega (arith, length-setting c.args.s))
     (λ c κs. omega (arith, length-setting c.args.s))
     (λ c. search rules)

@@ -7,7 +7,7 @@ use Rattle.script_lines.proofs.put_word.Tie as tie
 returns : tie.Need-returns
 returns c =
     let a = c.args in
-    put-behind a.out-1.now _ _ _ _ a.w.now c.put_bytes-p.ensures
+    put-behind a.out.now _ _ _ _ a.w.now c.put_bytes-p.ensures
 
 pub put_word_spec : {M : Type 1} → statement M
 put_word_spec =

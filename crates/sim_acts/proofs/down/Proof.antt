@@ -17,7 +17,7 @@ module _ (c : tie.Else-not-has_server) where
 -- it is up
 module _ (c : tie.Else-not-is_up) where
   abbrev present : tie.Else-not-has_server
-  present = c.before.before.before
+  present = c.before.before
 
 -- it is down now
 module _ (c : tie.After-sink_server) where

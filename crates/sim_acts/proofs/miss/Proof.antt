@@ -26,7 +26,7 @@ module _ (c : tie.Else-not-has_server) where
 -- it is up
 module _ (c : tie.Else-not-is_up) where
   abbrev present : tie.Else-not-has_server
-  present = c.before.before.before
+  present = c.before.before
 
   up : (server_at (view (words present)) c.args.j).up ≡ true
   up = server-runs (words present) c.args.j (here present) c.is_up.ensures c.if-not-is_up.false
@@ -34,7 +34,7 @@ module _ (c : tie.Else-not-is_up) where
 -- it has an owner
 module _ (c : tie.In-Of-2) where
   abbrev running : tie.Else-not-is_up
-  running = c.before.before.before.before
+  running = c.before.before
 
 returns : tie.Need-returns-then-not-has_server
 returns c =

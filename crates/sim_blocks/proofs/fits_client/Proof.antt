@@ -27,7 +27,7 @@ module _ (c : tie.After-valid_row) where
   head = c.before.before
 
   abbrev entry : tie.Start
-  entry = head.before.before
+  entry = c.before.before.before.before
 
   its : client_of c.client_head-h.result (take (client_record_size - client_head) (drop client_head (words entry))) ≡ client_from (words entry)
   its = client-lent (words entry) _ c.requires c.client_head-h.ensures

@@ -27,7 +27,7 @@ module _ (c : tie.After-valid_row) where
   head = c.before.before
 
   abbrev entry : tie.Start
-  entry = head.before.before
+  entry = c.before.before.before.before
 
   its : server_of c.server_head-h.result (take (server_record_size - server_head) (drop server_head (words entry))) ≡ server_from (words entry)
   its = server-lent (words entry) _ c.requires c.server_head-h.ensures

@@ -19,7 +19,7 @@ module _ (c : tie.After-put_flag invariant-loop decreases-loop) where
   read = c.before.before
 
   abbrev turn : tie.In-loop-i invariant-loop decreases-loop
-  turn = read.before.before
+  turn = c.before.before.before
 
 slice-read-n : tie.Need-bounds-w-0 invariant-loop decreases-loop
 slice-read-n c = omega (arith, words_long c.args.w.now c.requires.0.valid)

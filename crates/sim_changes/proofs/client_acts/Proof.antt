@@ -31,7 +31,7 @@ module _ (c : tie.Start) where
 -- the client lives
 module _ (c : tie.Else-not-is_living) where
   abbrev entry : tie.Start
-  entry = c.before.before.before.before
+  entry = c.before.before.before
 
   lives : (client_at (view (words entry)) c.args.k).living ≡ true
   lives = events.client-lives (words entry) c.args.k c.args.act c.requires _ c.is_living.ensures c.if-not-is_living.false
@@ -39,13 +39,13 @@ module _ (c : tie.Else-not-is_living) where
 -- its row and its head are its record
 module _ (c : tie.After-client_head) where
   abbrev row_read : tie.After-client_row
-  row_read = c.before.before.before
+  row_read = c.before.before
 
   abbrev alive : tie.Else-not-is_living
-  alive = row_read.before.before.before
+  alive = c.before.before.before.before
 
   abbrev start : tie.Start
-  start = entry alive
+  start = c.before.before.before.before.before.before.before
 
   read : client_of c.client_head.result c.client_row.last.1.1.0 ≡ client_from (client_record (client_block_of (words start) c.args.k))
   read = client-read _ _ _ c.client_head.ensures c.client_row.ensures
@@ -53,13 +53,13 @@ module _ (c : tie.After-client_head) where
 -- its call is accepted: the step is the event's, and the buffer had room for all that it sends
 module _ (c : tie.In-Sent-2) where
   abbrev call : tie.After-call_client-s
-  call = c.before.before.before.before
+  call = c.before.before.before
 
   abbrev loaded : tie.After-client_head
-  loaded = call.before.before.before
+  loaded = c.before.before.before.before.before.before
 
   abbrev from : tie.Start
-  from = start loaded
+  from = c.before.before.before.before.before.before.before.before.before.before.before.before.before
 
   abbrev count : ℕ
   count = c.in-Sent.count
@@ -91,7 +91,7 @@ module _ (c : tie.After-has_room) where
 -- the record is stored
 module _ (c : tie.After-store_client) where
   abbrev roomy : tie.Else-not-has_room
-  roomy = c.before.before.before
+  roomy = c.before.before.before.before
 
 is-living-requires : tie.Need-is_living-requires
 is-living-requires c κs = client_in_lem _ _ (there c.before)

@@ -9,7 +9,7 @@ clear-client-requires : tie.Need-clear_client-requires
 clear-client-requires c κs =
     let d = c.before.before in
     let a = c.args in
-    client_in_lem a.w-1.now a.k.0 c.requires
+    client_in_lem a.w.now a.k.0 c.requires
 
 same_length : tie.Need-shape_of-w
 same_length c = search rules
@@ -18,7 +18,7 @@ returns : tie.Need-returns
 returns c =
     let d = c.before.before.before.before.before in
     let a = c.args in
-    epoch_ends a.w-1.now a.k.0 c.requires _ c.clear_client.ensures
+    epoch_ends a.w.now a.k.0 c.requires _ c.clear_client.ensures
 
 pub end_epoch_spec : {M : Type 1} → statement M
 end_epoch_spec = tie.close (tie.spec clear-client-requires same_length returns)

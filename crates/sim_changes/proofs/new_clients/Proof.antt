@@ -29,7 +29,7 @@ loop-again : tie.Need-loop-i-preserved invariant-loop decreases-loop
 loop-again c =
     let p = c.before.before in
     let t = turn c.before.before in
-    putting_more _ _ _ _ _ c.loop-i.invariant (λ k l. length-client c.args.n c.args.m k l) c.loop-i-test.true _ p.new_client_lem.ensures
+    putting_more _ _ _ _ _ c.loop-i.invariant (λ k l. length-client c.args.n c.args.m k l) c.loop-i-test.true _ p.new_client.ensures
 
 pub new_clients_spec : {M : Type 1} → statement M
 new_clients_spec =

@@ -29,12 +29,12 @@ module _ (c : tie.Start) where
 -- the row is read
 module _ (c : tie.After-server_row) where
   abbrev entry : tie.Start
-  entry = c.before.before.before.before
+  entry = c.before.before.before
 
 -- and the head
 module _ (c : tie.After-server_head) where
   abbrev row_read : tie.After-server_row
-  row_read = c.before.before.before
+  row_read = c.before.before
 
   read : server_of c.server_head.result c.server_row.last.1.1.0
       ≡ server_from (server_record (server_block_of (words (entry row_read)) c.args.j))
@@ -46,7 +46,7 @@ module _ (c : tie.After-call_server-t) where
   loaded = c.before.before
 
   abbrev start : tie.Start
-  start = entry (row_read loaded)
+  start = c.before.before.before.before.before.before.before
 
   called : ServerCalled (words start) c.args.j c.args.act c.call_server-t.result c.call_server-t.new.row
   called = server-called (words start) c.args.j c.args.act c.requires.0 c.requires.1 _ _ (read loaded) _ _ c.call_server-t.ensures
@@ -54,7 +54,7 @@ module _ (c : tie.After-call_server-t) where
 -- its messages are counted
 module _ (c : tie.After-counts-count) where
   abbrev made : tie.After-call_server-t
-  made = c.before.before.before.before
+  made = c.before.before.before
 
   few : c.counts-count.result ≤ system_servers
   few = ruled-few (called made).ruled _ c.counts-count.ensures
@@ -62,12 +62,12 @@ module _ (c : tie.After-counts-count) where
 -- there is room
 module _ (c : tie.Else-not-has_room) where
   abbrev counted : tie.After-counts-count
-  counted = c.before.before.before
+  counted = c.before.before
 
 -- the record is stored
 module _ (c : tie.After-store_server) where
   abbrev roomy : tie.Else-not-has_room
-  roomy = c.before.before.before
+  roomy = c.before.before.before.before
 
 -- the messages are sent
 module _ (c : tie.After-send_mails) where

@@ -29,7 +29,7 @@ module _ (c : tie.After-new_clients-arg-1) where
 -- the clients are put
 module _ (c : tie.After-new_clients) where
   abbrev blank : tie.After-clear_all
-  blank = cleared c.before.before.before.before
+  blank = c.before.before.before.before.before.before.before
 
 -- the servers are put
 module _ (c : tie.After-new_servers) where

@@ -11,7 +11,7 @@ use Rattle.sim_index.proofs.add.Tie as tie
 -- where the receiver's entries end is known
 module _ (c : tie.After-start-at) where
   abbrev begun : tie.Start
-  begun = c.before.before.before
+  begun = c.before.before
 
   within : c.start-at.result ≤ c.args.len
   within = next-within _ _ _ c.requires.0 _ c.start-at.ensures

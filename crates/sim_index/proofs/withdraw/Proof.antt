@@ -11,7 +11,7 @@ use Rattle.sim_index.proofs.withdraw.Tie as tie
 -- the entry is found
 module _ (c : tie.After-find_entry-at) where
   abbrev begun : tie.Start
-  begun = c.before.before.before
+  begun = c.before.before
 
   within : c.find_entry-at.result < c.args.len
   within = omega (arith, c.find_entry-at.ensures, c.requires.1)

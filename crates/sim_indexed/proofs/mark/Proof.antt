@@ -7,12 +7,12 @@ use Rattle.sim_indexed.proofs.mark.Tie as tie
 -- the card is read
 module _ (c : tie.After-card_at-c) where
   abbrev entry : tie.Start
-  entry = c.before.before.before.before
+  entry = c.before.before.before
 
 -- the entry is found
 module _ (c : tie.After-find_entry-at) where
   abbrev read : tie.After-card_at-c
-  read = c.before.before.before
+  read = c.before.before
 
 -- the entry is marked
 module _ (c : tie.After-put_mark) where

@@ -8,7 +8,7 @@ use Rattle.sim_indexed.proofs.pend.Tie as tie
 -- the slot is found
 module _ (c : tie.After-find_present-i) where
   abbrev entry : tie.Start
-  entry = c.before.before.before.before.before.before.before.before.before.before.before
+  entry = c.before.before.before.before.before.before.before.before
 
   found : Looked c.args.len c.args.at c.args.t.now c.find_present-i.result
   found = record { entry = c.requires; number = _; read = c.number_at-number.ensures; slot = c.find_present-i.ensures }

@@ -7,7 +7,7 @@ use Rattle.sim_indexed.proofs.remove.Tie as tie
 -- the card is read
 module _ (c : tie.After-card_at-c) where
   abbrev entry : tie.Start
-  entry = c.before.before.before.before
+  entry = c.before.before.before
 
 -- the entry is withdrawn
 module _ (c : tie.After-withdraw) where

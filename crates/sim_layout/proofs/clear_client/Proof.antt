@@ -9,7 +9,7 @@ use Rattle.sim_layout.proofs.clear_client.Tie as tie
 returns : tie.Need-returns
 returns c =
     let a = c.args in
-    client-written a.w-1.now a.k c.requires cleared _ (λ l. length-flags l) c.clear_flags.ensures
+    client-written a.w.now a.k c.requires cleared _ (λ l. length-flags l) c.clear_flags.ensures
 
 pub clear_client_spec : {M : Type 1} → statement M
 clear_client_spec =

@@ -10,7 +10,7 @@ use Rattle.sim_layout.proofs.fall_client.Tie as tie
 returns : tie.Need-returns
 returns c =
     let a = c.args in
-    client-written a.w-1.now a.k c.requires (λ b. cleared (set b 0 0)) _ (λ l. length-cleared l) c.fall.ensures
+    client-written a.w.now a.k c.requires (λ b. cleared (set b 0 0)) _ (λ l. length-cleared l) c.fall.ensures
 
 pub fall_client_spec : {M : Type 1} → statement M
 fall_client_spec =

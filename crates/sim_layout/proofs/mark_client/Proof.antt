@@ -19,7 +19,7 @@ length-either false b i = refl
 returns : tie.Need-returns
 returns c =
     let a = c.args in
-    client-written a.w-1.now a.k c.requires.0 (λ b. if in_epoch (client_place b) then set b (client_record_size + a.j.0) 1 else b) _
+    client-written a.w.now a.k c.requires.0 (λ b. if in_epoch (client_place b) then set b (client_record_size + a.j.0) 1 else b) _
     (λ l. length-either (in_epoch (client_place l)) l (client_record_size + a.j.0)) c.mark_down.ensures
 
 pub mark_client_spec : {M : Type 1} → statement M

@@ -10,7 +10,7 @@ use Rattle.sim_layout.proofs.put_client.Tie as tie
 returns : tie.Need-returns
 returns c =
     let a = c.args in
-    client-written a.w-1.now a.k c.requires.0 (λ b. sets b 1 (client_words (client_of a.h a.row.now))) _
+    client-written a.w.now a.k c.requires.0 (λ b. sets b 1 (client_words (client_of a.h a.row.now))) _
     (λ l. length-sets l 1 (client_words (client_of a.h a.row.now))) c.put_client.ensures
 
 pub put_client_spec : {M : Type 1} → statement M

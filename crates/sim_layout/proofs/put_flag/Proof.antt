@@ -10,7 +10,7 @@ use Rattle.sim_layout.proofs.put_flag.Tie as tie
 returns : tie.Need-returns
 returns c =
     let a = c.args in
-    client-written a.w-1.now a.k c.requires.0 (λ b. set b (client_record_size + a.j.0) a.x) _ (λ l. length-set l _ _) c.put_flag.ensures
+    client-written a.w.now a.k c.requires.0 (λ b. set b (client_record_size + a.j.0) a.x) _ (λ l. length-set l _ _) c.put_flag.ensures
 
 pub put_flag_spec : {M : Type 1} → statement M
 put_flag_spec =

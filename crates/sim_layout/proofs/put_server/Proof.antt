@@ -10,7 +10,7 @@ use Rattle.sim_layout.proofs.put_server.Tie as tie
 returns : tie.Need-returns
 returns c =
     let a = c.args in
-    server-written a.w-1.now a.j c.requires.0 (λ b. sets b 1 (server_words (server_of a.h a.row.now))) _
+    server-written a.w.now a.j c.requires.0 (λ b. sets b 1 (server_words (server_of a.h a.row.now))) _
     (λ l. length-sets l 1 (server_words (server_of a.h a.row.now))) c.put_server.ensures
 
 pub put_server_spec : {M : Type 1} → statement M

@@ -8,7 +8,7 @@ use Rattle.sim_layout.proofs.rise_server.Tie as tie
 returns : tie.Need-returns
 returns c =
     let a = c.args in
-    server-written a.w-1.now a.j c.requires (λ b. set b 0 1) _ (λ l. length-set l 0 1) c.rise.ensures
+    server-written a.w.now a.j c.requires (λ b. set b 0 1) _ (λ l. length-set l 0 1) c.rise.ensures
 
 pub rise_server_spec : {M : Type 1} → statement M
 rise_server_spec =

@@ -16,8 +16,8 @@ sink-requires c κs =
     let d = c.before.before.before in
     let a = c.args in
     let i = c.requires.0 in (
-      server-lent a.w-1.now a.j i length server_block (server_block-long a.w-1.now a.j.0 i.long i.first i.last),
-      server-lent a.w-1.now a.j i (λ b. holds_server_record (server_record b)) _ c.requires.1,
+      server-lent a.w.now a.j i length server_block (server_block-long a.w.now a.j.0 i.long i.first i.last),
+      server-lent a.w.now a.j i (λ b. holds_server_record (server_record b)) _ c.requires.1,
     )
 
 abbrev sunk : List ℕ → List ℕ
@@ -31,7 +31,7 @@ returns : tie.Need-returns
 returns c =
     let d = c.before.before.before.before.before.before in
     let a = c.args in
-    server-written a.w-1.now a.j c.requires.0 sunk _ length-sunk c.sink.ensures
+    server-written a.w.now a.j c.requires.0 sunk _ length-sunk c.sink.ensures
 
 pub sink_server_spec : {M : Type 1} → statement M
 sink_server_spec =

@@ -14,12 +14,12 @@ module _ (c : tie.Else-i-in_transit) where
   words = c.args.w.now
 
   found : c.find_pending-i.result ≡ length_of words → ⊥
-  found e = c.if-i-in_transit.false (e ∙ sym c.before.in_transit_lem.ensures)
+  found e = c.if-i-in_transit.false (e ∙ sym c.before.in_transit.ensures)
 
 returns : tie.Need-returns-then-i-in_transit
 returns c =
     take-nothing c.args.w.now c.args.number c.requires _ c.find_pending-i.ensures
-    (c.if-i-in_transit.true ∙ c.before.in_transit_lem.ensures)
+    (c.if-i-in_transit.true ∙ c.before.in_transit.ensures)
 
 message-at-requires : tie.Need-message_at-m-requires
 message-at-requires c κs =

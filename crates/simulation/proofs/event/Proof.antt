@@ -15,7 +15,7 @@ returns : tie.Need-returns-then-not-valid
 returns c =
     let d = c.before.before.before.before in
     let a = c.args in
-    event-said _ _ _ _ (event_invalid a.w-1.now a.e _ c.valid.ensures c.if-not-valid.true)
+    event-said _ _ _ _ (event_invalid a.w.now a.e _ c.valid.ensures c.if-not-valid.true)
 
 happen-requires : tie.Need-happen-requires
 happen-requires c κs = holds _ _ c.valid.ensures c.if-not-valid.false
@@ -27,7 +27,7 @@ returns-2 : tie.Need-returns
 returns-2 c =
     let d = c.before.before.before.before.before.before.before.before in
     let a = c.args in
-    event-said _ _ _ _ (event-valid a.w-1.now a.e _ c.valid.ensures
+    event-said _ _ _ _ (event-valid a.w.now a.e _ c.valid.ensures
     c.if-not-valid.false _ _ c.happen.ensures)
 
 pub event_spec : {M : Type 1} → statement M

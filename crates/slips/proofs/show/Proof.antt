@@ -39,7 +39,7 @@ show-spec =
     (λ c κs. simulation c.before.before.before.before)
     (λ c. search rules)
     (λ c. search rules)
-    (λ c. omega (arith, c.before.before.before.put_all_lem.ensures))
+    (λ c. omega (arith, c.before.before.before.put_all.ensures))
     (λ c κs. search rules)
     (λ c. search rules)
     (λ c. search rules))

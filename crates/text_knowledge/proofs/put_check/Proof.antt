@@ -15,9 +15,7 @@ pub put_check_spec : {M : Type 1} → statement M
 put_check_spec =
     tie.close
     (tie.spec
-    (λ c. search rules)
     (λ c κs. search rules)
-    (λ c. search rules)
     (λ c κs. search rules)
     (λ c. search rules)
     returns)

@@ -48,7 +48,7 @@ module _ (c : tie.After-entry_of invariant-loop decreases-loop) where
 -- and put
 module _ (c : tie.After-put_entry-end invariant-loop decreases-loop) where
   abbrev read : tie.After-entry_of invariant-loop decreases-loop
-  read = c.before.before.before.before.before
+  read = c.before.before.before
 
 returns : tie.Need-returns-in_default invariant-loop decreases-loop
 returns c =

@@ -10,7 +10,6 @@ put_knowledge_spec =
     (λ c κs. search rules)
     (λ c. search rules)
     (λ c. rw c.if-up.true c.put_votes.ensures)
-    (λ c. search rules)
     (λ c κs. search rules)
     (λ c. search rules)
     (λ c. rw c.if-up.false c.put.ensures))

@@ -10,7 +10,6 @@ put_life_spec =
     (λ c κs. search rules)
     (λ c. search rules)
     (λ c. rw c.if-living.true c.put_state.ensures)
-    (λ c. search rules)
     (λ c κs. search rules)
     (λ c. search rules)
     (λ c. rw c.if-living.false c.put.ensures))

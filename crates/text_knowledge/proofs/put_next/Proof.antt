@@ -15,7 +15,6 @@ pub put_next_spec : {M : Type 1} → statement M
 put_next_spec =
     tie.close
     (tie.spec
-    (λ c. search rules)
     (λ c κs. search rules)
     (λ c κs. search rules)
     (λ c. search rules)

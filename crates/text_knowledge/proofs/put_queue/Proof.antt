@@ -17,7 +17,6 @@ put_queue_spec =
     tie.close
     (tie.spec
     (λ c. rw (queue-none _ _ c.if-len-eq0.true))
-    (λ c. search rules)
     (λ c κs. search rules)
     (λ c κs. search rules)
     (λ c. search rules)

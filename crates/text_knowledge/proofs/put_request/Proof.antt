@@ -15,7 +15,6 @@ put_request_spec =
     (tie.spec
     (λ c. search rules)
     (λ c κs. search rules)
-    (λ c. search rules)
     (λ c κs. search rules)
     (λ c. search rules)
     returns)

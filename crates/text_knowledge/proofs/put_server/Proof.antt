@@ -25,7 +25,7 @@ module _ (c : tie.After-server_head-h) where
 -- and what it says is put behind the number
 module _ (c : tie.After-put_with-p) where
   abbrev known : tie.After-server_head-h
-  known = c.before.before.before.before
+  known = c.before.before.before.before.before
 
 returns : tie.Need-returns
 returns c =
@@ -42,11 +42,9 @@ put_server_spec =
     (λ c κs. (server_in_lem _ _ c.requires, search rules))
     (λ c κs. (server_in_lem _ _ c.requires, server-held _ c.args.j c.requires))
     (λ c. search rules)
-    (λ c. search rules)
     (λ c κs. search rules)
     (λ c. search rules)
     (λ c κs. let m = known c.before.before.before.before in queue-padded _ _ c.requires _ _ (read m))
-    (λ c. search rules)
     (λ c κs. search rules)
     (λ c. search rules)
     returns)

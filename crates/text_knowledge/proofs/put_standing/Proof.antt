@@ -7,11 +7,9 @@ pub put_standing_spec : {M : Type 1} → statement M
 put_standing_spec =
     tie.close
     (tie.spec
-    (λ c. search rules)
     (λ c κs. search rules)
     (λ c. search rules)
     (λ c. let d = c.before.before in rw c.if-delivered.true c.put.ensures)
-    (λ c. search rules)
     (λ c κs. search rules)
     (λ c. search rules)
     (λ c. let d = c.before.before in rw c.if-delivered.false c.put-2.ensures))

@@ -13,7 +13,6 @@ pub put_supporters_spec : {M : Type 1} → statement M
 put_supporters_spec =
     tie.close
     (tie.spec
-    (λ c. search rules)
     (λ c κs. search rules)
     (λ c κs. search rules)
     (λ c. search rules)

@@ -9,7 +9,6 @@ put_count_spec =
     tie.close
     (tie.spec
     (λ c κs. search rules)
-    (λ c. search rules)
     (λ c κs. search rules)
     (λ c. search rules)
     (λ c. then _ _ _ c.put_with-p.ensures c.put.ensures))

@@ -21,9 +21,7 @@ pub put_difference_spec : {M : Type 1} → statement M
 put_difference_spec =
     tie.close
     (tie.spec
-    (λ c. search rules)
     (λ c κs. search rules)
-    (λ c. search rules)
     (λ c. search rules)
     (λ c κs. search rules)
     (λ c. search rules)

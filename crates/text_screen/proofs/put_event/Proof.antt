@@ -12,7 +12,7 @@ use Rattle.text_screen.proofs.put_event.Tie as tie
 -- the event's number has 32 bits
 module _ (c : tie.After-number_of) where
   short : length (event_line c.args.e) ≤ 16
-  short = event-short c.args.e (omega (arith, c.number_of_lem.ensures))
+  short = event-short c.args.e (omega (arith, c.number_of.ensures))
 
 returns : tie.Need-returns
 returns c =
@@ -29,7 +29,6 @@ put_event_spec =
     (λ c. search rules)
     (λ c. let d = c.before.before.before in omega (arith, short d.before.before, c.put_event-n.ensures.0))
     (λ c κs. search rules)
-    (λ c. search rules)
     (λ c κs. search rules)
     (λ c. search rules)
     returns)

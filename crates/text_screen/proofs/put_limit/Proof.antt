@@ -20,11 +20,8 @@ put_limit_spec =
     tie.close
     (tie.spec
     returns
-    (λ c. search rules)
     (λ c κs. search rules)
-    (λ c. search rules)
     (λ c κs. search rules)
-    (λ c. search rules)
     (λ c κs. search rules)
     (λ c. search rules)
     returns-2)

@@ -12,19 +12,19 @@ returns : tie.Need-returns-then-not-in_range
 unfolding puts
 returns c =
     let x = c.args in
-    rw (margin-none x.n x.m x.f _ c.before.in_range_lem.ensures c.if-not-in_range.true)
+    rw (margin-none x.n x.m x.f _ c.before.in_range.ensures c.if-not-in_range.true)
 
 mul-put-difference : tie.Need-overflow_mul-m
 mul-put-difference c =
     let e = c.before in
     let x = c.args in
-    omega (arith, in_bounds x.n x.m x.f _ e.before.in_range_lem.ensures c.if-not-in_range.false)
+    omega (arith, in_bounds x.n x.m x.f _ e.before.in_range.ensures c.if-not-in_range.false)
 
 add-put-difference : tie.Need-overflow_add-n
 add-put-difference c =
     let e = c.before in
     let x = c.args in
-    omega (arith, in_bounds x.n x.m x.f _ e.before.in_range_lem.ensures c.if-not-in_range.false)
+    omega (arith, in_bounds x.n x.m x.f _ e.before.in_range.ensures c.if-not-in_range.false)
 
 returns-2 : tie.Need-returns
 returns-2 c =
@@ -32,7 +32,7 @@ returns-2 c =
     let d₁ = d₂.before.before.before.before.before in
     let e = d₁.before.before in
     let x = c.args in
-    rw (margin_some x.n x.m x.f _ e.before.in_range_lem.ensures c.if-not-in_range.false)
+    rw (margin_some x.n x.m x.f _ e.before.in_range.ensures c.if-not-in_range.false)
     (then _ _ _ c.put_difference-p.ensures c.put.ensures)
 
 pub put_margin_spec : {M : Type 1} → statement M
@@ -44,7 +44,6 @@ put_margin_spec =
     mul-put-difference
     add-put-difference
     (λ c κs. search rules)
-    (λ c. search rules)
     (λ c κs. search rules)
     (λ c. search rules)
     returns-2)

@@ -33,7 +33,6 @@ put_opening_spec =
     (λ c. search rules)
     (λ c. let d = c.before.before.before in omega (arith, short d.before.before.before, c.put_setting-k.ensures.0))
     (λ c κs. search rules)
-    (λ c. search rules)
     (λ c κs. search rules)
     (λ c. search rules)
     returns)

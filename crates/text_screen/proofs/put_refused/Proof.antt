@@ -10,17 +10,15 @@ returns c =
     let d₃ = d₄.before.before.before.before.before in
     let d₂ = d₃.before.before.before.before in
     let d₁ = d₂.before in
-    rw (← d₁.code_of_lem.ensures) (then _ _ _ (then _ _ _ c.put_with-p.ensures c.put-q.ensures) c.put.ensures)
+    rw (← d₁.code_of.ensures) (then _ _ _ (then _ _ _ c.put_with-p.ensures c.put-q.ensures) c.put.ensures)
 
 pub put_refused_spec : {M : Type 1} → statement M
 put_refused_spec =
     tie.close
     (tie.spec
-    (λ c. search rules)
     (λ c κs. search rules)
     (λ c κs. search rules)
     (λ c κs. search rules)
-    (λ c. search rules)
     (λ c κs. search rules)
     (λ c. search rules)
     returns)

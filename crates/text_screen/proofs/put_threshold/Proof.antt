@@ -16,8 +16,6 @@ put_threshold_spec =
     tie.close
     (tie.spec
     (λ c. search rules)
-    (λ c. search rules)
-    (λ c. search rules)
     (λ c κs. search rules)
     (λ c κs. search rules)
     (λ c. search rules)
