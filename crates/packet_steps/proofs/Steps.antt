@@ -99,7 +99,7 @@ module _ (c : Client) (p : Step client_figure.State) where
   message-valid m e =
       let (a, h₁) = passed (not (client.valid c)) (never InvalidRecord p) e in
       let (b, h₂) = passed (not (format.valid m)) (never NumberOutOfRange p) h₁ in
-      received-valid a m b h₂
+      received-valid (not-false _ a) m (not-false _ b) h₂
 
   begin_valid : client_calls.begin_outcome c ≡ stepped p → every format.valid p.sent ≡ true
   unfolding client_calls.begin_outcome
@@ -108,7 +108,7 @@ module _ (c : Client) (p : Step client_figure.State) where
       let h₂ = entered (client_figure.is_remainder (client.view c).section) (never WrongSection p) h₁ in
       let (b, h₃) = taken (client_figure.may_try (client.view c)) (never TimestampsSpent p) h₂ in
       let g : client_figure.tries n c.head.id (client.view c) ≡ p = cc in
-      rw (← g) (of_client.tries-valid n c.head.m c.head.id (client.view c) (fits a) (leb-true _ _ b))
+      rw (← g) (of_client.tries-valid n c.head.m c.head.id (client.view c) (fits (not-false _ a)) (leb-true _ _ b))
 
   exit_valid : client_calls.exit_outcome c ≡ stepped p → every format.valid p.sent ≡ true
   unfolding client_calls.exit_outcome
@@ -116,7 +116,7 @@ module _ (c : Client) (p : Step client_figure.State) where
       let (a, h₁) = passed (not (client.valid c)) (never InvalidRecord p) e in
       let (b, h₂) = taken (client_figure.is_critical (client.view c).section) (never WrongSection p) h₁ in
       let g : client_figure.exits n c.head.id (client.view c) ≡ p = cc in
-      rw (← g) (of_client.exits-valid n c.head.m c.head.id (client.view c) (fits a) b)
+      rw (← g) (of_client.exits-valid n c.head.m c.head.id (client.view c) (fits (not-false _ a)) b)
 
   short : of_client.Accepted c p → total_bytes + size_of_all p.sent ≤ max_total
   short s = omega (arith, s.most.small, (fits s.before).ranges.few)
@@ -183,18 +183,18 @@ module _ (s : Server) (p : Step server_figure.State) where
   server_message-valid m e =
       let (a, h₁) = passed (not (server.valid s)) (never InvalidRecord p) e in
       let (b, h₂) = passed (not (format.valid m)) (never NumberOutOfRange p) h₁ in
-      server_received_valid a m b h₂
+      server_received_valid (not-false _ a) m (not-false _ b) h₂
 
   suspect-valid : server_calls.suspect_outcome s ≡ stepped p → every format.valid p.sent ≡ true
   unfolding server_calls.suspect_outcome
-  suspect-valid e = let (a, h) = passed (not (server.valid s)) (never InvalidRecord p) e in suspected-valid a s.head.votes.owner h
+  suspect-valid e = let (a, h) = passed (not (server.valid s)) (never InvalidRecord p) e in suspected-valid (not-false _ a) s.head.votes.owner h
 
   check-valid : server_calls.check_outcome s ≡ stepped p → every format.valid p.sent ≡ true
   unfolding server_calls.check_outcome
   check-valid e =
       let (a, h) = passed (not (server.valid s)) (never InvalidRecord p) e in
       let g : server_figure.check s.head.id (server.view s) ≡ p = cc in
-      rw (← g) (of_server.check-valid s.head.id (its-id a) (server.view s) (view-good max_servers s a).1)
+      rw (← g) (of_server.check-valid s.head.id (its-id (not-false _ a)) (server.view s) (view-good max_servers s (not-false _ a)).1)
 
   server-short : of_server.Accepted s p → total_bytes + size_of_all p.sent ≤ max_total
   server-short a = omega (arith, a.small)

@@ -1,3 +1,2 @@
-pub mod Thin
 pub mod Stepping
 pub mod Refused

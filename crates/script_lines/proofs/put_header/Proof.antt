@@ -20,5 +20,5 @@ put_header_spec =
     (λ c κs. omega (arith, length-header c.args.s))
     (λ c. omega (arith, length-header c.args.s))
     (λ c. omega (arith, length-header c.args.s))
-    (λ c. let d = c.put_four-q in omega (arith, length-set d.new.0 d.result 10))
+    (λ c. let d = c.put_four-q in omega (arith, length-set d.new.out d.result 10))
     returns)

@@ -63,7 +63,7 @@ mark_spec =
     (λ c. search rules)
     (λ c. search rules)
     (λ c. search rules)
-    (λ c κs. let s = c.before.before.before in change_card _ _ _ c.requires.0 c.requires.1)
+    (λ c κs. let s = c.before.before in change_card _ _ _ c.requires.0 c.requires.1)
     (λ c. search rules)
     (λ c. search rules)
     (λ c. search rules)

@@ -14,7 +14,7 @@ use Rattle.sim_indexed.proofs.post.Tie as tie
 -- at entry
 module _ (s : tie.Start) where
   abbrev new : List Message
-  new = messages_in c.args.count c.args.bytes.now
+  new = messages_in s.args.count s.args.bytes.now
 
 -- the slots have the messages
 module _ (c : tie.After-post) where

@@ -49,7 +49,7 @@ remove_spec =
     (λ c. search rules)
     (λ c. search rules)
     (λ c. search rules)
-    (λ c κs. let s = c.before.before.before in change_card _ _ _ c.requires.0 c.requires.1)
+    (λ c κs. let s = c.before.before in change_card _ _ _ c.requires.0 c.requires.1)
     (λ c. search rules)
     (λ c. search rules)
     (λ c. search rules)
