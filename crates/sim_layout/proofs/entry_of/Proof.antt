@@ -22,7 +22,7 @@ sub-entry-at c =
 entry-at-requires : tie.Need-entry_at-requires
 entry-at-requires c κs =
     let a = client-asked c.before in
-    let s = a.before.before.before.before.before in
+    let s = a.before.before.before in
     (c.requires, (client-there _ c.requires _ c.args.i _ c.in-Client.is _ c.has_client.ensures c.if-not-has_client.false).1)
 
 returns : tie.Need-returns-then-not-has_client
@@ -42,7 +42,7 @@ sub-entry-at-2 c =
 entry-at-requires-2 : tie.Need-entry_at-requires-in-Server
 entry-at-requires-2 c κs =
     let a = server-asked c.before in
-    let s = a.before.before.before.before.before in
+    let s = a.before.before.before in
     (c.requires, (server-there _ c.requires _ c.args.i _ c.in-Server.is _ c.has_server.ensures c.if-not-has_server.false).1)
 
 returns-2 : tie.Need-returns-then-not-has_server
