@@ -45,7 +45,7 @@ use Rattle.system.specs.Events.{event, server_moves, server_took}
 use Rattle.server_votes.proofs.Tagged.{message, message-request}
 use Rattle.sim_blocks.specs.Blocks.{server_record, client_place, server_place, named_pair, server_block}
 use Rattle.sim_blocks.proofs.Facts.{ServerBlock, server-facts, server-good}
-use Rattle.sim_blocks.proofs.ServerLaws.{server_of}
+use Rattle.sim_blocks.proofs.ServerLaws.{server_of as placed_server}
 use Rattle.sim_blocks.proofs.ServerSteps.{check-outcome, check-short, suspect-outcome, suspect-short, receive-outcome, receive-short}
 use Rattle.sim_blocks.proofs.ServerSteps.{server-after}
 use Rattle.sim_layout.specs.Layout.{setting_of, length_of, transit_words, view, servers_from}
@@ -86,7 +86,7 @@ module _ (w : List ℕ) (j : ServerId) (H : HasServer w j) where
   its-facts : ServerBlock (setting_of w).n (setting_of w).clients j.0 (server_block_of w j)
   its-facts = server-facts (setting_of w).n (setting_of w).clients j.0 (server_block_of w j) (server-block w j.0 H)
 
-  its-after : (p : Step votes.State) → server_after its (stepped p) ≡ server_of (setting_of w).n j.0 p.state
+  its-after : (p : Step votes.State) → server_after its (stepped p) ≡ placed_server (setting_of w).n j.0 p.state
   its-after p = server-after (setting_of w).n (setting_of w).clients j.0 (server_block_of w j) (server-block w j.0 H) p
 
   pub server-padded : (h : Head) (row : List ℕ) → server_of h row ≡ server_from (server_record (server_block_of w j)) → Padded row h.votes.len
@@ -298,7 +298,7 @@ module _ {w : List ℕ} {j : ServerId} {a : ServerAct} {h : Head} {row : List �
   pub storing_still : {w₁ : List ℕ} {u : System} → Becomes w w₁ u → ServerIn w₁ j
   storing_still {w₁} B = server_in_lem w₁ j.0 (still-server B storing_server)
 
-  stored_as : server_of h row ≡ server_of (setting_of w).n j.0 (server_step w j a).state
+  stored_as : server_of h row ≡ placed_server (setting_of w).n j.0 (server_step w j a).state
   stored_as = S.left ∙ its-after w j storing_server (server_step w j a)
 
   module _ {w₁ : List ℕ} (z : w₁ ≡ sets w (servers_from + server_block * (j.0 - 1)) (sets (server_block_of w j) 1 (server_words (server_of h row)))) where
@@ -322,7 +322,7 @@ module _ {w : List ℕ} {j : ServerId} {a : ServerAct} {h : Head} {row : List �
         let r : Request = record { client = k; timestamp = t } in
         let step : System → votes.State = λ u. (votes.receive j x r (server_at u j).state).state in
         let same : step (view w) ≡ step (view w₁) = ap step (sym B.system) in
-        let q : server_of h row ≡ server_of (setting_of w).n j.0 (step (view w)) = rw e at stored_as in
+        let q : server_of h row ≡ placed_server (setting_of w).n j.0 (step (view w)) = rw e at stored_as in
         let D = receive-stored w₁ j.0 (still-server B storing_server) (server_of h row) w₂ z x r
         (rw B.setting (asker-there w j i x k t pends)) (asker-valid w j i x k t pends) (rw (B.setting, ← same) q) in
         rw e (rw S.up at (and_then (λ u. with_server u j (record { up = (server_at u j).up; state = step u })) B D))

@@ -40,7 +40,6 @@ client-head-requires c κs = (client-held _ _ (is-client _ _ c.holds_client.ensu
 
 client-finish-requires : tie.Need-client_finish-requires
 client-finish-requires c κs =
-    let l = loaded c.before.before.before.before.before.before in
     (omega (arith, long (tested c.before.before.before.before.before.before.before.before.before.before)), c.if-sent-lt2.false, storable c.before.before.before.before.before.before)
 
 pub client_call_spec : {M : Type 1} → statement M

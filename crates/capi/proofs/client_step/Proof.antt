@@ -4,13 +4,13 @@ use Rattle.capi.proofs.client_step.Statement.{statement}
 use Rattle.capi.proofs.client_step.Tie as tie
 
 returns : tie.Need-returns-in-Message
-returns c = let made = c.before.before.before.before in rw c.in-Message.is c.message_row.ensures
+returns c = rw c.in-Message.is c.message_row.ensures
 
 returns-2 : tie.Need-returns-in-Begin
-returns-2 c = let made = c.before.before.before.before in rw c.in-Begin.is c.begin_row.ensures
+returns-2 c = rw c.in-Begin.is c.begin_row.ensures
 
 returns-3 : tie.Need-returns-in-Exit
-returns-3 c = let made = c.before.before.before.before in rw c.in-Exit.is c.exit_row.ensures
+returns-3 c = rw c.in-Exit.is c.exit_row.ensures
 
 pub client_step_spec : {M : Type 1} → statement M
 client_step_spec =

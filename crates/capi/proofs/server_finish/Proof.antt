@@ -6,7 +6,7 @@ use Rattle.capi.proofs.server_finish.Statement.{statement}
 use Rattle.capi.proofs.server_finish.Tie as tie
 
 server-send-requires : tie.Need-server_send-requires
-server-send-requires c κs = let e = c.before.before.before.before.before.before.before.before.before in (
+server-send-requires c κs = (
   c.requires.0,
   c.requires.1 c.in-Done.is,
 )
@@ -17,8 +17,6 @@ returns c = rw c.in-Done.is
 
 returns-2 : tie.Need-returns-in-Refused
 returns-2 c =
-    let arm = c.before.before in
-    let e = arm.before.before.before.before.before.before in
     rw c.in-Refused.is (refused_leaves _ _ _ c.args.state.now c.args.out.now c.args.sent.now refl c.code_of.ensures)
 
 pub server_finish_spec : {M : Type 1} → statement M

@@ -5,12 +5,10 @@ use Rattle.capi.proofs.server_made.Tie as tie
 
 returns : tie.Need-returns-in-Sent
 returns c =
-    let stored = c.before.before in
-    let arm = stored.before.before.before.before.before.before in
     (rw c.in-Sent.is, rw c.in-Sent.is c.put_server.ensures)
 
 returns-2 : tie.Need-returns-in-Refused
-returns-2 c = let arm = c.before.before in (rw c.in-Refused.is c.code_of.ensures, rw c.in-Refused.is)
+returns-2 c = (rw c.in-Refused.is c.code_of.ensures, rw c.in-Refused.is)
 
 pub server_made_spec : {M : Type 1} → statement M
 server_made_spec =

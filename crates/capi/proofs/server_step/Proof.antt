@@ -4,10 +4,10 @@ use Rattle.capi.proofs.server_step.Statement.{statement}
 use Rattle.capi.proofs.server_step.Tie as tie
 
 returns : tie.Need-returns-in-Message
-returns c = let made = c.before.before in rw c.in-Message.is c.message_row.ensures
+returns c = rw c.in-Message.is c.message_row.ensures
 
 returns-2 : tie.Need-returns-in-Suspect
-returns-2 c = let made = c.before.before in rw c.in-Suspect.is c.suspect_row.ensures
+returns-2 c = rw c.in-Suspect.is c.suspect_row.ensures
 
 pub server_step_spec : {M : Type 1} → statement M
 server_step_spec =

@@ -5,19 +5,15 @@ use Rattle.capi.proofs.server_store.Tie as tie
 
 put-counts-requires : tie.Need-put_counts-requires
 put-counts-requires c κs =
-    let arm = c.before.before.before.before.before.before in
     let few = c.requires.3.few _ _ c.in-Sent.is in
     (c.requires.1, few.0, few.1)
 
 returns : tie.Need-returns-in-Sent
 returns c =
-    let counted = c.before.before in
-    let stored = counted.before.before.before.before in
-    let arm = stored.before.before.before in
     (rw c.in-Sent.is, rw c.in-Sent.is c.put_server.ensures, rw c.in-Sent.is c.put_counts.ensures)
 
 returns-2 : tie.Need-returns-in-Refused
-returns-2 c = let arm = c.before.before in (rw c.in-Refused.is c.code_of.ensures, rw c.in-Refused.is, rw c.in-Refused.is)
+returns-2 c = (rw c.in-Refused.is c.code_of.ensures, rw c.in-Refused.is, rw c.in-Refused.is)
 
 pub server_store_spec : {M : Type 1} → statement M
 server_store_spec =

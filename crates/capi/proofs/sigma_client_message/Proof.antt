@@ -7,8 +7,6 @@ use Rattle.capi.proofs.sigma_client_message.Tie as tie
 
 returns : tie.Need-returns
 returns c =
-    let called = c.before.before.before.before.before.before in
-    let read = called.before.before.before.before in
     rw (client_takes-words c.args.state.now (message_in c.args.message.now) _ c.message_in-m.ensures) at c.client_call.ensures
 
 pub sigma_client_message_spec : {M : Type 1} → statement M

@@ -13,8 +13,6 @@ returns c = client_new-room _ _ _ c.args.state.now _ c.if-state-lt-CLIENT_WORDS.
 
 returns-2 : tie.Need-returns-then-not-fits_head
 returns-2 c =
-    let asked = c.before.before in
-    let tested = asked.before in
     client_new-wide _ _ _ c.args.state.now c.if-state-lt-CLIENT_WORDS.false _ _ c.fits_head.ensures
     c.if-not-fits_head.true c.code_of-then-not-fits_head.ensures
 
@@ -29,9 +27,6 @@ cast-new-3 c = let (a, b, d) = head_small _ _ _ (sym c.fits_head.ensures ∙ c.i
 
 returns-3 : tie.Need-returns
 returns-3 c =
-    let made = c.before.before in
-    let new = made.before.before in
-    let tested = new.before.before.before in
     client_new-done _ _ _ c.args.state.now c.if-state-lt-CLIENT_WORDS.false _ _ _ c.new-r.ensures.0
     c.client_made.ensures.0 c.client_made.ensures.1
 

@@ -11,7 +11,6 @@ returns c = upgrade_broken _ _ _ _ _ c.valid_client.ensures _ c.if-not-valid_cli
 
 returns-2 : tie.Need-returns-then-state-lt-CLIENT_WORDS
 returns-2 c =
-    let s = c.before.before in
     upgrade-short _ _ _ _ _ c.valid_client.ensures _ c.if-not-valid_client.false c.if-state-lt-CLIENT_WORDS.true c.code_of-then-state-lt-CLIENT_WORDS.ensures
 
 take-client-requires : tie.Need-take_client-requires
@@ -19,8 +18,6 @@ take-client-requires c κs = let s = c.before.before in (holds _ _ c.valid_clien
 
 returns-3 : tie.Need-returns
 returns-3 c =
-    let t = c.before.before in
-    let s = t.before.before.before in
     upgrade-done _ _ (client_now c.args.old.now) c.args.state.now _ c.valid_client.ensures 0 c.if-not-valid_client.false _ c.if-state-lt-CLIENT_WORDS.false
     c.take_client.ensures
 

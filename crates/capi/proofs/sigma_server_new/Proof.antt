@@ -13,8 +13,6 @@ returns c = server_new-room _ _ c.args.state.now _ c.if-state-lt-SERVER_WORDS.tr
 
 returns-2 : tie.Need-returns-then-not-fits_head
 returns-2 c =
-    let asked = c.before.before in
-    let tested = asked.before in
     server_new-wide _ _ c.args.state.now c.if-state-lt-SERVER_WORDS.false _ _ c.fits_head.ensures
     c.if-not-fits_head.true c.code_of-then-not-fits_head.ensures
 
@@ -29,9 +27,6 @@ server-made-requires c κs = let w = server_new-whole _ _ _ c.new-r.ensures.0 in
 
 returns-3 : tie.Need-returns
 returns-3 c =
-    let made = c.before.before in
-    let new = made.before.before in
-    let tested = new.before.before.before in
     server_new-done _ _ c.args.state.now c.if-state-lt-SERVER_WORDS.false _ _ _ c.new-r.ensures.0
     c.server_made.ensures.0 c.server_made.ensures.1
 

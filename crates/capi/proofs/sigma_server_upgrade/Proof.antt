@@ -11,7 +11,6 @@ returns c = upgrade_broken _ _ _ _ _ c.valid_server.ensures _ c.if-not-valid_ser
 
 returns-2 : tie.Need-returns-then-state-lt-SERVER_WORDS
 returns-2 c =
-    let s = c.before.before in
     upgrade-short _ _ _ _ _ c.valid_server.ensures _ c.if-not-valid_server.false c.if-state-lt-SERVER_WORDS.true c.code_of-then-state-lt-SERVER_WORDS.ensures
 
 take-server-requires : tie.Need-take_server-requires
@@ -19,8 +18,6 @@ take-server-requires c κs = let s = c.before.before in (holds _ _ c.valid_serve
 
 returns-3 : tie.Need-returns
 returns-3 c =
-    let t = c.before.before in
-    let s = t.before.before.before in
     upgrade-done _ _ (server_now c.args.old.now) c.args.state.now _ c.valid_server.ensures 0 c.if-not-valid_server.false _ c.if-state-lt-SERVER_WORDS.false
     c.take_server.ensures
 

@@ -8,13 +8,10 @@ use Rattle.capi_packet.proofs.sigma_packet_next.Tie as tie
 
 returns : tie.Need-returns-in-Message
 returns c =
-    let b = c.before.before.before in
-    let m = b.before.before.before in
     next-given _ _ _ _ c.next_at.ensures.0 _ _ _ _ _ c.in-Message.is c.fields_of.ensures c.answer.ensures
 
 returns-2 : tie.Need-returns-in-End
 returns-2 c =
-    let b = c.before.before.before in
     next_end _ _ _ _ c.next_at.ensures.0 _ _ c.in-End.is (rw c.no_fields.ensures at c.answer-in-End.ensures)
 
 pub sigma_packet_next_spec : {M : Type 1} → statement M

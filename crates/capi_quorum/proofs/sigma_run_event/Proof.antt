@@ -7,7 +7,6 @@ use Rattle.capi_quorum.proofs.sigma_run_event.Tie as tie
 
 returns : tie.Need-returns-in-Event
 returns c =
-    let d = c.before.before.before.before.before.before.before.before.before in
     let a = c.args in
     event-given a.n a.m a.f a.i a.words.now _ _ _ c.run_event-a.ensures.0 _ _ _
     c.in-Event.is c.kind_of.ensures
@@ -15,7 +14,6 @@ returns c =
 
 returns-2 : tie.Need-returns-in-Refused
 returns-2 c =
-    let d = c.before.before.before.before in
     let a = c.args in
     event-refused a.n a.m a.f a.i a.words.now [] _ _ c.run_event-a.ensures.0 _ c.in-Refused.is c.code_of.ensures
 

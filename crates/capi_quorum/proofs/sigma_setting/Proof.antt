@@ -7,7 +7,6 @@ use Rattle.capi_quorum.proofs.sigma_setting.Tie as tie
 
 returns : tie.Need-returns-in-Accepted
 returns c =
-    let d = c.before.before.before.before.before.before.before.before in
     let a = c.args in
     setting-accepted a.n a.m a.f a.words.now _ _ _ c.check-v.ensures.0 _ _
     c.in-Accepted.is c.signed_word.ensures
@@ -15,7 +14,6 @@ returns c =
 
 returns-2 : tie.Need-returns-in-Unsafe
 returns-2 c =
-    let d = c.before.before.before.before.before.before.before.before.before in
     let a = c.args in
     setting-unsafe a.n a.m a.f a.words.now _ _ _ c.check-v.ensures.0 _ _ _ _
     c.in-Unsafe.is c.signed_word-in-Unsafe.ensures
@@ -23,7 +21,6 @@ returns-2 c =
 
 returns-3 : tie.Need-returns-in-Stalls
 returns-3 c =
-    let d = c.before.before.before.before.before.before.before.before.before in
     let a = c.args in
     setting-stalls a.n a.m a.f a.words.now _ _ _ c.check-v.ensures.0 _ _ _
     c.in-Stalls.is c.signed_word-in-Stalls.ensures
@@ -31,7 +28,6 @@ returns-3 c =
 
 returns-4 : tie.Need-returns-in-OutOfRange
 returns-4 c =
-    let d = c.before.before.before in
     let a = c.args in
     setting-refused a.n a.m a.f a.words.now [] _ _ c.check-v.ensures.0 c.in-OutOfRange.is c.code_of-in-OutOfRange.ensures
 

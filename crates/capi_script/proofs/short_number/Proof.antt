@@ -6,12 +6,10 @@ use Rattle.capi_script.proofs.short_number.Tie as tie
 
 returns : tie.Need-returns-then-valid
 returns c =
-    let v = c.before.before in
     short-valid c.args.state.now _ c.valid.ensures _ c.if-valid.true c.code_of.ensures
 
 returns-2 : tie.Need-returns
 returns-2 c =
-    let v = c.before.before in
     short_invalid c.args.state.now _ c.valid.ensures _ c.if-valid.false c.code_of-2.ensures
 
 pub short_number_spec : {M : Type 1} → statement M

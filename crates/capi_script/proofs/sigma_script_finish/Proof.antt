@@ -11,7 +11,6 @@ returns c =
 
 returns-2 : tie.Need-returns
 returns-2 c =
-    let k = c.before.before.before in
     let a = c.args in
     finish_lent a.state.now a.out.now a.counts.now _ c.if-counts-lt2.false _ _ _ _ c.put_counts.ensures c.number_of.ensures
     c.finish-p.ensures.0

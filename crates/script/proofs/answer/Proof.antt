@@ -25,19 +25,16 @@ returns c =
 
 returns-2 : tie.Need-returns-in-Bad
 returns-2 c =
-    let d = entry (more c.before.before.before.before.before.before.before.before) in
     bad_does c.args.w.now c.args.out.now c.args.at c.requires.0 _ _ _ c.requires.1 c.if-w-ge-MAX_LINES.false
     (sym c.in-Bad.is ∙ c.read_event-line.ensures) c.pass.ensures
 
 returns-3 : tie.Need-returns-in-Unknown
 returns-3 c =
-    let d = entry (more c.before.before.before.before.before.before.before.before) in
     unknown_does c.args.w.now c.args.out.now c.args.at c.requires.0 _ _ _ c.requires.1 c.if-w-ge-MAX_LINES.false
     (sym c.in-Unknown.is ∙ c.read_event-line.ensures) c.pass-in-Unknown.ensures
 
 returns-4 : tie.Need-returns-in-Event
 returns-4 c =
-    let d = entry (more c.before.before.before.before.before.before.before.before) in
     event_does c.args.w.now c.args.out.now c.args.at c.requires.0 _ _ _ c.requires.1 c.if-w-ge-MAX_LINES.false
     _ (sym c.in-Event.is ∙ c.read_event-line.ensures) c.happen.ensures
 

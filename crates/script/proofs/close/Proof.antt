@@ -26,7 +26,6 @@ last-requires c κs =
 
 end-requires : tie.Need-end-wrote-requires
 end-requires c κs =
-    let d = entry c.before.before.before.before.before in
     ending_ready c.args.w.now c.args.out.now c.requires.0 c.requires.1 _ _ _ c.last-at.ensures
 
 seal-requires : tie.Need-seal-requires
@@ -34,8 +33,6 @@ seal-requires c κs = (whole (done c.before.before.before)).long
 
 returns : tie.Need-returns
 returns c =
-    let l = done c.before.before.before.before.before.before in
-    let d = entry c.before.before.before.before.before.before.before.before.before.before.before.before in
     closing c.args.w.now c.args.out.now c.requires.0 c.requires.1 _ _ _ c.last-at.ensures _ _ c.end-wrote.ensures _ c.seal.ensures
 
 pub close_spec : {M : Type 1} → statement M

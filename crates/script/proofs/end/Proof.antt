@@ -22,12 +22,10 @@ most-down-requires c κs =
 
 put-end-requires : tie.Need-put_end-requires
 put-end-requires c κs =
-    let d = entry c.before.before.before.before.before in
     end_fits c.args.w.now c.args.at c.args.out.now c.requires.valid c.if-w-eq-RUNNING.true _ (omega arith) c.requires.room
 
 returns-2 : tie.Need-returns-then-w-eq-RUNNING
 returns-2 c =
-    let d = entry c.before.before.before.before.before.before.before.before in
     end_running c.args.w.now c.args.at c.args.out.now c.requires.valid c.if-w-eq-RUNNING.true _ (omega arith) c.most_down.ensures
     _ _ c.put_end.ensures
 

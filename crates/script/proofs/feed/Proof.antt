@@ -12,21 +12,16 @@ returns c =
 
 returns-2 : tie.Need-returns-then-out-lt-MAX_PRINTED
 returns-2 c =
-    let v = c.before in
     let a = c.args in
     feed_said _ _ _ _ (feed_short a.w.now a.input.now a.out.now _ c.valid.ensures c.if-not-valid.false c.if-out-lt-MAX_PRINTED.true)
 
 take-all-requires : tie.Need-take_all-requires
 take-all-requires c κs =
-    let v = c.before.before.before in
     let a = c.args in
     feed_sound a.w.now a.input.now a.out.now _ c.valid.ensures c.if-not-valid.false
 
 returns-3 : tie.Need-returns
 returns-3 c =
-    let t = c.before.before.before.before in
-    let r = t.before.before.before in
-    let v = r.before in
     let a = c.args in
     feed_said _ _ _ _ (feed_done a.w.now a.input.now a.out.now _ c.valid.ensures c.if-not-valid.false c.if-out-lt-MAX_PRINTED.false
     _ _ _ c.take_all.ensures)

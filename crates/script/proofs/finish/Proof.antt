@@ -12,22 +12,16 @@ returns c =
 
 returns-2 : tie.Need-returns-then-out-lt-MAX_ENDING
 returns-2 c =
-    let v = c.before in
     let a = c.args in
     finish_said _ _ _ (finish_short a.w.now a.out.now _ c.valid.ensures c.if-not-valid.false c.if-out-lt-MAX_ENDING.true)
 
 close-requires : tie.Need-close-wrote-requires
 close-requires c κs =
-    let r = c.before.before in
-    let v = r.before in
     let a = c.args in
     (finish_sound a.w.now a.out.now _ c.valid.ensures c.if-not-valid.false, c.if-out-lt-MAX_ENDING.false)
 
 returns-3 : tie.Need-returns
 returns-3 c =
-    let t = c.before.before.before.before in
-    let r = t.before.before.before in
-    let v = r.before in
     let a = c.args in
     finish_said _ _ _ (finish_done a.w.now a.out.now _ c.valid.ensures c.if-not-valid.false c.if-out-lt-MAX_ENDING.false _ _ _ c.close-wrote.ensures)
 

@@ -19,31 +19,22 @@ module _ (c : tie.After-put_counts) where
 
 event-requires : tie.Need-event-went-requires
 event-requires c κs =
-    let d = entry c.before in
     let a = c.args in
     (simulation_valid a.w.now a.out.now a.at c.requires.0 c.requires.1, counts-small a.w.now c.requires.1 _ c.counts_in-counts.ensures)
 
 put-counts-requires : tie.Need-put_counts-requires
 put-counts-requires c κs =
-    let k = counted c.before.before.before.before in
-    let d = entry c.before.before.before.before.before.before in
     let a = c.args in
     event-long a.w.now a.out.now a.at c.requires.0 c.requires.1 a.e _ _ c.counts_in-counts.ensures _ c.event-went.ensures
 
 same_length : tie.Need-shape_of-w
 same_length c =
-    let h = went c.before.before.before.before.before.before in
-    let k = counted c.before.before.before.before.before.before.before.before.before.before.before in
-    let d = entry c.before.before.before.before.before.before.before.before.before.before.before.before.before in
     let a = c.args in
     event-same a.w.now a.out.now a.at c.requires.0 c.requires.1 a.e _ _ c.counts_in-counts.ensures _ c.event-went.ensures
     _ c.put_counts.ensures
 
 returns : tie.Need-returns
 returns c =
-    let h = went c.before.before.before.before.before.before in
-    let k = counted c.before.before.before.before.before.before.before.before.before.before.before in
-    let d = entry c.before.before.before.before.before.before.before.before.before.before.before.before.before in
     let a = c.args in
     event-happened a.w.now a.out.now a.at c.requires.0 c.requires.1 a.e _ _ c.counts_in-counts.ensures _ c.event-went.ensures
     _ c.put_counts.ensures _ _ c.put_reply.ensures

@@ -7,13 +7,11 @@ use Rattle.script.proofs.keep.Tie as tie
 
 returns : tie.Need-returns-then-len-ge-MAX_KEPT
 returns c =
-    let d = c.before.before in
     let a = c.args in
     keep_full a.w.now a.b c.requires c.if-len-ge-MAX_KEPT.true
 
 returns-2 : tie.Need-returns
 returns-2 c =
-    let d = c.before.before in
     let a = c.args in
     keep_more a.w.now a.b c.requires c.if-len-ge-MAX_KEPT.false (omega arith)
 

@@ -6,14 +6,10 @@ use Rattle.script.proofs.last.Tie as tie
 
 returns : tie.Need-returns-then-w-eq0
 returns c =
-    let d = c.before.before.before.before in
     last_none c.args.w.now c.args.out.now 0 c.requires c.if-w-eq0.true
 
 returns-2 : tie.Need-returns
 returns-2 c =
-    let k = c.before.before.before.before in
-    let e = k.before.before.before in
-    let d = e.before.before.before.before in
     last_line_lem c.args.w.now c.args.out.now 0 c.requires c.if-w-eq0.false _ _ _ c.work.ensures
 
 pub last_spec : {M : Type 1} → statement M

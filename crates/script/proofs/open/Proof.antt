@@ -12,13 +12,11 @@ module _ (c : tie.After-read_setting-first) where
 
 returns : tie.Need-returns-in-Bad
 returns c =
-    let d = entry c.before.before.before.before.before.before.before.before in
     bad_first c.args.w.now c.args.out.now c.args.at c.requires.0 _ _ _
     (sym c.in-Bad.is ∙ c.read_setting-first.ensures) c.refuse.ensures
 
 returns-2 : tie.Need-returns-in-Setting
 returns-2 c =
-    let d = entry c.before.before.before.before.before.before.before.before in
     setting-first c.args.w.now c.args.out.now c.args.at c.requires.0 _ _ _
     _ (sym c.in-Setting.is ∙ c.read_setting-first.ensures) c.begin.ensures
 

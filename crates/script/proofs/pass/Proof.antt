@@ -6,13 +6,11 @@ use Rattle.script.proofs.pass.Tie as tie
 
 put-no-requires : tie.Need-put_no-requires
 put-no-requires c κs =
-    let d = c.before.before.before.before in
     let a = c.args in
     no_fits a.out.now a.at c.requires.0.room _ a.x (number_small a.w.now a.out.now a.at c.requires.0 c.requires.1)
 
 returns : tie.Need-returns
 returns c =
-    let d = c.before.before.before.before.before.before.before in
     let a = c.args in
     passing_does a.w.now a.out.now a.at c.requires.0 c.requires.1 a.x _ _ c.put_no.ensures
 

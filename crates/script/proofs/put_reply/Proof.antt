@@ -7,7 +7,6 @@ use Rattle.script.proofs.put_reply.Tie as tie
 
 put-ok-requires : tie.Need-put_ok-requires
 put-ok-requires c κs =
-    let d = c.before.before.before.before.before in
     ok_fits c.args.out.now _ c.requires _ _ _ (omega arith) (omega arith) (omega arith)
 
 returns : tie.Need-returns-in-Refused
@@ -24,7 +23,7 @@ put_reply_spec =
     tie.close
     (tie.spec
     (λ c. search rules)
-    (λ c κs. let d = c.before.before.before.before.before in no_fits c.args.out.now _ c.requires _ _ (omega arith))
+    (λ c κs. no_fits c.args.out.now _ c.requires _ _ (omega arith))
     (λ c. search rules)
     put-ok-requires
     (λ c. search rules)

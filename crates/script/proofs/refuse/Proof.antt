@@ -8,7 +8,6 @@ use Rattle.script.proofs.refuse.Tie as tie
 
 returns : tie.Need-returns
 returns c =
-    let d = c.before.before.before.before.before.before in
     let a = c.args in
     refused_does a.w.now a.out.now a.at c.requires.0 c.requires.1 a.x _ _ c.before.before.Put-refused.ensures
 
@@ -17,7 +16,7 @@ refuse_spec =
     tie.close
     (tie.spec
     (λ c. search rules)
-    (λ c κs. let d = c.before.before.before in omega (arith, refused-short c.args.x, c.requires.0.room))
+    (λ c κs. omega (arith, refused-short c.args.x, c.requires.0.room))
     (λ c. search rules)
     (λ c. search rules)
     returns)

@@ -20,34 +20,23 @@ module _ (c : tie.Else-w) where
 
 returns-2 : tie.Need-returns-then-w-gt-MAX_LINES
 returns-2 c =
-    let d = entry c.before.before.before in
     lines-many c.args.w.now c.requires _ c.valid.ensures c.if-not-valid.false c.if-w-gt-MAX_LINES.true
 
 returns-3 : tie.Need-returns-then-w
 returns-3 c =
-    let t = good c.before.before.before in
-    let d = entry c.before.before.before.before.before.before in
     accepted-many c.args.w.now c.requires _ c.valid.ensures c.if-not-valid.false c.if-w-gt-MAX_LINES.false c.if-w.true
 
 holders-requires : tie.Need-holders-requires
 holders-requires c κs =
-    let t = good (lines c.before) in
-    let d = entry c.before.before.before.before.before.before.before in
     simulation_good c.args.w.now c.requires _ c.valid.ensures c.if-not-valid.false
 
 returns-4 : tie.Need-returns-then-w-holders
 returns-4 c =
-    let l = lines c.before.before.before in
-    let t = good c.before.before.before.before.before.before in
-    let d = entry c.before.before.before.before.before.before.before.before.before in
     holders-many c.args.w.now c.requires _ c.valid.ensures c.if-not-valid.false c.if-w-gt-MAX_LINES.false c.if-w.false
     _ c.holders.ensures c.if-w-holders.true
 
 returns-5 : tie.Need-returns
 returns-5 c =
-    let l = lines c.before.before.before.before in
-    let t = good c.before.before.before.before.before.before.before in
-    let d = entry c.before.before.before.before.before.before.before.before.before.before in
     holders-few c.args.w.now c.requires _ c.valid.ensures c.if-not-valid.false c.if-w-gt-MAX_LINES.false c.if-w.false
     _ c.holders.ensures c.if-w-holders.false _ refl
 
@@ -59,7 +48,7 @@ run_valid_spec =
     (λ c. search rules)
     (λ c. search rules)
     (λ c κs. search rules)
-    (λ c. let d = entry c.before in simulation_bad c.args.w.now c.requires _ c.valid.ensures c.if-not-valid.true)
+    (λ c. simulation_bad c.args.w.now c.requires _ c.valid.ensures c.if-not-valid.true)
     (λ c. search rules)
     returns-2
     (λ c. search rules)

@@ -7,15 +7,11 @@ use Rattle.script.proofs.work.Tie as tie
 returns : tie.Need-returns-then-w-eq-OPENING
 returns c =
     let o = c.before.before.before.before in
-    let t = o.before.before.before in
-    let d = t.before.before.before.before in
     let a = c.args in
     opening_does a.w.now a.out.now a.at c.requires _ _ _ c.if-w-eq-OPENING.true o.«open».ensures
 
 returns-3 : tie.Need-returns
 returns-3 c =
-    let e = c.before.before in
-    let d = e.before.before.before.before in
     let a = c.args in
     closed_does a.w.now a.out.now a.at c.requires c.if-w-eq-OPENING.false c.if-w-eq-RUNNING.false
 

@@ -44,7 +44,6 @@ note-down-requires c κs =
 
 returns-3 : tie.Need-returns
 returns-3 c =
-    let u = running c.before.before.before.before.before.before.before.before.before.before in
     down_leaves _ _ (here (present c.before.before.before.before.before.before.before.before.before.before.before.before)) c.sink_server.ensures c.restart_messages.ensures c.note_down.ensures c.is_up.ensures
     c.if-not-is_up.false
 

@@ -6,19 +6,16 @@ use Rattle.sim_acts.proofs.drop.Tie as tie
 
 returns : tie.Need-returns-then-i-in_transit
 returns c =
-    let f = c.before.before.before in
     drop_missing _ _ c.requires c.find_present-i.ensures c.before.in_transit.ensures c.if-i-in_transit.true
 
 remove-requires : tie.Need-remove_message-requires
 remove-requires c κs =
     let e = c.before in
-    let f = e.before.before.before in
     record { valid = search rules; used = used _ _ c.requires c.find_present-i.ensures e.before.in_transit.ensures c.if-i-in_transit.false }
 
 returns-2 : tie.Need-returns
 returns-2 c =
     let e = c.before.before.before.before in
-    let f = e.before.before.before in
     drop_leaves _ _ c.requires c.find_present-i.ensures e.before.in_transit.ensures c.if-i-in_transit.false
     c.remove_message.ensures
 

@@ -42,12 +42,11 @@ add-t11-2 c = omega (arith, flagging_fits _ _ _ _ _ c.loop-i.invariant, c.loop-i
 put-flag-requires : tie.Need-put_flag-requires invariant-loop decreases-loop
 put-flag-requires c κs = flagging_client _ _ _ _ _ c.loop-i.invariant c.loop-i-test.true
 
-add-i : tie.Need-overflow_add-i invariant-loop decreases-loop
-add-i c = let t = turn c.before.before in omega (arith, flagging_fits _ _ _ _ _ c.loop-i.invariant, c.loop-i-test.true)
+add-i : tie.Need-overflow_add-i-in-loop-i-2 invariant-loop decreases-loop
+add-i c = omega (arith, flagging_fits _ _ _ _ _ c.loop-i.invariant, c.loop-i-test.true)
 
 loop-again : tie.Need-loop-i-preserved invariant-loop decreases-loop
 loop-again c =
-    let t = turn c.before.before in
     flagging_more _ _ _ _ _ c.loop-i.invariant c.loop-i-test.true _ c.down_flag-x.ensures _ c.put_flag.ensures
 
 same_length : tie.Need-shape_of-w invariant-loop decreases-loop

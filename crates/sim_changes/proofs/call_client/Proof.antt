@@ -5,32 +5,26 @@ use Rattle.sim_changes.proofs.call_client.Tie as tie
 
 respond-row-requires : tie.Need-respond_row-requires
 respond-row-requires c κs =
-    let a = c.before.before.before in
     rw c.in-Response.is at c.requires
 
 check-row-requires : tie.Need-check_row-requires
 check-row-requires c κs =
-    let a = c.before.before.before in
     rw c.in-Check.is at c.requires
 
 returns : tie.Need-returns-in-Try
 returns c =
-    let r = c.before.before.before.before in
     rw c.in-Try.is c.begin_row.ensures
 
 returns-2 : tie.Need-returns-in-Exit
 returns-2 c =
-    let r = c.before.before.before.before in
     rw c.in-Exit.is c.exit_row.ensures
 
 returns-3 : tie.Need-returns-in-Response
 returns-3 c =
-    let r = c.before.before.before.before in
     rw c.in-Response.is c.respond_row.ensures
 
 returns-4 : tie.Need-returns-in-Check
 returns-4 c =
-    let r = c.before.before in
     rw c.in-Check.is c.check_row.ensures
 
 pub call_client_spec : {M : Type 1} → statement M

@@ -8,12 +8,10 @@ returns c = rw c.in-Check.is c.check_row.ensures
 
 returns-2 : tie.Need-returns-in-Suspect
 returns-2 c =
-    let r = c.before.before in
     rw c.in-Suspect.is c.suspect_row.ensures
 
 returns-3 : tie.Need-returns-in-Take
 returns-3 c =
-    let r = c.before.before in
     rw c.in-Take.is c.take_row.ensures
 
 pub call_server_spec : {M : Type 1} → statement M

@@ -47,11 +47,11 @@ module _ (c : tie.After-client_head) where
   abbrev start : tie.Start
   start = c.before.before.before.before.before.before.before
 
-  read : client_of c.client_head.result c.client_row.last.1.1.0 ≡ client_from (client_record (client_block_of (words start) c.args.k))
+  read : client_of c.client_head.result c.client_row.new.row ≡ client_from (client_record (client_block_of (words start) c.args.k))
   read = client-read _ _ _ c.client_head.ensures c.client_row.ensures
 
 -- its call is accepted: the step is the event's, and the buffer had room for all that it sends
-module _ (c : tie.In-Sent-2) where
+module _ (c : tie.In-Sent) where
   abbrev call : tie.After-call_client-s
   call = c.before.before.before
 
@@ -65,7 +65,7 @@ module _ (c : tie.In-Sent-2) where
   count = c.in-Sent.count
 
   called : ClientCalled (words from) c.args.k c.args.act c.call_client-s.result
-      c.call_client-s.last.1.0 c.call_client-s.last.1.1.1.0
+      c.call_client-s.new.row c.call_client-s.new.out
   called =
       events.client-called (words from) c.args.k c.args.act c.requires (lives (alive loaded)) _ _ (read loaded) _ _ _
       c.call_client-s.ensures _ _ c.in-Sent.is
@@ -75,11 +75,11 @@ module _ (c : tie.In-Sent-2) where
 
 -- the simulation's room for it is tested
 module _ (c : tie.After-has_room) where
-  abbrev accepted : tie.In-Sent-2
-  accepted = c.before.before.before.before
+  abbrev accepted : tie.In-Sent
+  accepted = c.before.before
 
   tested : ClientTested (words (from accepted)) c.args.k c.args.act c.call_client-s.result
-      c.call_client-s.last.1.0 c.call_client-s.last.1.1.1.0 (count accepted) c.has_room.result
+      c.call_client-s.new.row c.call_client-s.new.out (count accepted) c.has_room.result
   tested =
       record {
         called = called accepted;
@@ -105,20 +105,18 @@ client-row-requires c κs = (client_in_lem _ _ (there (entry c.before)), search 
 
 client-head-requires : tie.Need-client_head-requires
 client-head-requires c κs =
-    let d = entry c.before.before.before in
     (client_in_lem _ _ (there c.before.before.before.before.before.before), client-held _ c.args.k (there c.before.before.before.before.before.before))
 
 call-client-requires : tie.Need-call_client-s-requires
 call-client-requires c κs =
-    let d = start c.before.before in
     act-asks (words c.before.before.before.before.before.before.before.before.before) c.args.k c.args.act c.requires _ (read c.before.before)
 
 has-room-requires : tie.Need-has_room-requires
 has-room-requires c κs =
-    let d = from c.before.before in (
+    (
       (there c.before.before.before.before.before.before.before.before.before.before.before.before.before.before).valid,
       rw c.messages_gone.ensures (gone-few (words c.before.before.before.before.before.before.before.before.before.before.before.before.before.before) c.args.k c.args.act c.requires),
-      omega (arith, few c.before.before),
+      omega (arith, few c.before),
     )
 
 store-client-requires : tie.Need-store_client-requires
@@ -135,7 +133,6 @@ cast-t31 c =
 -- the call was refused, as the event is
 returns-3 : tie.Need-returns-in-Refused
 returns-3 c =
-    let d = start c.before.before.before.before.before.before in
     events.client-refused (words c.before.before.before.before.before.before.before.before.before.before.before.before.before) c.args.k c.args.act c.requires (lives (alive c.before.before.before.before.before.before)) _ _ (read c.before.before.before.before.before.before) _ _ _
     c.call_client-s.ensures _ c.in-Refused.is
 

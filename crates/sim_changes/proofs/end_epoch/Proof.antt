@@ -7,7 +7,6 @@ use Rattle.sim_changes.proofs.end_epoch.Tie as tie
 
 clear-client-requires : tie.Need-clear_client-requires
 clear-client-requires c κs =
-    let d = c.before.before in
     let a = c.args in
     client_in_lem a.w.now a.k.0 c.requires
 
@@ -16,7 +15,6 @@ same_length c = search rules
 
 returns : tie.Need-returns
 returns c =
-    let d = c.before.before.before.before.before in
     let a = c.args in
     epoch_ends a.w.now a.k.0 c.requires _ c.clear_client.ensures
 

@@ -8,32 +8,26 @@ use Rattle.sim_changes.proofs.has_room.Tie as tie
 
 returns : tie.Need-returns-then-count-eq0
 returns c =
-    let d = c.before in
     room-none c.args.w.now c.args.gone c.args.count c.if-count-eq0.true
 
 shared-slice-read-if2 : tie.Need-bounds-w-4
 shared-slice-read-if2 c =
-    let d = c.before.before in
     omega (arith, words_long c.args.w.now c.requires.0)
 
 add-if2 : tie.Need-overflow_add-w
 add-if2 c =
-    let d = c.before.before in
     record { fits = omega (arith, transit-few c.args.w.now c.requires.0) }
 
 returns-2 : tie.Need-returns-then-w-gone-gt-MAX_MESSAGES
 returns-2 c =
-    let d = c.before.before.before in
     room-short c.args.w.now c.args.gone c.args.count c.if-count-eq0.false c.if-w-gone-gt-MAX_MESSAGES.true
 
 shared-slice-read-result : tie.Need-bounds-w-5
 shared-slice-read-result c =
-    let d = c.before.before.before.before in
     omega (arith, words_long c.args.w.now c.requires.0)
 
 returns-3 : tie.Need-returns
 returns-3 c =
-    let d = c.before.before.before.before in
     room-last c.args.w.now c.args.gone c.args.count c.if-count-eq0.false c.if-w-gone-gt-MAX_MESSAGES.false c.requires.2
 
 pub has_room_spec : {M : Type 1} → statement M

@@ -9,27 +9,22 @@ use Rattle.sim_changes.proofs.mark_message.Tie as tie
 
 slice-read-len : tie.Need-bounds-w-4
 slice-read-len c =
-    let d = c.before.before in
     omega (arith, words_long c.args.w.now c.requires.valid)
 
 cast-len : tie.Need-overflow_cast-len
 cast-len c =
-    let d = c.before.before in
     record { fits = omega (arith, transit-count c.args.w.now c.requires.valid) }
 
 part-mark-end : tie.Need-slice_bounds-mark-end
 part-mark-end c =
-    let d = c.before.before in
     omega (arith, words_long c.args.w.now c.requires.valid)
 
 mark-requires : tie.Need-mark-requires
 mark-requires c κs =
-    let d = c.before.before.before in
     (held-lent c.args.w.now c.requires.valid, c.requires.used)
 
 returns : tie.Need-returns
 returns c =
-    let d = c.before.before.before.before.before.before in
     mark-becomes c.args.w.now c.requires.valid c.args.i _ c.mark.ensures
 
 pub mark_message_spec : {M : Type 1} → statement M

@@ -22,13 +22,12 @@ module _ (c : tie.After-new_client invariant-loop decreases-loop) where
 new-client-requires : tie.Need-new_client-requires invariant-loop decreases-loop
 new-client-requires c κs = putting_client _ _ _ _ _ c.loop-i.invariant c.requires c.loop-i-test.true
 
-add-i : tie.Need-overflow_add-i invariant-loop decreases-loop
-add-i c = let t = turn c.before.before in omega (arith, c.requires.1, c.loop-i-test.true)
+add-i : tie.Need-overflow_add-i-in-loop-i invariant-loop decreases-loop
+add-i c = omega (arith, c.requires.1, c.loop-i-test.true)
 
 loop-again : tie.Need-loop-i-preserved invariant-loop decreases-loop
 loop-again c =
     let p = c.before.before in
-    let t = turn c.before.before in
     putting_more _ _ _ _ _ c.loop-i.invariant (λ k l. length-client c.args.n c.args.m k l) c.loop-i-test.true _ p.new_client.ensures
 
 pub new_clients_spec : {M : Type 1} → statement M

@@ -9,7 +9,7 @@ use Rattle.sim_changes.proofs.new_server.Tie as tie
 
 -- the server is up, and its record made
 module _ (c : tie.After-empty_head-head) where
-  there : ServerIn c.rise_server.last.0 c.args.j
+  there : ServerIn c.rise_server.new.w c.args.j
   there = risen_in c.args.n c.args.j.0 c.args.w.now c.requires _ c.rise_server.ensures
 
   short : c.empty_head-head.result.votes.len ≤ max_word

@@ -32,12 +32,11 @@ add-t11 c = omega (arith, marking_fits _ _ _ _ _ c.loop-i.invariant, c.loop-i-te
 mark-client-requires : tie.Need-mark_client-requires invariant-loop decreases-loop
 mark-client-requires c κs = marking_in _ _ _ _ _ c.loop-i.invariant c.loop-i-test.true
 
-add-i : tie.Need-overflow_add-i invariant-loop decreases-loop
-add-i c = let t = turn c.before.before in omega (arith, marking_fits _ _ _ _ _ c.loop-i.invariant, c.loop-i-test.true)
+add-i : tie.Need-overflow_add-i-in-loop-i invariant-loop decreases-loop
+add-i c = omega (arith, marking_fits _ _ _ _ _ c.loop-i.invariant, c.loop-i-test.true)
 
 loop-again : tie.Need-loop-i-preserved invariant-loop decreases-loop
 loop-again c =
-    let t = turn c.before.before in
     marking_more _ _ _ _ _ c.loop-i.invariant c.loop-i-test.true _ c.mark_client.ensures
 
 same_length : tie.Need-shape_of-w invariant-loop decreases-loop

@@ -7,19 +7,16 @@ use Rattle.sim_changes.proofs.note_most.Tie as tie
 
 cast-worst-down : tie.Need-overflow_cast-clients
 cast-worst-down c =
-    let d = c.before.before.before in
     let a = c.args in
     record { fits = omega (arith, few-word a.w.now c.requires.1) }
 
 worst-down-requires : tie.Need-worst_down-worst-requires
 worst-down-requires c κs =
-    let d = c.before.before.before in
     let a = c.args in
     (c.requires.0, few-word a.w.now c.requires.1)
 
 returns : tie.Need-returns
 returns c =
-    let d = c.before.before.before.before.before.before in
     let a = c.args in
     noted_words a.w.now _ _ c.worst_down-worst.ensures c.larger-most.ensures
 

@@ -6,12 +6,10 @@ use Rattle.sim_changes.proofs.owner_of.Tie as tie
 
 server-head-requires : tie.Need-server_head-h-requires
 server-head-requires c κs =
-    let d = c.before in
     (server_in_lem c.args.w.now c.args.j.0 c.requires, record_held c.args.w.now c.args.j c.requires)
 
 returns : tie.Need-returns
 returns c =
-    let d = c.before.before.before in
     owner-is c.args.w.now c.args.j c.requires _ c.server_head-h.ensures
 
 pub owner_of_spec : {M : Type 1} → statement M

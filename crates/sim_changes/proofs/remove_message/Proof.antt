@@ -9,43 +9,36 @@ use Rattle.sim_changes.proofs.remove_message.Tie as tie
 
 slice-read-len : tie.Need-bounds-w-4
 slice-read-len c =
-    let d = c.before.before in
     let a = c.args in
     omega (arith, words_long a.w.now c.requires.valid)
 
 cast-len : tie.Need-overflow_cast-len
 cast-len c =
-    let d = c.before.before in
     let a = c.args in
     record { fits = omega (arith, transit-count a.w.now c.requires.valid) }
 
 part-remove-end : tie.Need-slice_bounds-remove-end
 part-remove-end c =
-    let d = c.before.before in
     let a = c.args in
     omega (arith, words_long a.w.now c.requires.valid)
 
 remove-requires : tie.Need-remove-requires
 remove-requires c κs =
-    let d = c.before.before.before in
     let a = c.args in
     (held-lent a.w.now c.requires.valid, c.requires.used)
 
 cast-w : tie.Need-overflow_cast-w
 cast-w c =
-    let d = c.before.before.before.before.before.before in
     let a = c.args in
     record { fits = omega (arith, transit-count a.w.now c.requires.valid) }
 
 slice-write-w : tie.Need-bounds-w-4-2
 slice-write-w c =
-    let d = c.before.before.before.before.before.before in
     let a = c.args in
     omega (arith, removed-long a.w.now c.requires.valid a.i _ c.remove.ensures)
 
 returns : tie.Need-returns
 returns c =
-    let d = c.before.before.before.before.before.before in
     let a = c.args in
     remove_becomes a.w.now c.requires.valid a.i _ c.remove.ensures
 

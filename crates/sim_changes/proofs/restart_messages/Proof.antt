@@ -9,31 +9,26 @@ use Rattle.sim_changes.proofs.restart_messages.Tie as tie
 
 slice-read-len : tie.Need-bounds-w-4
 slice-read-len c =
-    let d = c.before.before in
     let a = c.args in
     omega (arith, words_long a.w.now c.requires.valid)
 
 cast-len : tie.Need-overflow_cast-len
 cast-len c =
-    let d = c.before.before in
     let a = c.args in
     record { fits = omega (arith, transit-count a.w.now c.requires.valid) }
 
 part-restart-end : tie.Need-slice_bounds-restart-end
 part-restart-end c =
-    let d = c.before.before in
     let a = c.args in
     omega (arith, words_long a.w.now c.requires.valid)
 
 restart-requires : tie.Need-restart-requires
 restart-requires c κs =
-    let d = c.before.before.before in
     let a = c.args in
     (held-lent a.w.now c.requires.valid, server-place a.w.now a.j c.requires)
 
 returns : tie.Need-returns
 returns c =
-    let d = c.before.before.before.before.before.before in
     let a = c.args in
     restart-becomes a.w.now c.requires.valid a.j _ c.restart.ensures
 

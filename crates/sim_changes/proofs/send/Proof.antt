@@ -20,13 +20,13 @@ use Rattle.sim_changes.proofs.send.Tie as tie
 -- at entry
 module _ (d : tie.Start) where
   abbrev words : List ℕ
-  words = c.args.w.now
+  words = d.args.w.now
 
   abbrev new : List Message
-  new = messages_in c.args.count c.args.bytes.now
+  new = messages_in d.args.count d.args.bytes.now
 
   long : length words ≡ simulation_size
-  long = words_long words c.requires.valid
+  long = words_long words d.requires.valid
 
 -- the two counts are read
 module _ (c : tie.After-slice_known-3-1) where
@@ -101,10 +101,10 @@ send_spec =
     (tie.spec
     slice-read-len
     cast-len
-    (λ c. omega (arith, long (entry c)))
+    (λ c. omega (arith, words_long c.args.w.now c.requires.valid))
     (λ c. search rules)
     (λ c. search rules)
-    (λ c. omega (arith, long (entry c)))
+    (λ c. omega (arith, words_long c.args.w.now c.requires.valid))
     post-requires
     add-w
     cast-w

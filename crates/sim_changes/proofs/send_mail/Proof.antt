@@ -5,15 +5,13 @@ use Rattle.sim_changes.proofs.send_mail.Statement.{statement}
 use Rattle.sim_changes.proofs.send_mail.Tie as tie
 
 send-message-requires : tie.Need-send_message-requires
-send-message-requires c κs = let m = c.before.before in mail_asked _ _ c.requires _ c.in-One.is
+send-message-requires c κs = mail_asked _ _ c.requires _ c.in-One.is
 
 returns : tie.Need-returns-in-Nothing
 returns c = mail_none _ _ c.requires c.in-Nothing.is
 
 returns-2 : tie.Need-returns-in-One
 returns-2 c =
-    let s = c.before.before in
-    let m = s.before.before.before in
     mail_sent _ _ c.requires _ c.in-One.is _ c.send_message.ensures
 
 pub send_mail_spec : {M : Type 1} → statement M

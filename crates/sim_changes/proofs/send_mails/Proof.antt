@@ -5,27 +5,18 @@ use Rattle.sim_changes.proofs.send_mails.Statement.{statement}
 use Rattle.sim_changes.proofs.send_mails.Tie as tie
 
 send-mail-requires : tie.Need-send_mail-requires
-send-mail-requires c κs = let d = c.before.before in first-asked c.args.w.now c.args.first c.args.second c.args.third c.requires
+send-mail-requires c κs = first-asked c.args.w.now c.args.first c.args.second c.args.third c.requires
 
 send-mail-requires-2 : tie.Need-send_mail-requires-2
 send-mail-requires-2 c κs =
-    let one = c.before.before.before in
-    let d = one.before.before.before in
     second-asked c.args.w.now c.args.first c.args.second c.args.third c.requires _ c.send_mail.ensures
 
 send-mail-requires-3 : tie.Need-send_mail-requires-3
 send-mail-requires-3 c κs =
-    let two = c.before.before.before in
-    let one = two.before.before.before.before in
-    let d = one.before.before.before in
     third-asked c.args.w.now c.args.first c.args.second c.args.third c.requires _ c.send_mail.ensures _ c.send_mail-2.ensures
 
 returns : tie.Need-returns
 returns c =
-    let three = c.before.before in
-    let two = three.before.before.before.before in
-    let one = two.before.before.before.before in
-    let d = one.before.before.before in
     three_sent c.args.w.now c.args.first c.args.second c.args.third c.requires _ c.send_mail.ensures _ c.send_mail-2.ensures _
     c.send_mail-3.ensures
 

@@ -22,13 +22,13 @@ use Rattle.sim_changes.proofs.send_message.Tie as tie
 -- at entry
 module _ (d : tie.Start) where
   abbrev words : List ℕ
-  words = c.args.w.now
+  words = d.args.w.now
 
   abbrev new : List Message
-  new = c.args.m ∷ []
+  new = d.args.m ∷ []
 
   long : length words ≡ simulation_size
-  long = words_long words c.requires.valid
+  long = words_long words d.requires.valid
 
 -- the two counts are read
 module _ (c : tie.After-slice_known-3-1) where
@@ -100,7 +100,7 @@ send_message_spec =
     (tie.spec
     slice-read-len
     cast-len
-    (λ c. omega (arith, long (entry c)))
+    (λ c. omega (arith, words_long c.args.w.now c.requires.valid))
     (λ c. search rules)
     (λ c. search rules)
     (λ c. omega (arith, long (entry c)))

@@ -7,18 +7,14 @@ use Rattle.sim_changes.proofs.server_acts.Tie as tie
 
 is-up-requires : tie.Need-is_up-requires
 is-up-requires c κs =
-    let d = c.before.before in
     server_in_lem _ _ (act-server c.args.w.now c.args.j c.args.act c.requires)
 
 returns : tie.Need-returns-then-not-is_up
 returns c =
-    let d = c.before.before.before.before in
     server-down c.args.w.now c.args.j c.args.act c.requires _ c.is_up.ensures c.if-not-is_up.true
 
 server-steps-requires : tie.Need-server_steps-requires
 server-steps-requires c κs =
-    let t = c.before.before in
-    let d = t.before.before.before in
     (c.requires, server-runs c.args.w.now c.args.j c.args.act c.requires _ c.is_up.ensures c.if-not-is_up.false)
 
 pub server_acts_spec : {M : Type 1} → statement M

@@ -36,7 +36,7 @@ module _ (c : tie.After-server_head) where
   abbrev row_read : tie.After-server_row
   row_read = c.before.before
 
-  read : server_of c.server_head.result c.server_row.last.1.1.0
+  read : server_of c.server_head.result c.server_row.new.row
       ≡ server_from (server_record (server_block_of (words (entry row_read)) c.args.j))
   read = server-read _ _ _ c.server_head.ensures c.server_row.ensures
 
@@ -79,12 +79,10 @@ server-row-requires c κs = (server_in_lem _ _ (there c.before.before), search r
 
 server-head-requires : tie.Need-server_head-requires
 server-head-requires c κs =
-    let d = entry c.before in
     (server_in_lem _ _ (there c.before.before.before.before), record_held _ c.args.j (there c.before.before.before.before))
 
 call-server-requires : tie.Need-call_server-t-requires
 call-server-requires c κs =
-    let d = entry (row_read c.before) in
     server-padded (words c.before.before.before.before.before.before) c.args.j (there c.before.before.before.before.before.before) _ _ (read c.before)
 
 has-room-requires : tie.Need-has_room-requires
@@ -100,23 +98,17 @@ store-server-requires c κs = ((called (made (counted c.before.before.before))).
 
 send-mails-requires : tie.Need-send_mails-requires
 send-mails-requires c κs =
-    let r = roomy c.before.before.before in
-    let n = counted c.before.before.before.before.before.before.before in
     server_sendable (called (made c.before.before.before.before.before.before.before.before.before)) _ c.counts-count.ensures _ c.has_room.ensures c.if-not-has_room.false _ c.store_server.ensures
 
-cast-t35 : tie.Need-overflow-cast-t35
+cast-t35 : tie.Need-overflow_cast-result
 cast-t35 c =
-    let n = counted (roomy (stored c.before.before)) in
-    record { fits = omega (arith, few n) }
+    record { fits = omega (arith, few c.before.before.before.before.before.before.before.before.before.before.before.before) }
 
 returns-2 : tie.Need-returns-in-Refused
 returns-2 c = ruled-refused (called c.before.before).ruled _ c.in-Refused.is
 
 returns-3 : tie.Need-returns-else-not-has_room
 returns-3 c =
-    let p = stored c.before.before in
-    let r = roomy c.before.before.before.before.before.before in
-    let n = counted c.before.before.before.before.before.before.before.before.before.before in
     server-sent (called (made c.before.before.before.before.before.before.before.before.before.before.before.before)) _ c.counts-count.ensures _ c.has_room.ensures c.if-not-has_room.false _ c.store_server.ensures
     _ c.send_mails.ensures
 

@@ -52,26 +52,21 @@ cast-new-clients-3 : tie.Need-overflow_cast-s-3
 cast-new-clients-3 c = record { fits = omega (arith, (fits (cleared c.before.before.before)).2) }
 
 new-clients-requires : tie.Need-new_clients-requires
-new-clients-requires c κs = let z = cleared c.before.before.before in start-clients (chosen c.before.before.before.before.before.before) (words c.before.before.before.before.before.before) _ c.requires c.clear_all.ensures
+new-clients-requires c κs = start-clients (chosen c.before.before.before.before.before.before) (words c.before.before.before.before.before.before) _ c.requires c.clear_all.ensures
 
 cast-new-servers : tie.Need-overflow_cast-s-4
 cast-new-servers c = record { fits = omega (arith, (fits (blank c.before.before.before.before)).0) }
 
 new-servers-requires : tie.Need-new_servers-requires
 new-servers-requires c κs =
-    let z = blank c.before.before.before.before in
     start-servers (chosen c.before.before.before.before.before.before.before.before.before.before.before) (words c.before.before.before.before.before.before.before.before.before.before.before) _ c.requires c.clear_all.ensures _ c.new_clients.ensures
 
 same_length : tie.Need-shape_of-w
 same_length c =
-    let p = peopled c.before.before in
-    let z = blank c.before.before.before.before.before.before.before in
     start-same (chosen c.before.before.before.before.before.before.before.before.before.before.before.before.before.before) (words c.before.before.before.before.before.before.before.before.before.before.before.before.before.before) _ c.requires c.clear_all.ensures _ c.new_clients.ensures _ c.new_servers.ensures
 
 returns : tie.Need-returns
 returns c =
-    let p = peopled c.before.before in
-    let z = blank c.before.before.before.before.before.before.before in
     start-done (chosen c.before.before.before.before.before.before.before.before.before.before.before.before.before.before) (words c.before.before.before.before.before.before.before.before.before.before.before.before.before.before) _ c.requires c.clear_all.ensures _ c.new_clients.ensures _ c.new_servers.ensures
 
 pub start_spec : {M : Type 1} → statement M

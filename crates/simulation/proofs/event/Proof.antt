@@ -13,7 +13,6 @@ same_length c = search rules
 
 returns : tie.Need-returns-then-not-valid
 returns c =
-    let d = c.before.before.before.before in
     let a = c.args in
     event-said _ _ _ _ (event_invalid a.w.now a.e _ c.valid.ensures c.if-not-valid.true)
 
@@ -25,7 +24,6 @@ same-length-2 c = search rules
 
 returns-2 : tie.Need-returns
 returns-2 c =
-    let d = c.before.before.before.before.before.before.before.before in
     let a = c.args in
     event-said _ _ _ _ (event-valid a.w.now a.e _ c.valid.ensures
     c.if-not-valid.false _ _ c.happen.ensures)

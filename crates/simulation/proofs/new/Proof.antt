@@ -6,26 +6,22 @@ use Rattle.simulation.proofs.new.Tie as tie
 
 returns : tie.Need-returns-then-w-ne-SIMULATION_WORDS
 returns c =
-    let d = c.before.before in
     let a = c.args in
     new_said _ _ _ _ (new_size a.s a.w.now c.if-w-ne-SIMULATION_WORDS.true)
 
 returns-2 : tie.Need-returns-then-not-in_range_up_to
 returns-2 c =
-    let d = c.before.before.before.before in
     let a = c.args in
     new_said _ _ _ _ (new_range a.s a.w.now c.if-w-ne-SIMULATION_WORDS.false _ c.in_range_up_to.ensures c.if-not-in_range_up_to.true)
 
 returns-3 : tie.Need-returns-then-not-within_limit
 returns-3 c =
-    let d = c.before.before.before.before.before.before in
     let a = c.args in
     new_said _ _ _ _ (new_clients a.s a.w.now c.if-w-ne-SIMULATION_WORDS.false _ c.in_range_up_to.ensures
     c.if-not-in_range_up_to.false _ c.within_limit.ensures c.if-not-within_limit.true)
 
 start-requires : tie.Need-start-requires
 start-requires c κs =
-    let d = c.before.before.before.before.before.before.before in
     let a = c.args in
     new_asks a.s a.w.now c.if-w-ne-SIMULATION_WORDS.false _
     c.in_range_up_to.ensures c.if-not-in_range_up_to.false _
@@ -33,7 +29,6 @@ start-requires c κs =
 
 returns-4 : tie.Need-returns
 returns-4 c =
-    let d = c.before.before.before.before.before.before.before.before.before.before in
     let a = c.args in
     new_said _ _ _ _ (new_starts a.s a.w.now c.if-w-ne-SIMULATION_WORDS.false _
     c.in_range_up_to.ensures

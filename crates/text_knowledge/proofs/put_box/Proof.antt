@@ -8,9 +8,6 @@ use Rattle.text_knowledge.proofs.put_box.Tie as tie
 returns : tie.Need-returns
 unfolding box_text
 returns c =
-    let d₄ = c.before.before in
-    let d₃ = d₄.before.before.before.before.before in
-    let d₂ = d₃.before.before.before.before in
     then _ _ _ c.put_receiver-p.ensures (then _ _ _ c.put-q.ensures (then _ _ _ c.put_entries-e.ensures c.put.ensures))
 
 pub put_box_spec : {M : Type 1} → statement M

@@ -6,7 +6,6 @@ use Rattle.text_knowledge.proofs.put_boxes.Tie as tie
 
 returns : tie.Need-returns
 returns c =
-    let d₂ = c.before.before in
     rw (← c.servers-n.ensures, ← c.clients-clients.ensures) (then _ _ _ c.put_server_boxes-p.ensures c.put_client_boxes.ensures)
 
 pub put_boxes_spec : {M : Type 1} → statement M

@@ -29,7 +29,6 @@ module _ (c : tie.After-put_with-p) where
 
 returns : tie.Need-returns
 returns c =
-    let m = known c.before.before.before.before.before.before.before.before.before.before.before.before.before in
     rw (client-text _ _ c.requires _ _ (read c.before.before.before.before.before.before.before.before.before.before.before.before.before.before.before.before.before.before) _ c.is_living-living.ensures)
     (then _ _ _ (then _ _ _ c.put_with-p.ensures c.put_life-e.ensures) c.put.ensures)
 
@@ -44,7 +43,7 @@ put_client_spec =
     (λ c. search rules)
     (λ c κs. search rules)
     (λ c. search rules)
-    (λ c κs. let m = known c.before.before.before.before in responses-padded _ _ c.requires _ _ (read m))
+    (λ c κs. responses-padded _ _ c.requires _ _ (read c.before.before.before.before.before.before.before.before.before))
     (λ c κs. search rules)
     (λ c. search rules)
     returns)

@@ -65,7 +65,6 @@ loop-again c =
 returns-2 : tie.Need-returns invariant-loop decreases-loop
 returns-2 c =
     let l = c.loop-i in
-    let start = entry c.before in
     entries_all (entries c.before.before.before.before.before) _ l.i (omega (arith, entries_few (words c.before.before.before.before.before) c.args.r)) l.invariant.0
 
 pub put_entries_spec : {M : Type 1} → statement M

@@ -6,7 +6,6 @@ use Rattle.text_knowledge.proofs.put_entry.Tie as tie
 
 returns : tie.Need-returns
 returns c =
-    let d₂ = c.before.before in
     then _ _ _ c.put_with-p.ensures c.put_standing.ensures
 
 pub put_entry_spec : {M : Type 1} → statement M

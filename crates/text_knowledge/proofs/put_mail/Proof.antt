@@ -49,7 +49,6 @@ loop-again c =
 returns : tie.Need-returns invariant-loop decreases-loop
 returns c =
     let l = c.loop-i in
-    let start = entry c.before in
     let e : l.i ≡ length_of (words c.before.before.before.before.before) = omega arith in
     rw (← its-transit (words c.before.before.before.before.before), ← e) l.invariant.0
 

@@ -6,27 +6,27 @@ use Rattle.text_knowledge.proofs.put_message.Tie as tie
 
 returns : tie.Need-returns-in-Request
 unfolding message_text
-returns c = let d = c.before.before in rw c.in-Request.is c.put_to_server.ensures
+returns c = rw c.in-Request.is c.put_to_server.ensures
 
 returns-2 : tie.Need-returns-in-Yield
 unfolding message_text
-returns-2 c = let d = c.before.before in rw c.in-Yield.is c.put_to_server-in-Yield.ensures
+returns-2 c = rw c.in-Yield.is c.put_to_server-in-Yield.ensures
 
 returns-3 : tie.Need-returns-in-Release
 unfolding message_text
-returns-3 c = let d = c.before.before in rw c.in-Release.is c.put_to_server-in-Release.ensures
+returns-3 c = rw c.in-Release.is c.put_to_server-in-Release.ensures
 
 returns-4 : tie.Need-returns-in-Inquiry
 unfolding message_text
-returns-4 c = let d = c.before.before in rw c.in-Inquiry.is c.put_to_server-in-Inquiry.ensures
+returns-4 c = rw c.in-Inquiry.is c.put_to_server-in-Inquiry.ensures
 
 returns-5 : tie.Need-returns-in-Response
 unfolding message_text
-returns-5 c = let d = c.before.before in rw c.in-Response.is c.put_response.ensures
+returns-5 c = rw c.in-Response.is c.put_response.ensures
 
 returns-6 : tie.Need-returns-in-Check
 unfolding message_text
-returns-6 c = let d = c.before.before in rw c.in-Check.is c.put_check.ensures
+returns-6 c = rw c.in-Check.is c.put_check.ensures
 
 pub put_message_spec : {M : Type 1} → statement M
 put_message_spec =

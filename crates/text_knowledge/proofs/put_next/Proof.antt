@@ -8,7 +8,6 @@ use Rattle.text_knowledge.proofs.put_next.Tie as tie
 returns : tie.Need-returns
 unfolding requests_text
 returns c =
-    let d₂ = c.before.before in
     then _ _ _ c.put-p.ensures c.put_request.ensures
 
 pub put_next_spec : {M : Type 1} → statement M

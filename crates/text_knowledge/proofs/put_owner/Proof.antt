@@ -7,13 +7,11 @@ use Rattle.text_knowledge.proofs.put_owner.Tie as tie
 
 returns : tie.Need-returns-in-Nobody
 unfolding owner_text
-returns c = let d = c.before.before in rw c.in-Nobody.is c.put.ensures
+returns c = rw c.in-Nobody.is c.put.ensures
 
 returns-2 : tie.Need-returns-in-Of
 unfolding owner_text
 returns-2 c =
-    let d₂ = c.before.before in
-    let d₁ = d₂.before.before.before.before in
     rw c.in-Of.is (then _ _ _ c.put-p.ensures c.put_request.ensures)
 
 pub put_owner_spec : {M : Type 1} → statement M

@@ -8,7 +8,6 @@ use Rattle.text_knowledge.proofs.put_queue.Tie as tie
 
 returns-2 : tie.Need-returns
 returns-2 c =
-    let d₂ = c.before.before in
     rw (queue_some _ _ c.requires c.if-len-eq0.false) (then _ _ _ c.put-p.ensures c.put_requests.ensures)
 
 pub put_queue_spec : {M : Type 1} → statement M

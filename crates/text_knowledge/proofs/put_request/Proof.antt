@@ -6,7 +6,6 @@ use Rattle.text_knowledge.proofs.put_request.Tie as tie
 
 returns : tie.Need-returns
 returns c =
-    let d₂ = c.before.before in
     then _ _ _ c.put_number-p.ensures c.put_with.ensures
 
 pub put_request_spec : {M : Type 1} → statement M

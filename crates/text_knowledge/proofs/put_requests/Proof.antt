@@ -20,8 +20,6 @@ decreases-loop out₀ at row len end₀ i₀ out end i = len - i
 
 loop-again : tie.Need-loop-i-preserved invariant-loop decreases-loop
 loop-again c =
-    let p = c.before.before in
-    let q = p.before in
     let l = c.loop-i in (
       requests-more _ _ c.requires l.i (omega arith) _ _ c.request_at.ensures l.invariant.0 c.put_next-end.ensures,
       omega arith,

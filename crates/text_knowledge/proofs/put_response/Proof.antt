@@ -8,7 +8,6 @@ use Rattle.text_knowledge.proofs.put_response.Tie as tie
 returns : tie.Need-returns
 unfolding message_text
 returns c =
-    let d₂ = c.before.before in
     then _ _ _ c.put_to_client-p.ensures c.put_owner.ensures
 
 pub put_response_spec : {M : Type 1} → statement M

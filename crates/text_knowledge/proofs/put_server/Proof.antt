@@ -29,7 +29,6 @@ module _ (c : tie.After-put_with-p) where
 
 returns : tie.Need-returns
 returns c =
-    let m = known c.before.before.before.before.before.before.before.before.before.before.before.before.before.before in
     rw (server-text _ _ c.requires _ _ (read c.before.before.before.before.before.before.before.before.before.before.before.before.before.before.before.before.before.before.before) _ c.is_up-up.ensures)
     (then _ _ _ (then _ _ _ c.put_with-p.ensures c.put_knowledge-e.ensures) c.put.ensures)
 
@@ -44,7 +43,7 @@ put_server_spec =
     (λ c. search rules)
     (λ c κs. search rules)
     (λ c. search rules)
-    (λ c κs. let m = known c.before.before.before.before in queue-padded _ _ c.requires _ _ (read m))
+    (λ c κs. queue-padded _ _ c.requires _ _ (read c.before.before.before.before.before.before.before.before.before.before))
     (λ c κs. search rules)
     (λ c. search rules)
     returns)

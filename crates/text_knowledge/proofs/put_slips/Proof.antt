@@ -12,7 +12,6 @@ module _ (c : tie.After-put_servers-p) where
 
 returns : tie.Need-returns
 returns c =
-    let k = counted c.before.before.before.before.before.before in
     rw (← c.servers-n.ensures, ← c.clients-clients.ensures) (then _ _ _ c.put_servers-p.ensures c.put_clients.ensures)
 
 pub put_slips_spec : {M : Type 1} → statement M
@@ -22,6 +21,6 @@ put_slips_spec =
     (λ c κs. search rules)
     (λ c κs. search rules)
     (λ c κs. (c.requires, omega (arith, c.servers-n.ensures)))
-    (λ c κs. let k = counted c.before.before.before in (c.requires, omega (arith, c.clients-clients.ensures)))
+    (λ c κs. (c.requires, omega (arith, c.clients-clients.ensures)))
     (λ c. search rules)
     returns)

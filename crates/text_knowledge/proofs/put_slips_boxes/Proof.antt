@@ -6,7 +6,6 @@ use Rattle.text_knowledge.proofs.put_slips_boxes.Tie as tie
 
 returns : tie.Need-returns
 returns c =
-    let d₂ = c.before.before in
     then _ _ _ c.put_slips-p.ensures c.put_boxes.ensures
 
 pub put_slips_boxes_spec : {M : Type 1} → statement M

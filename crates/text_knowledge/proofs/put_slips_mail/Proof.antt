@@ -6,7 +6,6 @@ use Rattle.text_knowledge.proofs.put_slips_mail.Tie as tie
 
 returns : tie.Need-returns
 returns c =
-    let d₂ = c.before.before in
     then _ _ _ c.put_slips-p.ensures c.put_mail.ensures
 
 pub put_slips_mail_spec : {M : Type 1} → statement M

@@ -9,8 +9,6 @@ use Rattle.text_knowledge.proofs.put_state.Tie as tie
 returns : tie.Need-returns
 unfolding state_text view
 returns c =
-    let d₃ = c.before.before in
-    let d₂ = d₃.before.before.before.before in
     then _ _ _ (then _ _ _ c.put_section-p.ensures c.put_with-q.ensures) c.put_supporters_of.ensures
 
 pub put_state_spec : {M : Type 1} → statement M

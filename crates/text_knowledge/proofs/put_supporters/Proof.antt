@@ -6,7 +6,6 @@ use Rattle.text_knowledge.proofs.put_supporters.Tie as tie
 
 returns : tie.Need-returns
 returns c =
-    let d₂ = c.before.before in
     then _ _ _ c.put-p.ensures c.put_supports.ensures
 
 pub put_supporters_spec : {M : Type 1} → statement M

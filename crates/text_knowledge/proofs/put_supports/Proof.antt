@@ -21,8 +21,6 @@ decreases-loop out₀ at r row n end₀ i₀ out end i = n - i
 
 loop-again : tie.Need-loop-i-preserved invariant-loop decreases-loop
 loop-again c =
-    let p = c.before.before in
-    let q = p.before.before in
     let l = c.loop-i in (
       support_more _ _ _ c.requires l.i (omega arith) _ _ c.request_at-q.ensures l.invariant.0 c.put_support-end.ensures,
       omega arith,

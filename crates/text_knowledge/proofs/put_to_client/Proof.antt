@@ -6,8 +6,6 @@ use Rattle.text_knowledge.proofs.put_to_client.Tie as tie
 
 returns : tie.Need-returns
 returns c =
-    let d₃ = c.before.before in
-    let d₂ = d₃.before.before.before.before.before.before in
     then _ _ _ c.put-p.ensures (then _ _ _ c.put_with-q.ensures c.put_with.ensures)
 
 pub put_to_client_spec : {M : Type 1} → statement M

@@ -8,8 +8,6 @@ use Rattle.text_knowledge.proofs.put_votes.Tie as tie
 returns-2 : tie.Need-returns-in-Of
 unfolding votes_text
 returns-2 c =
-    let d₃ = c.before.before in
-    let d₂ = d₃.before.before.before.before in
     rw c.in-Of.is (then _ _ _ (then _ _ _ c.put-p.ensures c.put_request-e.ensures) c.put_queue.ensures)
 
 pub put_votes_spec : {M : Type 1} → statement M

@@ -7,14 +7,10 @@ use Rattle.text_screen.proofs.put_difference.Tie as tie
 
 returns : tie.Need-returns-then-a-b
 returns c =
-    let d₂ = c.before.before in
-    let t = d₂.before.before.before in
     rw (signed_below _ _ c.if-a-b.true) (then _ _ _ c.put-p.ensures c.put_with.ensures)
 
 returns-2 : tie.Need-returns
 returns-2 c =
-    let d₂ = c.before.before in
-    let t = d₂.before.before in
     rw (signed-from _ _ c.if-a-b.false) (then _ _ _ c.put-p.ensures c.put_number.ensures)
 
 pub put_difference_spec : {M : Type 1} → statement M

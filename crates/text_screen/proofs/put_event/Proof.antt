@@ -27,7 +27,7 @@ put_event_spec =
     (λ c κs. omega (arith, short c.before))
     (λ c. search rules)
     (λ c. search rules)
-    (λ c. let d = c.before.before.before in omega (arith, short d.before.before, c.put_event-n.ensures.0))
+    (λ c. omega (arith, short c.before.before.before.before, c.put_event-n.ensures.0))
     (λ c κs. search rules)
     (λ c κs. search rules)
     (λ c. search rules)

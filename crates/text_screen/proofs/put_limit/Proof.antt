@@ -12,7 +12,6 @@ returns c = rw (limit_none _ c.if-n-le-MAX_SERVERS.true)
 
 returns-2 : tie.Need-returns
 returns-2 c =
-    let d₃ = c.before.before in
     rw (limit_said _ c.if-n-le-MAX_SERVERS.false) (then _ _ _ (then _ _ _ c.put_with-p.ensures c.put-q.ensures) c.put.ensures)
 
 pub put_limit_spec : {M : Type 1} → statement M

@@ -31,7 +31,7 @@ put_opening_spec =
     (λ c κs. omega (arith, short c.before.before))
     (λ c. search rules)
     (λ c. search rules)
-    (λ c. let d = c.before.before.before in omega (arith, short d.before.before.before, c.put_setting-k.ensures.0))
+    (λ c. omega (arith, short c.before.before.before.before.before, c.put_setting-k.ensures.0))
     (λ c κs. search rules)
     (λ c κs. search rules)
     (λ c. search rules)

@@ -6,11 +6,6 @@ use Rattle.text_screen.proofs.put_report.Tie as tie
 
 returns : tie.Need-returns
 returns c =
-    let d₆ = c.before.before in
-    let d₅ = d₆.before.before.before.before.before in
-    let d₄ = d₅.before.before.before.before in
-    let d₃ = d₄.before.before.before.before in
-    let d₂ = d₃.before.before.before.before in
     let three = then _ _ _ (then _ _ _ c.put_verdict-p.ensures c.put_margin-q.ensures) c.put_events-t.ensures in
     let four = then _ _ _ three c.put_fits-u.ensures in
     rw (← c.check-v.ensures.0.0, ← c.default_threshold.ensures.0) (then _ _ _ four c.put_threshold.ensures)
