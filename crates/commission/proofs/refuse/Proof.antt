@@ -13,7 +13,7 @@ refuse-spec =
     (λ c κs. search rules)
     (λ c. search rules)
     (λ c. search rules)
-    (λ c. omega (arith, placed _ _ _ _ c.before.before.before.Put-refused.ensures))
+    (λ c. omega (arith, placed _ _ _ _ c.before.before.before.put_refused.ensures))
     (λ c κs. search rules)
     (λ c. search rules)
     (λ c. search rules))

@@ -14,7 +14,7 @@ module _ (c : tie.Then-w-eq-RUNNING) where
 
 returns : tie.Need-returns-then-w-eq-OPENING
 returns c =
-    end_opening c.args.w.now c.args.at c.args.out.now c.if-w-eq-OPENING.true _ _ c.before.before.Put-refused.ensures
+    end_opening c.args.w.now c.args.at c.args.out.now c.if-w-eq-OPENING.true _ _ c.before.before.put_refused.ensures
 
 most-down-requires : tie.Need-most_down-requires
 most-down-requires c κs =

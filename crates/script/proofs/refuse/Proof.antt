@@ -9,7 +9,7 @@ use Rattle.script.proofs.refuse.Tie as tie
 returns : tie.Need-returns
 returns c =
     let a = c.args in
-    refused_does a.w.now a.out.now a.at c.requires.0 c.requires.1 a.x _ _ c.before.before.Put-refused.ensures
+    refused_does a.w.now a.out.now a.at c.requires.0 c.requires.1 a.x _ _ c.before.before.put_refused.ensures
 
 pub refuse_spec : {M : Type 1} → statement M
 refuse_spec =

@@ -15,7 +15,7 @@ returns-2 c = rw c.in-NoThreshold.is c.put.ensures
 
 returns-3 : tie.Need-returns-in-OutOfRange
 unfolding thresholds_text
-returns-3 c = rw c.in-OutOfRange.is c.before.before.Put-refused.ensures
+returns-3 c = rw c.in-OutOfRange.is c.before.before.put_refused.ensures
 
 pub put_thresholds_spec : {M : Type 1} → statement M
 put_thresholds_spec =

@@ -10,7 +10,7 @@ returns c = rw c.in-Accepted.is c.put.ensures
 
 returns-2 : tie.Need-returns-in-Unsafe
 unfolding verdict_text
-returns-2 c = rw c.in-Unsafe.is c.before.before.Put-refused.ensures
+returns-2 c = rw c.in-Unsafe.is c.before.before.put_refused.ensures
 
 returns-3 : tie.Need-returns-in-Stalls
 unfolding verdict_text
