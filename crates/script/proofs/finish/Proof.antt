@@ -27,7 +27,7 @@ returns-3 c =
 
 pub finish_spec : {M : Type 1} → statement M
 finish_spec =
-    tie.close-wrote
+    tie.close
     (tie.spec
     (λ c κs. search rules)
     (λ c. search rules)

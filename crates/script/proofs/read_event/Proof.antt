@@ -8,8 +8,7 @@ use Rattle.script.proofs.read_event.Tie as tie
 
 returns : tie.Need-returns
 returns c =
-    let y = c.before.before.before.before.before in
-    line_read (λ l. line_of (event_in l)) c.args.w.now c.requires _ _ refl y.Copy-Line.ensures _ c.parse_event.ensures.0
+    line_read (λ l. line_of (event_in l)) c.args.w.now c.requires _ _ refl c.copy_line.ensures _ c.parse_event.ensures.0
 
 pub read_event_spec : {M : Type 1} → statement M
 read_event_spec =

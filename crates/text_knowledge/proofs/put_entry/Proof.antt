@@ -9,4 +9,4 @@ returns c =
     then _ _ _ c.put_with-p.ensures c.put_standing.ensures
 
 pub put_entry_spec : {M : Type 1} → statement M
-put_entry_spec = tie.close (tie.spec (λ c. search rules) (λ c κs. search rules) (λ c κs. search rules) (λ c. search rules) returns)
+put_entry_spec = tie.close (tie.spec (λ c κs. search rules) (λ c κs. search rules) (λ c. search rules) returns)

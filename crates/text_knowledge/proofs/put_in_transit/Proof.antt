@@ -22,12 +22,8 @@ module _ (c : tie.After-message_at-m) where
 returns : tie.Need-returns
 unfolding in_transit_text
 returns c =
-    let d₄ = c.before.before in
-    let d₃ = d₄.before.before.before.before.before in
-    let d₂ = d₃.before.before.before.before in
-    let d₁ = d₂.before.before.before.before in
     let marked = then _ _ _ c.put_standing-e.ensures c.put.ensures in
-    rw (its-slot d₁.before.before.before) (then _ _ _ c.put_with-p.ensures (then _ _ _ c.put_message-q.ensures marked))
+    rw (its-slot c.before.before.before.before.before.before.before.before.before.before.before.before.before.before.before.before.before.before.before.before) (then _ _ _ c.put_with-p.ensures (then _ _ _ c.put_message-q.ensures marked))
 
 pub put_in_transit_spec : {M : Type 1} → statement M
 put_in_transit_spec =

@@ -12,4 +12,4 @@ returns c =
 
 pub put_response_spec : {M : Type 1} → statement M
 put_response_spec =
-    tie.close (tie.spec (λ c. search rules) (λ c κs. search rules) (λ c κs. search rules) (λ c. search rules) returns)
+    tie.close (tie.spec (λ c κs. search rules) (λ c κs. search rules) (λ c. search rules) returns)
