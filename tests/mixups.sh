@@ -8,6 +8,10 @@ cd "$(dirname "$0")/.."
 work=$(mktemp -d)
 trap 'rm -rf "$work"' EXIT
 below=$(sed -n 's/^sim_blocks: //p' crates.txt)
+if ! tools/fresh $below sim_blocks && ! (cd crates/sim_blocks && rt lib) >"$work/log" 2>&1; then
+    cat "$work/log" >&2
+    exit 1
+fi
 
 checked() { # NAME CALL
     mkdir -p "$work/$1/src"
