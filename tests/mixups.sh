@@ -4,23 +4,20 @@
 # was just proved, must be refused in these very words, and the same crate without a mix-up must be proved.
 set -eu
 cd "$(dirname "$0")/.."
-work=target/mixups
-rm -rf "$work"
-mkdir -p "$work/crates"
+# `rt ci` refuses a crate's files that stand elsewhere in the checkout.
+work=$(mktemp -d)
+trap 'rm -rf "$work"' EXIT
 below=$(sed -n 's/^sim_blocks: //p' crates.txt)
-mkdir -p "$work/target/rlib" "$work/target/stamp"
-for name in $below sim_blocks; do
-    cp -R "crates/$name" "$work/crates/$name"
-    rm -rf "$work/crates/$name/must-fail"
-    cp -pR "target/rlib/$name.rlib" "$work/target/rlib/"
-    cp -p "target/stamp/$name" "$work/target/stamp/"
-    sed -n "/^$name:/p" crates.txt >>"$work/crates.txt"
-done
+if ! tools/fresh $below sim_blocks && ! (cd crates/sim_blocks && rt lib) >"$work/log" 2>&1; then
+    cat "$work/log" >&2
+    exit 1
+fi
 
-crate() { # NAME CALL
-    echo "$1: $below sim_blocks" >>"$work/crates.txt"
-    mkdir -p "$work/crates/$1/src"
-    cat >"$work/crates/$1/src/lib.rt" <<TXT
+checked() { # NAME CALL
+    mkdir -p "$work/$1/src"
+    cat >"$work/$1/src/lib.rt" <<TXT
+#![tactic(auto)]
+
 use ids::ClientId;
 use ids::ServerId;
 use ids::Timestamp;
@@ -29,11 +26,11 @@ pub fn named(b: &[u32], k: ClientId, j: ServerId, t: Timestamp) -> bool {
     $2
 }
 TXT
+    tools/over check "$work/$1" "$1" "$below sim_blocks" >"$work/log" 2>&1
 }
 
 refused() { # NAME CALL WORDS
-    crate "$1" "$2"
-    if (cd "$work" && rt check "$1") >"$work/log" 2>&1; then
+    if checked "$1" "$2"; then
         echo "mixups: $1 was built" >&2
         exit 1
     fi
@@ -45,8 +42,7 @@ refused() { # NAME CALL WORDS
 }
 
 proved() { # NAME CALL
-    crate "$1" "$2"
-    if ! (cd "$work" && rt check "$1") >"$work/log" 2>&1; then
+    if ! checked "$1" "$2"; then
         echo "mixups: $1, a crate without a mix-up, is refused:" >&2
         tail -n 5 "$work/log" >&2
         exit 1

@@ -1,5 +1,6 @@
 //! The scripts of tests/scripts, with their whole outputs.
 
+use crate::archive::root;
 use std::collections::BTreeSet;
 use std::fs::{self, File};
 use std::path::{Path, PathBuf};
@@ -28,7 +29,7 @@ pub fn scripts() -> Vec<(String, Vec<u8>, Vec<u8>)> {
 
 /// A proved program, where it has been built.
 pub fn built(name: &str) -> Option<PathBuf> {
-    let path = Path::new(env!("CARGO_MANIFEST_DIR")).parent().expect("tests/ has a parent").join("target/bin").join(name);
+    let path = root().join(format!("crates/{name}/out/{name}"));
     path.exists().then_some(path)
 }
 
@@ -48,7 +49,7 @@ pub fn answer(name: &str, arguments: &[&str], bytes: &[u8]) -> Output {
 
 /// A program that has been built.
 pub fn command(name: &str) -> Command {
-    Command::new(built(name).unwrap_or_else(|| panic!("run `rt check {name}` first")))
+    Command::new(built(name).unwrap_or_else(|| panic!("run `rt run` in crates/{name} first")))
 }
 
 /// What standard error says where a program cannot write, and where it cannot read.

@@ -9,7 +9,10 @@ use std::process::Command;
 
 /// What goes to standard error and to standard output.
 fn commission(words: &[&str]) -> (String, String) {
-    let run = Command::new(built("commission").expect("run `rt check commission` first")).args(words).output().expect("it runs");
+    let run = Command::new(built("commission").expect("run `rt run` in crates/commission first"))
+        .args(words)
+        .output()
+        .expect("it runs");
     assert!(run.status.success());
     let text = |bytes: Vec<u8>| String::from_utf8(bytes).expect("plain text");
     (text(run.stderr), text(run.stdout))

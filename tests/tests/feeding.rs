@@ -233,7 +233,7 @@ fn file_of(name: &str, bytes: &[u8]) -> File {
 
 #[test]
 fn the_program_prints_the_same() {
-    let program = program().expect("run `rt check gallery` first");
+    let program = program().expect("run `rt run` in crates/gallery first");
     let gallery = |script: &[u8]| {
         let run = Command::new(&program).stdin(file_of("script", script)).output().expect("it runs");
         assert!(run.status.success() && run.stderr.is_empty(), "{}", text(&run.stderr));
@@ -250,7 +250,7 @@ fn the_program_prints_the_same() {
 /// A pipe gives short reads. After 1,000,000 event lines the program ends, though its input goes on.
 #[test]
 fn the_program_reads_no_more_than_a_million_lines() {
-    let program = program().expect("run `rt check gallery` first");
+    let program = program().expect("run `rt run` in crates/gallery first");
     let path = Path::new(env!("CARGO_TARGET_TMPDIR")).join("printed");
     let printed = File::create(&path).expect("a file for the output");
     let mut child = Command::new(program).stdin(Stdio::piped()).stdout(printed).spawn().expect("it runs");

@@ -1,5 +1,5 @@
 // The C interface: numbers and slices in, 0 or a refusal's number out. A slice is a pointer, then a length.
-// include/sigma.h declares these functions.
+// The crate `sigma` exports these functions, and include/sigma.h declares them.
 
 #![tactic(auto)]
 
@@ -39,8 +39,7 @@ pub fn put_words(words: &mut [u32], f: Fields, used: u32)
 }
 
 // Reads the message that `bytes` begins with: its five words and the bytes it took, six words in all.
-#[unsafe(no_mangle)]
-pub extern "C" fn sigma_read(bytes: &[u8], words: &mut [u32]) -> u32
+pub fn sigma_read(bytes: &[u8], words: &mut [u32]) -> u32
     ensures { (result ≡ read_code (read_of bytes.now) (length words.old)) × (words.new ≡ read_words (read_of bytes.now) words.old) }
 {
     let p = wire::read_fields(bytes);
@@ -66,8 +65,7 @@ fn written_code(w: Written) -> u32
 }
 
 // Writes the message of five words at the start of `out`.
-#[unsafe(no_mangle)]
-pub extern "C" fn sigma_write(words: &[u32], out: &mut [u8]) -> u32
+pub fn sigma_write(words: &[u32], out: &mut [u8]) -> u32
     ensures { (result ≡ write_code (message_in words.now) (length out.old)) × (out.new ≡ write_buffer (message_in words.now) out.old) }
 {
     let g = words::cross(words);
@@ -276,8 +274,7 @@ fn client_call(call: ClientCall, state: &mut [u32], out: &mut [u8], sent: &mut [
 }
 
 // The server takes a REQUEST, YIELD, RELEASE or INQUIRY. Refused 21, 5, 13, 14, 6.
-#[unsafe(no_mangle)]
-pub extern "C" fn sigma_server_message(
+pub fn sigma_server_message(
     state: &mut [u32],
     message: &[u32],
     out: &mut [u8],
@@ -290,40 +287,35 @@ pub extern "C" fn sigma_server_message(
 }
 
 // The owner is suspected to have crashed. Refused 21, 15, 6.
-#[unsafe(no_mangle)]
-pub extern "C" fn sigma_server_suspect(state: &mut [u32], out: &mut [u8], sent: &mut [u32]) -> u32
+pub fn sigma_server_suspect(state: &mut [u32], out: &mut [u8], sent: &mut [u32]) -> u32
     ensures { Leaves (lent out.old sent.old (server_suspect state.old)) result state.old state.new out.old out.new sent.old sent.new }
 {
     server_call(ServerCall::Suspect, state, out, sent)
 }
 
 // CHECK to the owner. Refused 21, 6.
-#[unsafe(no_mangle)]
-pub extern "C" fn sigma_server_check(state: &mut [u32], out: &mut [u8], sent: &mut [u32]) -> u32
+pub fn sigma_server_check(state: &mut [u32], out: &mut [u8], sent: &mut [u32]) -> u32
     ensures { Leaves (lent out.old sent.old (server_check state.old)) result state.old state.new out.old out.new sent.old sent.new }
 {
     server_call(ServerCall::Check, state, out, sent)
 }
 
 // The client starts trying. Refused 21, 10, 11, 6.
-#[unsafe(no_mangle)]
-pub extern "C" fn sigma_client_begin(state: &mut [u32], out: &mut [u8], sent: &mut [u32]) -> u32
+pub fn sigma_client_begin(state: &mut [u32], out: &mut [u8], sent: &mut [u32]) -> u32
     ensures { Leaves (lent out.old sent.old (client_begin state.old)) result state.old state.new out.old out.new sent.old sent.new }
 {
     client_call(ClientCall::Begin, state, out, sent)
 }
 
 // The client leaves its critical section. Refused 21, 10, 6.
-#[unsafe(no_mangle)]
-pub extern "C" fn sigma_client_exit(state: &mut [u32], out: &mut [u8], sent: &mut [u32]) -> u32
+pub fn sigma_client_exit(state: &mut [u32], out: &mut [u8], sent: &mut [u32]) -> u32
     ensures { Leaves (lent out.old sent.old (client_exit state.old)) result state.old state.new out.old out.new sent.old sent.new }
 {
     client_call(ClientCall::Exit, state, out, sent)
 }
 
 // The client takes a RESPONSE or CHECK. Refused 21, 5, 12, 6.
-#[unsafe(no_mangle)]
-pub extern "C" fn sigma_client_message(
+pub fn sigma_client_message(
     state: &mut [u32],
     message: &[u32],
     out: &mut [u8],
@@ -371,8 +363,7 @@ fn client_made(r: client::Stepped, state: &mut [u32]) -> u32
 }
 
 // The record of server `id` of 1 to `n`, in the first words. Refused 7.
-#[unsafe(no_mangle)]
-pub extern "C" fn sigma_server_new(n: u32, id: u32, state: &mut [u32]) -> u32
+pub fn sigma_server_new(n: u32, id: u32, state: &mut [u32]) -> u32
     ensures { (result ≡ code_of (server_new n id (length state.old))) × (state.new ≡ record_into state.old (server_new n id (length state.old))) }
 {
     if state.len() < words::SERVER_WORDS {
@@ -387,8 +378,7 @@ pub extern "C" fn sigma_server_new(n: u32, id: u32, state: &mut [u32]) -> u32
 }
 
 // The record of client `id` with `n` servers and threshold `m`, in the first words. Refused 7.
-#[unsafe(no_mangle)]
-pub extern "C" fn sigma_client_new(n: u32, m: u32, id: u32, state: &mut [u32]) -> u32
+pub fn sigma_client_new(n: u32, m: u32, id: u32, state: &mut [u32]) -> u32
     ensures { (result ≡ code_of (client_new n m id (length state.old))) × (state.new ≡ record_into state.old (client_new n m id (length state.old))) }
 {
     if state.len() < words::CLIENT_WORDS {
@@ -403,8 +393,7 @@ pub extern "C" fn sigma_client_new(n: u32, m: u32, id: u32, state: &mut [u32]) -
 }
 
 // A server's saved record, in any form that it has had, as a record of today in the first words. Refused 21, 6.
-#[unsafe(no_mangle)]
-pub extern "C" fn sigma_server_upgrade(old: &[u32], state: &mut [u32]) -> u32
+pub fn sigma_server_upgrade(old: &[u32], state: &mut [u32]) -> u32
     ensures { (result ≡ code_of (server_upgrade old.now (length state.old))) × (state.new ≡ record_into state.old (server_upgrade old.now (length state.old))) }
 {
     if !saved::valid_server(old) {
@@ -418,8 +407,7 @@ pub extern "C" fn sigma_server_upgrade(old: &[u32], state: &mut [u32]) -> u32
 }
 
 // A client's. Refused 21, 6.
-#[unsafe(no_mangle)]
-pub extern "C" fn sigma_client_upgrade(old: &[u32], state: &mut [u32]) -> u32
+pub fn sigma_client_upgrade(old: &[u32], state: &mut [u32]) -> u32
     ensures { (result ≡ code_of (client_upgrade old.now (length state.old))) × (state.new ≡ record_into state.old (client_upgrade old.now (length state.old))) }
 {
     if !saved::valid_client(old) {

@@ -1,3 +1,2 @@
-pub mod Stepping
 pub mod Counts
 pub mod Refused

@@ -52,8 +52,7 @@ fn check_step(h: Host, out: &mut [u8]) -> Stepped
 }
 
 // The server takes a REQUEST, YIELD, RELEASE or INQUIRY. Refused 21, 5, 13, 14, 6.
-#[unsafe(no_mangle)]
-pub extern "C" fn sigma_host_message(h: &mut Host, message: &[u32], out: &mut [u8]) -> u32
+pub fn sigma_host_message(h: &mut Host, message: &[u32], out: &mut [u8]) -> u32
     ensures { Leaves (server_message h.old.words message.now) result h.old h.new out.old out.new }
 {
     let t = message_step(*h, message, out);
@@ -62,8 +61,7 @@ pub extern "C" fn sigma_host_message(h: &mut Host, message: &[u32], out: &mut [u
 }
 
 // The owner is suspected to have crashed. Refused 21, 15, 6.
-#[unsafe(no_mangle)]
-pub extern "C" fn sigma_host_suspect(h: &mut Host, out: &mut [u8]) -> u32
+pub fn sigma_host_suspect(h: &mut Host, out: &mut [u8]) -> u32
     ensures { Leaves (server_suspect h.old.words) result h.old h.new out.old out.new }
 {
     let t = suspect_step(*h, out);
@@ -72,8 +70,7 @@ pub extern "C" fn sigma_host_suspect(h: &mut Host, out: &mut [u8]) -> u32
 }
 
 // CHECK to the owner. Refused 21, 6.
-#[unsafe(no_mangle)]
-pub extern "C" fn sigma_host_check(h: &mut Host, out: &mut [u8]) -> u32
+pub fn sigma_host_check(h: &mut Host, out: &mut [u8]) -> u32
     ensures { Leaves (server_check h.old.words) result h.old h.new out.old out.new }
 {
     let t = check_step(*h, out);

@@ -1,4 +1,4 @@
-// For C: a packet read message by message, and packed. include/sigma.h declares these functions.
+// For C: a packet read message by message, and packed. The crate `sigma` exports these functions, and include/sigma.h declares them.
 
 #![tactic(auto)]
 
@@ -43,8 +43,7 @@ fn answer(words: &mut [u32], f: Fields, used: u32) -> u32
 
 // Reads the message at place `at` of a packet, which is judged whole first: its five words and its bytes, six words in all, which are
 // 0 where the packet ends. The first message stands at 2. Refused 22, 2, 3, 5, 22, 6.
-#[unsafe(no_mangle)]
-pub extern "C" fn sigma_packet_next(packet: &[u8], at: usize, words: &mut [u32]) -> u32
+pub fn sigma_packet_next(packet: &[u8], at: usize, words: &mut [u32]) -> u32
     ensures { (result ≡ next_code (next_of packet.now at) (length words.old)) × (words.new ≡ next_words (next_of packet.now at) at words.old) }
 {
     match packet::next_at(packet, at) {
@@ -55,8 +54,7 @@ pub extern "C" fn sigma_packet_next(packet: &[u8], at: usize, words: &mut [u32])
 }
 
 // Packs the messages that `bytes` are, at the start of `out`. Refused 22, 2, 3, 5, 6.
-#[unsafe(no_mangle)]
-pub extern "C" fn sigma_packet_pack(bytes: &[u8], out: &mut [u8]) -> u32
+pub fn sigma_packet_pack(bytes: &[u8], out: &mut [u8]) -> u32
     ensures { (result ≡ written_code (pack_of bytes.now (length out.old))) × (out.new ≡ buffer_after bytes.now out.old) }
 {
     match packet::pack(bytes, out) {

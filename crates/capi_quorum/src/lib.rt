@@ -34,8 +34,7 @@ fn put_two(words: &mut [u32], a: u32, b: u32, code: u32) -> u32
 }
 
 // The check of a setting: 0, 7, 8 or 9; the margin as a signed number, and the events in the run, 0 unless 8.
-#[unsafe(no_mangle)]
-pub extern "C" fn sigma_setting(n: u32, m: u32, f: u32, words: &mut [u32]) -> u32
+pub fn sigma_setting(n: u32, m: u32, f: u32, words: &mut [u32]) -> u32
     ensures { (result ≡ setting_code (verdict n m f) words.old) × (words.new ≡ setting_words (verdict n m f) words.old) × Demand3 n m f (verdict n m f) }
 {
     let v = quorum::check(n, m, f);
@@ -85,8 +84,7 @@ fn number_of(e: Event) -> u32
 }
 
 // The event with number i of the run that shows an unsafe setting: its kind in the script's order and the number it names.
-#[unsafe(no_mangle)]
-pub extern "C" fn sigma_run_event(n: u32, m: u32, f: u32, i: u32, words: &mut [u32]) -> u32
+pub fn sigma_run_event(n: u32, m: u32, f: u32, i: u32, words: &mut [u32]) -> u32
     ensures { (result ≡ event_code (run_event n m f i) words.old) × (words.new ≡ event_words (run_event n m f i) words.old) }
 {
     let a = quorum::run_event(n, m, f, i);
@@ -97,8 +95,7 @@ pub extern "C" fn sigma_run_event(n: u32, m: u32, f: u32, i: u32, words: &mut [u
 }
 
 // The threshold that is proposed for n servers.
-#[unsafe(no_mangle)]
-pub extern "C" fn sigma_default_threshold(n: u32, words: &mut [u32]) -> u32
+pub fn sigma_default_threshold(n: u32, words: &mut [u32]) -> u32
     ensures { (result ≡ threshold_code (threshold_of n) words.old) × (words.new ≡ threshold_words (threshold_of n) words.old) }
 {
     let t = quorum::default_threshold(n);

@@ -1,5 +1,5 @@
 // The C interface of a script: its state in words that the host lends, its input and output in parts of any size.
-// include/sigma.h declares these functions.
+// The crate `sigma` exports these functions, and include/sigma.h declares them.
 
 #![tactic(auto)]
 
@@ -47,8 +47,7 @@ fn put_counts(counts: &mut [usize], p: Progress)
 }
 
 // A new script.
-#[unsafe(no_mangle)]
-pub extern "C" fn sigma_script_new(state: &mut [u32]) -> u32
+pub fn sigma_script_new(state: &mut [u32]) -> u32
     ensures { (result ≡ code_of (new_answer state.old)) × (state.new ≡ new_words state.old) }
 {
     let p = script::new(state);
@@ -56,8 +55,7 @@ pub extern "C" fn sigma_script_new(state: &mut [u32]) -> u32
 }
 
 // The next part of the input.
-#[unsafe(no_mangle)]
-pub extern "C" fn sigma_script_feed(
+pub fn sigma_script_feed(
     state: &mut [u32],
     input: &[u8],
     out: &mut [u8],
@@ -74,8 +72,7 @@ pub extern "C" fn sigma_script_feed(
 }
 
 // The end of the input.
-#[unsafe(no_mangle)]
-pub extern "C" fn sigma_script_finish(
+pub fn sigma_script_finish(
     state: &mut [u32],
     out: &mut [u8],
     counts: &mut [usize],

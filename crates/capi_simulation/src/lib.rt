@@ -1,5 +1,5 @@
 // The C interface of a simulation: a whole system in words that the host lends, made anew and taken on event by event.
-// include/sigma.h declares these functions.
+// The crate `sigma` exports these functions, and include/sigma.h declares them.
 
 #![tactic(auto)]
 
@@ -19,8 +19,7 @@ use system::{Event, Setting};
 const ANSWER_WORDS: usize = 2;
 
 // A new simulation of a setting. Refused 7.
-#[unsafe(no_mangle)]
-pub extern "C" fn sigma_simulation_new(
+pub fn sigma_simulation_new(
     n: u32,
     m: u32,
     f: u32,
@@ -117,8 +116,7 @@ fn happen(words: &mut [u32], e: Event, answer: &mut [u32]) -> u32
 }
 
 // An event, by its kind and the number that it names. Refused 16, 21, 17, 18, 15, 20, 10, 11, 19, 6.
-#[unsafe(no_mangle)]
-pub extern "C" fn sigma_simulation_event(
+pub fn sigma_simulation_event(
     words: &mut [u32],
     kind: u32,
     number: u32,

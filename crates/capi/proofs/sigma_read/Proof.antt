@@ -12,6 +12,7 @@ returns c = read-room _ _ _ c.read_fields-p.ensures.0 _ _ c.in-Fitting.is _
 
 cast-put-words : tie.Need-overflow_cast-used
 cast-put-words c =
+    let n = used-small _ [] _ c.read_fields-p.ensures.0 _ _ c.in-Fitting.is in
     omega arith
 
 returns-2 : tie.Need-returns-else-words-lt-READ_WORDS

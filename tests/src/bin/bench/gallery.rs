@@ -42,7 +42,7 @@ pub fn play_model() {
 }
 
 pub fn run() {
-    let gallery = program().expect("target/bin/gallery: run `rt check gallery` first");
+    let gallery = program().expect("crates/gallery/out/gallery: run `rt run` in crates/gallery first");
     let model = std::env::current_exe().expect("this program");
     let folder = std::env::temp_dir().join(format!("bench-gallery-{}", std::process::id()));
     fs::create_dir_all(&folder).expect("a folder for the files");

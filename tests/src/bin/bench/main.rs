@@ -1,13 +1,12 @@
-//! Speed of the proved library and the proved programs `gallery` and `runs` beside the model's, all built for release, in one run
-//! and on the same work; what both give is compared. A ratio is the proved code's time over the model's: below 1 it is the faster
-//! one. The library's calls go through C and are not inlined; nor are the model's. Both take turns, and the best round of each
+//! Speed of the proved library and the proved gallery program beside the model's, all built for release, in one run and on the
+//! same work; what both give is compared. A ratio is the proved code's time over the model's: below 1 it is the faster one.
+//! The library's calls go through C and are not inlined; nor are the model's. Both take turns, and the best round of each
 //! counts, so that a busy neighbour of the machine slows none alone.
 
 mod before;
 mod clients;
 mod codec;
 mod gallery;
-mod listing;
 mod packet;
 mod process;
 mod steps;
@@ -57,7 +56,6 @@ fn main() {
     // With one of these words this process plays the model's part.
     match std::env::args().nth(1).as_deref() {
         Some(gallery::MODEL) => return gallery::play_model(),
-        Some(listing::MODEL) => return listing::play_model(),
         _ => (),
     }
     println!("{:<42}{:>10}{:>10}{:>8}", "nanoseconds each", "proved", "model", "ratio");
@@ -65,6 +63,5 @@ fn main() {
     packet::run();
     steps::run();
     clients::run();
-    listing::run();
     gallery::run();
 }
