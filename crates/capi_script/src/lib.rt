@@ -72,11 +72,7 @@ pub fn sigma_script_feed(
 }
 
 // The end of the input.
-pub fn sigma_script_finish(
-    state: &mut [u32],
-    out: &mut [u8],
-    counts: &mut [usize],
-) -> u32
+pub fn sigma_script_finish(state: &mut [u32], out: &mut [u8], counts: &mut [usize]) -> u32
     ensures { (result ≡ code_of (ended state.old out.old counts.old)) × Leaves (FinishLeaves state.old out.old state.new out.new) (ended state.old out.old counts.old) state.old out.old counts.old state.new out.new counts.new }
 {
     if counts.len() < 2 {

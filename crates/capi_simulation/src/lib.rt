@@ -19,13 +19,7 @@ use system::{Event, Setting};
 const ANSWER_WORDS: usize = 2;
 
 // A new simulation of a setting. Refused 7.
-pub fn sigma_simulation_new(
-    n: u32,
-    m: u32,
-    f: u32,
-    clients: u32,
-    words: &mut [u32],
-) -> u32
+pub fn sigma_simulation_new(n: u32, m: u32, f: u32, clients: u32, words: &mut [u32]) -> u32
     ensures { (result ≡ (open_says (opens (length words.old) (record { n = n; m = m; f = f; clients = clients }))).number) × NewLeaves (record { n = n; m = m; f = f; clients = clients }) words.old words.new }
 {
     let s = Setting { n, m, f, clients };
@@ -116,12 +110,7 @@ fn happen(words: &mut [u32], e: Event, answer: &mut [u32]) -> u32
 }
 
 // An event, by its kind and the number that it names. Refused 16, 21, 17, 18, 15, 20, 10, 11, 19, 6.
-pub fn sigma_simulation_event(
-    words: &mut [u32],
-    kind: u32,
-    number: u32,
-    answer: &mut [u32],
-) -> u32
+pub fn sigma_simulation_event(words: &mut [u32], kind: u32, number: u32, answer: &mut [u32]) -> u32
     ensures { Leaves words.old (asked kind number) answer.old result words.new answer.new }
 {
     let command = command_of(kind);

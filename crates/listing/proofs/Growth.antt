@@ -169,4 +169,4 @@ module _ {n : ℕ} {wins : Quorum} {clients : ℕ} where
   pub led_from : {i : ℕ} {w : System} (es : List Event) → Led n wins clients i w → Led n wins clients (i + length es) (run_from n wins w es)
   unfolding run_by
   led_from {i} {w} [] l = let z : i + 0 ≡ i = omega arith in rw z l
-  led_from {i} {w} (e ∷ es) l = let z : i + suc (length es) ≡ suc i + length es = omega arith in rw z (led_from es (led_next e l))
+  led_from {i} {w} (e ∷ es) l = let z : i + suc (length es) ≡ suc i + length es = omega arith in rw z (led_from {i = suc i} {w = next n wins w e} es (led_next e l))

@@ -35,12 +35,23 @@ before_not_both a b (by_number p x) (by_name q) = omega arith
 before_not_both a b (by_number p x) (by_number q y) = omega arith
 
 -- two lists that each precede the other
+not_both-at : {xs ys us vs : List Event} → Precedes xs ys → Precedes us vs → us ≡ ys → vs ≡ xs → ⊥
+not_both-at beginning beginning e f = cc
+not_both-at beginning (differing q) e f = cc
+not_both-at beginning (alike q) e f = cc
+not_both-at (differing p) beginning e f = cc
+not_both-at (alike p) beginning e f = cc
+not_both-at (differing {a = a} {b = b} p) (differing {a = c} {b = d} q) e f =
+    let h : c ≡ b = cc in let k : d ≡ a = cc in before_not_both a b p (rw (h, k) at q)
+not_both-at (differing {a = a} {b = b} p) (alike {e = c} q) e f =
+    let h : a ≡ c = cc in let k : b ≡ c = cc in let r : Before c c = rw (h, k) at p in before_not_both c c r r
+not_both-at (alike {e = c} p) (differing {a = a} {b = b} q) e f =
+    let h : a ≡ c = cc in let k : b ≡ c = cc in let r : Before c c = rw (h, k) at q in before_not_both c c r r
+not_both-at (alike {xs = xs} {ys = ys} p) (alike {xs = us} {ys = vs} q) e f =
+    let h : us ≡ ys = cc in let k : vs ≡ xs = cc in not_both-at p q h k
+
 not_both : {xs ys : List Event} → Precedes xs ys → Precedes ys xs → ⊥
-not_both beginning q = elim q [ ]
-not_both (differing {a = a} {b = b} p) (differing q) = before_not_both a b p q
-not_both (differing {a = a} {b = b} p) (alike q) = before_not_both a b p p
-not_both (alike {e = e} p) (differing q) = before_not_both e e q q
-not_both (alike p) (alike q) = not_both p q
+not_both p q = not_both-at p q refl refl
 
 -- the events of a setting ---------------------------------------------------------------------------------------------------
 

@@ -3,7 +3,6 @@
 
 #![tactic(auto)]
 
-
 use ids::Refusal;
 use system::Setting;
 

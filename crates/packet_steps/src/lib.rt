@@ -1,4 +1,3 @@
 // No code: what an accepted step of a client or a server wrote can be packed; only room can be short.
 
 #![tactic(auto)]
-

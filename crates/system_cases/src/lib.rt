@@ -1,4 +1,3 @@
 // No code: document 01's rehearsed cases, as theorems about the definitions.
 
 #![tactic(auto)]
-

@@ -52,12 +52,11 @@ returns-3 c =
     miss-living _ _ (here (present c.before.before.before.before.before)) (up c.before.before.before.before.before) _ c.owner_of-owner.ensures _ c.in-Of.is _ c.is_living.ensures c.if-is_living.true
 
 server-steps-requires : tie.Need-server_steps-requires
-server-steps-requires c κs =
-    (
-      owner_missing _ _ (here (present c.before.before.before.before.before.before)) (up c.before.before.before.before.before.before) _ c.owner_of-owner.ensures _ c.in-Of.is _ c.is_living.ensures
-          c.if-is_living.false,
-      up c.before.before.before.before.before.before,
-    )
+server-steps-requires c κs = (
+  owner_missing _ _ (here (present c.before.before.before.before.before.before)) (up c.before.before.before.before.before.before) _ c.owner_of-owner.ensures _ c.in-Of.is _ c.is_living.ensures
+      c.if-is_living.false,
+  up c.before.before.before.before.before.before,
+)
 
 returns-4 : tie.Need-returns-in-Nobody
 returns-4 c =

@@ -112,12 +112,11 @@ call-client-requires c κs =
     act-asks (words c.before.before.before.before.before.before.before.before.before) c.args.k c.args.act c.requires _ (read c.before.before)
 
 has-room-requires : tie.Need-has_room-requires
-has-room-requires c κs =
-    (
-      (there c.before.before.before.before.before.before.before.before.before.before.before.before.before.before).valid,
-      rw c.messages_gone.ensures (gone-few (words c.before.before.before.before.before.before.before.before.before.before.before.before.before.before) c.args.k c.args.act c.requires),
-      omega (arith, few c.before),
-    )
+has-room-requires c κs = (
+  (there c.before.before.before.before.before.before.before.before.before.before.before.before.before.before).valid,
+  rw c.messages_gone.ensures (gone-few (words c.before.before.before.before.before.before.before.before.before.before.before.before.before.before) c.args.k c.args.act c.requires),
+  omega (arith, few c.before),
+)
 
 store-client-requires : tie.Need-store_client-requires
 store-client-requires c κs = ((tested c.before.before.before.before).called.stores, search rules)
