@@ -5,29 +5,29 @@
 #![tactic(auto)]
 
 use ids::Refusal;
-use libc::{STDERR_FILENO, STDOUT_FILENO};
 use quorum::Verdict;
 use script_numbers::Reading;
+use std::env::{Env, FillError};
 
 // What is said of the setting.
-fn say(out: &mut [u8], n: u32, m: u32, f: u32) {
+fn say(rt: &HostRuntime, out: &mut [u8], n: u32, m: u32, f: u32) {
     let said = text_screen::put_report(out, n, m, f);
-    console::write_out(STDERR_FILENO, &out[0..said]);
+    console::write_out(rt, &rt.stderr(), &out[0..said]);
 }
 
 // Which thresholds are accepted.
-fn say_thresholds(out: &mut [u8], n: u32, f: u32) {
+fn say_thresholds(rt: &HostRuntime, out: &mut [u8], n: u32, f: u32) {
     let said = text_screen::put_proposal(out, n, f);
-    console::write_out(STDERR_FILENO, &out[0..said]);
+    console::write_out(rt, &rt.stderr(), &out[0..said]);
 }
 
 // The run of an unsafe setting.
-fn show(out: &mut [u8], n: u32, m: u32, f: u32) {
+fn show(rt: &HostRuntime, out: &mut [u8], n: u32, m: u32, f: u32) {
     let v = quorum::check(n, m, f);
     match v {
         Verdict::Unsafe(_, events) => {
             let end = text_screen::put_script(out, n, m, f, events);
-            console::write_out(STDOUT_FILENO, &out[0..end]);
+            console::write_out(rt, rt, &out[0..end]);
         }
         Verdict::Accepted(_) => {}
         Verdict::Stalls(_) => {}
@@ -35,64 +35,68 @@ fn show(out: &mut [u8], n: u32, m: u32, f: u32) {
     }
 }
 
-// Argument `i` as a number.
-fn argument(i: usize) -> Reading {
+// Whether argument `i` was given. The program's own name is the first.
+fn is_there(rt: &impl Env, i: usize) -> bool {
+    !matches!(rt.arg(i, &mut []), Err(FillError::NotPresent))
+}
+
+// Argument `i` as a number. One that is longer than a number is none.
+fn argument(rt: &impl Env, i: usize) -> Reading {
     let mut word = [0u8; 11];
-    let n = os::arg(i, &mut word);
-    script_numbers::read_number(&word[0..n])
+    match rt.arg(i, &mut word) {
+        Ok(n) => script_numbers::read_number(&word[0..n]),
+        Err(_) => Reading::Nothing,
+    }
 }
 
 // Arguments that are not two or three numbers.
-fn refuse(out: &mut [u8]) {
+fn refuse(rt: &HostRuntime, out: &mut [u8]) {
     let end = text_screen::put_refused(out, 0, Refusal::BadLine, b" not two or three numbers");
-    console::write_out(STDERR_FILENO, &out[0..end]);
+    console::write_out(rt, &rt.stderr(), &out[0..end]);
 }
 
-fn propose(out: &mut [u8], n: Reading, f: Reading) {
+fn propose(rt: &HostRuntime, out: &mut [u8], n: Reading, f: Reading) {
     let Reading::Number(n) = n else {
-        refuse(out);
+        refuse(rt, out);
         return;
     };
     let Reading::Number(f) = f else {
-        refuse(out);
+        refuse(rt, out);
         return;
     };
-    say_thresholds(out, n, f);
+    say_thresholds(rt, out, n, f);
 }
 
-fn answer(out: &mut [u8], n: Reading, m: Reading, f: Reading) {
+fn answer(rt: &HostRuntime, out: &mut [u8], n: Reading, m: Reading, f: Reading) {
     let Reading::Number(n) = n else {
-        refuse(out);
+        refuse(rt, out);
         return;
     };
     let Reading::Number(m) = m else {
-        refuse(out);
+        refuse(rt, out);
         return;
     };
     let Reading::Number(f) = f else {
-        refuse(out);
+        refuse(rt, out);
         return;
     };
-    say(out, n, m, f);
-    show(out, n, m, f);
+    say(rt, out, n, m, f);
+    show(rt, out, n, m, f);
 }
 
-fn main() {
-    let mut out = io::large_buffer();
-    // The program's own name is the first.
-    let words = os::arg_count();
-    if words == 3 {
-        let n = argument(1);
-        let f = argument(2);
-        propose(&mut out, n, f);
+fn main(rt: HostRuntime) {
+    let mut out = console::large_buffer();
+    if !is_there(&rt, 2) || is_there(&rt, 4) {
+        refuse(&rt, &mut out);
         return;
     }
-    if words != 4 {
-        refuse(&mut out);
+    let n = argument(&rt, 1);
+    if !is_there(&rt, 3) {
+        let f = argument(&rt, 2);
+        propose(&rt, &mut out, n, f);
         return;
     }
-    let n = argument(1);
-    let m = argument(2);
-    let f = argument(3);
-    answer(&mut out, n, m, f);
+    let m = argument(&rt, 2);
+    let f = argument(&rt, 3);
+    answer(&rt, &mut out, n, m, f);
 }

@@ -10,39 +10,46 @@ ghost use Rattle.script_stream.specs.Answered.{Answered};
 ghost use Rattle.script.specs.Calls.{max_ending};
 
 use console::Input;
+use std::io;
 
 // What reading gave is answered. Whether to go on.
-fn answer(w: &mut [u32], part: &[u8], input: Input, out: &mut [u8]) -> bool
+fn answer(
+    rt: &(impl Print + Eprint),
+    w: &mut [u32],
+    part: &[u8],
+    input: Input,
+    out: &mut [u8],
+) -> bool
     requires { (valid w.old ≡ true) × (max_ending ≤ length out.old) × Fits (length part.now) input }
     ensures { (valid w.new ≡ true) × (result ≡ true → Answered w.old part.now input w.new) }
 {
     match input {
         Input::Failed => false,
         Input::End => {
-            script_stream::finish(w, out);
+            script_stream::finish(rt, w, out);
             false
         }
-        Input::Bytes(n) => script_stream::answer_part(w, &part[0..n], out),
+        Input::Bytes(n) => script_stream::answer_part(rt, w, &part[0..n], out),
     }
 }
 
 // Part by part. A proved loop has to end, and nothing says that the input does: so it counts down from a number that no run uses up.
-fn run(w: &mut [u32], part: &mut [u8], out: &mut [u8])
+fn run(rt: &(impl io::Input + Print + Eprint), w: &mut [u32], part: &mut [u8], out: &mut [u8])
     requires { (valid w.old ≡ true) × (max_ending ≤ length out.old) }
 {
     let mut turns = u64::MAX;
     while turns > 0 {
-        let input = script_stream::read_part(w, part);
-        if !answer(w, part, input, out) {
+        let input = script_stream::read_part(rt, w, part);
+        if !answer(rt, w, part, input, out) {
             return;
         }
         turns -= 1;
     }
 }
 
-fn main() {
+fn main(rt: HostRuntime) {
     let mut state = script_stream::start();
-    let mut part = io::large_buffer();
-    let mut out = io::large_buffer();
-    run(&mut state, &mut part, &mut out);
+    let mut part = console::large_buffer();
+    let mut out = console::large_buffer();
+    run(&rt, &mut state, &mut part, &mut out);
 }

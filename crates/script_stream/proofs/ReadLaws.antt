@@ -96,7 +96,7 @@ piece-fed room r s =
     (in_parts r (take u s) (drop u s) ∙
     ap (λ (p : Printed Reader). record { now = (fed p.now (drop u s)).now; out = p.out ++ (fed p.now (drop u s)).out }) (within-fed room r s))
 
-pub pieces-fed : {r r' : Reader} {part out rest out' : List ℕ} {ps : List (List ℕ)} → Pieces r part out ps r' rest out'
+pub pieces-fed : {r : Reader} {part out : List ℕ} {ps : List (List ℕ)} {r' : Reader} {rest out' : List ℕ} → Pieces r part out ps r' rest out'
     → fed r part ≡ record { now = (fed r' rest).now; out = joined ps ++ (fed r' rest).out }
 pieces-fed no_piece = refl
 pieces-fed {out = out} (one_more {ps} {r'} {rest} P) =

@@ -16,8 +16,8 @@ ghost use Rattle.script_stream.specs.Pieces.{Answers};
 ghost use Rattle.script.specs.Calls.{FeedLeaves, max_ending};
 
 use console::Input;
-use libc::STDOUT_FILENO;
 use script::Progress;
+use std::io;
 
 fn zeros() -> [u32; script::STATE_WORDS]
     ensures { state_size ≡ length result }
@@ -35,7 +35,7 @@ pub fn start() -> [u32; script::STATE_WORDS]
 }
 
 // Works what fits of a part, and writes out what that printed. The bytes worked, or 0 where writing failed.
-fn answer_some(w: &mut [u32], part: &[u8], out: &mut [u8]) -> usize
+fn answer_some(rt: &(impl Print + Eprint), w: &mut [u32], part: &[u8], out: &mut [u8]) -> usize
     requires { (valid w.old ≡ true) × (max_printed ≤ length out.old) }
     ensures { (result ≤ length part.now) × FeedLeaves w.old part.now out.old w.new out.new × (0 < result → result ≡ (fed_within (length out.old) (view w.old) part.now).used) }
 {
@@ -43,7 +43,7 @@ fn answer_some(w: &mut [u32], part: &[u8], out: &mut [u8]) -> usize
     match p {
         Progress::Refused(_) => 0,
         Progress::Took(used, wrote) => {
-            if console::write_out(STDOUT_FILENO, &out[0..wrote]) {
+            if console::write_out(rt, rt, &out[0..wrote]) {
                 return used;
             }
             0
@@ -52,13 +52,13 @@ fn answer_some(w: &mut [u32], part: &[u8], out: &mut [u8]) -> usize
 }
 
 // The whole part, of a valid state and with room for a line. Whether all of it was answered.
-pub fn answer_part(w: &mut [u32], part: &[u8], out: &mut [u8]) -> bool
+pub fn answer_part(rt: &(impl Print + Eprint), w: &mut [u32], part: &[u8], out: &mut [u8]) -> bool
     requires { (valid w.old ≡ true) × (max_printed ≤ length out.old) }
     ensures { Answers w.old part.now out.old result w.new out.new }
 {
     let mut done: usize = 0;
     while done < part.len() {
-        let used = answer_some(w, &part[done..], out);
+        let used = answer_some(rt, w, &part[done..], out);
         if used == 0 {
             return false;
         }
@@ -68,7 +68,7 @@ pub fn answer_part(w: &mut [u32], part: &[u8], out: &mut [u8]) -> bool
 }
 
 // The end of the script, of a valid state and with room for two lines.
-pub fn finish(w: &mut [u32], out: &mut [u8])
+pub fn finish(rt: &(impl Print + Eprint), w: &mut [u32], out: &mut [u8])
     requires { (valid w.old ≡ true) × (max_ending ≤ length out.old) }
     ensures { Ended w.old out.old w.new out.new }
 {
@@ -76,7 +76,7 @@ pub fn finish(w: &mut [u32], out: &mut [u8])
     match p {
         Progress::Refused(_) => {}
         Progress::Took(_, wrote) => {
-            console::write_out(STDOUT_FILENO, &out[0..wrote]);
+            console::write_out(rt, rt, &out[0..wrote]);
         }
     }
 }
@@ -96,12 +96,12 @@ fn over(w: &[u32]) -> bool
 }
 
 // The next part, of a valid state; the end where nothing more need be read, and then nothing is.
-pub fn read_part(w: &[u32], part: &mut [u8]) -> Input
+pub fn read_part(rt: &(impl io::Input + Eprint), w: &[u32], part: &mut [u8]) -> Input
     requires { valid w.now ≡ true }
     ensures { Fits (length part.new) result × Some result × (spent (view w.now).stage ≡ true → (result ≡ End) × (part.new ≡ part.old)) }
 {
     if over(w) {
         return Input::End;
     }
-    console::read_some(part)
+    console::read_some(rt, part)
 }

@@ -15,7 +15,8 @@ ghost use Rattle.script_output.specs.Reader.{max_printed};
 ghost use Rattle.script.specs.Calls.{max_ending};
 
 use console::Input;
-use libc::{STDERR_FILENO, STDOUT_FILENO};
+use std::env::{Env, FillError};
+use std::io;
 
 // Where slips stand, and what stands behind them.
 #[derive(Clone, Copy)]
@@ -40,7 +41,7 @@ fn put_all(out: &mut [u8], w: &[u32], wanted: Wanted) -> usize
 }
 
 // The slips of a script that runs and has had an event. Whether all of them were written.
-fn show(w: &[u32], out: &mut [u8], wanted: Wanted) -> bool
+fn show(rt: &(impl Print + Eprint), w: &[u32], out: &mut [u8], wanted: Wanted) -> bool
     requires { valid w.now ≡ true }
 {
     if w[script::STAGE] != script::RUNNING {
@@ -50,42 +51,48 @@ fn show(w: &[u32], out: &mut [u8], wanted: Wanted) -> bool
         return true;
     }
     let end = put_all(out, &w[script::STATE_HEAD..script::STATE_WORDS], wanted);
-    console::write_out(STDOUT_FILENO, &out[0..end])
+    console::write_out(rt, rt, &out[0..end])
 }
 
 // Behind an event's line.
-fn show_behind(w: &[u32], out: &mut [u8], wanted: Wanted) -> bool
+fn show_behind(rt: &(impl Print + Eprint), w: &[u32], out: &mut [u8], wanted: Wanted) -> bool
     requires { valid w.now ≡ true }
 {
     let Wanted::Last = wanted else {
-        return show(w, out, wanted);
+        return show(rt, w, out, wanted);
     };
     true
 }
 
 // Behind the last event's line.
-fn show_last(w: &[u32], out: &mut [u8], wanted: Wanted) -> bool
+fn show_last(rt: &(impl Print + Eprint), w: &[u32], out: &mut [u8], wanted: Wanted) -> bool
     requires { valid w.now ≡ true }
 {
     let Wanted::Last = wanted else {
         return true;
     };
-    show(w, out, wanted)
+    show(rt, w, out, wanted)
 }
 
 // A line with its newline, or a piece of one, answered; then what is wanted behind an event line if one was answered with it.
-fn answer_line(w: &mut [u32], line: &[u8], out: &mut [u8], wanted: Wanted) -> bool
+fn answer_line(
+    rt: &(impl Print + Eprint),
+    w: &mut [u32],
+    line: &[u8],
+    out: &mut [u8],
+    wanted: Wanted,
+) -> bool
     requires { (valid w.old ≡ true) × (max_printed ≤ length out.old) }
     ensures { (valid w.new ≡ true) × (result ≡ true → Taken w.old line.now w.new) }
 {
     let before = w[script::ANSWERED];
-    if !script_stream::answer_part(w, line, out) {
+    if !script_stream::answer_part(rt, w, line, out) {
         return false;
     }
     if w[script::ANSWERED] == before {
         return true;
     }
-    show_behind(w, out, wanted)
+    show_behind(rt, w, out, wanted)
 }
 
 // The index behind the line that `from` stands in, with its newline.
@@ -101,14 +108,20 @@ fn line_behind(part: &[u8], from: usize) -> usize
 }
 
 // A part of the script, line by line.
-fn answer_lines(w: &mut [u32], part: &[u8], out: &mut [u8], wanted: Wanted) -> bool
+fn answer_lines(
+    rt: &(impl Print + Eprint),
+    w: &mut [u32],
+    part: &[u8],
+    out: &mut [u8],
+    wanted: Wanted,
+) -> bool
     requires { (valid w.old ≡ true) × (max_printed ≤ length out.old) }
     ensures { (valid w.new ≡ true) × (result ≡ true → Taken w.old part.now w.new) }
 {
     let mut from: usize = 0;
     while from < part.len() {
         let next = line_behind(part, from);
-        if !answer_line(w, &part[from..next], out, wanted) {
+        if !answer_line(rt, w, &part[from..next], out, wanted) {
             return false;
         }
         from = next;
@@ -117,65 +130,85 @@ fn answer_lines(w: &mut [u32], part: &[u8], out: &mut [u8], wanted: Wanted) -> b
 }
 
 // A last line without its newline is answered. Whether all was written.
-fn close_line(w: &mut [u32], out: &mut [u8], wanted: Wanted) -> bool
+fn close_line(rt: &(impl Print + Eprint), w: &mut [u32], out: &mut [u8], wanted: Wanted) -> bool
     requires { (valid w.old ≡ true) × (max_printed ≤ length out.old) }
     ensures { valid w.new ≡ true }
 {
     if w[script::LENGTH] == 0 {
         return true;
     }
-    answer_line(w, b"\n", out, wanted)
+    answer_line(rt, w, b"\n", out, wanted)
 }
 
 // The end of the script, behind what is wanted behind the last event's line.
-fn finish(w: &mut [u32], out: &mut [u8], wanted: Wanted)
+fn finish(rt: &(impl Print + Eprint), w: &mut [u32], out: &mut [u8], wanted: Wanted)
     requires { (valid w.old ≡ true) × (max_ending ≤ length out.old) }
 {
-    if !close_line(w, out, wanted) {
+    if !close_line(rt, w, out, wanted) {
         return;
     }
-    if !show_last(w, out, wanted) {
+    if !show_last(rt, w, out, wanted) {
         return;
     }
-    script_stream::finish(w, out);
+    script_stream::finish(rt, w, out);
 }
 
 // What reading gave is answered. Whether to go on.
-fn answer(w: &mut [u32], part: &[u8], input: Input, out: &mut [u8], wanted: Wanted) -> bool
+fn answer(
+    rt: &(impl Print + Eprint),
+    w: &mut [u32],
+    part: &[u8],
+    input: Input,
+    out: &mut [u8],
+    wanted: Wanted,
+) -> bool
     requires { (valid w.old ≡ true) × (max_ending ≤ length out.old) × Fits (length part.now) input }
     ensures { result ≡ true → (valid w.new ≡ true) × Answered w.old part.now input w.new }
 {
     match input {
         Input::Failed => false,
         Input::End => {
-            finish(w, out, wanted);
+            finish(rt, w, out, wanted);
             false
         }
-        Input::Bytes(n) => answer_lines(w, &part[0..n], out, wanted),
+        Input::Bytes(n) => answer_lines(rt, w, &part[0..n], out, wanted),
     }
 }
 
 // Part by part, as in `gallery`.
-fn run(w: &mut [u32], part: &mut [u8], out: &mut [u8], wanted: Wanted)
+fn run(
+    rt: &(impl io::Input + Print + Eprint),
+    w: &mut [u32],
+    part: &mut [u8],
+    out: &mut [u8],
+    wanted: Wanted,
+)
     requires { (valid w.old ≡ true) × (max_ending ≤ length out.old) }
 {
     let mut turns = u64::MAX;
     while turns > 0 {
-        let input = script_stream::read_part(w, part);
-        if !answer(w, part, input, out, wanted) {
+        let input = script_stream::read_part(rt, w, part);
+        if !answer(rt, w, part, input, out, wanted) {
             return;
         }
         turns -= 1;
     }
 }
 
-// Whether the only argument is this word, which zeros fill up. Of a longer argument the first six bytes stand there, none of them zero.
-fn is_given(word: &[u8; 6]) -> bool {
-    if os::arg_count() != 2 {
+// Whether argument `i` was given. The program's own name is the first.
+fn is_there(rt: &impl Env, i: usize) -> bool {
+    !matches!(rt.arg(i, &mut []), Err(FillError::NotPresent))
+}
+
+// Whether the only argument is this word, which zeros fill up. A longer argument is none.
+fn is_given(rt: &impl Env, word: &[u8; 6]) -> bool {
+    if is_there(rt, 2) {
         return false;
     }
     let mut given = [0u8; 6];
-    os::arg(1, &mut given);
+    if rt.arg(1, &mut given).is_err() {
+        return false;
+    }
     given[0] == word[0]
         && given[1] == word[1]
         && given[2] == word[2]
@@ -184,29 +217,29 @@ fn is_given(word: &[u8; 6]) -> bool {
         && given[5] == word[5]
 }
 
-fn begin(wanted: Wanted) {
+fn begin(rt: &(impl io::Input + Print + Eprint), wanted: Wanted) {
     let mut state = script_stream::start();
-    let mut part = io::large_buffer();
-    let mut out = io::large_buffer();
-    run(&mut state, &mut part, &mut out, wanted);
+    let mut part = console::large_buffer();
+    let mut out = console::large_buffer();
+    run(rt, &mut state, &mut part, &mut out, wanted);
 }
 
-fn main() {
-    if os::arg_count() < 2 {
-        begin(Wanted::Each);
+fn main(rt: HostRuntime) {
+    if !is_there(&rt, 1) {
+        begin(&rt, Wanted::Each);
         return;
     }
-    if is_given(b"last\0\0") {
-        begin(Wanted::Last);
+    if is_given(&rt, b"last\0\0") {
+        begin(&rt, Wanted::Last);
         return;
     }
-    if is_given(b"mail\0\0") {
-        begin(Wanted::Mail);
+    if is_given(&rt, b"mail\0\0") {
+        begin(&rt, Wanted::Mail);
         return;
     }
-    if is_given(b"boxes\0") {
-        begin(Wanted::Boxes);
+    if is_given(&rt, b"boxes\0") {
+        begin(&rt, Wanted::Boxes);
         return;
     }
-    console::write_out(STDERR_FILENO, b"no 16 not last, mail or boxes\n");
+    console::write_out(&rt, &rt.stderr(), b"no 16 not last, mail or boxes\n");
 }

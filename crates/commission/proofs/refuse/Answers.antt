@@ -1,0 +1,7 @@
+-- `commission::refuse` is safe: what was put ends within the buffer.
+use Rattle.std.proofs.Common.{arith}
+use Rattle.text_sheet.proofs.SheetLaws.{placed}
+use Rattle.commission.proofs.refuse.Goals as goal
+
+pub slice_bounds-write_out-end : goal.slice_bounds-write_out-end
+slice_bounds-write_out-end c = omega (arith, placed _ _ _ _ c.put_refused-end.ensures)
