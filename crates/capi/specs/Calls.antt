@@ -1,9 +1,8 @@
 -- What the calls that read and write a message return, 0 or a refusal's number, and what they leave in the words or bytes they were lent; the calls on
 -- records are in `Steps`.
-use Rattle.std.specs.Prelude.{ℕ, List, [], ◌∷◌, ◌++◌, ltb, length}
+use Rattle.std.specs.Prelude.{ℕ, List, [], ◌∷◌, ◌++◌, ltb, length, if◌then◌else◌}
 use Rattle.std.proofs.Math.Option.{Option, none, some}
 use Rattle.std.proofs.lemmas.List.Edits.{sets}
-use Rattle.ids.specs.Choice.{if◌then◌else◌}
 use Rattle.ids.specs.Refusals.{code}
 use Rattle.ids.specs.declared.Refusal.TheVariants.{NumberOutOfRange, RoomShort}
 use Rattle.wire.specs.Format.{words, fields_of}

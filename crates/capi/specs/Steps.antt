@@ -1,9 +1,9 @@
 -- The step calls of C. Each has one outcome: the refusal, or the words of the new record with the messages sent. What it returns and what it
 -- leaves in record, buffer and counts are four short functions of that outcome.
-use Rattle.std.specs.Prelude.{ℕ, ◌≡◌, Bool, ◌&&◌, not, List, [], ◌∷◌, ltb, leb, length}
+use Rattle.std.specs.Prelude.{ℕ, ◌≡◌, Bool, ◌&&◌, not, List, [], ◌∷◌, ltb, leb, length, if◌then◌else◌}
 use Rattle.std.proofs.Math.Option.{Option, none, some}
 use Rattle.std.proofs.lemmas.List.Edits.{sets}
-use Rattle.ids.specs.Choice.{if◌then◌else◌, maybe}
+use Rattle.ids.specs.Choice.{maybe}
 use Rattle.ids.specs.Limits.{valid_client}
 use Rattle.ids.specs.Refusals.{code}
 use Rattle.ids.specs.declared.Refusal.TheVariants.{NumberOutOfRange, RoomShort, ParameterOutOfRange, InvalidRecord}

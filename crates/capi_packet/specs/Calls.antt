@@ -1,7 +1,6 @@
 -- What the calls on packets return, 0 or a refusal's number, and what they leave in the words or bytes they were lent.
-use Rattle.std.specs.Prelude.{ℕ, ◌-◌, List, ltb, length, replicate}
+use Rattle.std.specs.Prelude.{ℕ, ◌-◌, List, ltb, length, replicate, if◌then◌else◌}
 use Rattle.std.proofs.lemmas.List.Edits.{sets}
-use Rattle.ids.specs.Choice.{if◌then◌else◌}
 use Rattle.ids.specs.Refusals.{code}
 use Rattle.ids.specs.declared.Refusal.TheVariants.{RoomShort}
 use Rattle.wire.specs.Format.{fields_of}

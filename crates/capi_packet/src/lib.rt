@@ -2,9 +2,8 @@
 
 #![tactic(auto)]
 
-ghost use Rattle.std.specs.Prelude.{◌≡◌, ltb, length};
+ghost use Rattle.std.specs.Prelude.{◌≡◌, ltb, length, if◌then◌else◌};
 ghost use Rattle.std.proofs.lemmas.List.Edits.{sets};
-ghost use Rattle.ids.specs.Choice.{if◌then◌else◌};
 ghost use Rattle.ids.specs.Refusals.{code};
 ghost use Rattle.ids.specs.declared.Refusal.TheVariants.{RoomShort};
 ghost use Rattle.wire.specs.Says.{read_values};

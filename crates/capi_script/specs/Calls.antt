@@ -1,7 +1,6 @@
 -- What the exported calls of a script return, 0 or a refusal's number, and what they leave in the slices they were lent.
-use Rattle.std.specs.Prelude.{ℕ, ◌≤◌, ◌<◌, ◌≡◌, List, [], ◌∷◌, ltb, length}
+use Rattle.std.specs.Prelude.{ℕ, ◌≤◌, ◌<◌, ◌≡◌, List, [], ◌∷◌, ltb, length, if◌then◌else◌}
 use Rattle.std.proofs.lemmas.List.Edits.{sets}
-use Rattle.ids.specs.Choice.{if◌then◌else◌}
 use Rattle.ids.specs.Refusals.{code}
 use Rattle.script.specs.declared.Progress.{Progress}
 use Rattle.script.specs.declared.Progress.TheVariants.{Took, Refused}

@@ -1,7 +1,6 @@
 -- What the exported calls on a simulation say, in document 01's numbers, and what they leave in the words that they were lent.
-use Rattle.std.specs.Prelude.{ℕ, ◌≤◌, ◌≡◌, ◌&&◌, List, eqb, ltb, length}
+use Rattle.std.specs.Prelude.{ℕ, ◌≤◌, ◌≡◌, ◌&&◌, List, eqb, ltb, length, if◌then◌else◌}
 use Rattle.std.proofs.lemmas.List.Edits.{sets}
-use Rattle.ids.specs.Choice.{if◌then◌else◌}
 use Rattle.ids.specs.Refusals.{Says, refuses}
 use Rattle.system.specs.declared.Event.{Event as Happening}
 use Rattle.sim_layout.specs.Layout.{valid}

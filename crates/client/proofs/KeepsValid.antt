@@ -8,7 +8,7 @@ use mathlib.Core.List.{List, [], ◌∷◌, map}
 use lib.Dec.{eqb, leb}
 use lib.ListN.{length, get_or, set, replicate, length-map, length-replicate, length-set}
 use borrow.Author.Tests.{not-true, not-false, le-leb, lt-leb, lt-ltb, eq-eqb, ne_eqb, leb-true, leb-false}
-use Rattle.ids.specs.Choice.{if◌then◌else◌}
+use Rattle.std.specs.Prelude.{if◌then◌else◌}
 use Rattle.ids.specs.Limits.{max_servers, max_timestamp, valid_client, valid_owner}
 use Rattle.ids.specs.Lists.{every}
 use Rattle.ids.specs.Requests.{same, is_request}

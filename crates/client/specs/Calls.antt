@@ -1,6 +1,5 @@
 -- The client's calls: the row 'kiosk' of document 01's table, each number in its order, and what is left in head, row and buffer.
-use Rattle.std.specs.Prelude.{ℕ, ◌≡◌, Bool, ◌&&◌, not, List, map, eqb, leb, length, replicate}
-use Rattle.ids.specs.Choice.{if◌then◌else◌}
+use Rattle.std.specs.Prelude.{ℕ, ◌≡◌, Bool, ◌&&◌, not, List, map, eqb, leb, length, replicate, if◌then◌else◌}
 use Rattle.ids.specs.Limits.{max_servers, valid_client}
 use Rattle.ids.specs.declared.ClientId.{ClientId}
 use Rattle.ids.specs.declared.ServerId.{ServerId}

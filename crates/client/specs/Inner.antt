@@ -1,6 +1,5 @@
 -- Definitions that only the contracts of private functions cite: no promise rests on them.
-use Rattle.std.specs.Prelude.{ℕ, Bool, true, false, ◌&&◌, List, replicate}
-use Rattle.ids.specs.Choice.{if◌then◌else◌}
+use Rattle.std.specs.Prelude.{ℕ, Bool, true, false, ◌&&◌, List, replicate, if◌then◌else◌}
 use Rattle.ids.specs.Limits.{valid_owner}
 use Rattle.ids.specs.Lists.{every}
 use Rattle.ids.specs.declared.ClientId.{ClientId}

@@ -9,7 +9,7 @@ use lib.Dec.{eqb}
 use lib.ListN.{length, get_or, take, set, length-set, get_or-map}
 use lib.Seq.{sets, length-sets, take-set-lt, drop-set-lt, get_or-take, set-set, set-get_or}
 use borrow.Author.Tests.{not-true, not-false, eq-eqb, ne_eqb, le-leb}
-use Rattle.ids.specs.Choice.{if◌then◌else◌}
+use Rattle.std.specs.Prelude.{if◌then◌else◌}
 use Rattle.ids.specs.Limits.{max_client, valid_owner}
 use Rattle.ids.specs.Requests.{same, is_request, no_request}
 use Rattle.ids.specs.declared.ServerId.{ServerId}

@@ -1,7 +1,6 @@
 -- The client: Figure 1 of the report, lines 1 to 25, on a section, a timestamp, the largest timestamp seen and the responses of n servers.
 -- Document 01 says kiosk for client, ticket for timestamp, answers for responses, holding the wall for being in the critical section.
-use Rattle.std.specs.Prelude.{ℕ, zero, suc, ◌+◌, ◌-◌, max, Bool, true, false, ◌&&◌, ◌||◌, not, List, [], ◌∷◌, ◌++◌, map, eqb, leb, replicate, get_or, set}
-use Rattle.ids.specs.Choice.{if◌then◌else◌}
+use Rattle.std.specs.Prelude.{ℕ, zero, suc, ◌+◌, ◌-◌, max, Bool, true, false, ◌&&◌, ◌||◌, not, List, [], ◌∷◌, ◌++◌, map, eqb, leb, replicate, get_or, set, if◌then◌else◌}
 use Rattle.ids.specs.Order.{before}
 use Rattle.ids.specs.Requests.{is_request}
 use Rattle.ids.specs.declared.ClientId.{ClientId}

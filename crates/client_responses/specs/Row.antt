@@ -1,7 +1,6 @@
 -- A client's responses in a row of words: two words a place, a place for each server, and zeros where it named nobody.
-use Rattle.std.specs.Prelude.{ℕ, ◌*◌, ◌-◌, Bool, ◌&&◌, ◌||◌, not, List, map, get_or, take}
+use Rattle.std.specs.Prelude.{ℕ, ◌*◌, ◌-◌, Bool, ◌&&◌, ◌||◌, not, List, map, get_or, take, if◌then◌else◌}
 use Rattle.std.proofs.lemmas.List.Edits.{sets}
-use Rattle.ids.specs.Choice.{if◌then◌else◌}
 use Rattle.ids.specs.Limits.{valid_owner}
 use Rattle.ids.specs.Requests.{same, is_request, is_client, no_request}
 use Rattle.ids.specs.declared.ServerId.{ServerId}

@@ -13,7 +13,7 @@ use mathlib.Core.List.Memᴰ.{not-nil as none-among}
 use mathlib.Core.List.Memᴰ.{of_map}
 use mathlib.Core.List.Memᴰ.{tail as later}
 use mathlib.Core.List.{List, [], ◌∷◌, map, Memᴰ as Among}
-use Rattle.ids.specs.Choice.{if◌then◌else◌}
+use Rattle.std.specs.Prelude.{if◌then◌else◌}
 use Rattle.system.specs.declared.Event.{Event}
 use Rattle.system.specs.Places.{System}
 use Rattle.system.specs.Events.{Result}

@@ -9,7 +9,7 @@ use mathlib.Core.List.{List, [], ◌∷◌, map}
 use lib.Dec.{leb}
 use lib.ListN.{length, length-append, length-map, length-drop}
 use borrow.Author.Tests.{leb-true, le-leb}
-use Rattle.ids.specs.Choice.{if◌then◌else◌}
+use Rattle.std.specs.Prelude.{if◌then◌else◌}
 use Rattle.ids.proofs.Choice.{both}
 use Rattle.wire.specs.Step.{refused, stepped}
 use Rattle.client_responses.specs.Figure1.{enough, count}

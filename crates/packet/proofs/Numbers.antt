@@ -9,7 +9,8 @@ use mathlib.Core.Option.{Option, none, some}
 use lib.Dec.{eqb, ltb}
 use lib.ListN.{length}
 use borrow.Author.Tests.{ltb-true, eqb-true, not-false}
-use Rattle.ids.specs.Choice.{if◌then◌else◌, maybe}
+use Rattle.ids.specs.Choice.{maybe}
+use Rattle.std.specs.Prelude.{if◌then◌else◌}
 use Rattle.ids.specs.declared.Refusal.{Refusal}
 use Rattle.ids.specs.declared.Refusal.TheVariants.{HeaderShort, KindUnknown, LengthWrong, MessageCut, NumberOutOfRange, RoomShort, PacketMalformed}
 use Rattle.wire.specs.Format.{known, kind_in, length_in, length_of, fields_in, message_of, valid}

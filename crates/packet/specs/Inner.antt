@@ -1,6 +1,6 @@
 -- Definitions that only the contracts of private functions cite: no promise rests on them.
-use Rattle.std.specs.Prelude.{ℕ, ◌≤◌, ◌≡◌, Bool, true, false, List, length, drop}
-use Rattle.ids.specs.Choice.{if◌then◌else◌, maybe}
+use Rattle.std.specs.Prelude.{ℕ, ◌≤◌, ◌≡◌, Bool, true, false, List, length, drop, if◌then◌else◌}
+use Rattle.ids.specs.Choice.{maybe}
 use Rattle.wire.specs.Format.{length_in}
 use Rattle.packet.specs.Packet.{total_bytes, fits, cut, Contents, refused, carries, contents_of, pieces, framed, total_in}
 use Rattle.packet.specs.Reading.{find_in}

@@ -1,7 +1,7 @@
 -- A packet (document 02, L1): a total of two bytes, then messages one after another. What a packet carries, all of it or nothing.
-use Rattle.std.specs.Prelude.{ℕ, zero, suc, Bool, ◌&&◌, List, [], ◌∷◌, ◌++◌, eqb, leb, length, take, drop}
+use Rattle.std.specs.Prelude.{ℕ, zero, suc, Bool, ◌&&◌, List, [], ◌∷◌, ◌++◌, eqb, leb, length, take, drop, if◌then◌else◌}
 use Rattle.std.proofs.Math.Option.{Option, none, some}
-use Rattle.ids.specs.Choice.{if◌then◌else◌, maybe}
+use Rattle.ids.specs.Choice.{maybe}
 use Rattle.ids.specs.Limits.{max_short}
 use Rattle.ids.specs.declared.Refusal.{Refusal}
 use Rattle.ids.specs.declared.Refusal.TheVariants.{PacketMalformed, KindUnknown, LengthWrong, NumberOutOfRange}

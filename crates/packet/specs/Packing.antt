@@ -1,7 +1,6 @@
 -- Packing messages that stand one after another: the total is put before their bytes.
-use Rattle.std.specs.Prelude.{ℕ, ◌+◌, List, [], ◌∷◌, ◌++◌, ltb, length}
+use Rattle.std.specs.Prelude.{ℕ, ◌+◌, List, [], ◌∷◌, ◌++◌, ltb, length, if◌then◌else◌}
 use Rattle.std.proofs.lemmas.List.Edits.{sets}
-use Rattle.ids.specs.Choice.{if◌then◌else◌}
 use Rattle.ids.specs.declared.Refusal.TheVariants.{PacketMalformed, RoomShort}
 use Rattle.wire.specs.Bytes.{little_endian}
 use Rattle.wire.specs.Format.{bytes_of}

@@ -1,6 +1,5 @@
 -- Reading one message of a packet, at a place: the whole packet is judged first, then the place.
-use Rattle.std.specs.Prelude.{ℕ, ◌+◌, ◌≡◌, List, [], ◌∷◌, eqb, length}
-use Rattle.ids.specs.Choice.{if◌then◌else◌}
+use Rattle.std.specs.Prelude.{ℕ, ◌+◌, ◌≡◌, List, [], ◌∷◌, eqb, length, if◌then◌else◌}
 use Rattle.ids.specs.declared.Refusal.TheVariants.{PacketMalformed}
 use Rattle.wire.specs.declared.Message.{Message as Carried}
 use Rattle.packet.specs.Packet.{total_bytes, Piece, Contents, refused, carries, packet_of, pieces}

@@ -1,6 +1,6 @@
 -- The answers in document 02's numbers: what each case says, and the order of the refusals.
-use Rattle.std.specs.Prelude.{ℕ, ◌+◌, not, List, [], ◌∷◌, eqb, ltb, length}
-use Rattle.ids.specs.Choice.{if◌then◌else◌, maybe}
+use Rattle.std.specs.Prelude.{ℕ, ◌+◌, not, List, [], ◌∷◌, eqb, ltb, length, if◌then◌else◌}
+use Rattle.ids.specs.Choice.{maybe}
 use Rattle.ids.specs.Refusals.{code, Says, accepts, refuses}
 use Rattle.wire.specs.Format.{fields_of}
 use Rattle.wire.specs.Says.{read_values, read_says}

@@ -6,7 +6,7 @@ use mathlib.Core.List.{List, [], ◌∷◌, ◌++◌, map, append_assoc, append-
 use lib.ListN.{length, length-append, length-map, take, get_or}
 use lib.Dec.{leb}
 use borrow.Author.Tests.{leb-true, leb-false}
-use Rattle.ids.specs.Choice.{if◌then◌else◌}
+use Rattle.std.specs.Prelude.{if◌then◌else◌}
 use Rattle.system.specs.declared.Event.{Event}
 use Rattle.system.specs.declared.Event.TheVariants.{Try, Down, Up}
 use Rattle.system.specs.Numbered.{at, span, client_no, server_no}

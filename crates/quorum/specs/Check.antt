@@ -1,7 +1,6 @@
 -- The check of a setting n, m, f: its answer in arithmetic, and what demand 3 says of an answer, which speaks of runs.
-use Rattle.std.specs.Prelude.{◌≡◌, ◌↔◌, ℕ, ◌+◌, ◌*◌, ◌≤◌, Bool, true, ◌&&◌, [], ◌∷◌, leb, ltb, ℤ, pos, ◌-ℤ◌, length}
+use Rattle.std.specs.Prelude.{◌≡◌, ◌↔◌, ℕ, ◌+◌, ◌*◌, ◌≤◌, Bool, true, ◌&&◌, [], ◌∷◌, leb, ltb, ℤ, pos, ◌-ℤ◌, length, if◌then◌else◌}
 use Rattle.std.specs.Int.Signed.{le_z}
-use Rattle.ids.specs.Choice.{if◌then◌else◌}
 use Rattle.ids.specs.Limits.{within, max_servers}
 use Rattle.ids.specs.Refusals.{code, Says, accepts, refuses, refuses_with}
 use Rattle.ids.specs.declared.Refusal.TheVariants.{ParameterOutOfRange, Unsafe as NotSafe, Stalls as Stalling}

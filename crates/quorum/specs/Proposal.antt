@@ -1,6 +1,5 @@
 -- The thresholds that the commissioning screen proposes for n servers and f faults: exactly those with which the setting is accepted.
-use Rattle.std.specs.Prelude.{◌≡◌, ℕ, ◌+◌, ◌-◌, ◌/◌, Bool, true, false, ◌&&◌, [], ◌∷◌, leb}
-use Rattle.ids.specs.Choice.{if◌then◌else◌}
+use Rattle.std.specs.Prelude.{◌≡◌, ℕ, ◌+◌, ◌-◌, ◌/◌, Bool, true, false, ◌&&◌, [], ◌∷◌, leb, if◌then◌else◌}
 use Rattle.ids.specs.Limits.{within, max_servers}
 use Rattle.ids.specs.Refusals.{code, Says, accepts, refuses}
 use Rattle.ids.specs.declared.Refusal.TheVariants.{ParameterOutOfRange}

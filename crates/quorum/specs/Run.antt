@@ -1,6 +1,5 @@
 -- The unsafe run, event by event: refused 7, then 17 for a setting that is not unsafe or a number outside its run.
-use Rattle.std.specs.Prelude.{ℕ, not, [], ◌∷◌, length}
-use Rattle.ids.specs.Choice.{if◌then◌else◌}
+use Rattle.std.specs.Prelude.{ℕ, not, [], ◌∷◌, length, if◌then◌else◌}
 use Rattle.ids.specs.Limits.{within}
 use Rattle.ids.specs.Refusals.{code, Says, accepts, refuses}
 use Rattle.ids.specs.declared.Refusal.TheVariants.{ParameterOutOfRange, NoSuchParty}

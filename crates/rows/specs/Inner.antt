@@ -1,6 +1,5 @@
 -- Definitions that only the contracts of private functions cite: no promise rests on them.
-use Rattle.std.specs.Prelude.{ℕ, ◌+◌, Bool, List, [], ◌∷◌}
-use Rattle.ids.specs.Choice.{if◌then◌else◌}
+use Rattle.std.specs.Prelude.{ℕ, ◌+◌, Bool, List, [], ◌∷◌, if◌then◌else◌}
 use Rattle.ids.specs.declared.Request.{Request}
 
 -- how many fail a test

@@ -1,7 +1,6 @@
 -- What Figure 1 of the report does to a request queue, as a list in its order.
-use Rattle.std.specs.Prelude.{List, [], ◌∷◌, eqb}
+use Rattle.std.specs.Prelude.{List, [], ◌∷◌, eqb, if◌then◌else◌}
 use Rattle.std.proofs.Math.Option.{Option, none, some}
-use Rattle.ids.specs.Choice.{if◌then◌else◌}
 use Rattle.ids.specs.Order.{before}
 use Rattle.ids.specs.Requests.{same}
 use Rattle.ids.specs.declared.ClientId.{ClientId}

@@ -1,6 +1,5 @@
 -- What is looked for in a queue, and what a change of it leaves of a row.
-use Rattle.std.specs.Prelude.{ℕ, suc, ◌≡◌, Bool, List, [], ◌∷◌, eqb, length}
-use Rattle.ids.specs.Choice.{if◌then◌else◌}
+use Rattle.std.specs.Prelude.{ℕ, suc, ◌≡◌, Bool, List, [], ◌∷◌, eqb, length, if◌then◌else◌}
 use Rattle.ids.specs.Order.{before}
 use Rattle.ids.specs.Requests.{same}
 use Rattle.ids.specs.declared.ClientId.{ClientId}

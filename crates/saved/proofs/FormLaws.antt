@@ -10,7 +10,7 @@ use lib.Dec.{eqb}
 use lib.ListN.{length, take, drop, replicate, length-drop, length-append, length-replicate, drop_of_length-le}
 use lib.Seq.{sets, sets-eq, take_all, take_at, drop_at, length-take-le}
 use borrow.Author.Tests.{eq-eqb, ne_eqb}
-use Rattle.ids.specs.Choice.{if◌then◌else◌}
+use Rattle.std.specs.Prelude.{if◌then◌else◌}
 use Rattle.ids.specs.Limits.{max_servers, earlier_servers}
 use Rattle.ids.proofs.Choice.{both, decided, holds, fails}
 use Rattle.server.specs.Record as server

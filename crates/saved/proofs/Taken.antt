@@ -8,7 +8,7 @@ use mathlib.Core.List.{List, ◌++◌, append_assoc, append-nil, map}
 use mathlib.Core.Logic.{⊎_elim}
 use mathlib.Core.Option.{none, some}
 use lib.ListN.{length, replicate, replicate-append-replicate, length-map}
-use Rattle.ids.specs.Choice.{if◌then◌else◌}
+use Rattle.std.specs.Prelude.{if◌then◌else◌}
 use Rattle.ids.specs.Limits.{max_servers, earlier_servers}
 use Rattle.ids.specs.declared.Request.{Request}
 use Rattle.ids.proofs.Choice.{both}

@@ -4,8 +4,7 @@
 --   1      document 01   37       67
 --   2      L3            69       515
 --   3      L4            69       516
-use Rattle.std.specs.Prelude.{ℕ, ◌+◌, ◌*◌, ◌-◌, Bool, ◌&&◌, ◌||◌, List, ◌∷◌, ◌++◌, eqb, length, take, drop, replicate}
-use Rattle.ids.specs.Choice.{if◌then◌else◌}
+use Rattle.std.specs.Prelude.{ℕ, ◌+◌, ◌*◌, ◌-◌, Bool, ◌&&◌, ◌||◌, List, ◌∷◌, ◌++◌, eqb, length, take, drop, replicate, if◌then◌else◌}
 use Rattle.ids.specs.Limits.{max_servers, earlier_servers}
 use Rattle.server.specs.Record as server
 use Rattle.client.specs.Record as client

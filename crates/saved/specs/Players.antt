@@ -1,8 +1,7 @@
 -- Players from before document 02, L3, whose messages reach players of today and whose records are taken over (`Forms`): they know the servers 1 to 31, and
 -- their reading, writing and steps are today's definitions at that limit; a client has no clock, so that it takes a message by Figure 1's lines alone. They
 -- answer as today, but 5 for a message of a server that they do not know; a client leaves what today's does but for what it has seen.
-use Rattle.std.specs.Prelude.{ℕ, Bool, not, List, leb}
-use Rattle.ids.specs.Choice.{if◌then◌else◌}
+use Rattle.std.specs.Prelude.{ℕ, Bool, not, List, leb, if◌then◌else◌}
 use Rattle.ids.specs.Limits.{earlier_servers}
 use Rattle.ids.specs.declared.Refusal.TheVariants.{NumberOutOfRange, NotForClient, InvalidRecord}
 use Rattle.wire.specs.Format as format

@@ -8,7 +8,7 @@ use lib.Dec.{eqb, leb}
 use lib.ListN.{length, get_or, set, take, drop, length-set, length-drop}
 use lib.Seq.{sets, length-sets, length-take-le, get_or-set_same, get_or-set_other, get_or-take, take-set-lt, drop-set-lt, drop-set-add}
 use borrow.Author.Tests.{eqb-true, eqb-false, eq-eqb, ne_eqb, leb-true, le-leb}
-use Rattle.ids.specs.Choice.{if◌then◌else◌}
+use Rattle.std.specs.Prelude.{if◌then◌else◌}
 use Rattle.ids.specs.Lists.{every}
 use Rattle.ids.proofs.Choice.{both, decided, Test}
 use mathlib.Core.Logic.{inl, inr}

@@ -1,8 +1,7 @@
 -- The state of a script as words: what a reader of it has taken in so far. 0 is none.
 -- First the head: the stage, the event lines answered, those accepted, the most holders at once, and the bytes of the line so far.
 -- Then those bytes, a word for each, and the simulation's words.
-use Rattle.std.specs.Prelude.{ℕ, ◌+◌, Bool, ◌&&◌, List, eqb, leb, length, get_or, take, drop}
-use Rattle.ids.specs.Choice.{if◌then◌else◌}
+use Rattle.std.specs.Prelude.{ℕ, ◌+◌, Bool, ◌&&◌, List, eqb, leb, length, get_or, take, drop, if◌then◌else◌}
 use Rattle.ids.specs.Lists.{every}
 use Rattle.sim_blocks.specs.Regions.{region}
 use Rattle.system.specs.Places.{holders}

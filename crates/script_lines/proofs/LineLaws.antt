@@ -8,7 +8,7 @@ use mathlib.Core.Option.{none, some}
 use mathlib.Core.List.{List, [], ◌∷◌}
 use lib.ListN.{length, take, drop}
 use borrow.Author.Tests.{le-leb, lt-leb}
-use Rattle.ids.specs.Choice.{if◌then◌else◌}
+use Rattle.std.specs.Prelude.{if◌then◌else◌}
 use Rattle.script_numbers.specs.Decimals.{number}
 use Rattle.script_lines.specs.Words.{text, same, word, rest}
 use Rattle.script_lines.specs.Lines.{command_in, event_of, event_in, line_of, max_line}

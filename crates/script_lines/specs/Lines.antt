@@ -1,8 +1,8 @@
 -- The lines of a script, without their newline: document 01, 'The gallery script'.
-use Rattle.std.specs.Prelude.{ℕ, Bool, true, ◌&&◌, List, leb, length}
+use Rattle.std.specs.Prelude.{ℕ, Bool, true, ◌&&◌, List, leb, length, if◌then◌else◌}
 use Rattle.std.proofs.Math.Option.{Option, none, some}
 use Rattle.ids.specs.Limits.{max_short}
-use Rattle.ids.specs.Choice.{if◌then◌else◌, maybe}
+use Rattle.ids.specs.Choice.{maybe}
 use Rattle.system.specs.Setting.{takes}
 use Rattle.system.specs.declared.Event.{Event}
 use Rattle.system.specs.declared.Event.TheVariants.{Try, Exit, Fall, Down, Up, Take, Drop, Miss, Check}

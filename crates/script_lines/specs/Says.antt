@@ -1,7 +1,7 @@
 -- The answers to a script's lines in document 01's numbers: what each case says, and what a line does.
-use Rattle.std.specs.Prelude.{[], ◌∷◌}
+use Rattle.std.specs.Prelude.{[], ◌∷◌, if◌then◌else◌}
 use Rattle.std.proofs.Math.Option.{Option}
-use Rattle.ids.specs.Choice.{if◌then◌else◌, maybe}
+use Rattle.ids.specs.Choice.{maybe}
 use Rattle.ids.specs.Refusals.{code, Says, accepts, refuses}
 use Rattle.ids.specs.declared.Refusal.TheVariants.{BadLine, NoSuchParty}
 use Rattle.system.specs.declared.Event.{Event as Happening}

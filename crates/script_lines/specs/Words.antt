@@ -1,9 +1,8 @@
 -- The words of a line: bytes that single spaces divide.
-use Rattle.std.specs.Prelude.{ℕ, Bool, true, false, ◌&&◌, List, [], ◌∷◌, ◌++◌, eqb}
+use Rattle.std.specs.Prelude.{ℕ, Bool, true, false, ◌&&◌, List, [], ◌∷◌, ◌++◌, eqb, if◌then◌else◌}
 use Prim.Native.Char.{code}
 use Prim.Native.String.{String, [] as end, ◌∷◌ as ◌then◌}
 use Rattle.std.proofs.Math.Option.{Option, none, some}
-use Rattle.ids.specs.Choice.{if◌then◌else◌}
 
 -- a text's bytes; ours are ASCII
 abbrev pub text : String → List ℕ

@@ -1,6 +1,6 @@
 -- What the gallery program prints for a whole script: document 01, 'The gallery script'.
-use Rattle.std.specs.Prelude.{ℕ, suc, List, [], ◌∷◌, ◌++◌, eqb, length, take}
-use Rattle.ids.specs.Choice.{if◌then◌else◌, maybe}
+use Rattle.std.specs.Prelude.{ℕ, suc, List, [], ◌∷◌, ◌++◌, eqb, length, take, if◌then◌else◌}
+use Rattle.ids.specs.Choice.{maybe}
 use Rattle.ids.specs.declared.Refusal.TheVariants.{BadLine, ParameterOutOfRange}
 use Rattle.wire.specs.Step.{refused, stepped}
 use Rattle.system.specs.declared.Event.{Event}

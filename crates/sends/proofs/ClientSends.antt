@@ -9,7 +9,7 @@ use mathlib.Core.Logic.{⊎_elim}
 use lib.Dec.{eqb}
 use lib.ListN.{length, length-map, length-take, length-replicate}
 use borrow.Author.Tests.{not-false, le-leb}
-use Rattle.ids.specs.Choice.{if◌then◌else◌}
+use Rattle.std.specs.Prelude.{if◌then◌else◌}
 use Rattle.ids.specs.Lists.{every}
 use Rattle.ids.specs.Limits.{max_servers, max_timestamp, valid_client, valid_parties_up_to, valid_stamped, valid_stamped_up_to}
 use Rattle.ids.specs.Order.{before}

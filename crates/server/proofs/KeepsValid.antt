@@ -9,7 +9,8 @@ use mathlib.Core.Logic.{⊎_elim}
 use lib.Dec.{eqb, leb, ltb}
 use lib.ListN.{length, replicate, length-replicate}
 use borrow.Author.Tests.{ltb-false, eqb-true, eqb-false, eq-eqb, ne_eqb}
-use Rattle.ids.specs.Choice.{if◌then◌else◌, maybe}
+use Rattle.ids.specs.Choice.{maybe}
+use Rattle.std.specs.Prelude.{if◌then◌else◌}
 use Rattle.ids.specs.Order.{before}
 use Rattle.ids.specs.Limits.{max_servers, valid_request, valid_owner, valid_stamped_up_to, valid_client, valid_timestamp}
 use Rattle.ids.specs.declared.Refusal.{Refusal}

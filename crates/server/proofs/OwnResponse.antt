@@ -9,7 +9,8 @@ use mathlib.Core.Option.{Option, none, some}
 use mathlib.Core.Logic.{◌⊎◌, inl, inr}
 use lib.Dec.{eqb, ltb}
 use borrow.Author.Tests.{eqb-true, eq-eqb, ltb-true, le-ltb}
-use Rattle.ids.specs.Choice.{if◌then◌else◌, maybe}
+use Rattle.ids.specs.Choice.{maybe}
+use Rattle.std.specs.Prelude.{if◌then◌else◌}
 use Rattle.ids.specs.Requests.{same, is_request, is_client, by_owner}
 use Rattle.ids.specs.declared.ClientId.{ClientId}
 use Rattle.ids.specs.declared.ServerId.{ServerId}

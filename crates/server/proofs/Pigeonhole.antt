@@ -10,7 +10,7 @@ use mathlib.Core.Option.{none}
 use lib.Dec.{eqb, leb}
 use lib.ListN.{length}
 use borrow.Author.Tests.{eqb-true, eqb-false, leb-true, leb-false}
-use Rattle.ids.specs.Choice.{if◌then◌else◌}
+use Rattle.std.specs.Prelude.{if◌then◌else◌}
 use Rattle.ids.specs.Lists.{every}
 use Rattle.ids.specs.Limits.{valid_request, valid_owner}
 use Rattle.ids.specs.declared.ClientId.{ClientId}

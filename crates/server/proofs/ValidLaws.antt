@@ -12,7 +12,8 @@ use lib.Seq.{drop-cons, get_or-take, length-take-le}
 use borrow.Author.Tests.{lt-ltb, le-ltb, ltb-true, ltb-false, not-true, not-false}
 use mathlib.Core.Logic.{⊎_elim}
 use Rattle.ids.proofs.Choice.{decided}
-use Rattle.ids.specs.Choice.{if◌then◌else◌, maybe}
+use Rattle.ids.specs.Choice.{maybe}
+use Rattle.std.specs.Prelude.{if◌then◌else◌}
 use Rattle.ids.specs.Order.{before}
 use Rattle.ids.specs.Requests.{no_request}
 use Rattle.ids.specs.declared.Request.{Request}

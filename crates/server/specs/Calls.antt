@@ -1,6 +1,5 @@
 -- The server's calls: the row 'keeper' of document 01's table, each number in its order, and what is left in record and buffer.
-use Rattle.std.specs.Prelude.{ℕ, ◌*◌, ◌≡◌, not, List, eqb, ltb, length, replicate}
-use Rattle.ids.specs.Choice.{if◌then◌else◌}
+use Rattle.std.specs.Prelude.{ℕ, ◌*◌, ◌≡◌, not, List, eqb, ltb, length, replicate, if◌then◌else◌}
 use Rattle.ids.specs.Limits.{max_servers}
 use Rattle.ids.specs.Requests.{by_owner}
 use Rattle.ids.specs.declared.ClientId.{ClientId}

@@ -1,7 +1,7 @@
 -- When a REQUEST finds no place: refusal 14, document 01's line full, older pair gone.
-use Rattle.std.specs.Prelude.{◌≡◌, ℕ, ◌*◌, false, ltb, length}
+use Rattle.std.specs.Prelude.{◌≡◌, ℕ, ◌*◌, false, ltb, length, if◌then◌else◌}
 use Rattle.std.proofs.Math.Option.{none}
-use Rattle.ids.specs.Choice.{if◌then◌else◌, maybe}
+use Rattle.ids.specs.Choice.{maybe}
 use Rattle.ids.specs.Requests.{is_client}
 use Rattle.ids.specs.declared.ClientId.{ClientId}
 use Rattle.ids.specs.declared.ServerId.{ServerId}

@@ -1,11 +1,10 @@
 -- The messages of a step, and what sending them answers and leaves in the buffer.
-use Rattle.std.specs.Prelude.{ℕ, List, ◌++◌, ltb, length}
+use Rattle.std.specs.Prelude.{ℕ, List, ◌++◌, ltb, length, if◌then◌else◌}
 use Rattle.std.proofs.lemmas.List.Edits.{sets}
 use Rattle.wire.specs.Format.{bytes_of_all, size_of_all}
 use Rattle.wire.specs.declared.Answer.{Answer}
 use Rattle.wire.specs.declared.Answer.TheVariants.{Sent, Refused}
 use Rattle.ids.specs.declared.Refusal.TheVariants.{RoomShort}
-use Rattle.ids.specs.Choice.{if◌then◌else◌}
 use Rattle.wire.specs.declared.Message.{Message}
 use Rattle.server_votes.specs.declared.Mail.{Mail}
 use Rattle.server_votes.specs.Places.{mails}

@@ -8,7 +8,7 @@ use mathlib.Core.Option.{none}
 use lib.ListN.{length, get_or, drop}
 use lib.Seq.{drop-cons, get_or-take}
 use borrow.Author.Tests.{le-ltb, lt-ltb}
-use Rattle.ids.specs.Choice.{if◌then◌else◌}
+use Rattle.std.specs.Prelude.{if◌then◌else◌}
 use Rattle.ids.specs.Order.{before}
 use Rattle.ids.specs.Requests.{is_request, is_client, no_request}
 use Rattle.ids.specs.declared.ClientId.{ClientId}

@@ -1,7 +1,7 @@
 -- The server: Figure 1 of the report, lines 26 to 56, on an owner and a request queue.
 -- Document 01 says keeper for server, line for queue, missing for suspected.
-use Rattle.std.specs.Prelude.{List, [], ◌∷◌, ltb}
-use Rattle.ids.specs.Choice.{if◌then◌else◌, maybe}
+use Rattle.std.specs.Prelude.{List, [], ◌∷◌, ltb, if◌then◌else◌}
+use Rattle.ids.specs.Choice.{maybe}
 use Rattle.ids.specs.Requests.{is_request, is_client, by_owner}
 use Rattle.ids.specs.declared.ClientId.{ClientId}
 use Rattle.ids.specs.declared.ServerId.{ServerId}

@@ -10,7 +10,7 @@ use lib.ListN.{length, get_or, take, drop, set, length-drop, length-take, replic
 use lib.Seq.{sets, get_or-set_other, length-sets, sets-eq, drop-length, drop-drop, get_or-drop, take-length, take_all, length-take-le, drop-append-le}
 use borrow.Author.Tests.{le-leb, lt-leb}
 use Rattle.ids.specs.Requests.{no_request}
-use Rattle.ids.specs.Choice.{if◌then◌else◌}
+use Rattle.std.specs.Prelude.{if◌then◌else◌}
 use Rattle.ids.specs.declared.Request.{Request}
 use Rattle.server.specs.Record as server
 use Rattle.server.specs.declared.Server.{Server}

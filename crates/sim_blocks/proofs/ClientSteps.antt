@@ -6,7 +6,7 @@ use mathlib.Core.List.{List, map}
 use lib.ListN.{replicate, length}
 use lib.Seq.{sets}
 use borrow.Author.Tests.{leb-true, le-leb, eq-eqb}
-use Rattle.ids.specs.Choice.{if◌then◌else◌}
+use Rattle.std.specs.Prelude.{if◌then◌else◌}
 use Rattle.ids.specs.Lists.{every}
 use Rattle.ids.specs.Limits.{valid_owner}
 use Rattle.ids.specs.Requests.{is_request}

@@ -10,7 +10,7 @@ use lib.Dec.{eqb}
 use lib.ListN.{length, get_or, take, drop, set, replicate, length-map, length-set, length-take, length-drop}
 use lib.Seq.{sets, sets-eq, length-sets, drop-set-lt, get_or-set_same, take-suc, drop_at, length-take-le}
 use borrow.Author.Tests.{le-leb, eqb-true}
-use Rattle.ids.specs.Choice.{if◌then◌else◌}
+use Rattle.std.specs.Prelude.{if◌then◌else◌}
 use Rattle.ids.specs.Lists.{every}
 use Rattle.ids.specs.declared.ServerId.{ServerId}
 use Rattle.ids.proofs.Choice.{both, decided}

@@ -1,9 +1,8 @@
 -- A client and a server of a simulation as words: a block each. 0 is none.
 -- Client: living (1) or fallen (0), its record, and a flag for each server that a simulation can have, 1 if it was down in the epoch.
 -- Server: up (1) or down (0), and its record.
-use Rattle.std.specs.Prelude.{ℕ, suc, ◌+◌, ◌*◌, Bool, true, ◌&&◌, ◌||◌, List, [], ◌∷◌, eqb, leb, length, get_or, take, drop, replicate}
+use Rattle.std.specs.Prelude.{ℕ, suc, ◌+◌, ◌*◌, Bool, true, ◌&&◌, ◌||◌, List, [], ◌∷◌, eqb, leb, length, get_or, take, drop, replicate, if◌then◌else◌}
 use Rattle.std.proofs.lemmas.List.Edits.{sets}
-use Rattle.ids.specs.Choice.{if◌then◌else◌}
 use Rattle.ids.specs.Lists.{every}
 use Rattle.ids.specs.Requests.{by_owner}
 use Rattle.ids.specs.declared.ClientId.{ClientId}

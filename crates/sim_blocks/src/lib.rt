@@ -3,9 +3,8 @@
 
 #![tactic(auto)]
 
-ghost use Rattle.std.specs.Prelude.{◌≡◌, true, ◌&&◌, ◌≤◌, ◌+◌, ◌*◌, length, take, drop, set, eqb, leb};
+ghost use Rattle.std.specs.Prelude.{◌≡◌, true, ◌&&◌, ◌≤◌, ◌+◌, ◌*◌, length, take, drop, set, eqb, leb, if◌then◌else◌};
 ghost use Rattle.std.proofs.lemmas.List.Edits.{sets};
-ghost use Rattle.ids.specs.Choice.{if◌then◌else◌};
 ghost use Rattle.ids.specs.Lists.{every};
 ghost use Rattle.words.specs.Records.{server_head, client_head, max_word, client_head_from, server_head_from, server_from, server_words, client_from, client_words};
 ghost use Rattle.client.specs.Record as client;

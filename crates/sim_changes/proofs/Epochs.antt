@@ -8,7 +8,7 @@ use mathlib.Core.List.{List, [], ◌∷◌, map}
 use lib.ListN.{length, get_or, set, take, drop, length-map, length-set}
 use lib.Seq.{sets, take_all, length-sets}
 use borrow.Rule.Slice.PartMut.{put_mid, put_same}
-use Rattle.ids.specs.Choice.{if◌then◌else◌}
+use Rattle.std.specs.Prelude.{if◌then◌else◌}
 use Rattle.ids.specs.declared.ServerId.{ServerId}
 use Rattle.sim_blocks.proofs.RegionBlocks.{length-blocks}
 use Rattle.sim_blocks.specs.Regions.{blocks}

@@ -1,6 +1,5 @@
 -- What an event does to a simulation: the system's event with refusal 19, seen through `view`.
-use Rattle.std.specs.Prelude.{◌≡◌, ℕ, true, false, List, [], ◌∷◌, length}
-use Rattle.ids.specs.Choice.{if◌then◌else◌}
+use Rattle.std.specs.Prelude.{◌≡◌, ℕ, true, false, List, [], ◌∷◌, length, if◌then◌else◌}
 use Rattle.ids.specs.Refusals.{code, Says, accepts, refuses}
 use Rattle.ids.specs.declared.Refusal.TheVariants.{InvalidRecord}
 use Rattle.wire.specs.Step.{refused, stepped}

@@ -3,8 +3,7 @@
 
 #![tactic(auto)]
 
-ghost use Rattle.std.specs.Prelude.{◌≡◌, true, [], ◌∷◌, map, ◌≤◌, ◌+◌, max, length, set};
-ghost use Rattle.ids.specs.Choice.{if◌then◌else◌};
+ghost use Rattle.std.specs.Prelude.{◌≡◌, true, [], ◌∷◌, map, ◌≤◌, ◌+◌, max, length, set, if◌then◌else◌};
 ghost use Rattle.ids.specs.Limits.{within};
 ghost use Rattle.quorum.specs.Check.{in_range_up_to};
 ghost use Rattle.system.specs.Numbered.{put, client_no, server_no};

@@ -1,7 +1,6 @@
 -- What the calls on an index give and leave: equations, for all words that they accept. That on the words of an index each leaves the words of the
 -- index made afresh is proofs/Means.
-use Rattle.std.specs.Prelude.{ℕ, suc, ◌+◌, ◌-◌, ◌<◌, ◌≤◌, ◌≡◌, Bool, true, false, ◌&&◌, List, [], ◌∷◌, ◌++◌, eqb, length, get_or, set, take, drop}
-use Rattle.ids.specs.Choice.{if◌then◌else◌}
+use Rattle.std.specs.Prelude.{ℕ, suc, ◌+◌, ◌-◌, ◌<◌, ◌≤◌, ◌≡◌, Bool, true, false, ◌&&◌, List, [], ◌∷◌, ◌++◌, eqb, length, get_or, set, take, drop, if◌then◌else◌}
 use Rattle.system.specs.Limits.{system_messages}
 use Rattle.sim_index.specs.Index.{receivers, numbers_from, marks_from, index_size}
 use Rattle.sim_index.specs.declared.Card.{Card}

@@ -1,7 +1,6 @@
 -- The index by receiver, as words (document 02, L2): how many messages in transit each receiver has; then, receiver by receiver, their
 -- numbers, ascending; then beside each number 1 if the message is delivered and 0 if it is pending. The words behind them are 0.
-use Rattle.std.specs.Prelude.{ℕ, zero, suc, ◌+◌, ◌-◌, List, [], ◌∷◌, ◌++◌, map, eqb, length, replicate}
-use Rattle.ids.specs.Choice.{if◌then◌else◌}
+use Rattle.std.specs.Prelude.{ℕ, zero, suc, ◌+◌, ◌-◌, List, [], ◌∷◌, ◌++◌, map, eqb, length, replicate, if◌then◌else◌}
 use Rattle.system.specs.Limits.{system_clients, system_servers, system_messages}
 use Rattle.sim_index.specs.declared.Card.{Card}
 

@@ -9,7 +9,7 @@ use mathlib.Core.List.{List, [], ◌∷◌, ◌++◌}
 use lib.Dec.{eqb, ltb}
 use lib.ListN.{length, get_or, set, length-append}
 use borrow.Author.Tests.{eq-eqb, ltb-true, ltb-false}
-use Rattle.ids.specs.Choice.{if◌then◌else◌}
+use Rattle.std.specs.Prelude.{if◌then◌else◌}
 use Rattle.ids.proofs.Choice.{decided, Test, clash}
 use Rattle.system.specs.Limits.{system_messages}
 use Rattle.system.specs.Transit.{InTransit, present}

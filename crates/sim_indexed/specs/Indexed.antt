@@ -1,7 +1,6 @@
 -- The messages in transit with their index, as words (document 02, L2): the table of slots, and behind it the index by receiver. The words are
 -- valid if the slots are and the index is the one made afresh from them.
-use Rattle.std.specs.Prelude.{ℕ, zero, suc, ◌+◌, ◌-◌, Bool, ◌&&◌, List, [], ◌∷◌, map, eqb, length, take, drop}
-use Rattle.ids.specs.Choice.{if◌then◌else◌}
+use Rattle.std.specs.Prelude.{ℕ, zero, suc, ◌+◌, ◌-◌, Bool, ◌&&◌, List, [], ◌∷◌, map, eqb, length, take, drop, if◌then◌else◌}
 use Rattle.system.specs.Limits.{system_servers}
 use Rattle.system.specs.Transit.{InTransit}
 use Rattle.system.specs.Index.{receiver_of, Entry, entry_of}

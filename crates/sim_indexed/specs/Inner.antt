@@ -1,6 +1,5 @@
 -- Definitions that only the contracts of private functions cite: no promise rests on them.
-use Rattle.std.specs.Prelude.{ℕ, ◌+◌, ◌-◌, ◌<◌, ◌≤◌, ◌≡◌, true, List, ◌∷◌, ◌++◌, map, leb, length}
-use Rattle.ids.specs.Choice.{if◌then◌else◌}
+use Rattle.std.specs.Prelude.{ℕ, ◌+◌, ◌-◌, ◌<◌, ◌≤◌, ◌≡◌, true, List, ◌∷◌, ◌++◌, map, leb, length, if◌then◌else◌}
 use Rattle.system.specs.Limits.{system_servers}
 use Rattle.system.specs.Transit.{InTransit}
 use Rattle.sim_transit.specs.Slots.{slots, valid_slots}

@@ -6,7 +6,7 @@ use mathlib.Core.Bool.{Bool, true, false}
 use mathlib.Core.List.{List, map}
 use lib.ListN.{take, drop}
 use lib.Seq.{drop-drop}
-use Rattle.ids.specs.Choice.{if◌then◌else◌}
+use Rattle.std.specs.Prelude.{if◌then◌else◌}
 use Rattle.client_responses.specs.Figure1.{count}
 use Rattle.sim_blocks.specs.Regions.{blocks}
 use Rattle.system.specs.Places.{ClientPlace, is_inside}

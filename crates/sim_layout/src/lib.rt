@@ -3,9 +3,8 @@
 
 #![tactic(auto)]
 
-ghost use Rattle.std.specs.Prelude.{◌≡◌, true, ℕ, ◌≤◌, ◌<◌, ◌+◌, ◌*◌, ◌-◌, max, length, set, take, drop, map};
+ghost use Rattle.std.specs.Prelude.{◌≡◌, true, ℕ, ◌≤◌, ◌<◌, ◌+◌, ◌*◌, ◌-◌, max, length, set, take, drop, map, if◌then◌else◌};
 ghost use Rattle.std.proofs.lemmas.List.Edits.{sets};
-ghost use Rattle.ids.specs.Choice.{if◌then◌else◌};
 ghost use Rattle.ids.specs.Limits.{within};
 ghost use Rattle.client_responses.specs.Figure1.{count};
 ghost use Rattle.client.specs.Record as client;

@@ -10,7 +10,7 @@ use lib.ListN.{length, take, drop, length-drop, length-map, take-append-drop}
 use lib.Seq.{drop-drop, length-take-le}
 use borrow.Author.Tests.{eqb-true}
 use Rattle.ids.specs.Limits.{max_servers}
-use Rattle.ids.specs.Choice.{if◌then◌else◌}
+use Rattle.std.specs.Prelude.{if◌then◌else◌}
 use Rattle.ids.proofs.Choice.{both}
 use Rattle.wire.specs.declared.Fields.{Fields}
 use Rattle.wire.proofs.NumbersLaws.{fields_again}

@@ -1,9 +1,8 @@
 -- What the calls on the messages in transit give and leave: equations, for all words that they accept. That on the words of a system each is one
 -- of the system's definitions is proofs/Means.
-use Rattle.std.specs.Prelude.{ℕ, suc, ◌+◌, ◌-◌, ◌*◌, ◌<◌, ◌≤◌, ◌≡◌, Bool, true, not, ◌&&◌, List, [], ◌∷◌, ◌++◌, eqb, length, get_or, set, take, drop, replicate}
+use Rattle.std.specs.Prelude.{ℕ, suc, ◌+◌, ◌-◌, ◌*◌, ◌<◌, ◌≤◌, ◌≡◌, Bool, true, not, ◌&&◌, List, [], ◌∷◌, ◌++◌, eqb, length, get_or, set, take, drop, replicate, if◌then◌else◌}
 use Rattle.std.proofs.lemmas.List.Edits.{sets}
 use Rattle.std.proofs.Math.Seq.{paste}
-use Rattle.ids.specs.Choice.{if◌then◌else◌}
 use Rattle.wire.specs.Format.{words, fields_of}
 use Rattle.wire.specs.declared.Message.{Message}
 use Rattle.words.specs.Messages.{message_in, message_or}

@@ -1,6 +1,5 @@
 -- What `new` does: it opens a simulation, or is refused 7 and the words stay.
-use Rattle.std.specs.Prelude.{◌≡◌, ℕ, Bool, true, false, ◌&&◌, List, [], ◌∷◌, eqb, length}
-use Rattle.ids.specs.Choice.{if◌then◌else◌}
+use Rattle.std.specs.Prelude.{◌≡◌, ℕ, Bool, true, false, ◌&&◌, List, [], ◌∷◌, eqb, length, if◌then◌else◌}
 use Rattle.ids.specs.Limits.{within}
 use Rattle.ids.specs.Refusals.{Says, accepts, refuses}
 use Rattle.ids.specs.declared.Refusal.TheVariants.{ParameterOutOfRange}

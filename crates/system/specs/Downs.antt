@@ -1,9 +1,9 @@
 -- The different servers ever down within an epoch, from the list of events: nothing here reads what a system carries along of it
 -- (`downs`, `most`). An epoch runs from a client's accepted try to its next accepted exit or fall, or the end; a server down at its
 -- start counts.
-use Rattle.std.specs.Prelude.{◌≡◌, ℕ, max, Bool, true, false, not, ◌&&◌, ◌||◌, List, [], ◌∷◌, map, eqb}
+use Rattle.std.specs.Prelude.{◌≡◌, ℕ, max, Bool, true, false, not, ◌&&◌, ◌||◌, List, [], ◌∷◌, map, eqb, if◌then◌else◌}
 use Rattle.std.proofs.Math.Option.{Option, none, some}
-use Rattle.ids.specs.Choice.{if◌then◌else◌, maybe}
+use Rattle.ids.specs.Choice.{maybe}
 use Rattle.ids.specs.declared.ClientId.{ClientId}
 use Rattle.client_responses.specs.Figure1.{Quorum, count}
 use Rattle.system.specs.declared.Event.{Event}

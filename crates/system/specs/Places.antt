@@ -1,6 +1,5 @@
 -- The state of a whole system: its clients, its servers and the messages in transit. Document 01 says gallery for system.
-use Rattle.std.specs.Prelude.{ℕ, suc, max, Bool, false, not, ◌&&◌, List, [], ◌∷◌, map, length}
-use Rattle.ids.specs.Choice.{if◌then◌else◌}
+use Rattle.std.specs.Prelude.{ℕ, suc, max, Bool, false, not, ◌&&◌, List, [], ◌∷◌, map, length, if◌then◌else◌}
 use Rattle.ids.specs.declared.ClientId.{ClientId}
 use Rattle.ids.specs.declared.ServerId.{ServerId}
 use Rattle.server_votes.specs.Figure1 as votes

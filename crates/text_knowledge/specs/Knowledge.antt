@@ -6,8 +6,7 @@
 --   kiosk 1 holding ticket 41 seen 41 keepers 1 2     the section, the last ticket, the largest one seen, and the keepers whose answer is its own
 --   kiosk 2 remainder ticket 0 seen 0
 --   kiosk 3 fallen
-use Rattle.std.specs.Prelude.{ℕ, zero, suc, List, [], ◌∷◌, ◌++◌}
-use Rattle.ids.specs.Choice.{if◌then◌else◌}
+use Rattle.std.specs.Prelude.{ℕ, zero, suc, List, [], ◌∷◌, ◌++◌, if◌then◌else◌}
 use Rattle.ids.specs.Requests.{is_request, by_owner}
 use Rattle.ids.specs.declared.ClientId.{ClientId}
 use Rattle.ids.specs.declared.ServerId.{ServerId}

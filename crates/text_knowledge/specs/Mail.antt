@@ -3,8 +3,7 @@
 --   mail 1 REQUEST kiosk 1 keeper 1 ticket 1 taken        the number, the kind, the sender, the receiver, the ticket
 --   mail 4 RESPONSE keeper 1 kiosk 2 owner 1,1 waiting    an answer names the owner, a kiosk and its ticket
 --   mail 5 RESPONSE keeper 2 kiosk 2 free waiting         or none
-use Rattle.std.specs.Prelude.{ℕ, Bool, List, [], ◌∷◌, ◌++◌}
-use Rattle.ids.specs.Choice.{if◌then◌else◌}
+use Rattle.std.specs.Prelude.{ℕ, Bool, List, [], ◌∷◌, ◌++◌, if◌then◌else◌}
 use Rattle.ids.specs.Requests.{by_owner}
 use Rattle.ids.specs.declared.ClientId.{ClientId}
 use Rattle.ids.specs.declared.Owner.{Owner}

@@ -4,11 +4,10 @@
 
 #![tactic(auto)]
 
-ghost use Rattle.std.specs.Prelude.{◌≡◌, true, [], ◌∷◌, ◌++◌, ◌≤◌, ◌<◌};
+ghost use Rattle.std.specs.Prelude.{◌≡◌, true, [], ◌∷◌, ◌++◌, ◌≤◌, ◌<◌, if◌then◌else◌};
 ghost use Rattle.sim_changes.specs.Changes.{HasClient, HasServer};
 ghost use Rattle.client_responses.specs.Row.{shown, responses_in};
 ghost use Rattle.client.specs.Record.{client_of, view as client_view};
-ghost use Rattle.ids.specs.Choice.{if◌then◌else◌};
 ghost use Rattle.script_numbers.specs.Decimals.{decimal};
 ghost use Rattle.script_lines.specs.Words.{text};
 ghost use Rattle.sim_layout.specs.Layout.{valid, view as system_of, setting_of, length_of, transit_words};

@@ -1,7 +1,6 @@
 -- What the commissioning screen says of a setting, line by line, and the script of the run that shows a setting unsafe.
 -- Each is the list of the texts that stand one after another.
-use Rattle.std.specs.Prelude.{ℕ, zero, suc, List, [], ◌∷◌, ◌++◌, leb, ℤ, pos, negsuc}
-use Rattle.ids.specs.Choice.{if◌then◌else◌}
+use Rattle.std.specs.Prelude.{ℕ, zero, suc, List, [], ◌∷◌, ◌++◌, leb, ℤ, pos, negsuc, if◌then◌else◌}
 use Rattle.ids.specs.Refusals.{code}
 use Rattle.ids.specs.declared.Refusal.{Refusal}
 use Rattle.ids.specs.declared.Refusal.TheVariants.{ParameterOutOfRange, Unsafe as NotSafe, Stalls as Stalling}

@@ -1,6 +1,5 @@
 -- Where a line of bytes ends.
-use Rattle.std.specs.Prelude.{ℕ, ◌+◌, List, [], ◌∷◌, eqb, leb, length, drop}
-use Rattle.ids.specs.Choice.{if◌then◌else◌}
+use Rattle.std.specs.Prelude.{ℕ, ◌+◌, List, [], ◌∷◌, eqb, leb, length, drop, if◌then◌else◌}
 use Rattle.script_lines.specs.Words.{newline}
 
 -- the bytes before the first newline

@@ -1,7 +1,6 @@
 -- A sheet is a lent buffer that is filled from its start: its bytes, and the place behind what was put.
-use Rattle.std.specs.Prelude.{ℕ, ◌+◌, List, [], ◌∷◌, leb, length}
+use Rattle.std.specs.Prelude.{ℕ, ◌+◌, List, [], ◌∷◌, leb, length, if◌then◌else◌}
 use Rattle.std.proofs.lemmas.List.Edits.{sets}
-use Rattle.ids.specs.Choice.{if◌then◌else◌}
 use Rattle.script_lines.specs.Words.{newline}
 
 pub record Sheet : Type 0 where

@@ -1,7 +1,6 @@
 -- What `read` and `write` answer and leave behind: the rows 'read' and 'write' of document 01's table, each number in its order.
-use Rattle.std.specs.Prelude.{ℕ, not, ◌&&◌, List, eqb, ltb, leb, length}
+use Rattle.std.specs.Prelude.{ℕ, not, ◌&&◌, List, eqb, ltb, leb, length, if◌then◌else◌}
 use Rattle.std.proofs.lemmas.List.Edits.{sets}
-use Rattle.ids.specs.Choice.{if◌then◌else◌}
 use Rattle.ids.specs.Limits.{max_servers}
 use Rattle.ids.specs.declared.Refusal.TheVariants.{HeaderShort, KindUnknown, LengthWrong, MessageCut, NumberOutOfRange, RoomShort}
 use Rattle.wire.specs.Format.{known, fields_of, bytes_of_fields, valid_fields_up_to, length_of, length_in, kind_in, fields_in, message_of, valid_up_to, size_of, bytes_of}

@@ -1,6 +1,5 @@
 -- The answers of `read` and `write`, of a new record and of a step in document 01's numbers: what each case says; and the table's rows for these calls.
-use Rattle.std.specs.Prelude.{ℕ, Bool, not, List, [], ◌∷◌, ◌++◌, eqb, ltb, length}
-use Rattle.ids.specs.Choice.{if◌then◌else◌}
+use Rattle.std.specs.Prelude.{ℕ, Bool, not, List, [], ◌∷◌, ◌++◌, eqb, ltb, length, if◌then◌else◌}
 use Rattle.ids.specs.Refusals.{code, Says, accepts, refuses}
 use Rattle.wire.specs.Format.{known, words, fields_of, fields_in, message_of, length_of, length_in, kind_in, valid, size_of_all}
 use Rattle.wire.specs.Step.{Outcome, refused, stepped}

@@ -1,8 +1,7 @@
 -- How a message crosses to C: five 32-bit words, kind, client, server, timestamp and owner, the last 0 where the kind has none.
-use Rattle.std.specs.Prelude.{ℕ, Bool, ◌&&◌, List, eqb, leb, length, get_or}
+use Rattle.std.specs.Prelude.{ℕ, Bool, ◌&&◌, List, eqb, leb, length, get_or, if◌then◌else◌}
 use Rattle.std.proofs.Math.Option.{Option, none, some}
 use Rattle.ids.specs.Limits.{max_short}
-use Rattle.ids.specs.Choice.{if◌then◌else◌}
 use Rattle.ids.specs.Refusals.{code, Says, accepts, refuses}
 use Rattle.ids.specs.declared.Refusal.TheVariants.{NumberOutOfRange}
 use Rattle.wire.specs.Format.{words, valid_fields, message_of}

@@ -1,8 +1,7 @@
 -- How a record crosses to C: 32-bit words in a fixed order, 0 for none. Some numbers, its head, then the row of its places as it stands.
-use Rattle.std.specs.Prelude.{ℕ, ◌+◌, ◌≤◌, ◌≡◌, Bool, true, ◌&&◌, List, [], ◌∷◌, ◌++◌, eqb, leb, length, get_or, drop}
+use Rattle.std.specs.Prelude.{ℕ, ◌+◌, ◌≤◌, ◌≡◌, Bool, true, ◌&&◌, List, [], ◌∷◌, ◌++◌, eqb, leb, length, get_or, drop, if◌then◌else◌}
 use Rattle.std.proofs.Math.Option.{Option, none, some}
 use Rattle.ids.specs.Limits.{max_short}
-use Rattle.ids.specs.Choice.{if◌then◌else◌}
 use Rattle.wire.specs.Format.{owner_of, owner_client, owner_timestamp}
 use Rattle.server.specs.Record as server
 use Rattle.server.specs.declared.Head.{Head as ServerHead}
