@@ -18,14 +18,6 @@ use Rattle.system.specs.declared.Setting.{Setting}
 use Rattle.sim_layout.specs.Layout.{simulation_size}
 use Rattle.system.specs.Limits.{system_clients, system_servers}
 
--- `in_range`: both tests
-module _ (s : Setting) (a : Bool) (p : a ≡ in_range_up_to system_servers s.n s.m s.f) where
-  pub servers-out : a ≡ false → false ≡ in_range s
-  servers-out t = rw (fails a (in_range_up_to system_servers s.n s.m s.f) p t)
-
-  pub clients-decide : a ≡ true → (b : Bool) → b ≡ within s.clients system_clients → b ≡ in_range s
-  clients-decide t b q = rw (holds a (in_range_up_to system_servers s.n s.m s.f) p t) q
-
 module _ (s : Setting) (w : List ℕ) where
   refuses : opens (length w) s ≡ false → NewLeaves s w w × (moved.Refused ParameterOutOfRange ≡ new_reply (opens (length w) s))
   unfolding new_reply

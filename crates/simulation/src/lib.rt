@@ -60,10 +60,8 @@ pub fn event(w: &mut [u32], e: Event) -> Reply
 pub fn in_range(s: Setting) -> bool
     ensures { result ≡ in_range s }
 {
-    if !quorum::in_range_up_to(system::MAX_SERVERS, s.n, s.m, s.f) {
-        return false;
-    }
-    ids::within_limit(s.clients, system::MAX_CLIENTS)
+    quorum::in_range_up_to(system::MAX_SERVERS, s.n, s.m, s.f)
+        && ids::within_limit(s.clients, system::MAX_CLIENTS)
 }
 
 // A new simulation of a setting. Refused 7.
