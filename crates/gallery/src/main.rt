@@ -1,5 +1,5 @@
-// The gallery program: a script on standard input, what it prints on standard output. Document 01, 'The gallery script'. The kit has no
-// exit status: where reading or writing fails, standard error says so and the program ends there.
+// The gallery program: a script on standard input, what it prints on standard output. Document 01, 'The gallery script'. Where reading or
+// writing fails, standard error says so and the program ends there, with status 0.
 
 #![tactic(auto)]
 
