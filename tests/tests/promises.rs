@@ -16,6 +16,11 @@ fn paths(folder: &Path) -> Vec<PathBuf> {
     fs::read_dir(folder).into_iter().flatten().map(|entry| entry.expect("an entry").path()).collect()
 }
 
+/// The files of a crate's folder that a check reads.
+fn read_by_check(krate: &Path, folder: &str, extension: &str) -> Vec<PathBuf> {
+    paths(&krate.join(folder)).into_iter().filter(|path| path.extension().is_some_and(|e| e == extension)).collect()
+}
+
 fn name(path: &Path) -> String {
     path.file_stem().expect("a name").to_string_lossy().into_owned()
 }
@@ -43,7 +48,7 @@ fn begun(line: &str) -> Option<&str> {
 
 fn functions(krate: &str) -> Functions {
     let (mut functions, mut within) = (Functions::new(), None);
-    for line in paths(&root().join("crates").join(krate).join("src"))
+    for line in read_by_check(&root().join("crates").join(krate), "src", "rt")
         .iter()
         .flat_map(|path| text(path).lines().map(String::from).collect::<Vec<_>>())
     {
@@ -156,11 +161,11 @@ fn from_inner(text: &str) -> Vec<String> {
 fn no_promise_rests_on_inner_definitions() {
     let mut inner = 0;
     for krate in paths(&root().join("crates")) {
-        for path in paths(&krate.join("specs")) {
+        for path in read_by_check(&krate, "specs", "antt") {
             inner += u32::from(name(&path) == "Inner");
             assert!(name(&path) == "Inner" || from_inner(&text(&path)).is_empty(), "{} cites Inner", path.display());
         }
-        let names: Vec<String> = paths(&krate.join("src")).iter().flat_map(|path| from_inner(&text(path))).collect();
+        let names: Vec<String> = read_by_check(&krate, "src", "rt").iter().flat_map(|path| from_inner(&text(path))).collect();
         for (function, text) in functions(&name(&krate)).iter().filter(|(_, text)| text.starts_with("pub ")) {
             let contract = text.split("\n{").next().unwrap_or_default();
             let words: BTreeSet<&str> = contract.split(|c: char| c.is_whitespace() || "(){},.".contains(c)).collect();
