@@ -20,7 +20,7 @@ use Rattle.rows.specs.Good.{good_row}
 use Rattle.rows.proofs.GoodLaws.{good-padded}
 use Rattle.client_responses.specs.declared.Section.{Section}
 use Rattle.client_responses.specs.declared.Section.TheVariants.{Remainder, Trying, Critical}
-use Rattle.client_responses.specs.Figure1.{is_critical, filled, count, own, enough}
+use Rattle.client_responses.specs.Figure1.{is_critical, filled, count, enough}
 use Rattle.client_responses.specs.Row.{responses_in, own_is_current, misfit}
 use Rattle.client_responses.proofs.CountLaws.{no_misfit}
 use Rattle.client.specs.declared.Client.{Client}

@@ -8,7 +8,7 @@ use mathlib.Core.List.{List, [], ◌∷◌, map}
 use lib.Dec.{eqb}
 use lib.ListN.{length, get_or, take, drop, length-map, drop_of_length-le, get_or-map}
 use lib.Seq.{drop-cons, get_or-take, length-take-le}
-use borrow.Author.Tests.{not-true, not-false, eq-eqb, ne_eqb, le-leb}
+use borrow.Author.Tests.{eq-eqb, ne_eqb, le-leb}
 use Rattle.ids.specs.Limits.{max_client, max_timestamp, valid_owner, valid_request}
 use Rattle.ids.specs.Lists.{every}
 use Rattle.ids.specs.Requests.{same, is_request, no_request}

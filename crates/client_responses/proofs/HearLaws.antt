@@ -8,7 +8,7 @@ use mathlib.Core.List.{List, [], ◌∷◌, map}
 use lib.Dec.{eqb}
 use lib.ListN.{length, get_or, take, set, length-set, get_or-map}
 use lib.Seq.{sets, length-sets, take-set-lt, drop-set-lt, get_or-take, set-set, set-get_or}
-use borrow.Author.Tests.{not-true, not-false, eq-eqb, ne_eqb, le-leb}
+use borrow.Author.Tests.{eq-eqb, ne_eqb, le-leb}
 use Rattle.std.specs.Prelude.{if◌then◌else◌}
 use Rattle.ids.specs.Limits.{max_client, valid_owner}
 use Rattle.ids.specs.Requests.{same, is_request, no_request}

@@ -4,7 +4,6 @@ use Rattle.ids.specs.declared.Owner.TheVariants.{Of}
 use Rattle.ids.specs.declared.Refusal.TheVariants.{KindUnknown, NumberOutOfRange, RoomShort, PacketMalformed}
 use Rattle.wire.specs.declared.Message.{Message as Sent}
 use Rattle.wire.specs.declared.Message.TheVariants.{Request, Response}
-use Rattle.wire.specs.declared.Written.{Written}
 use Rattle.wire.specs.declared.Written.TheVariants.{Bytes, Refused as NotPacked}
 use Rattle.packet.specs.Reading.{next_of}
 use Rattle.packet.specs.Packing.{packed, pack_of}

@@ -9,15 +9,13 @@ use mathlib.Core.Logic.{⊎_elim}
 use lib.Dec.{eqb}
 use lib.ListN.{length, get_or, take, drop, length-drop, take-append-drop}
 use lib.Seq.{drop-drop, length-take-le, get_or-take, ext_get_or, take_all}
-use borrow.Author.Tests.{eqb-true, eqb-false, eq-eqb, ne_eqb}
+use borrow.Author.Tests.{eqb-true, eqb-false}
 use Rattle.ids.proofs.Choice.{both, decided}
-use Rattle.system.specs.Places.{System}
-use Rattle.system.specs.declared.Setting.{Setting}
 use Rattle.sim_transit.proofs.Determined.{zeros-same}
 use Rattle.sim_layout.specs.Layout as layout
 use Rattle.sim_layout.proofs.Determined as simulation
 use Rattle.script_output.specs.Reader.{Script, Stage, opening, running, closed, Reader, max_kept}
-use Rattle.script.specs.State.{stage_opening, stage_running, stage_closed, line_from, state_head, state_size, Head, head_in, kept_in, simulation_in, script_in, stage_of, line_of, view, valid_run, valid_idle, valid}
+use Rattle.script.specs.State.{stage_opening, stage_running, stage_closed, line_from, state_head, state_size, Head, head_in, kept_in, simulation_in, script_in, stage_of, line_of, view, valid_idle, valid}
 use Rattle.script.specs.Calls.{Leaves}
 use Rattle.script.proofs.StateLaws.{kept-long, simulation_long, LineFacts, Facts, RunFacts, run-facts}
 use Rattle.script.proofs.LineLaws.{known, sound}

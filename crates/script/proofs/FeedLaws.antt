@@ -3,7 +3,7 @@ use mathlib.Core.Path.{◌≡◌, refl, sym, ap, ◌∙◌}
 use Prim.Native.Nat.{ℕ, suc, ◌+◌, ◌-◌, ◌≤◌, ◌<◌}
 use native.Mathlib.Numerals.{add-one}
 use native.Mathlib.Omega.{arith}
-use mathlib.Core.Bool.{Bool, true, false, not, ◌&&◌}
+use mathlib.Core.Bool.{Bool, true, false, ◌&&◌}
 use mathlib.Core.List.{List, [], ◌∷◌, ◌++◌, append-nil, append_assoc}
 use lib.Dec.{leb}
 use lib.ListN.{length, get_or, set, drop, replicate, length-append}
@@ -14,7 +14,7 @@ use Rattle.ids.specs.declared.Refusal.TheVariants.{RoomShort, InvalidRecord}
 use Rattle.wire.proofs.BytesLaws.{stored_on}
 use Rattle.script.specs.declared.Progress.{Progress}
 use Rattle.script.specs.declared.Progress.TheVariants.{Took, Refused}
-use Rattle.script_output.specs.Reader.{closed, Reader, Printed, taken, Fed, max_printed, followed, fed_within, ended, last_line, finished, max_kept}
+use Rattle.script_output.specs.Reader.{Reader, Printed, taken, Fed, max_printed, followed, fed_within, ended, last_line, finished, max_kept}
 use Rattle.script.specs.State.{stage_closed, stage_at, length_at, view, valid, state_size}
 use Rattle.script.specs.Calls.{feed_answer, Leaves, FeedLeaves, finish_answer, FinishLeaves, max_ending}
 use Rattle.script.specs.Inner.{Sound, Ready, Prints, Does, Takes, FedAs, Closes}

@@ -14,7 +14,6 @@ use borrow.Author.Tests.{ltb-false, not-false}
 use Rattle.ids.specs.Lists.{every}
 use Rattle.ids.specs.Choice.{maybe}
 use Rattle.std.specs.Prelude.{if◌then◌else◌}
-use Rattle.ids.specs.Order.{before}
 use Rattle.ids.specs.Limits.{max_servers, valid_server, valid_request, valid_owner, valid_parties_up_to, valid_stamped_up_to}
 use Rattle.ids.specs.Requests.{same, is_request, is_client, by_owner}
 use Rattle.ids.specs.declared.ClientId.{ClientId}

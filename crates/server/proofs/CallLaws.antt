@@ -1,10 +1,10 @@
 -- The public calls: each refusal in its order, and then the step.
 use Prim.Native.Nat.{ℕ}
 use mathlib.Core.Path.{◌≡◌, refl, sym, ap, ◌∙◌}
-use mathlib.Core.Bool.{Bool, true, false, not}
+use mathlib.Core.Bool.{Bool, true, false}
 use mathlib.Core.List.{List}
 use native.Mathlib.Omega.{arith}
-use borrow.Author.Tests.{le-ltb, not-true, not-false}
+use borrow.Author.Tests.{le-ltb}
 use Rattle.ids.specs.Limits.{within, max_servers}
 use Rattle.ids.specs.Requests.{by_owner}
 use Rattle.ids.proofs.Choice.{of_choice}

@@ -6,7 +6,7 @@ use mathlib.Core.Path.{◌≡◌, refl, sym, ap, ◌∙◌}
 use mathlib.Core.Bool.{true, false}
 use mathlib.Core.List.{List, [], ◌∷◌, ◌++◌, append_assoc, append-nil}
 use lib.Dec.{eqb}
-use lib.ListN.{length, get_or, take, drop, length-append, length-drop, take-append-drop}
+use lib.ListN.{length, get_or, take, drop, length-append, length-drop}
 use lib.Seq.{sets, sets-eq, length-sets, take_at, drop_at, drop-drop, length-take-le, take_all, take-suc, get_or-drop}
 use Rattle.ids.specs.Limits.{max_servers}
 use Rattle.ids.proofs.Choice.{both}
@@ -28,12 +28,12 @@ use Rattle.words.specs.Messages.{no_message}
 use Rattle.system.specs.Transit.{InTransit, numbered}
 use Rattle.sim_transit.specs.Slots.{slot_of, slot_at, rows, slots, names, valid_slot, ascending, and_then, messages_in, transit_size, slot_size}
 use Rattle.sim_transit.specs.Inner.{PostsOne}
-use Rattle.sim_transit.specs.Calls.{Sized, Valid, slot_words, slots_words, posted as posted_words}
+use Rattle.sim_transit.specs.Calls.{Sized, slot_words, slots_words, posted as posted_words}
 use Rattle.sim_transit.proofs.Means.{Posts}
 use Rattle.sim_transit.proofs.RowsLaws.{rows_next, rows_same}
 use Rattle.sim_transit.proofs.NumbersLaws.{ascends, ascends_append}
 use Rattle.sim_transit.proofs.SlotLaws.{slot-again, words-valid}
-use Rattle.ids.proofs.ListLaws.{every_append, every-parts, every_drop}
+use Rattle.ids.proofs.ListLaws.{every_append, every_drop}
 use Rattle.sim_transit.proofs.ValidLaws.{Known, known, known-valid, slots_next, slots_same}
 use Rattle.system.specs.Limits.{system_messages}
 

@@ -1,7 +1,7 @@
 -- A new simulation is refused or made, test by test.
 use mathlib.Core.Path.{◌≡◌, refl, ap, ◌∙◌}
 use Prim.Native.Nat.{ℕ}
-use mathlib.Core.Bool.{Bool, true, false, not}
+use mathlib.Core.Bool.{Bool, true, false}
 use mathlib.Core.List.{List}
 use lib.ListN.{length}
 use borrow.Author.Tests.{eq-eqb, ne_eqb}
@@ -9,7 +9,7 @@ use Rattle.ids.specs.Limits.{within}
 use Rattle.ids.proofs.Choice.{clash, holds, fails}
 use Rattle.quorum.specs.Check.{in_range_up_to}
 use Rattle.sim_changes.specs.Opening.{Starts}
-use Rattle.simulation.specs.Opens.{in_range, opens, new_reply, open_says, NewLeaves}
+use Rattle.simulation.specs.Opens.{opens, new_reply, open_says, NewLeaves}
 use Rattle.sim_changes.specs.Happens.{moved_says}
 use Rattle.sim_changes.specs.declared.Moved.{Moved}
 use Rattle.sim_changes.specs.declared.Moved.TheVariants as moved

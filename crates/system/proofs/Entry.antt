@@ -27,7 +27,7 @@ use Rattle.system.specs.declared.Event.TheVariants.{Try}
 use Rattle.system.specs.Numbered.{at, put, member, span, client_no, server_no}
 use Rattle.system.specs.Transit.{replaced, gone, keeping}
 use Rattle.system.specs.Places.{ClientPlace, ServerPlace, System, no_client, no_server, client_at, server_at, is_inside, down_from}
-use Rattle.system.specs.Events.{client_moves, server_moves, tried, asked, deliver, event}
+use Rattle.system.specs.Events.{client_moves, server_moves, tried, deliver, event}
 use Rattle.system.specs.Runs.{after, next}
 use Rattle.system.specs.Setting.{takes, enters, Different, no_more, another}
 use Rattle.ids.proofs.Choice.{clash}

@@ -22,7 +22,7 @@ use Rattle.wire.specs.declared.Message.TheVariants.{Request as REQUEST, Yield as
 use Rattle.server_votes.specs.declared.Tag.TheVariants.{Request as Asks, Yield as Yields, Release as Releases, Inquiry as Inquires}
 use Rattle.server_votes.specs.Figure1.{State as ServerState, idle}
 use Rattle.client_responses.specs.Figure1.{State as ClientState, Quorum, request}
-use Rattle.system.specs.Numbered.{at, member, added}
+use Rattle.system.specs.Numbered.{member, added}
 use Rattle.system.specs.Transit.{InTransit, again}
 use Rattle.system.specs.Places.{ClientPlace, ServerPlace, in_epoch}
 use Rattle.ids.proofs.Choice.{clash}

@@ -6,10 +6,9 @@ use mathlib.Core.List.{List}
 use lib.Dec.{eqb, ltb}
 use lib.ListN.{length}
 use Rattle.std.specs.Prelude.{if◌then◌else◌}
-use Rattle.ids.specs.Refusals.{Says, accepts, refuses}
 use Rattle.ids.specs.declared.Refusal.TheVariants.{HeaderShort, KindUnknown, LengthWrong, MessageCut, NumberOutOfRange, RoomShort}
 use Rattle.ids.proofs.Choice.{of_choice}
-use Rattle.wire.specs.Format.{known, fields_in, fields_of, message_of, length_of, length_in, kind_in, valid, valid_fields, size_of}
+use Rattle.wire.specs.Format.{known, fields_in, message_of, length_of, length_in, kind_in, valid, valid_fields, size_of}
 use Rattle.wire.specs.Calls.{read_of, read_up_to, numbers_of, write_of, write_up_to, buffer_after, lay_of, write_numbers, numbers_after}
 use Rattle.wire.specs.Step.{Outcome, refused, stepped, answer_of}
 use Rattle.wire.specs.Says.{parsed_says, numbers_says, read_says, written_says, write_says, answer_says, outcome_says}

@@ -1,11 +1,11 @@
 -- Words and messages: when five words cross, and which message they are.
 use Prim.Native.Nat.{ℕ, ◌<◌, ◌≤◌}
 use mathlib.Core.Path.{◌≡◌, refl, sym, ap, ◌∙◌}
-use mathlib.Core.Bool.{Bool, true, false, not, ◌&&◌}
+use mathlib.Core.Bool.{Bool, true, false, ◌&&◌}
 use mathlib.Core.List.{List}
 use lib.Dec.{eqb, leb}
 use lib.ListN.{length, get_or}
-use borrow.Author.Tests.{le-leb, lt-leb, ne_eqb, leb-true, not-true, not-false}
+use borrow.Author.Tests.{le-leb, lt-leb, ne_eqb, leb-true}
 use Rattle.ids.specs.Limits.{max_short}
 use Rattle.ids.proofs.Choice.{both, of_choice}
 use Rattle.wire.specs.Format.{valid_fields, message_of}

@@ -1,7 +1,6 @@
 -- `capi::sigma_server_new` meets its contract: room, then numbers too wide for a record, then the record made.
 use mathlib.Core.Path.{sym, ◌∙◌}
 use native.Mathlib.Omega.{arith}
-use borrow.Author.Tests.{not-false}
 use Rattle.words.proofs.RecordsLaws.{head_small}
 use Rattle.capi.proofs.NewLaws.{server_new-room, server_new-wide, server_new-done, server_new-whole}
 use borrow.Author.Rules.{rules}

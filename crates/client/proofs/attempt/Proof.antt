@@ -7,8 +7,6 @@ use Rattle.client.proofs.attempt.Tie as tie
 -- the last timestamp leaves room for one more
 add-t11 : tie.Need-overflow_add-t
 add-t11 c =
-    let a = c.before in
-    let s = a.before.before.before.before.before in
     let k = try_left _ _ _ c.latest-last.ensures c.requires.1 in
     search (rules, k)
 

@@ -6,9 +6,6 @@ use Rattle.client.proofs.begin_row.Tie as tie
 
 returns-4 : tie.Need-returns
 returns-4 c =
-    let a = c.before.before.before.before in
-    let t = a.before.before.before in
-    let s = t.before.before.before in
     rw (begin_tries _ _ _ c.valid_row.ensures _ c.if-not-valid_row.false c.is_remainder.ensures _ c.latest-last.ensures c.if-not-is_remainder.false c.if-last-gt-LAST_TRY.false)
     c.attempt.ensures
 

@@ -6,8 +6,6 @@ use Rattle.client.proofs.exit_row.Tie as tie
 
 returns-3 : tie.Need-returns
 returns-3 c =
-    let a = c.before.before.before.before in
-    let s = a.before.before.before in
     rw (exit_leaves _ _ _ c.valid_row.ensures _ c.if-not-valid_row.false c.is_critical.ensures c.if-not-is_critical.false) c.leave.ensures
 
 pub exit_row_spec : {M : Type 1} → statement M

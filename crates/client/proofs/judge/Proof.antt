@@ -7,10 +7,6 @@ use Rattle.client.proofs.judge.Tie as tie
 
 returns : tie.Need-returns
 returns c =
-    let d = c.before.before.before.before in
-    let o = d.before.before.before in
-    let q = o.before.before in
-    let s = q.before.before.before.before.before in
     rw (verdicts c.args.h c.args.row.now _ _ _ c.filled_count.ensures c.request_of.ensures c.own_count.ensures) c.decide.ensures
 
 pub judge_spec : {M : Type 1} → statement M

@@ -6,8 +6,6 @@ use Rattle.client.proofs.message.Tie as tie
 
 returns : tie.Need-returns
 returns c =
-    let r = c.before.before.before.before in
-    let s = r.before.before.before.before.before in
     by_value c.args.c _ c.args.out.now _ _ _ c.message_row-turned.ensures _ c.together.ensures
 
 pub message_spec : {M : Type 1} → statement M

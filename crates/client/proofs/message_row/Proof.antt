@@ -7,8 +7,6 @@ use Rattle.client.proofs.message_row.Tie as tie
 
 returns-3 : tie.Need-returns
 returns-3 c =
-    let a = c.before.before.before.before in
-    let s = a.before.before.before in
     rw (message-received _ _ _ c.valid_row.ensures _ _ c.if-not-valid_row.false c.valid_message.ensures c.if-not-valid_message.false) c.receive.ensures
 
 pub message_row_spec : {M : Type 1} → statement M

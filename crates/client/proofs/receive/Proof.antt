@@ -13,12 +13,10 @@ take-response-requires c κs =
 
 returns-5 : tie.Need-returns-in-Response
 returns-5 c =
-    let t = c.before.before.before.before in
     rw c.in-Response.is c.take_response.ensures
 
 returns-6 : tie.Need-returns-in-Check
 returns-6 c =
-    let t = c.before.before in
     rw c.in-Check.is c.take_check.ensures
 
 pub receive_spec : {M : Type 1} → statement M

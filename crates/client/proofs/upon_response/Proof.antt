@@ -24,7 +24,6 @@ module _ (c : tie.After-hear-old) where
 
   heard : Heard c.args.h c.args.row.now c.args.j c.args.o c.hear-old.result c.hear-old.new.row
   heard =
-      let s = begun tries in
       respond_heard _ _ c.requires.0 _ _ _ c.is_trying.ensures c.requires.1 c.requires.2 c.requires.3 c.if-not-is_trying.false _ _ _
       c.request_of.ensures c.hear-old.ensures.0 c.hear-old.ensures.1
 
@@ -50,18 +49,15 @@ sub-put-request c = omega (arith, (begun (tries (hearing (judged c.before.before
 
 put-request-requires : tie.Need-put_request-requires
 put-request-requires c κs =
-    let e = tries (hearing (judged c.before.before.before)) in
     omega (arith, room c.before.before.before.before.before.before.before.before.before.before.before.before.before.before.before.before, c.requires.1, c.requires.2)
 
 returns-2 : tie.Need-returns-then-is_refused
 returns-2 c =
-    let a = judged c.before.before.before.before.before.before in
     respond_undone _ _ _ _ _ _ (heard (hearing c.before.before.before.before.before.before.before.before.before.before.before)) _ _ (begun (tries (hearing c.before.before.before.before.before.before.before.before.before.before.before))).args.out.now _ c.judge-r.ensures _
     c.is_refused.ensures _ c.if-is_refused.true c.put_request.ensures
 
 returns-3 : tie.Need-returns
 returns-3 c =
-    let a = judged c.before in
     respond_kept _ _ _ _ _ _ (heard (hearing c.before.before.before.before.before.before)) _ _ (begun (tries (hearing c.before.before.before.before.before.before))).args.out.now _ c.judge-r.ensures _
     c.is_refused.ensures c.if-is_refused.false
 

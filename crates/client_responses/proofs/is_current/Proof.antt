@@ -6,12 +6,10 @@ use Rattle.client_responses.proofs.is_current.Tie as tie
 
 returns : tie.Need-returns-then-q-r
 returns c =
-    let o = c.before.before.before.before in
     rw c.in-Of.is (current-other c.args.r c.in-Of.q c.if-q-r.true)
 
 returns-3 : tie.Need-returns-else-q-r
 returns-3 c =
-    let o = c.before.before.before.before.before.before in
     rw c.in-Of.is (current-own c.args.r c.in-Of.q c.if-q-r.false)
 
 pub is_current_spec : {M : Type 1} → statement M

@@ -40,6 +40,5 @@ reach_spec =
     (λ c. omega (arith, (part c).within))
     (λ c. omega (arith, (part c).least))
     (λ c.
-    let n = c.loop-place-test.true in
     reached-more _ _ _ _ c.loop-place.invariant (inside c) c.size_at-place.ensures (λ e. omega arith))
     (λ c. search rules))

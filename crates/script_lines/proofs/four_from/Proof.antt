@@ -53,12 +53,10 @@ returns-3 c =
 
 returns-4 : tie.Need-returns-in_default-read_number
 returns-4 c =
-    let b = from₂ c.before.before.before in
     no_fourth _ _ _ _ (one (from₁ c.before.before.before.before.before)) _ _ (two c.before.before.before.before.before) _ _ (three c.before.before.before) _ c.read_number.ensures.0 c.in_default-read_number.is
 
 returns-5 : tie.Need-returns
 returns-5 c =
-    let b = from₂ c.before.before.before in
     all_four _ _ _ _ (one (from₁ c.before.before.before.before.before)) _ _ (two c.before.before.before.before.before) _ _ (three c.before.before.before) _ c.read_number.ensures.0 _ c.in-Number-read_number.is
 
 pub four_from_spec : {M : Type 1} → statement M

@@ -7,16 +7,11 @@ use Rattle.script_lines.proofs.parse_event.Tie as tie
 
 returns-3 : tie.Need-returns-in-Number
 returns-3 c =
-    let x = c.before.before.before.before in
-    let r = x.before.before in
-    let d = r.before.before in
     line-said _ _ (event_command _ _ c.if-n-gt-MAX_LINE.false c.word_end-p.ensures c.if-p-n.false _ c.read_number.ensures.0
     _ _ _ c.in-Number.is c.command_in.ensures c.line_of.ensures)
 
 returns-4 : tie.Need-returns-in-Nothing
 returns-4 c =
-    let r = c.before.before in
-    let d = r.before.before in
     line-said _ _ (event_no_number _ _ c.if-n-gt-MAX_LINE.false c.word_end-p.ensures c.if-p-n.false _ c.read_number.ensures.0
     c.in-Nothing.is)
 

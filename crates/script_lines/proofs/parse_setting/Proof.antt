@@ -7,13 +7,10 @@ use Rattle.script_lines.proofs.parse_setting.Tie as tie
 
 returns-3 : tie.Need-returns-then-not-equal
 returns-3 c =
-    let d = c.before.before.before.before in
     first_said _ _ (setting-other _ _ c.if-line-gt-MAX_LINE.false c.word_end-p.ensures c.if-p-line.false _ c.equal.ensures c.if-not-equal.true)
 
 returns-4 : tie.Need-returns
 returns-4 c =
-    let e = c.before in
-    let d = e.before.before.before.before in
     first_said _ _ (setting-numbers _ _ c.if-line-gt-MAX_LINE.false c.word_end-p.ensures c.if-p-line.false _ c.equal.ensures
     _ c.if-not-equal.false c.four_from.ensures)
 

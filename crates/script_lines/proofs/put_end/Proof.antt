@@ -32,9 +32,6 @@ module _ (c : tie.After-put_number-t) where
 returns : tie.Need-returns
 unfolding end_line
 returns c =
-    let d₄ = c.before.before in
-    let d₃ = d₄.before.before.before.before in
-    let d₂ = two d₃ in
     let a = c.args in
     let e₁ = puts-more (puts_none a.out.now a.at) (text "end") c.put_word-p.ensures in
     let e₂ = puts-more e₁ (decimal a.accepted) c.put_number-q.ensures in

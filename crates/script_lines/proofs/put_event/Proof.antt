@@ -27,13 +27,11 @@ put-word-requires c κs =
 
 put-decimal-requires : tie.Need-put_decimal-requires
 put-decimal-requires c κs =
-    let d = found c.before.before.before.before in
     omega (arith, number-room c.args.e _ (named c.before.before.before.before.before.before.before) _ _ _ c.number_of.ensures _ c.put_word-p.ensures.0 c.requires)
 
 returns : tie.Need-returns
 returns c =
     let q = c.before.before in
-    let d = found c.before.before.before.before.before.before.before in
     put-line c.args.e _ (named c.before.before.before.before.before.before.before.before.before.before) _ _ _ q.before.number_of.ensures
     c.args.out.now _ _ _ c.put_word-p.ensures c.put_decimal.ensures
 

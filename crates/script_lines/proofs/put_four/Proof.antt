@@ -29,7 +29,6 @@ module _ (c : tie.After-put_number-t) where
 
 returns : tie.Need-returns
 returns c =
-    let d₂ = two c.before.before.before.before.before.before in
     let a = c.args in
     let e₁ = puts-more (puts_none a.out.now a.at) (decimal a.s.n) c.put_number-p.ensures in
     let e₂ = puts-more e₁ (decimal a.s.m) c.put_number-q.ensures in

@@ -8,7 +8,6 @@ use Rattle.script_lines.proofs.put_header.Tie as tie
 
 returns : tie.Need-returns
 returns c =
-    let d = c.before.before.before.before.before.before in
     let a = c.args in
     put_heading a.s a.out.now _ _ _ _ _ c.put_four-q.ensures c.put_word-p.ensures
 

@@ -6,14 +6,10 @@ use Rattle.script_lines.proofs.read_field.Tie as tie
 
 returns-2 : tie.Need-returns-in-Number
 returns-2 c =
-    let r = c.before.before.before in
-    let d = r.before.before in
     field_found _ _ _ c.word_end-p.ensures c.if-p-line.false _ c.read_number.ensures.0 _ c.in-Number.is
 
 returns-3 : tie.Need-returns-in-Nothing
 returns-3 c =
-    let r = c.before.before in
-    let d = r.before.before in
     field_unread _ _ _ c.word_end-p.ensures c.if-p-line.false _ c.read_number.ensures.0 c.in-Nothing.is
 
 pub read_field_spec : {M : Type 1} → statement M

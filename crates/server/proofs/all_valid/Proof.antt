@@ -41,11 +41,11 @@ module _ (c : tie.After-valid_request invariant-loop decreases-loop) where
   tested = c.valid_request.ensures ∙ ap valid_request c.request_at.ensures
 
 returns : tie.Need-returns-then-not-valid_request invariant-loop decreases-loop
-returns c = let t = turn c.before in valid_stops _ _ (within (entry c.before.before.before)) _ c.loop-i-test.true _ _ (tested c.before)
+returns c = valid_stops _ _ (within (entry c.before.before.before)) _ c.loop-i-test.true _ _ (tested c.before)
     c.loop-i.invariant c.if-not-valid_request.true
 
 loop-again : tie.Need-loop-i-preserved invariant-loop decreases-loop
-loop-again c = let t = turn c.before in valid_on _ _ (within (entry c.before.before.before)) _ c.loop-i-test.true _ _ (tested c.before)
+loop-again c = valid_on _ _ (within (entry c.before.before.before)) _ c.loop-i-test.true _ _ (tested c.before)
     c.loop-i.invariant c.if-not-valid_request.false
 
 pub all_valid_spec : {M : Type 1} → statement M

@@ -49,10 +49,10 @@ add-loop : tie.Need-overflow_add-i invariant-loop decreases-loop
 add-loop c = omega (arith, passing-within _ _ (within c.before.before) ordered _ c.loop-i.invariant)
 
 returns : tie.Need-returns-then-not-precedes invariant-loop decreases-loop
-returns c = let t = turn c.before in order_stops _ _ (within (entry c.before.before.before.before)) _ c.loop-i-test.true _ (tested c.before) c.loop-i.invariant c.if-not-precedes.true
+returns c = order_stops _ _ (within (entry c.before.before.before.before)) _ c.loop-i-test.true _ (tested c.before) c.loop-i.invariant c.if-not-precedes.true
 
 loop-again : tie.Need-loop-i-preserved invariant-loop decreases-loop
-loop-again c = let t = turn c.before in order_on _ _ (within (entry c.before.before.before.before)) _ c.loop-i-test.true _ (tested c.before) c.loop-i.invariant c.if-not-precedes.false
+loop-again c = order_on _ _ (within (entry c.before.before.before.before)) _ c.loop-i-test.true _ (tested c.before) c.loop-i.invariant c.if-not-precedes.false
 
 pub in_order_spec : {M : Type 1} → statement M
 in_order_spec =

@@ -5,7 +5,7 @@ use Rattle.server.proofs.message.Statement.{statement}
 use Rattle.server.proofs.message.Tie as tie
 
 returns : tie.Need-returns
-returns c = let made = c.before.before.before.before.before in turns_by_value c.args.s _ _ _ _ _ _
+returns c = turns_by_value c.args.s _ _ _ _ _ _
     c.message_row-t.ensures c.finish.ensures
 
 pub message_spec : {M : Type 1} → statement M

@@ -5,7 +5,7 @@ use Rattle.server.proofs.suspect.Statement.{statement}
 use Rattle.server.proofs.suspect.Tie as tie
 
 returns : tie.Need-returns
-returns c = let made = c.before.before.before.before.before in turns_by_value c.args.s _ _ _ _ _ _
+returns c = turns_by_value c.args.s _ _ _ _ _ _
     c.suspect_row-t.ensures c.finish.ensures
 
 pub suspect_spec : {M : Type 1} → statement M

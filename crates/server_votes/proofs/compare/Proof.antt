@@ -15,8 +15,6 @@ act-requires c κs = padded c.before.before.before.before
 
 returns-2 : tie.Need-returns-then-t-now
 returns-2 c =
-    let acted = c.before.before.before in
-    let gone = acted.before.before.before.before in
     compares_newer _ c.args.tag c.args.r c.args.v _ c.requires.0 _ _ _ c.delete-before.ensures _ _ _ c.requires.1
     c.if-t-now.true c.act-after.ensures c.joined.ensures
 

@@ -56,13 +56,11 @@ module _ (c : tie.Else-words-m) where
 
 returns-4 : tie.Need-returns-then-words-k
 returns-4 c =
-    let v = tested c.before.before.before in
     number_differs _ _ _ _ _ _ (its c.before.before.before.before.before.before.before.before) _ c.valid_row.ensures c.if-not-valid_row.false
     c.if-words-n.false c.if-words-m.false c.if-words-k.true
 
 requests-named-requires : tie.Need-requests_named-requires
 requests-named-requires c κs =
-    let v = tested c.before.before.before in
     let a = c.args in
     omega (
       arith,
@@ -73,7 +71,6 @@ requests-named-requires c κs =
 
 returns-5 : tie.Need-returns
 returns-5 c =
-    let v = tested c.before.before.before.before in
     named_decides _ _ _ _ _ _ (its c.before.before.before.before.before.before.before.before.before) _ c.valid_row.ensures c.if-not-valid_row.false
     c.if-words-n.false c.if-words-m.false c.if-words-k.false _ c.requests_named.ensures
 

@@ -46,14 +46,13 @@ returns : tie.Need-returns-then-not-valid_row
 returns c = server_broken _ _ _ _ _ (its c.before) _ c.valid_row.ensures c.if-not-valid_row.true
 
 returns-2 : tie.Need-returns-then-words-n
-returns-2 c = let v = tested c.before.before in server_count_differs _ _ _ _ _ (its c.before.before.before) _ c.valid_row.ensures c.if-not-valid_row.false c.if-words-n.true
+returns-2 c = server_count_differs _ _ _ _ _ (its c.before.before.before) _ c.valid_row.ensures c.if-not-valid_row.false c.if-words-n.true
 
 shared-slice-read-if3 : tie.Need-bounds-words-1
 shared-slice-read-if3 c = omega (arith, long (entry (tested c.before.before.before)))
 
 returns-3 : tie.Need-returns-then-words-j
 returns-3 c =
-    let v = tested c.before.before.before.before.before in
     server_number_differs _ _ _ _ _ (its c.before.before.before.before.before.before) _ c.valid_row.ensures c.if-not-valid_row.false c.if-words-n.false c.if-words-j.true
 
 -- its two numbers are the setting's and its own
@@ -63,23 +62,19 @@ module _ (c : tie.Else-words-j) where
 
 returns-4 : tie.Need-returns-then-clients-words
 returns-4 c =
-    let e = good c.before.before in
-    let v = tested c.before.before.before.before.before.before.before in
     owner_unknown _ _ _ _ _ (its c.before.before.before.before.before.before.before.before) _ c.valid_row.ensures c.if-not-valid_row.false c.if-words-n.false c.if-words-j.false c.if-clients-words.true
 
 shared-slice-read-requests-named : tie.Need-bounds-words-4
 shared-slice-read-requests-named c = omega (arith, long (entry (tested (good c.before.before.before))))
 
 cast-requests-named : tie.Need-overflow_cast-words
-cast-requests-named c = let e = good c.before.before.before in omega (arith, long (entry (tested c.before.before.before.before.before.before.before.before)), queue-inside c.before.before.before.before.before.before.before.before)
+cast-requests-named c = omega (arith, long (entry (tested c.before.before.before.before.before.before.before.before)), queue-inside c.before.before.before.before.before.before.before.before)
 
 requests-named-requires : tie.Need-requests_named-requires
 requests-named-requires c κs = queue-inside (good c.before.before.before)
 
 returns-5 : tie.Need-returns
 returns-5 c =
-    let e = good c.before.before.before.before in
-    let v = tested c.before.before.before.before.before.before.before.before.before in
     queue_decides _ _ _ _ _ (its c.before.before.before.before.before.before.before.before.before.before) _ c.valid_row.ensures c.if-not-valid_row.false c.if-words-n.false c.if-words-j.false
     c.if-clients-words.false _ c.requests_named.ensures
 

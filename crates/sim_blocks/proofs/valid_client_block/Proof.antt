@@ -2,7 +2,6 @@
 use native.Mathlib.Omega.{arith}
 use Rattle.sim_blocks.proofs.TestLaws.{client-size, client-bit, client-wide, client-decided}
 use mathlib.Core.Path.{sym, ◌∙◌}
-use borrow.Author.Tests.{not-false}
 use borrow.Author.Rules.{rules}
 use Rattle.sim_blocks.proofs.valid_client_block.Statement.{statement}
 use Rattle.sim_blocks.proofs.valid_client_block.Tie as tie

@@ -2,7 +2,6 @@
 use native.Mathlib.Omega.{arith}
 use Rattle.sim_blocks.proofs.TestLaws.{server-size, server-bit, server-wide, server-decided}
 use mathlib.Core.Path.{sym, ◌∙◌}
-use borrow.Author.Tests.{not-false}
 use borrow.Author.Rules.{rules}
 use Rattle.sim_blocks.proofs.valid_server_block.Statement.{statement}
 use Rattle.sim_blocks.proofs.valid_server_block.Tie as tie

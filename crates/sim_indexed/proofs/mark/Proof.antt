@@ -29,31 +29,20 @@ find-entry-requires c κs = let s = entry c.before in change_sized _ _ _ c.requi
 
 put-mark-requires : tie.Need-put_mark-requires
 put-mark-requires c κs =
-    let r = read c.before in
     let s = entry c.before.before.before in
     mark-entry _ _ _ c.requires.0 c.requires.1 _ c.card_at-c.ensures _ c.find_entry-at.ensures
 
 put-mark-requires-2 : tie.Need-put_mark-requires-2
 put-mark-requires-2 c κs =
-    let f = found c.before.before.before in
-    let r = read c.before.before.before.before.before in
     let s = entry c.before.before.before.before.before.before.before in
     mark-slot _ _ _ c.requires.0 c.requires.1 _ c.card_at-c.ensures _ c.find_entry-at.ensures _ c.put_mark.ensures
 
 same_length : tie.Need-shape_of-t
 same_length c =
-    let m = marked c.before.before in
-    let f = found c.before.before.before.before.before.before in
-    let r = read c.before.before.before.before.before.before.before.before in
-    let s = entry c.before.before.before.before.before.before.before.before.before.before in
     marks_same _ _ _ c.requires.0 c.requires.1 _ c.card_at-c.ensures _ c.find_entry-at.ensures _ c.put_mark.ensures _ c.put_mark-2.ensures
 
 returns : tie.Need-returns
 returns c =
-    let m = marked c.before.before in
-    let f = found c.before.before.before.before.before.before in
-    let r = read c.before.before.before.before.before.before.before.before in
-    let s = entry c.before.before.before.before.before.before.before.before.before.before in
     marks_both _ _ _ c.requires.0 c.requires.1 _ c.card_at-c.ensures _ c.find_entry-at.ensures _ c.put_mark.ensures _ c.put_mark-2.ensures
 
 pub mark_spec : {M : Type 1} → statement M

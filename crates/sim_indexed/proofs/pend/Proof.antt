@@ -27,10 +27,10 @@ put-mark-requires-2 : tie.Need-put_mark-requires-2
 put-mark-requires-2 c κs = slot-may (found (looked c.before.before.before)) c.put_mark.ensures
 
 same-length-2 : tie.Need-shape_of-t
-same-length-2 c = let m = marked c.before.before in pends_size (found (looked c.before.before.before.before.before.before)) c.put_mark.ensures c.put_mark-2.ensures
+same-length-2 c = pends_size (found (looked c.before.before.before.before.before.before)) c.put_mark.ensures c.put_mark-2.ensures
 
 returns-2 : tie.Need-returns
-returns-2 c = let m = marked c.before.before in pends (found (looked c.before.before.before.before.before.before)) c.put_mark.ensures c.put_mark-2.ensures
+returns-2 c = pends (found (looked c.before.before.before.before.before.before)) c.put_mark.ensures c.put_mark-2.ensures
 
 pub pend_spec : {M : Type 1} → statement M
 pend_spec =

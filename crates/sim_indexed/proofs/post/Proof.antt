@@ -23,7 +23,6 @@ module _ (c : tie.After-post) where
 
   posted : Posts c.args.len c.args.sent (new entry) (table c.args.t.now) c.post.new.t
   posted =
-      let s = entry in
       let p = c.requires in
       let m = post_may _ _ _ _ p.0 in
       posts_read _ _ _ _ _ _ (rw p.1 at m.0) p.1 c.post.ensures
@@ -40,7 +39,7 @@ post-requires c κs =
     (rw c.requires.1 at m.0, rw c.requires.1 at m.1, c.requires.1)
 
 add-list-slots : tie.Need-overflow_add-len
-add-list-slots c = let s = entry c.before.before.before in record { fits = omega (arith, c.requires.0.room, c.requires.1) }
+add-list-slots c = record { fits = omega (arith, c.requires.0.room, c.requires.1) }
 
 list-slots-requires : tie.Need-list_slots-requires
 list-slots-requires c κs =
@@ -49,14 +48,10 @@ list-slots-requires c κs =
 
 same_length : tie.Need-shape_of-t
 same_length c =
-    let p = stored c.before.before in
-    let s = entry c.before.before.before.before.before.before in
     posts_same _ _ _ _ c.requires.0 _ (posted c.before.before.before.before.before.before) c.list_slots.new.t (rw c.requires.1 c.list_slots.ensures)
 
 returns : tie.Need-returns
 returns c =
-    let p = stored c.before.before in
-    let s = entry c.before.before.before.before.before.before in
     posts_both _ _ _ _ c.requires.0 _ (posted c.before.before.before.before.before.before) c.list_slots.new.t (rw c.requires.1 c.list_slots.ensures)
 
 pub post_spec : {M : Type 1} → statement M

@@ -27,10 +27,10 @@ list-slot-requires c κs =
     joining-slot _ _ _ _ _ (joining-none _ _ _ (post_unlisted _ _ _ _ c.requires.0 _ (posted c.before.before.before))) (omega arith)
 
 same_length : tie.Need-shape_of-t
-same_length c = let p = stored c.before.before in posts_same _ _ _ _ c.requires.0 _ (posted c.before.before.before.before.before.before) _ c.list_slot.ensures
+same_length c = posts_same _ _ _ _ c.requires.0 _ (posted c.before.before.before.before.before.before) _ c.list_slot.ensures
 
 returns : tie.Need-returns
-returns c = let p = stored c.before.before in posts_both _ _ _ _ c.requires.0 _ (posted c.before.before.before.before.before.before) _ c.list_slot.ensures
+returns c = posts_both _ _ _ _ c.requires.0 _ (posted c.before.before.before.before.before.before) _ c.list_slot.ensures
 
 pub post_message_spec : {M : Type 1} → statement M
 post_message_spec =

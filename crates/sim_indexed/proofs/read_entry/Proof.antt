@@ -18,17 +18,14 @@ module _ (c : tie.Else-end-from) where
 
 entry-requires : tie.Need-number_at-number-requires
 entry-requires c κs =
-    let b = both c.before in
     entry-may _ _ _ c.requires.0 c.requires.1 _ _ c.start-from.ensures c.start-end.ensures _ c.if-end-from.false
 
 mark-requires : tie.Need-mark_at-mark-requires
 mark-requires c κs =
-    let b = both c.before.before.before in
     entry-may _ _ _ c.requires.0 c.requires.1 _ _ c.start-from.ensures c.start-end.ensures _ c.if-end-from.false
 
 add_at : tie.Need-overflow_add-at
 add_at c =
-    let b = both c in
     let m = entry-may _ _ _ c.requires.0 c.requires.1 _ _ c.start-from.ensures c.start-end.ensures _ c.if-end-from.false in
     record { fits = omega (arith, m.1) }
 
@@ -38,7 +35,6 @@ returns c =
 
 returns-2 : tie.Need-returns
 returns-2 c =
-    let b = both c.before.before.before.before in
     entry-there _ _ _ c.requires.0 c.requires.1 _ _ c.start-from.ensures c.start-end.ensures _ c.if-end-from.false
     _ _ c.number_at-number.ensures c.mark_at-mark.ensures
 

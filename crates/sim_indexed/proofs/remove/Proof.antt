@@ -24,22 +24,15 @@ withdraw-requires c κs = let s = entry c.before in withdraw_may _ _ _ c.require
 
 remove-requires : tie.Need-remove-requires
 remove-requires c κs =
-    let r = read c.before.before.before in
     let s = entry c.before.before.before.before.before in
     remove_slot _ _ _ c.requires.0 c.requires.1 _ c.card_at-c.ensures _ c.withdraw.ensures
 
 same_length : tie.Need-shape_of-t
 same_length c =
-    let w = withdrawn c.before.before in
-    let r = read c.before.before.before.before.before.before in
-    let s = entry c.before.before.before.before.before.before.before.before in
     removes_same _ _ _ c.requires.0 c.requires.1 _ c.card_at-c.ensures _ c.withdraw.ensures _ c.remove.ensures
 
 returns : tie.Need-returns
 returns c =
-    let w = withdrawn c.before.before in
-    let r = read c.before.before.before.before.before.before in
-    let s = entry c.before.before.before.before.before.before.before.before in
     removes_both _ _ _ c.requires.0 c.requires.1 _ c.card_at-c.ensures _ c.withdraw.ensures _ c.remove.ensures
 
 pub remove_spec : {M : Type 1} → statement M

@@ -9,7 +9,6 @@ use Rattle.sim_layout.proofs.client_head.Tie as tie
 
 client-head-requires : tie.Need-client_head-requires
 client-head-requires c κs =
-    let d = c.before.before.before in
     let a = c.args in
     let i = c.requires.0 in (
       client-lent a.w.now a.k i length client_block (client_block-long a.w.now a.k.0 i.long i.first i.last),
@@ -18,7 +17,6 @@ client-head-requires c κs =
 
 returns : tie.Need-returns
 returns c =
-    let d = c.before.before.before.before in
     client-read c.args.w.now c.args.k c.requires.0 (λ b. client_head_from (client_record b)) _ c.client_head.ensures
 
 pub client_head_spec : {M : Type 1} → statement M

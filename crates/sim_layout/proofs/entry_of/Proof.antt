@@ -16,7 +16,6 @@ module _ (c : tie.Else-not-has_server) where
 
 sub-entry-at : tie.Need-overflow_sub-k
 sub-entry-at c =
-    let a = client-asked c.before in
     (client-there _ c.requires _ c.args.i _ c.in-Client.is _ c.has_client.ensures c.if-not-has_client.false).0
 
 entry-at-requires : tie.Need-entry_at-requires
@@ -31,12 +30,10 @@ returns c =
 
 returns-3 : tie.Need-returns-else-not-has_client
 returns-3 c =
-    let a = client-asked c.before.before in
     client-entry _ c.requires _ c.args.i _ c.in-Client.is _ c.has_client.ensures c.if-not-has_client.false _ c.entry_at.ensures
 
 sub-entry-at-2 : tie.Need-overflow_sub-j
 sub-entry-at-2 c =
-    let a = server-asked c.before in
     (server-there _ c.requires _ c.args.i _ c.in-Server.is _ c.has_server.ensures c.if-not-has_server.false).0
 
 entry-at-requires-2 : tie.Need-entry_at-requires-in-Server
@@ -51,7 +48,6 @@ returns-2 c =
 
 returns-4 : tie.Need-returns-else-not-has_server
 returns-4 c =
-    let a = server-asked c.before.before in
     server-entry _ c.requires _ c.args.i _ c.in-Server.is _ c.has_server.ensures c.if-not-has_server.false _ c.entry_at-in-Server.ensures
 
 pub entry_of_spec : {M : Type 1} → statement M

@@ -7,10 +7,10 @@ use Rattle.sim_layout.proofs.is_delivered.Statement.{statement}
 use Rattle.sim_layout.proofs.is_delivered.Tie as tie
 
 is-delivered-requires : tie.Need-is_delivered-requires
-is-delivered-requires c κs = let d = c.before.before in slot_lent _ c.requires.0 _ c.requires.1
+is-delivered-requires c κs = slot_lent _ c.requires.0 _ c.requires.1
 
 returns : tie.Need-returns
-returns c = let d = c.before.before.before in c.is_delivered.ensures ∙ delivered-said c.args.w.now c.args.i
+returns c = c.is_delivered.ensures ∙ delivered-said c.args.w.now c.args.i
 
 pub is_delivered_spec : {M : Type 1} → statement M
 is_delivered_spec =

@@ -7,10 +7,10 @@ use Rattle.sim_layout.proofs.number_at.Statement.{statement}
 use Rattle.sim_layout.proofs.number_at.Tie as tie
 
 number-at-requires : tie.Need-number_at-requires
-number-at-requires c κs = let d = c.before.before in slot_lent _ c.requires.0 _ c.requires.1
+number-at-requires c κs = slot_lent _ c.requires.0 _ c.requires.1
 
 returns : tie.Need-returns
-returns c = let d = c.before.before.before in c.number_at.ensures ∙ number-said c.args.w.now c.args.i
+returns c = c.number_at.ensures ∙ number-said c.args.w.now c.args.i
 
 pub number_at_spec : {M : Type 1} → statement M
 number_at_spec =

@@ -9,7 +9,6 @@ use Rattle.sim_layout.proofs.server_head.Tie as tie
 
 server-head-requires : tie.Need-server_head-requires
 server-head-requires c κs =
-    let d = c.before.before.before in
     let a = c.args in
     let i = c.requires.0 in (
       server-lent a.w.now a.j i length server_block (server_block-long a.w.now a.j.0 i.long i.first i.last),
@@ -18,7 +17,6 @@ server-head-requires c κs =
 
 returns : tie.Need-returns
 returns c =
-    let d = c.before.before.before.before in
     server-read c.args.w.now c.args.j c.requires.0 (λ b. server_head_from (server_record b)) _ c.server_head.ensures
 
 pub server_head_spec : {M : Type 1} → statement M

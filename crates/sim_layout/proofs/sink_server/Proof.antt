@@ -13,7 +13,6 @@ use Rattle.sim_layout.proofs.sink_server.Tie as tie
 
 sink-requires : tie.Need-sink-requires
 sink-requires c κs =
-    let d = c.before.before.before in
     let a = c.args in
     let i = c.requires.0 in (
       server-lent a.w.now a.j i length server_block (server_block-long a.w.now a.j.0 i.long i.first i.last),
@@ -29,7 +28,6 @@ length-sunk b = length-set (sets b 1 (server_words (emptied (server_from (server
 
 returns : tie.Need-returns
 returns c =
-    let d = c.before.before.before.before.before.before in
     let a = c.args in
     server-written a.w.now a.j c.requires.0 sunk _ length-sunk c.sink.ensures
 

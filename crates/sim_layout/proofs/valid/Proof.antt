@@ -18,7 +18,6 @@ module _ (c : tie.Else-not-within_limit) where
 
   inside : (length words ≡ simulation_size) × (get_or words 0 0 ≤ system_servers) × (get_or words 3 0 ≤ system_clients)
   inside =
-      let r = c.before.before.before in
       bounds words c.if-w-ne-SIMULATION_WORDS.false _ c.in_range_up_to.ensures c.if-not-in_range_up_to.false
       _ c.within_limit.ensures c.if-not-within_limit.false
 

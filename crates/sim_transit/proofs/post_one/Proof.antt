@@ -8,8 +8,6 @@ use Rattle.sim_transit.proofs.post_one.Tie as tie
 -- the message ends within the bytes
 add-result : tie.Need-overflow_add-result
 add-result c =
-    let p = c.before.before.before.before.before in
-    let r = p.before.before in
     omega (
       arith,
       fitting_inside c.args.at c.args.number c.args.from c.args.bytes.now c.args.t.now

@@ -1,5 +1,4 @@
 -- `wire::write` meets its contract: the range decides, then `lay`.
-use borrow.Author.Tests.{not-true, not-false}
 use Rattle.wire.proofs.CallLaws.{write_invalid, write_laid}
 use Rattle.wire.proofs.SaysLaws.{write_said}
 use borrow.Author.Rules.{rules}

@@ -1,5 +1,4 @@
 -- `wire::write_fields` meets its contract: the range decides, then `lay`.
-use borrow.Author.Tests.{not-true, not-false}
 use Rattle.wire.proofs.CallLaws.{numbers_invalid, numbers_laid}
 use Rattle.wire.proofs.SaysLaws.{fields_said}
 use borrow.Author.Rules.{rules}

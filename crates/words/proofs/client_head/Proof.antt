@@ -6,13 +6,13 @@ use Rattle.words.proofs.client_head.Statement.{statement}
 use Rattle.words.proofs.client_head.Tie as tie
 
 cast-id : tie.Need-overflow_cast-id
-cast-id c = let e = c.before.before.before.before.before.before in omega (arith, headed-small c.args.words.now c.requires)
+cast-id c = omega (arith, headed-small c.args.words.now c.requires)
 
 cast-m : tie.Need-overflow_cast-m
-cast-m c = let e = c.before.before.before.before.before.before.before in omega (arith, headed-small c.args.words.now c.requires)
+cast-m c = omega (arith, headed-small c.args.words.now c.requires)
 
 cast-n : tie.Need-overflow_cast-n
-cast-n c = let e = c.before.before.before.before.before.before.before.before in omega (arith, headed-small c.args.words.now c.requires)
+cast-n c = omega (arith, headed-small c.args.words.now c.requires)
 
 pub client_head_spec : {M : Type 1} → statement M
 client_head_spec =

@@ -6,13 +6,13 @@ use Rattle.words.proofs.server_head.Statement.{statement}
 use Rattle.words.proofs.server_head.Tie as tie
 
 cast-client : tie.Need-overflow_cast-words
-cast-client c = let e = c.before.before in omega (arith, headed-small c.args.words.now c.requires)
+cast-client c = omega (arith, headed-small c.args.words.now c.requires)
 
 cast-id : tie.Need-overflow_cast-id
-cast-id c = let e = c.before.before.before.before.before.before in omega (arith, headed-small c.args.words.now c.requires)
+cast-id c = omega (arith, headed-small c.args.words.now c.requires)
 
 cast-n : tie.Need-overflow_cast-n
-cast-n c = let e = c.before.before.before.before.before.before.before in omega (arith, headed-small c.args.words.now c.requires)
+cast-n c = omega (arith, headed-small c.args.words.now c.requires)
 
 pub server_head_spec : {M : Type 1} → statement M
 server_head_spec =
