@@ -11,7 +11,7 @@ const run = (program, words, input) => execFileSync(program, words, { input, max
 
 // The launcher builds the program where it must; then it is run as it is, which is quicker.
 run(path.join(ROOT, "bin", "slips"), [], "");
-const SLIPS = path.join(ROOT, "target", "bin", "slips");
+const SLIPS = path.join(ROOT, "crates", "slips", "out", "slips");
 
 // The scripts of tests/scripts: { name, bytes }.
 function scripts() {
