@@ -175,7 +175,7 @@ impl Edit {
 /// What the prover refuses, but for what only rests on something refused: each error with its file; and each function without a file of
 /// its own in which `search` leaves a goal.
 fn refusals<'a>(log: &'a str, krate: &str) -> Vec<&'a str> {
-    let resting = ["was not admitted", "was not checked", "were not checked"];
+    let resting = ["was not admitted", "is not admitted: rejected", "was not checked", "were not checked"];
     let error = |line: &'a str| line.contains(": error: ").then(|| line.strip_prefix("./").unwrap_or(line));
     let left = |line: &'a str| {
         let line = line.strip_prefix("fn ")?.strip_prefix(krate)?.strip_prefix("::")?;
