@@ -191,13 +191,13 @@ fn unproved<'a>(log: &'a str, krate: &str) -> Vec<&'a str> {
     log.lines().filter_map(of).filter(|(_, said)| *said != "proved").map(|(name, _)| name).collect()
 }
 
-/// What came of an edit: the first of its refusals that is not of a proof's shape, or why none counts.
+/// What came of an edit, by what is refused of its own: the first of that, where none of it is of a proof's shape.
 fn verdict(refused: &[&str], judged: bool) -> String {
-    let shape = |refusal: &str| SHAPE.iter().any(|words| refusal.contains(words));
-    match refused.iter().find(|refusal| !shape(refusal)) {
-        _ if refused.is_empty() => "NOT REFUSED".to_string(),
-        _ if !judged => "REFUSED FOR SOMETHING ELSE".to_string(),
-        None => "SHOWS NOTHING".to_string(),
+    let shape = |refusal: &&str| SHAPE.iter().any(|words| refusal.contains(words));
+    match refused.first() {
+        None => "NOT REFUSED".to_string(),
+        Some(_) if !judged => "REFUSED FOR SOMETHING ELSE".to_string(),
+        Some(_) if refused.iter().any(shape) => "SHOWS NOTHING".to_string(),
         Some(refusal) => format!("refused, as it must be (first at {})", refusal.split(": ").next().unwrap_or_default()),
     }
 }
