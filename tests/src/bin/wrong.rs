@@ -271,8 +271,7 @@ impl Place {
     /// Has rt build the libraries that stand below these crates. Right behind `rt ci` there is nothing to do: all are there, from one run.
     fn build(&self, names: &[String]) {
         let lower: BTreeSet<String> = names.iter().flat_map(|name| self.below(name).into_iter().filter(move |it| it != name)).collect();
-        let rlib = |name: &String| self.out(name).join(format!("{name}.rlib/format"));
-        if lower.iter().all(|name| rlib(name).exists() && !self.out(name).join("stamp").exists()) {
+        if Command::new("tools/fresh").args(&lower).current_dir(&self.root).status().is_ok_and(|status| status.success()) {
             return;
         }
         let mut built = BTreeSet::new();
