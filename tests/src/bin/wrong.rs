@@ -1,16 +1,16 @@
-//! Tries wrong answers, which the prover must refuse: the edits in crates/NAME/must-fail/quick, written like the kit's own, with
+//! Tries wrong answers, which the prover must refuse: the edits in crates/NAME/must-fail-quick, written like the kit's own, with
 //! `in: FUNCTION` where the old text stands in other functions too, and with `crate: LOWER` where the definitions that are changed are
 //! those of a crate below: then that crate's definitions, without its proofs, and NAME over them are checked.
-//! `cargo run --release --bin wrong [--apart] [NAME..]`, behind `rt check`; with `--apart` each edit has a run of its own.
+//! `cargo run --release --bin wrong [--apart] [NAME..]`, behind `rt ci` or `rt check`; with `--apart` each edit has a run of its own.
 //!
-//! The kit proves the whole crate again for each of its edits. Here only what an edit touches is proved again, over the modules that
-//! `rt check` has just proved. A function's body is refused in that function's own proof, whatever is wrong in its callers, and these know
-//! only its contract: so bodies of functions of which none calls another are edited in one run, and each must be refused at its own
-//! function.
-//! An edit of a definition or of a constant is tried alone. The refusal must be the edit's doing: of a body, in its own function, and in
-//! a run nowhere but in functions that are edited; of a definition, in a proof and not in the definition itself. Modules must have been
-//! taken over as they were proved. And the refusal must not be that a proof only no longer fits the code's shape. Where the prover runs
-//! out of steps it gives no verdict, which is no refusal either.
+//! The kit proves the whole crate again for each of its edits, and reads no folder below must-fail/. Here only what an edit touches is
+//! proved again, over the libraries that `rt` has just built. A function's body is refused in that function's own proof, whatever is wrong
+//! in its callers, and these know only its contract: so bodies of functions of which none calls another are edited in one run, which
+//! proves them and what they call, and each must be refused at its own function.
+//! An edit of a definition or of a constant is tried alone, on the whole crate. The refusal must be the edit's doing: of a body, in its own
+//! function, and in a run nowhere but in functions that are edited; of a definition, in a proof and not in the definition itself. And it
+//! must not be that a proof only no longer fits the code's shape. Where the prover runs out of steps it gives no verdict, which is no
+//! refusal either.
 
 use std::collections::{BTreeMap, BTreeSet, VecDeque};
 use std::ffi::OsStr;
@@ -21,8 +21,16 @@ use std::sync::Mutex;
 use std::time::Instant;
 
 /// What the prover says where a proof only no longer fits the code: such a refusal shows nothing.
-const SHAPE: [&str; 5] =
-    ["that can be named from here", "expected type `tie.Need", "has no field", "needs a function", "binders, but"];
+const SHAPE: [&str; 8] = [
+    "that can be named from here",
+    "has no field",
+    "is not in scope",
+    "exports no",
+    "has no `",
+    "needs a function",
+    "binders, but",
+    "expected type `tie.",
+];
 
 struct Change {
     file: String,
@@ -47,11 +55,11 @@ struct Run {
     edits: Vec<Edit>,
 }
 
-/// The kit, the repository, and the name of the folder in which the kit keeps what is proved.
+/// The kit and the repository, with the line of crates.txt of each crate: the crates that it names.
 struct Place {
     kit: PathBuf,
     root: PathBuf,
-    folder: String,
+    needs: BTreeMap<String, Vec<String>>,
 }
 
 fn read(path: &Path) -> String {
@@ -158,19 +166,40 @@ impl Edit {
 
     /// Whether a refusal is this edit's own: of bodies, one of a function that it changes; of a definition, one in a proof.
     fn owns(&self, refusal: &str) -> bool {
-        let at = refusal.strip_prefix("proofs/").map_or("", |rest| rest.strip_prefix('+').unwrap_or(rest));
-        let of = |f: &String| at.starts_with(&format!("{f}/Proof.antt:")) || refusal.contains(&format!("::{f}: no proof"));
+        let at = refusal.strip_prefix("proofs/").map(|rest| rest.strip_prefix('+').unwrap_or(rest));
+        let of = |f: &String| at.map_or(refusal.starts_with(&format!("{f}: ")), |at| at.starts_with(&format!("{f}/")));
         self.functions.as_ref().map_or(!refusal.starts_with("specs/"), |functions| functions.iter().any(of))
     }
 }
 
-/// What the prover refuses in a crate's folder, but for what only rests on something refused; each with its file.
-fn refusals<'a>(log: &'a str, folder: &Path) -> Vec<&'a str> {
-    let prefix = format!("{}/", folder.display());
-    let refused = |line: &&str| {
-        line.contains(": error: ") && !line.contains("was not admitted") || line.contains("`search` does not close")
+/// What the prover refuses, but for what only rests on something refused: each error with its file; and each function without a file of
+/// its own in which `search` leaves a goal.
+fn refusals<'a>(log: &'a str, krate: &str) -> Vec<&'a str> {
+    let resting = ["was not admitted", "is not admitted: rejected", "was not checked", "were not checked"];
+    let error = |line: &'a str| line.contains(": error: ").then(|| line.strip_prefix("./").unwrap_or(line));
+    let left = |line: &'a str| {
+        let line = line.strip_prefix("fn ")?.strip_prefix(krate)?.strip_prefix("::")?;
+        line.contains("`search` did not prove").then_some(line)
     };
-    log.lines().filter(refused).map(|line| line.strip_prefix(prefix.as_str()).unwrap_or(line)).collect()
+    let refused = log.lines().filter_map(|line| error(line).or_else(|| left(line)));
+    refused.filter(|line| !resting.iter().any(|words| line.contains(words))).collect()
+}
+
+/// The functions of a crate that a run does not prove.
+fn unproved<'a>(log: &'a str, krate: &str) -> Vec<&'a str> {
+    let of = |line: &'a str| line.strip_prefix("fn ")?.strip_prefix(krate)?.strip_prefix("::")?.split_once(": ");
+    log.lines().filter_map(of).filter(|(_, said)| *said != "proved").map(|(name, _)| name).collect()
+}
+
+/// What came of an edit, by what is refused of its own: the first of that, where none of it is of a proof's shape.
+fn verdict(refused: &[&str], judged: bool) -> String {
+    let shape = |refusal: &&str| SHAPE.iter().any(|words| refusal.contains(words));
+    match refused.first() {
+        None => "NOT REFUSED".to_string(),
+        Some(_) if !judged => "REFUSED FOR SOMETHING ELSE".to_string(),
+        Some(_) if refused.iter().any(shape) => "SHOWS NOTHING".to_string(),
+        Some(refusal) => format!("refused, as it must be (first at {})", refusal.split(": ").next().unwrap_or_default()),
+    }
 }
 
 /// The functions of a source file, each with those that its text names before a parenthesis.
@@ -207,7 +236,7 @@ fn runs(root: &Path, krate: &str, apart: bool) -> Vec<Run> {
     let folder = root.join("crates").join(krate);
     let calls = calls(&fs::read_to_string(folder.join("src/lib.rt")).unwrap_or_default());
     let mut runs: Vec<Run> = vec![];
-    for path in entries(&folder.join("must-fail/quick")) {
+    for path in entries(&folder.join("must-fail-quick")) {
         let edit = Edit::new(&folder, &path);
         let strangers = |f: &String, g: &String| !reaches(&calls, f, g) && !reaches(&calls, g, f);
         let joins = |other: &Edit| match (&edit.functions, &other.functions) {
@@ -223,45 +252,70 @@ fn runs(root: &Path, krate: &str, apart: bool) -> Vec<Run> {
 }
 
 impl Place {
-    /// Proves the crate in a folder, taking from its `inc` what is proved there: the exit status, and what was said.
-    fn prove(&self, krate: &str, folder: &Path) -> (Option<i32>, String) {
-        let inc = folder.join("inc");
-        self.rattle("check", krate, folder, None, &["--incremental".as_ref(), inc.as_os_str()])
+    /// The crates of the repository below this one, and the crate itself.
+    fn below(&self, krate: &str) -> BTreeSet<String> {
+        let (mut found, mut next) = (BTreeSet::new(), vec![krate.to_string()]);
+        while let Some(name) = next.pop() {
+            if let Some(needs) = self.needs.get(&name) {
+                next.extend(needs.iter().filter(|need| !found.contains(*need)).cloned());
+                found.insert(name);
+            }
+        }
+        found
     }
 
-    /// Runs the prover over a crate's folder; libraries that `first` has are taken from there.
+    fn out(&self, krate: &str) -> PathBuf {
+        self.root.join("crates").join(krate).join("out/rlib")
+    }
+
+    /// Has rt build the libraries that stand below these crates. Right behind `rt ci` there is nothing to do: all are there, from one run.
+    fn build(&self, names: &[String]) {
+        let lower: BTreeSet<String> = names.iter().flat_map(|name| self.below(name).into_iter().filter(move |it| it != name)).collect();
+        if Command::new("tools/fresh").args(&lower).current_dir(&self.root).status().is_ok_and(|status| status.success()) {
+            return;
+        }
+        let mut built = BTreeSet::new();
+        let mut names: Vec<(BTreeSet<String>, &String)> = names.iter().map(|name| (self.below(name), name)).collect();
+        names.sort_by_key(|(below, _)| std::cmp::Reverse(below.len()));
+        for (mut below, name) in names {
+            below.remove(name);
+            if !below.is_subset(&built) {
+                let folder = self.root.join("crates").join(name);
+                let output = Command::new("rt").args(["check", "--only", ""]).current_dir(folder).output().expect("the kit's rt");
+                assert!(output.status.success(), "{name}: {}", String::from_utf8_lossy(&output.stdout));
+                built.extend(below);
+            }
+        }
+    }
+
+    /// Runs the prover over a crate's folder; libraries that `first` has are taken from there. The exit status, and what was said.
     fn rattle(&self, verb: &str, krate: &str, folder: &Path, first: Option<&Path>, words: &[&OsStr]) -> (Option<i32>, String) {
-        let own = self.kit.join("on").join(std::env::consts::ARCH);
-        let folders = first.into_iter().map(Path::to_path_buf).chain([self.root.join("target/rlib"), own.join("rlib")]);
-        let folders: Vec<PathBuf> = folders.collect();
-        let list = read(&self.root.join("crates.txt"));
-        let needs = list.lines().find_map(|line| line.strip_prefix(krate)?.strip_prefix(':')).unwrap_or_default();
-        let mut command = Command::new(own.join("bin/rattle"));
-        command.args([verb, "--crate-name", krate]).arg(folder.join("src/lib.rt"));
-        for name in needs.split_whitespace().chain(["std"]) {
+        let mut folders: Vec<PathBuf> = first.map(Path::to_path_buf).into_iter().collect();
+        folders.extend(self.below(krate).iter().map(|name| self.out(name)));
+        folders.push(self.kit.join("rlibs"));
+        let mut command = Command::new(self.kit.join("bin/rattle"));
+        command.args([verb, "--crate-name", krate, "src/lib.rt", "--jobs", "1"]).current_dir(folder);
+        for name in self.needs[krate].iter().map(String::as_str).chain(["std"]) {
             let rlib = format!("{name}.rlib");
-            let path = folders.iter().map(|folder| folder.join(&rlib)).find(|path| path.exists()).expect("a proved library");
+            let path = folders.iter().map(|folder| folder.join(&rlib)).find(|path| path.exists());
+            let path = path.unwrap_or_else(|| panic!("{krate}: {name} is not built: rt ci, or rt check"));
             command.arg("--extern").arg(format!("{name}={}", path.display()));
         }
         for path in &folders {
             command.arg("-L").arg(format!("dependency={}", path.display()));
         }
-        command.arg("--antt-project").arg(self.kit.join("logic/antt-project.json"));
-        command.arg("--logic-built").arg(own.join("logic-built")).args(words);
+        command.arg("--antt-project").arg(self.kit.join("rattle/logic/antt-project.json"));
+        command.arg("--logic-built").arg(self.kit.join("logic_built")).args(words);
         let output = command.output().expect("the prover runs");
         let said = [output.stdout, output.stderr].map(|bytes| String::from_utf8_lossy(&bytes).into_owned()).concat();
         (output.status.code(), said)
     }
 
-    /// A copy of a crate, with the modules that are proved of it.
-    fn copy_of(&self, krate: &str, name: &str) -> PathBuf {
-        let folder = self.root.join("target/wrong").join(krate).join(name);
-        for part in ["src", "specs", "proofs"] {
-            copy(&self.root.join("crates").join(krate).join(part), &folder.join(part));
+    /// A copy of some folders of a crate.
+    fn copy_of(&self, krate: &str, parts: &[&str], to: &Path) {
+        for part in parts {
+            copy(&self.root.join("crates").join(krate).join(part), &to.join(part));
         }
-        let proved = self.root.join("target/rlib").join(format!("{krate}.rlib")).join("toolchain/checked");
-        copy(&proved, &folder.join("inc").join(&self.folder));
-        folder
     }
 
     /// What came of an edit of the definitions of a crate below: these must check, and the crate above must be refused in a proof.
@@ -269,27 +323,18 @@ impl Place {
         let folder = self.root.join("target/wrong").join(krate).join(&edit.name);
         let (lower, libraries) = (folder.join(below), folder.join("rlib"));
         let began = Instant::now();
-        for part in ["src", "specs"] {
-            copy(&self.root.join("crates").join(below).join(part), &lower.join(part));
-        }
+        self.copy_of(below, &["src", "specs"], &lower);
         fs::create_dir_all(&libraries).expect("a folder");
         let made = edit.make(&lower);
         let library = libraries.join(format!("{below}.rlib"));
-        let (defined, _) = self.rattle("build", below, &lower, None, &["-o".as_ref(), library.as_os_str()]);
+        let (defined, built) = self.rattle("build", below, &lower, None, &["-o".as_ref(), library.as_os_str()]);
         let above = self.root.join("crates").join(krate);
-        let (status, log) = self.rattle("check", krate, &above, Some(&libraries), &[]);
+        let (status, log) = if defined == Some(0) { self.rattle("check", krate, &above, Some(&libraries), &[]) } else { (defined, built) };
         fs::write(folder.join("log"), &log).expect("the log is kept");
-        let refused = refusals(&log, &above);
+        let refused = refusals(&log, krate);
         let judged = status == Some(1) && log.lines().any(|line| line == "logic=not-proved");
-        let said = match refused.first() {
-            _ if !made || defined != Some(0) => "BAD EDIT".to_string(),
-            None => "NOT REFUSED".to_string(),
-            Some(_) if !judged || !refused.iter().all(|refusal| refusal.starts_with("proofs/")) => {
-                "REFUSED FOR SOMETHING ELSE".to_string()
-            }
-            Some(refusal) if SHAPE.iter().any(|words| refusal.contains(words)) => "SHOWS NOTHING".to_string(),
-            Some(refusal) => format!("refused, as it must be (first at {})", refusal.split(": ").next().unwrap_or_default()),
-        };
+        let judged = judged && refused.iter().all(|refusal| !refusal.starts_with("specs/"));
+        let said = if made && defined == Some(0) { verdict(&refused, judged) } else { "BAD EDIT".to_string() };
         vec![(said.starts_with("refused"), format!("{krate}/{}: {said}, {} s", edit.name, began.elapsed().as_secs()))]
     }
 
@@ -298,30 +343,24 @@ impl Place {
         if let [Edit { below: Some(below), .. }] = &run.edits[..] {
             return self.tried_below(&run.krate, &run.edits[0], below);
         }
-        let folder = self.copy_of(&run.krate, &run.edits[0].name);
+        let folder = self.root.join("target/wrong").join(&run.krate).join(&run.edits[0].name);
+        self.copy_of(&run.krate, &["src", "specs", "proofs"], &folder);
         let began = Instant::now();
         let made: Vec<bool> = run.edits.iter().map(|edit| edit.make(&folder)).collect();
-        let (status, log) = self.prove(&run.krate, &folder);
+        // Of bodies alone only these and what they call are proved.
+        let bodies: BTreeSet<&String> = run.edits.iter().flat_map(|edit| edit.functions.iter().flatten()).collect();
+        let only: Vec<&OsStr> = bodies.iter().flat_map(|name| ["--only".as_ref(), OsStr::new(name.as_str())]).collect();
+        let (status, log) = self.rattle("check", &run.krate, &folder, None, &only);
         fs::write(folder.join("log"), &log).expect("the log is kept");
-        fs::remove_dir_all(folder.join("inc")).expect("the modules go");
-        let refused = refusals(&log, &folder);
-        let taken_over = format!("crate {}: modules loaded=", run.krate);
+        let refused = refusals(&log, &run.krate);
+        let unproved = unproved(&log, &run.krate);
         let judged = status == Some(1)
-            && log.lines().any(|line| line == "logic=not-proved")
-            && log.lines().any(|line| line.starts_with(&taken_over) && !line.contains("loaded=0 "))
+            && log.lines().any(|line| line == "logic=not-proved" || line.starts_with("only="))
+            && (bodies.is_empty() || unproved.iter().all(|name| bodies.iter().any(|body| body == name)))
             && refused.iter().all(|refusal| run.edits.iter().any(|edit| edit.owns(refusal)));
         let verdict = |(edit, made): (&Edit, bool)| {
-            let refusal = refused.iter().find(|refusal| edit.owns(refusal)).copied().unwrap_or_default();
-            let said = match () {
-                _ if !made => "BAD EDIT".to_string(),
-                _ if refusal.is_empty() => "NOT REFUSED".to_string(),
-                _ if !judged => "REFUSED FOR SOMETHING ELSE".to_string(),
-                _ if SHAPE.iter().any(|words| refusal.contains(words)) => "SHOWS NOTHING".to_string(),
-                _ => {
-                    let place = refusal.split(": ").next().unwrap_or_default();
-                    format!("refused, as it must be (first at {place})")
-                }
-            };
+            let own: Vec<&str> = refused.iter().filter(|refusal| edit.owns(refusal)).copied().collect();
+            let said = if made { verdict(&own, judged) } else { "BAD EDIT".to_string() };
             (said.starts_with("refused"), format!("{}/{}: {said}", run.krate, edit.name))
         };
         let mut all: Vec<(bool, String)> = run.edits.iter().zip(made).map(verdict).collect();
@@ -332,19 +371,25 @@ impl Place {
     }
 }
 
+/// What crates.txt says: each crate, and those that it names.
+fn needs(root: &Path) -> BTreeMap<String, Vec<String>> {
+    let list = read(&root.join("crates.txt"));
+    let lines = list.lines().map(|line| line.split('#').next().unwrap_or_default());
+    let of = |line: &str| {
+        let (name, needs) = line.split_once(':')?;
+        Some((name.split_whitespace().next()?.to_string(), needs.split_whitespace().map(String::from).collect()))
+    };
+    lines.filter_map(of).collect()
+}
+
 fn place() -> Place {
     let guide = Command::new("rt").arg("doc").output().expect("the kit's rt").stdout;
     let guide = PathBuf::from(String::from_utf8_lossy(&guide).trim());
-    let kit = guide.ancestors().nth(2).expect("the kit's folder").to_path_buf();
+    let kit = guide.parent().expect("the kit's folder").to_path_buf();
     let root = Path::new(env!("CARGO_MANIFEST_DIR")).parent().expect("tests/ has a parent").to_path_buf();
     fs::remove_dir_all(root.join("target/wrong")).ok();
-    let mut place = Place { kit, root, folder: "none".to_string() };
-    // The folder's name is the kit's own: a small crate shows it.
-    let small = place.copy_of("ids", "none");
-    assert_eq!(place.prove("ids", &small).0, Some(0), "a crate without an edit is proved");
-    let made = entries(&small.join("inc")).into_iter().find(|path| !path.ends_with("none")).expect("a folder of modules");
-    place.folder = made.file_name().expect("a name").to_string_lossy().into_owned();
-    place
+    let needs = needs(&root);
+    Place { kit, root, needs }
 }
 
 fn main() {
@@ -352,9 +397,10 @@ fn main() {
     let (options, mut names): (Vec<String>, Vec<String>) = std::env::args().skip(1).partition(|word| word.starts_with('-'));
     assert!(options.iter().all(|word| word == "--apart"), "wrong [--apart] [NAME..]");
     if names.is_empty() {
-        let folders = entries(&place.root.join("crates"));
-        names = folders.iter().map(|path| path.file_name().expect("a name").to_string_lossy().into_owned()).collect();
+        names = place.needs.keys().cloned().collect();
     }
+    names.retain(|name| place.root.join("crates").join(name).join("must-fail-quick").exists());
+    place.build(&names);
     let waiting: Mutex<VecDeque<Run>> =
         Mutex::new(names.iter().flat_map(|name| runs(&place.root, name, !options.is_empty())).collect());
     let tried: Mutex<Vec<(bool, String)>> = Mutex::new(vec![]);
