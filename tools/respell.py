@@ -26,7 +26,7 @@ def lines_of(path):
 
 
 def collect():
-    names, definitions, aliases = set(), set(), set()
+    names, definitions, fields, aliases = set(), set(), set(), set()
     files = glob.glob("crates/*/specs/*.antt") + glob.glob("crates/*/proofs/*.antt")
     for path in files:
         for line in lines_of(path):
@@ -35,12 +35,15 @@ def collect():
                 names.add(m.group(3))
                 if "/specs/" in path or re.search(r"abbrev|unfoldable", m.group(1)):
                     definitions.add(m.group(3))
+                # A record's field, or a constructor.
+                if "/specs/" in path and line.startswith(" "):
+                    fields.add(m.group(3))
     # A name that only stands for another in its file.
     for path in files + glob.glob("crates/*/proofs/**/*.antt", recursive=True) + glob.glob("crates/*/src/*.rt"):
         for line in lines_of(path):
             if line.startswith(("use ", "ghost use ")):
                 aliases.update(m.group(1) for m in re.finditer(r" as (" + IDENT + ")", line))
-    return names, definitions, aliases - names
+    return names, definitions, fields, aliases - names
 
 
 def new_name(name, words):
@@ -55,12 +58,12 @@ def new_name(name, words):
 
 
 def renames():
-    names, definitions, aliases = collect()
+    names, definitions, fields, aliases = collect()
     words = {new_name(d, set()) for d in definitions if "-" not in d} | LIBRARY
-    table, taken = {}, {n for n in names if new_name(n, words) == n}
+    table, taken = {}, {n for n in names if new_name(n, words if n not in fields else set()) == n}
     # Definitions first: a lemma makes way.
     for name in sorted(names, key=lambda n: (n not in definitions or "-" in n, n)):
-        new = new_name(name, words)
+        new = new_name(name, words if name not in fields else set())
         if new == name:
             continue
         # A lemma that would have its function's name, or one that is taken, makes way.

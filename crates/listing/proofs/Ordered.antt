@@ -22,7 +22,7 @@ use Rattle.system.specs.Runs.{after}
 use Rattle.system.proofs.Branch.{branch}
 use Rattle.script_lines.specs.Printed.{number_of}
 use Rattle.listing.specs.Listing.{each, events_of, candidates, goes_on, follow, step, fresh, runs}
-use Rattle.listing.specs.Order.{Short, rank, Before, by_name, by_number, Precedes, beginning, differing, alike, Stands, Ahead, Ascends, no_runs, one_more, Once, none_twice, one-once}
+use Rattle.listing.specs.Order.{Short, rank, Before, by_name, by_number, Precedes, beginning, differing, alike, Stands, Ahead, Ascends, no_runs, one_more, Once, none_twice, one_once}
 use Rattle.listing.proofs.Follow.{stands_among, among_stands, each-among, onward, onward-goes}
 use Rattle.listing.proofs.Exact.{listed_only, listed-all}
 
@@ -156,7 +156,7 @@ ascends s events = one_more (empty-ahead (step s) s.f events (fresh s)) (follow_
 
 ascending-once : {rs : List (List Event)} → Ascends rs → Once rs
 ascending-once no_runs = none_twice
-ascending-once (one_more {es = es} ahead A) = one-once (λ s. not_both (ahead es s) (ahead es s)) (ascending-once A)
+ascending-once (one_more {es = es} ahead A) = one_once (λ s. not_both (ahead es s) (ahead es s)) (ascending-once A)
 
 pub once : (s : Setting) (events : ℕ) → Once (runs s events)
 once s events = ascending-once (ascends s events)

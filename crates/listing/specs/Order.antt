@@ -54,4 +54,4 @@ pub data Ascends : List (List Event) → Type 0 where
 -- none stands twice
 pub data Once : List (List Event) → Type 0 where
   none_twice : Once []
-  one-once : {es : List Event} {rs : List (List Event)} → (Stands es rs → ⊥) → Once rs → Once (es ∷ rs)
+  one_once : {es : List Event} {rs : List (List Event)} → (Stands es rs → ⊥) → Once rs → Once (es ∷ rs)

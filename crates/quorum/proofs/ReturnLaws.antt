@@ -231,8 +231,8 @@ module _ (n : ℕ) (x : Bool) (p : x ≡ within n max_servers) where
   unfolding threshold_of
   no_default t = rw (fails x (within n max_servers) p t)
 
-  pub few-servers : x ≡ true → n ≤ max_servers
-  few-servers t = leb-true n max_servers (both (leb 1 n) (leb n max_servers) (holds x (within n max_servers) p t)).1
+  pub few_servers : x ≡ true → n ≤ max_servers
+  few_servers t = leb-true n max_servers (both (leb 1 n) (leb n max_servers) (holds x (within n max_servers) p t)).1
 
   pub default_given : x ≡ true → Default ((2 * n + 2) / 3) ≡ threshold_of n
   unfolding threshold_of

@@ -23,7 +23,7 @@ use Rattle.client_responses.specs.Row.{place}
 use Rattle.client.specs.Record as client
 use Rattle.client.specs.declared.Client.{Client}
 use Rattle.client.proofs.RecordLaws as client_records
-use Rattle.client.proofs.ValidLaws as client-valid
+use Rattle.client.proofs.ValidLaws as client_valid
 use Rattle.client.proofs.KeepsValid as client_laws
 use Rattle.words.specs.Records.{server_size_of, client_size_of, server_size, client_size, holds_server_of, server_head_words, server_words, server_from, server_in, holds_client_of, client_head_words, client_words, client_from, client_in}
 use Rattle.words.proofs.RecordsLaws.{server-row, client-row}
@@ -106,24 +106,24 @@ module _ (row k limit : ℕ) (more : row + k ≡ server.row_words) (h : limit �
       append_assoc (server_head_words s.head) s.row (replicate k 0) ∙
       (λ i. server_head_words (record { n = s.head.n; id = s.head.id; votes = record { owner = s.head.votes.owner; len = sym few i } }) ++ wider i)
 
-  server-valid : server.valid (server_today s) ≡ true
-  server-valid =
+  server_valid : server.valid (server_today s) ≡ true
+  server_valid =
       let (z, g) = server_laws.view-good max_servers s sound in
       server_laws.store-valid server.queue_places s.head.n s.head.id (server.view s) z (omega (arith, short, more)) g
 
   server-shows : server.view (server_today s) ≡ server.view s
   server-shows = server_records.view-store server.queue_places s.head.n s.head.id (server.view s) (omega (arith, short, more))
 
-  server-read : server_in (ws ++ replicate k 0) ≡ some (server_today s)
-  server-read =
+  server_read : server_in (ws ++ replicate k 0) ≡ some (server_today s)
+  server_read =
       rw server-words
-      (server_read_back (server_today s) server-valid server.row_words (length_row_of server.row_words (server.view s).queue (omega (arith, short, more))))
+      (server_read_back (server_today s) server_valid server.row_words (length_row_of server.row_words (server.view s).queue (omega (arith, short, more))))
 
   server_taken_as : server_now ws ≡ ws ++ replicate k 0 → ServerTaken ws
   server_taken_as now =
-      let r : server_in (server_now ws) ≡ some (server_today s) = rw now server-read in
-      let (a, b) = again servers (server_now ws) (server_sound (server_now ws) (server_today s) r server-valid) in
-      record { read = r; valid = server-valid; shows = server-shows; saved = a; again = b }
+      let r : server_in (server_now ws) ≡ some (server_today s) = rw now server_read in
+      let (a, b) = again servers (server_now ws) (server_sound (server_now ws) (server_today s) r server_valid) in
+      record { read = r; valid = server_valid; shows = server-shows; saved = a; again = b }
 
   server-fits : Fitting ws
   server-fits =
@@ -175,10 +175,10 @@ module _ (row k limit : ℕ) (more : row + k ≡ client.row_words) (h : limit �
   places = map place (client.view c).responses
 
   client-padded : Padded c.row c.head.n
-  client-padded = client-valid.valid-padded c client-good
+  client-padded = client_valid.valid-padded c client-good
 
   fits : client_laws.Fits c.head.n c.head.m c.head.id (client.view c)
-  fits = client_laws.view-fits c (client-valid.valid-known c client-good)
+  fits = client_laws.view-fits c (client_valid.valid-known c client-good)
 
   client-few : length places ≡ c.head.n
   client-few = rw length-map fits.long
@@ -206,14 +206,14 @@ module _ (row k limit : ℕ) (more : row + k ≡ client.row_words) (h : limit �
   client-shows : client.view (client_today c) ≡ client.view c
   client-shows = client_laws.view-store client.max_places c.head.n c.head.m c.head.id (client.view c) fits fits.ranges.few
 
-  client-read : client_in (ws ++ replicate k 0) ≡ some (client_today c)
+  client_read : client_in (ws ++ replicate k 0) ≡ some (client_today c)
   unfolding client.store_in
-  client-read =
+  client_read =
       rw client-words
       (client_read_back (client_today c) client_stays client.row_words (length_row_of client.row_words places (omega (arith, client-few, client-short, more))))
 
   renewed_as : wider_client ws ≡ ws ++ replicate k 0 → Renewed ws
-  renewed_as now = record { read = rw now client-read; valid = client_stays; shows = client-shows }
+  renewed_as now = record { read = rw now client_read; valid = client_stays; shows = client-shows }
 
 renewed : (ws : List ℕ) → ordered_client ws ≡ true → Renewed ws
 renewed ws v =
@@ -254,5 +254,5 @@ pub client_today-long : (ws : List ℕ) → saved_client ws ≡ true → length 
 unfolding client.store_in
 client_today-long ws v =
     let c = saved_as ws in
-    let K = client-valid.valid-known c (client_was_valid ws v) in
+    let K = client_valid.valid-known c (client_was_valid ws v) in
     length_row_of client.row_words (map place (client.view c).responses) (rw (length-map, (client_laws.view-fits c K).long) (omega (arith, K.few)))

@@ -63,7 +63,7 @@ use Rattle.script.specs.declared.Progress.TheVariants.{Took, Refused}
 use Rattle.script.specs.Calls.{new_answer as new_script, new_words}
 use Rattle.script.specs.Inner.{Sound, Ready, Reads, Prints, Does, Takes, happened, passing, reply_line, with_counts, without_line}
 use Rattle.script.proofs.StateLaws.{Is, itself-is, view-is, valid-is, store-stage, store-answered, store-accepted, store-holding, store_simulation, Facts, RunFacts, run-facts, from-run, from-facts}
-use Rattle.script.proofs.TestLaws.{few-clients, part-long}
+use Rattle.script.proofs.TestLaws.{few_clients, part-long}
 use Rattle.script.proofs.LineLaws.{known, sound, line-long, line_parsed, line-gone}
 use Rattle.system.specs.Limits.{system_clients, system_servers}
 use Rattle.sim_layout.specs.Layout.{simulation_size}
@@ -98,7 +98,7 @@ count-few (b ∷ l) = omega (arith, count-few l, one_or_none b)
 few-holders : (s : List ℕ) → layout.valid s ≡ true → holders (layout.view s) ≤ system_clients
 unfolding layout.view layout.setting_of
 few-holders s v =
-    let a = few-clients s v in
+    let a = few_clients s v in
     let b = length-blocks client_block client_place (get_or s 3 0) (layout.client_words s) in
     let c = length-map (blocks client_block client_place (get_or s 3 0) (layout.client_words s)) is_inside in
     omega (arith, a, b, c, count-few (map is_inside (blocks client_block client_place (get_or s 3 0) (layout.client_words s))))
@@ -448,8 +448,8 @@ module _ (s : List ℕ) (v : layout.valid s ≡ true) where
   beyond : (k c : ℕ) → leb k max_short ≡ false → c ≤ max_short → within k c ≡ false
   beyond k c e h = rw (le-leb 1 k (omega (arith, leb-false k max_short e)), lt-leb k c (omega (arith, leb-false k max_short e)))
 
-  few-servers : (layout.setting_of s).n ≤ system_servers
-  few-servers = (range system_servers _ _ _ (layout_laws.facts s v).range).servers
+  few_servers : (layout.setting_of s).n ≤ system_servers
+  few_servers = (range system_servers _ _ _ (layout_laws.facts s v).range).servers
 
   no_client_lem : (k : ℕ) → leb k max_short ≡ false → has (layout.view s).clients k ≡ false
   no_client_lem k e =
@@ -457,7 +457,7 @@ module _ (s : List ℕ) (v : layout.valid s ≡ true) where
       (omega (arith, (within-range (layout.setting_of s).clients system_clients (layout_laws.facts s v).some).1))
 
   no_server_lem : (j : ℕ) → leb j max_short ≡ false → has (layout.view s).servers j ≡ false
-  no_server_lem j e = server-there s j ∙ beyond j (layout.setting_of s).n e (omega (arith, few-servers))
+  no_server_lem j e = server-there s j ∙ beyond j (layout.setting_of s).n e (omega (arith, few_servers))
 
   pub nobody_such : (e : Event) → sixteen_bits e ≡ false → bounded.happens s e ≡ refused NoSuchParty
   unfolding sixteen_bits with_places

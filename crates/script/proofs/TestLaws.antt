@@ -22,9 +22,9 @@ use Rattle.script_output.specs.Output.{max_lines}
 use Rattle.script_output.specs.Reader.{max_kept}
 
 -- a valid simulation has at most 16 clients
-pub few-clients : (s : List ℕ) → layout.valid s ≡ true → get_or s 3 0 ≤ system_clients
+pub few_clients : (s : List ℕ) → layout.valid s ≡ true → get_or s 3 0 ≤ system_clients
 unfolding layout.setting_of
-few-clients s v = (within-range _ _ (layout_laws.facts s v).some).1
+few_clients s v = (within-range _ _ (layout_laws.facts s v).some).1
 
 module _ (w : List ℕ) (long : length w ≡ state_size) where
   pub part-long : length (take simulation_size (drop state_head w)) ≡ simulation_size

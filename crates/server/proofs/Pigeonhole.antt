@@ -95,10 +95,10 @@ within-others c (x ∷ l) s w =
     less a n h = ⊎_elim (λ (t : leb a c ≡ true). leb-true a c t)
         (λ (t : leb a c ≡ false). absurd (n (let z : a ≡ suc c = omega (arith, leb-false a c t) in z))) (decided (leb a c))
 
-pub few-clients : (c : ℕ) (l : List Request) → Single l → Within c l → length l ≤ c
-few-clients zero [] s w = omega arith
-few-clients zero (x ∷ l) s w = absurd (omega (arith, w.0, w.1))
-few-clients (suc c) l s w = omega (arith, one_less (suc c) l, few-clients c (others (suc c) l) (single_others (suc c) l s) (within-others c l s w))
+pub few_clients : (c : ℕ) (l : List Request) → Single l → Within c l → length l ≤ c
+few_clients zero [] s w = omega arith
+few_clients zero (x ∷ l) s w = absurd (omega (arith, w.0, w.1))
+few_clients (suc c) l s w = omega (arith, one_less (suc c) l, few_clients c (others (suc c) l) (single_others (suc c) l s) (within-others c l s w))
 
 -- r is a request of one of the clients up to c
 abbrev pub up_to : ℕ → Request → Bool
@@ -127,5 +127,5 @@ queue-fits c q g h =
     omega (
       arith,
       longer q.owner q.queue,
-      few-clients c (candidates q) g.single (within_all c (candidates q) (candidates-valid q.owner q.queue g.owner g.all) h),
+      few_clients c (candidates q) g.single (within_all c (candidates q) (candidates-valid q.owner q.queue g.owner g.all) h),
     )

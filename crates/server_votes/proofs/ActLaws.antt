@@ -132,8 +132,8 @@ module _ (j : ServerId) (k : ClientId) {v : Votes} (row after : List ℕ) (p : M
           owner = λ n. rw (informed-state j k s.state, f.votes) (one.moves.owner g);
           queue = λ n. rw (informed-state j k s.state, f.votes) (holds row after p s one.moves fits);
           sent = rw (f.third, append-nil, first, second);
-          one-first = λ n. absurd (told (sym f.first ∙ n));
-          two-first = λ _. f.third;
+          one_first = λ n. absurd (told (sym f.first ∙ n));
+          two_first = λ _. f.third;
         };
         third = f.third;
       }
@@ -217,8 +217,8 @@ module _ (v : Votes) (row mid end : List ℕ) (d a m : Moved) (s : Step State) (
         owner = λ n. rw e (two.moves.owner fine);
         queue = λ n. rw e (holds-again row mid end _ _ size (two.moves.queue fine));
         sent = rw (e, ← nobody) two.moves.sent;
-        one-first = λ n. rw e (two.moves.one-first (rw e at n));
-        two-first = λ n. rw e two.third;
+        one_first = λ n. rw e (two.moves.one_first (rw e at n));
+        two_first = λ n. rw e two.third;
       }
 
   after_one : (x : Message) → d.first ≡ One x → m ≡ joined_by (One x) d a → Moves v row end m (s then g)
@@ -229,8 +229,8 @@ module _ (v : Votes) (row mid end : List ℕ) (d a m : Moved) (s : Step State) (
         owner = λ n. rw e (two.moves.owner fine);
         queue = λ n. rw e (holds-again row mid end _ _ size (two.moves.queue fine));
         sent = rw (e, append_assoc, only row mid d s one, behind);
-        one-first = λ n. let q : One x ≡ Nothing = sym z ∙ rw e at n in let y : ◌≡◌ {A = ℕ} 0 1 = cc in absurd (omega arith);
-        two-first = λ n. rw e (two.moves.one-first (rw e at n));
+        one_first = λ n. let q : One x ≡ Nothing = sym z ∙ rw e at n in let y : ◌≡◌ {A = ℕ} 0 1 = cc in absurd (omega arith);
+        two_first = λ n. rw e (two.moves.one_first (rw e at n));
       }
 
   after : m ≡ joined d a → Moves v row end m (s then g)

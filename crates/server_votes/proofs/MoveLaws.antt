@@ -46,8 +46,8 @@ module _ {u : Votes} (row after : List ℕ) (m : Moved) (v : Votes) (s : Step St
           owner = λ f. rw e o;
           queue = λ f. rw e H;
           sent = rw e p;
-          one-first = λ _. rw e;
-          two-first = λ _. rw e;
+          one_first = λ _. rw e;
+          two_first = λ _. rw e;
         };
         second = rw e;
         third = rw e;
@@ -65,7 +65,7 @@ pub moves-overflowing : (row : List ℕ) (m : Moved) (v : Votes) (s : Step State
 moves-overflowing row m v s x h e p =
     let not_so : m.full ≡ false → ⊥ = λ f. false≢true (sym (rw e at f)) in
     record {
-      moves = record { full = rw (e, lt-ltb _ _ h); kept = λ f. (refl, rw e); owner = λ f. absurd (not_so f); queue = λ f. absurd (not_so f); sent = rw e p; one-first = λ _. rw e; two-first = λ _. rw e };
+      moves = record { full = rw (e, lt-ltb _ _ h); kept = λ f. (refl, rw e); owner = λ f. absurd (not_so f); queue = λ f. absurd (not_so f); sent = rw e p; one_first = λ _. rw e; two_first = λ _. rw e };
       second = rw e;
       third = rw e;
     }

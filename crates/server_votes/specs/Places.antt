@@ -21,8 +21,8 @@ pub record Moves (v : Votes) (row after : List ℕ) (m : Moved) (s : Step State)
   pub owner : m.full ≡ false → m.votes.owner ≡ s.state.owner
   pub queue : m.full ≡ false → Holds row after m.votes.len s.state.queue
   pub sent : mails m.first ++ mails m.second ++ mails m.third ≡ s.sent
-  pub one-first : m.first ≡ Nothing → m.second ≡ Nothing
-  pub two-first : m.second ≡ Nothing → m.third ≡ Nothing
+  pub one_first : m.first ≡ Nothing → m.second ≡ Nothing
+  pub two_first : m.second ≡ Nothing → m.third ≡ Nothing
 
 pub record MovesOne (v : Votes) (row after : List ℕ) (m : Moved) (s : Step State) : Type 0 where
   pub moves : Moves v row after m s

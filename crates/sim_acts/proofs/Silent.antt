@@ -42,7 +42,7 @@ use Rattle.sim_changes.specs.Happens.{happens, Leaves, moved_of}
 use Rattle.sim_changes.specs.Changes.{Becomes, HasClient, HasServer, with_transit, with_clients}
 use Rattle.sim_changes.specs.Inner.{with_client, with_server}
 use Rattle.sim_changes.proofs.Answers.{falls, ups, drops, drops-nothing, downs}
-use Rattle.sim_changes.proofs.Becoming.{sound, client-valid, server-valid, client-becomes, server-becomes}
+use Rattle.sim_changes.proofs.Becoming.{sound, client_valid, server_valid, client-becomes, server-becomes}
 use Rattle.sim_changes.proofs.Leaving.{leaves_refused, leaves_silent, leaves_quiet}
 use Rattle.sim_changes.proofs.Parties.{server_in_lem}
 use Rattle.sim_changes.proofs.ClientEvents.{client_there_in}
@@ -61,7 +61,7 @@ module _ (w : List ℕ) (k : ℕ) (H : HasClient w (client_no k)) where
   falling =
       let B : ClientIs (setting_of w).n (setting_of w).m (setting_of w).clients k (cleared (set block 0 0)) fallen-place =
       rw (client-place w k H.first H.last)
-      (fall_block (setting_of w).n (setting_of w).m (setting_of w).clients k block (client-valid w (sound w H.valid) k H.first H.last)) in
+      (fall_block (setting_of w).n (setting_of w).m (setting_of w).clients k block (client_valid w (sound w H.valid) k H.first H.last)) in
       client-becomes w H.valid k (cleared (set block 0 0)) _ H.first H.last B zero-le
 
 module _ (w : List ℕ) (k : ClientId) (H : HasClient w k) {b : Bool} (f : b ≡ (client_place (client_block_of w k)).living) (u : b ≡ true) where
@@ -81,7 +81,7 @@ module _ (w : List ℕ) (j : ℕ) (H : HasServer w (server_no j)) where
   risen = record { up = true; state = (server_at (view w) (server_no j)).state }
 
   abbrev ok_block : valid_server_block (setting_of w).n (setting_of w).clients (server_no j) (server_block_of w (server_no j)) ≡ true
-  ok_block = server-valid w (sound w H.valid) j H.first H.last
+  ok_block = server_valid w (sound w H.valid) j H.first H.last
 
   rising : Becomes w (sets w (servers_from + server_block * (j - 1)) (set place 0 1)) (with_server (view w) (server_no j) risen)
   rising =

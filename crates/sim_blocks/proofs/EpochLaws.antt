@@ -208,8 +208,8 @@ module _ (n m clients k : ℕ) (b : List ℕ) (ok : valid_client_block n m clien
   abbrev bits : List ℕ
   bits = map down_bit qs
 
-  few-servers : n ≤ system_servers
-  few-servers = client-few n m clients k b D
+  few_servers : n ≤ system_servers
+  few_servers = client-few n m clients k b D
 
   count : length bits ≡ n
   count = length-map qs down_bit ∙ all
@@ -217,9 +217,9 @@ module _ (n m clients k : ℕ) (b : List ℕ) (ok : valid_client_block n m clien
   put-flags : flags (sets b flags_from bits) ≡ bits ++ drop n (flags b)
   put-flags =
       let l : length (flags b) ≡ system_servers = simp (length-take, length-drop) (omega (arith, D.size)) in
-      let z : 0 + length bits ≡ n = omega (arith, count, few-servers) in
-      region-inside flags_from system_servers b 0 bits (omega (arith, count, few-servers)) ∙
-      sets-eq bits (flags b) 0 (omega (arith, count, few-servers)) ∙ ap (λ (x : ℕ). bits ++ drop x (flags b)) z
+      let z : 0 + length bits ≡ n = omega (arith, count, few_servers) in
+      region-inside flags_from system_servers b 0 bits (omega (arith, count, few_servers)) ∙
+      sets-eq bits (flags b) 0 (omega (arith, count, few_servers)) ∙ ap (λ (x : ℕ). bits ++ drop x (flags b)) z
 
   put_record : client_record (sets b flags_from bits) ≡ client_record b
   put_record = region-behind 1 client_record_size b 0 bits

@@ -225,9 +225,9 @@ module _ (n clients : ℕ) (j : ServerId) (ws : List ℕ) (s : Server) (e : s �
             ) q
 
 -- a whole block
-pub few-servers : (n m clients : ℕ) (k : ClientId) (c : Client) → length c.row ≡ response_words → fits_client n m clients k c ≡ true → n ≤ system_servers
+pub few_servers : (n m clients : ℕ) (k : ClientId) (c : Client) → length c.row ≡ response_words → fits_client n m clients k c ≡ true → n ≤ system_servers
 unfolding fits_client
-few-servers n m clients k c long h =
+few_servers n m clients k c long h =
     let (v, r) = both (client.valid c)
     (eqb c.head.n n && (eqb c.head.m m && (eqb c.head.id.0 k.0 && every (named clients) (client.view c).responses)))
     h in
@@ -245,7 +245,7 @@ module _ (n m clients : ℕ) (k : ClientId) (b : List ℕ) where
 
     pub record_few : holds_client_record (client_record b) ≡ true → x ≡ true → n ≤ system_servers
     record_few h t =
-        few-servers n m clients k (client_from (client_record b)) (client-row response_words (client_record b) h)
+        few_servers n m clients k (client_from (client_record b)) (client-row response_words (client_record b) h)
         (holds x (fits_client n m clients k (client_from (client_record b))) p t)
 
     pub flags-decide : x ≡ true → (r : Bool) → r ≡ in_epoch (client_place b) → (y : Bool) → y ≡ fits_flags n r (flags b) → y ≡ fits

@@ -93,23 +93,23 @@ pub record Near (w w' : List ℕ) (u : System) : Type 0 where
 
 -- what a sound simulation says of its parts
 module _ (w : List ℕ) (F : Sound w) where
-  pub few-servers : (setting_of w).n ≤ system_servers
-  few-servers = (range system_servers (setting_of w).n (setting_of w).m (setting_of w).f F.range).servers
+  pub few_servers : (setting_of w).n ≤ system_servers
+  few_servers = (range system_servers (setting_of w).n (setting_of w).m (setting_of w).f F.range).servers
 
-  pub few-clients : (setting_of w).clients ≤ system_clients
-  few-clients = (within-range (setting_of w).clients system_clients F.some).1
+  pub few_clients : (setting_of w).clients ≤ system_clients
+  few_clients = (within-range (setting_of w).clients system_clients F.some).1
 
-  pub client-valid : (k : ℕ) → 1 ≤ k → k ≤ (setting_of w).clients
+  pub client_valid : (k : ℕ) → 1 ≤ k → k ≤ (setting_of w).clients
       → valid_client_block (setting_of w).n (setting_of w).m (setting_of w).clients (client_no k) (client_block_of w (client_no k)) ≡ true
-  client-valid k p q =
+  client_valid k p q =
       let z : 1 + (k - 1) ≡ k = omega arith in
       subst (λ (x : ℕ). valid_client_block (setting_of w).n (setting_of w).m (setting_of w).clients (client_no x) (client_block_of w (client_no k)) ≡ true) z
       (each-valid (λ (i : ℕ). valid_client_block (setting_of w).n (setting_of w).m (setting_of w).clients (client_no i)) client_block (setting_of w).clients 1
       (client_words w) F.clients (k - 1) (omega arith))
 
-  pub server-valid : (j : ℕ) → 1 ≤ j → j ≤ (setting_of w).n
+  pub server_valid : (j : ℕ) → 1 ≤ j → j ≤ (setting_of w).n
       → valid_server_block (setting_of w).n (setting_of w).clients (server_no j) (server_block_of w (server_no j)) ≡ true
-  server-valid j p q =
+  server_valid j p q =
       let z : 1 + (j - 1) ≡ j = omega arith in
       subst (λ (x : ℕ). valid_server_block (setting_of w).n (setting_of w).clients (server_no x) (server_block_of w (server_no j)) ≡ true) z
       (each-valid (λ (i : ℕ). valid_server_block (setting_of w).n (setting_of w).clients (server_no i)) server_block (setting_of w).n 1 (server_words w) F.servers
@@ -136,11 +136,11 @@ module _ (w : List ℕ) (F : Sound w) (k : ℕ) (b : List ℕ) (p : ClientPlace)
   client-long = (client-facts (setting_of w).n (setting_of w).m (setting_of w).clients k b B.valid).size
 
   client-whole : sets (take client_block (drop ((k - 1) * client_block) (client_words w))) 0 b ≡ b
-  client-whole = covered (client_block_of w (client_no k)) b (client-long ∙ sym (client_block-long w k F.long first (omega (arith, few-clients w F))))
+  client-whole = covered (client_block_of w (client_no k)) b (client-long ∙ sym (client_block-long w k F.long first (omega (arith, few_clients w F))))
 
   client-system : view (sets w (clients_from + client-at) b) ≡ with_client (view w) (client_no k) p
   client-system =
-      client-stored w (k - 1) 0 b (omega arith) (few-clients w F) (omega (arith, client-long)) ∙
+      client-stored w (k - 1) 0 b (omega arith) (few_clients w F) (omega (arith, client-long)) ∙
       ap (λ (l : List ClientPlace). record { clients = l; servers = (view w).servers; transit = (view w).transit; sent = (view w).sent; most = (view w).most })
       (ap (λ (x : List ℕ). set (view w).clients (k - 1) (client_place x)) client-whole ∙
       (ap (λ (x : ClientPlace). set (view w).clients (k - 1) x) B.place ∙ put-set (view w).clients k p (omega arith)))
@@ -148,7 +148,7 @@ module _ (w : List ℕ) (F : Sound w) (k : ℕ) (b : List ℕ) (p : ClientPlace)
   client_sound : Sound (sets w (clients_from + client-at) b)
   client_sound =
       let s = setting_kept w (clients_from + client-at) b (omega arith) in
-      let fits : client-at + length b ≤ clients_size = omega (arith, client-long, few-clients w F) in
+      let fits : client-at + length b ≤ clients_size = omega (arith, client-long, few_clients w F) in
       let head : (i : ℕ) → i < clients_from → get_or (sets w (clients_from + client-at) b) i 0 ≡ get_or w i 0 =
       λ i q. head-kept w (clients_from + client-at) b i (omega arith) in
       let z : k ≡ 1 + (k - 1) = omega arith in
@@ -192,11 +192,11 @@ module _ (w : List ℕ) (F : Sound w) (j : ℕ) (b : List ℕ) (q : ServerPlace)
   server-long = (server-facts (setting_of w).n (setting_of w).clients j b B.valid).size
 
   server-whole : sets (take server_block (drop ((j - 1) * server_block) (server_words w))) 0 b ≡ b
-  server-whole = covered (server_block_of w (server_no j)) b (server-long ∙ sym (server_block-long w j F.long first (omega (arith, few-servers w F))))
+  server-whole = covered (server_block_of w (server_no j)) b (server-long ∙ sym (server_block-long w j F.long first (omega (arith, few_servers w F))))
 
   server-system : view (sets w (servers_from + server-at) b) ≡ with_server (view w) (server_no j) q
   server-system =
-      server-stored w (j - 1) 0 b (omega arith) (few-servers w F) (omega (arith, server-long)) ∙
+      server-stored w (j - 1) 0 b (omega arith) (few_servers w F) (omega (arith, server-long)) ∙
       ap (λ (l : List ServerPlace). record { clients = (view w).clients; servers = l; transit = (view w).transit; sent = (view w).sent; most = (view w).most })
       (ap (λ (x : List ℕ). set (view w).servers (j - 1) (server_place x)) server-whole ∙
       (ap (λ (x : ServerPlace). set (view w).servers (j - 1) x) B.place ∙ put-set (view w).servers j q (omega arith)))
@@ -204,7 +204,7 @@ module _ (w : List ℕ) (F : Sound w) (j : ℕ) (b : List ℕ) (q : ServerPlace)
   server_sound : Sound (sets w (servers_from + server-at) b)
   server_sound =
       let s = setting_kept w (servers_from + server-at) b (omega arith) in
-      let fits : server-at + length b ≤ servers_size = omega (arith, server-long, few-servers w F) in
+      let fits : server-at + length b ≤ servers_size = omega (arith, server-long, few_servers w F) in
       let head : (i : ℕ) → i < clients_from → get_or (sets w (servers_from + server-at) b) i 0 ≡ get_or w i 0 =
       λ i q. head-kept w (servers_from + server-at) b i (omega arith) in
       let z : j ≡ 1 + (j - 1) = omega arith in

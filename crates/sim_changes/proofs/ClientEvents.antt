@@ -72,8 +72,8 @@ pub still-client : {w w₁ : List ℕ} {k : ℕ} {u : System} → Becomes w w₁
 still-client B H = record { valid = B.again; first = H.first; last = rw B.setting H.last }
 
 -- the record whose head and row were read
-pub client-read : (h : Head) (row ws : List ℕ) → h ≡ client_head_from ws → row ≡ drop client_head ws → client_of h row ≡ client_from ws
-client-read h row ws p q = λ i. client_of (p i) (q i)
+pub client_read : (h : Head) (row ws : List ℕ) → h ≡ client_head_from ws → row ≡ drop client_head ws → client_of h row ≡ client_from ws
+client_read h row ws p q = λ i. client_of (p i) (q i)
 
 -- client k, which is there
 module _ (w : List ℕ) (k : ClientId) (H : HasClient w k) where

@@ -26,7 +26,7 @@ use Rattle.sim_layout.proofs.LendLaws.{came_back, client-part, client_block-long
 use Rattle.sim_changes.specs.Changes.{Becomes, HasClient, HasServer, with_clients}
 use Rattle.sim_changes.specs.Inner.{with_client}
 use Rattle.sim_changes.proofs.Stores.{sets_over, client_block-stored}
-use Rattle.sim_changes.proofs.Becoming.{sound, Near, few-clients, few-servers, client-valid, client_near, most-becomes, client-becomes}
+use Rattle.sim_changes.proofs.Becoming.{sound, Near, few_clients, few_servers, client_valid, client_near, most-becomes, client-becomes}
 use Rattle.system.specs.Limits.{system_clients, system_servers}
 
 near_trans : {w w' w'' : List ℕ} {u v : System} → Near w w' u → Near w' w'' v → Near w w'' v
@@ -90,11 +90,11 @@ module _ (w : List ℕ) (j : ServerId) where
 
   module _ (clients : ℕ) (w' : List ℕ) (i : ℕ) (M : Marking w j clients w' i) where
     pub marking_fits : clients ≤ system_clients
-    marking_fits = omega (arith, M.count, few-clients w (sound w M.has.valid))
+    marking_fits = omega (arith, M.count, few_clients w (sound w M.has.valid))
 
     pub marking_in : i < clients → ClientIn w' (client_no (i + 1)) × (1 ≤ j.0) × (j.0 ≤ system_servers)
     marking_in lt =
-        let h : j.0 ≤ system_servers = omega (arith, M.has.last, few-servers w (sound w M.has.valid)) in
+        let h : j.0 ≤ system_servers = omega (arith, M.has.last, few_servers w (sound w M.has.valid)) in
         (record { long = M.near.again.long; first = omega arith; last = omega (arith, marking_fits, lt) }, M.has.first, h)
 
     module _ (lt : i < clients) where
@@ -110,7 +110,7 @@ module _ (w : List ℕ) (j : ServerId) where
 
       is-marked : ClientIs (setting_of w').n (setting_of w').m (setting_of w').clients (suc i) stored (downed j (client_at (view w') (client_no (suc i))))
       is-marked =
-          let v = client-valid w' M.near.again (suc i) (omega arith) inside in
+          let v = client_valid w' M.near.again (suc i) (omega arith) inside in
           let n : j.0 ≤ (setting_of w').n = rw M.near.setting M.has.last in
           rw (client-place w' (suc i) (omega arith) inside)
           (mark-block (setting_of w').n (setting_of w').m (setting_of w').clients (suc i) block v j M.has.first n)
@@ -135,7 +135,7 @@ module _ (w : List ℕ) (j : ServerId) where
         rw z (record { has = M.has; count = M.count; within = omega (arith, lt); near = rw e' (marked_near lt) })
 
     pub marking_sized : (length w' ≡ simulation_size) × ((setting_of w').clients ≤ system_clients)
-    marking_sized = (M.near.again.long, few-clients w' M.near.again)
+    marking_sized = (M.near.again.long, few_clients w' M.near.again)
 
     pub marking_same : (x : ℕ) (w'' : List ℕ) → w'' ≡ set w' 6 x → length w'' ≡ length w
     marking_same x w'' e = ap length e ∙ (length-set w' 6 x ∙ (M.near.again.long ∙ sym (sound w M.has.valid).long))
@@ -178,7 +178,7 @@ pub record Flagging (w : List ℕ) (k n : ℕ) (w' : List ℕ) (i : ℕ) : Type 
 -- the first i flags are put
 module _ (w : List ℕ) (k : ℕ) (H : HasClient w (client_no k)) where
   last-client : k ≤ system_clients
-  last-client = omega (arith, H.last, few-clients w (sound w H.valid))
+  last-client = omega (arith, H.last, few_clients w (sound w H.valid))
 
   long : length w ≡ simulation_size
   long = (sound w H.valid).long
@@ -227,7 +227,7 @@ module _ (w : List ℕ) (k : ℕ) (H : HasClient w (client_no k)) where
       (record { living = (client_at (view w) (client_no k)).living; state = (client_at (view w) (client_no k)).state; downs = down_from 1 (view w).servers }))
   flagged_near run =
       let p = client-place w k H.first H.last in
-      let v = client-valid w (sound w H.valid) k H.first H.last in
+      let v = client_valid w (sound w H.valid) k H.first H.last in
       let B : ClientIs (setting_of w).n (setting_of w).m (setting_of w).clients k (sets (client_block_of w (client_no k)) flags_from (bits_of w))
       (record { living = (client_at (view w) (client_no k)).living; state = (client_at (view w) (client_no k)).state; downs = down_from 1 (view w).servers }) =
       rw p (put-block (setting_of w).n (setting_of w).m (setting_of w).clients k (client_block_of w (client_no k)) v (view w).servers (servers-long w)
@@ -236,7 +236,7 @@ module _ (w : List ℕ) (k : ℕ) (H : HasClient w (client_no k)) where
 
 module _ (w : List ℕ) (k n : ℕ) (w' : List ℕ) (i : ℕ) (P : Flagging w k n w' i) where
   pub flagging_fits : n ≤ system_servers
-  flagging_fits = omega (arith, P.count, few-servers w (sound w P.has.valid))
+  flagging_fits = omega (arith, P.count, few_servers w (sound w P.has.valid))
 
   pub flagging_sized : (length w' ≡ simulation_size) × ((setting_of w').clients ≤ system_clients)
   flagging_sized =
@@ -244,7 +244,7 @@ module _ (w : List ℕ) (k n : ℕ) (w' : List ℕ) (i : ℕ) (P : Flagging w k 
         length-sets w (clients_from + client_block * (k - 1)) (flagged_to w k i)
             ∙ long w k P.has,
         rw (setting_kept w (clients_from + client_block * (k - 1)) (flagged_to w k i) (omega arith))
-            (few-clients w (sound w P.has.valid)),
+            (few_clients w (sound w P.has.valid)),
       )
 
   pub flagging_same : (x : ℕ) (w'' : List ℕ) → w'' ≡ set w' 6 x → length w'' ≡ length w
@@ -300,7 +300,7 @@ module _ (w : List ℕ) (k : ℕ) (H : HasClient w (client_no k)) where
       let B : ClientIs (setting_of w).n (setting_of w).m (setting_of w).clients k (cleared flagless)
       (record { living = (client_at (view w) (client_no k)).living; state = (client_at (view w) (client_no k)).state; downs = [] }) =
       rw (client-place w k H.first H.last)
-      (cleared-block (setting_of w).n (setting_of w).m (setting_of w).clients k flagless (client-valid w (sound w H.valid) k H.first H.last)) in
+      (cleared-block (setting_of w).n (setting_of w).m (setting_of w).clients k flagless (client_valid w (sound w H.valid) k H.first H.last)) in
       client-becomes w H.valid k (cleared flagless) _ H.first H.last B zero-le
 
 pub epoch_ends : (w : List ℕ) (k : ℕ) → HasClient w (client_no k) → (w' : List ℕ)

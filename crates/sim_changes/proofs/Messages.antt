@@ -15,14 +15,14 @@ use Rattle.sim_indexed.specs.Calls.{Valid, Place, Marks, Removes, Restarts}
 use Rattle.sim_indexed.proofs.IndexedLaws.{parts}
 use Rattle.sim_layout.specs.Layout.{setting_of, length_of, sent_of, transit_words, view, valid, transit_from, simulation_size}
 use Rattle.sim_layout.proofs.ValidLaws.{facts}
-use Rattle.sim_layout.proofs.ReadLaws.{lent-sized, few-servers}
+use Rattle.sim_layout.proofs.ReadLaws.{lent-sized, few_servers}
 use Rattle.sim_layout.proofs.EntryLaws.{few, lent-valid}
 use Rattle.sim_layout.proofs.LendLaws.{came_back}
 use Rattle.sim_changes.specs.Changes.{Becomes, HasServer, with_transit}
 use Rattle.sim_changes.proofs.Becoming.{transit-becomes, length-becomes}
 
 pub server-place : (w : List ℕ) (j : ServerId) → HasServer w j → Place j
-server-place w j H = record { first = H.first; last = omega (arith, H.last, few-servers w H.valid) }
+server-place w j H = record { first = H.first; last = omega (arith, H.last, few_servers w H.valid) }
 
 module _ (w : List ℕ) (ok : valid w ≡ true) where
   pub transit-count : length_of w ≤ system_messages

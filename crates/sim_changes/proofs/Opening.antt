@@ -389,11 +389,11 @@ module _ (n m f clients : ℕ) (z : List ℕ) (long : length z ≡ simulation_si
         transit = S.transit;
       }
 
-  few-clients : clients ≤ system_clients
-  few-clients = (within-range clients system_clients some).1
+  few_clients : clients ≤ system_clients
+  few_clients = (within-range clients system_clients some).1
 
-  few-servers : n ≤ system_servers
-  few-servers = (range system_servers n m f ok).servers
+  few_servers : n ≤ system_servers
+  few_servers = (range system_servers n m f ok).servers
 
   no_clients : blank (client_words headed) ≡ true
   unfolding client_words
@@ -403,7 +403,7 @@ module _ (n m f clients : ℕ) (z : List ℕ) (long : length z ≡ simulation_si
   populated = in_turn (λ (i : ℕ). new_client n m (client_no i)) clients headed
 
   clients_are : Clients n m headed populated clients
-  clients_are = clients-put n m headed headed-is.long no_clients clients few-clients
+  clients_are = clients-put n m headed headed-is.long no_clients clients few_clients
 
   no_servers_lem : blank (server_words populated) ≡ true
   unfolding server_words
@@ -413,7 +413,7 @@ module _ (n m f clients : ℕ) (z : List ℕ) (long : length z ≡ simulation_si
   whole = in_turn (λ (i : ℕ). new_server n (server_no i)) n populated
 
   servers_are : Servers n populated whole n
-  servers_are = servers-put n populated clients_are.long no_servers_lem n few-servers
+  servers_are = servers-put n populated clients_are.long no_servers_lem n few_servers
 
   no_transit : blank (transit_words whole) ≡ true
   unfolding transit_words
@@ -436,7 +436,7 @@ module _ (n m f clients : ℕ) (z : List ℕ) (long : length z ≡ simulation_si
 
   client-block : (i : ℕ) → i < clients
       → ClientIs n m clients (suc i) (take client_block (drop (i * client_block) (client_words whole))) (record { living = true; state = fresh n; downs = [] })
-  client-block i h = rw (servers_are.clients, clients_are.filled.done i h) (fresh-client n m f clients ok i (omega (arith, few-clients)))
+  client-block i h = rw (servers_are.clients, clients_are.filled.done i h) (fresh-client n m f clients ok i (omega (arith, few_clients)))
 
   server-block : (i : ℕ) → i < n
       → ServerIs n clients (suc i) (take server_block (drop (i * server_block) (server_words whole))) (record { up = true; state = idle })

@@ -15,7 +15,7 @@ use Rattle.sim_layout.specs.Layout.{setting_of, view, valid, simulation_size}
 use Rattle.sim_layout.specs.Parts.{client_block_of, server_block_of, ClientIn, ServerIn}
 use Rattle.sim_layout.proofs.PlaceLaws.{client-place, server-place, client-there, server-there}
 use Rattle.sim_changes.specs.Changes.{HasClient, HasServer}
-use Rattle.sim_changes.proofs.Becoming.{sound, few-servers, few-clients}
+use Rattle.sim_changes.proofs.Becoming.{sound, few_servers, few_clients}
 use Rattle.system.specs.Limits.{system_clients, system_servers}
 
 pub words_long : (w : List ℕ) → valid w ≡ true → length w ≡ simulation_size
@@ -23,11 +23,11 @@ words_long w ok = (sound w ok).long
 
 pub clients_fit : (w : List ℕ) → valid w ≡ true → get_or w 3 0 ≤ system_clients
 unfolding setting_of
-clients_fit w ok = few-clients w (sound w ok)
+clients_fit w ok = few_clients w (sound w ok)
 
 pub servers_fit : (w : List ℕ) → valid w ≡ true → get_or w 0 0 ≤ system_servers
 unfolding setting_of
-servers_fit w ok = few-servers w (sound w ok)
+servers_fit w ok = few_servers w (sound w ok)
 
 -- client k
 module _ (w : List ℕ) (ok : valid w ≡ true) (k : ℕ) (r : Bool) (e : r ≡ within k (setting_of w).clients) where
@@ -64,14 +64,14 @@ module _ (w : List ℕ) (ok : valid w ≡ true) (j : ℕ) (r : Bool) (e : r ≡ 
 -- the blocks of parties that are there
 module _ (w : List ℕ) (k : ℕ) (H : HasClient w (client_no k)) where
   pub client_in_lem : ClientIn w (client_no k)
-  client_in_lem = record { long = (sound w H.valid).long; first = H.first; last = omega (arith, H.last, few-clients w (sound w H.valid)) }
+  client_in_lem = record { long = (sound w H.valid).long; first = H.first; last = omega (arith, H.last, few_clients w (sound w H.valid)) }
 
   pub living-is : (r : Bool) → r ≡ (client_place (client_block_of w (client_no k))).living → (client_at (view w) (client_no k)).living ≡ r
   living-is r e = rw (client-place w k H.first H.last) (sym e)
 
 module _ (w : List ℕ) (j : ℕ) (H : HasServer w (server_no j)) where
   pub server_in_lem : ServerIn w (server_no j)
-  server_in_lem = record { long = (sound w H.valid).long; first = H.first; last = omega (arith, H.last, few-servers w (sound w H.valid)) }
+  server_in_lem = record { long = (sound w H.valid).long; first = H.first; last = omega (arith, H.last, few_servers w (sound w H.valid)) }
 
   pub up_is : (r : Bool) → r ≡ (server_place (server_block_of w (server_no j))).up → (server_at (view w) (server_no j)).up ≡ r
   up_is r e = rw (server-place w j H.first H.last) (sym e)

@@ -60,7 +60,7 @@ use Rattle.sim_changes.specs.Inner.{CanSend, has_room, with_server, sending, ser
 use Rattle.sim_changes.specs.Changes.{number_at, tagged}
 use Rattle.sim_changes.specs.Acts.{ServerMay, server_event}
 use Rattle.sim_changes.proofs.Answers.{checks, checks_down, misses, misses_nobody, misses-living, misses-down}
-use Rattle.sim_changes.proofs.Becoming.{sound, few-clients}
+use Rattle.sim_changes.proofs.Becoming.{sound, few_clients}
 use Rattle.sim_changes.proofs.Leaving.{leaves_refused}
 use Rattle.sim_changes.proofs.Parties.{server_in_lem, living-is, up_is}
 use Rattle.sim_changes.proofs.SentLaws.{Sends, check-sends, suspect-sends, receive-sends}
@@ -72,8 +72,8 @@ pub still-server : {w w₁ : List ℕ} {j : ℕ} {u : System} → Becomes w w₁
 still-server B H = record { valid = B.again; first = H.first; last = rw B.setting H.last }
 
 -- the record whose head and row were read
-pub server-read : (h : Head) (row ws : List ℕ) → h ≡ server_head_from ws → row ≡ drop server_head ws → server_of h row ≡ server_from ws
-server-read h row ws p q = λ i. server_of (p i) (q i)
+pub server_read : (h : Head) (row ws : List ℕ) → h ≡ server_head_from ws → row ≡ drop server_head ws → server_of h row ≡ server_from ws
+server_read h row ws p q = λ i. server_of (p i) (q i)
 
 -- server j, which is there
 module _ (w : List ℕ) (j : ServerId) (H : HasServer w j) where
@@ -199,7 +199,7 @@ module _ (w : List ℕ) (j : ServerId) where
         let range = ranged w i x k j t P in
         record {
           out = sym (taken_as (its w j H) x k j t (its-facts w j H).valid range)
-              ∙ (receive-outcome n clients j.0 block ok x k t range there (few-clients w (sound w P.slot.valid))
+              ∙ (receive-outcome n clients j.0 block ok x k t range there (few_clients w (sound w P.slot.valid))
               ∙ ap (λ (q : ServerPlace). stepped (votes.receive j x r q.state)) (sym (server-is w j.0 H)));
           is = tagged-goes w i x k j t P ∙ needed (server_at (view w) j).up (server_took (view w) (number_at w i).0 x k j t) up;
           sends = rw (server-is w j.0 H) (receive-sends n clients j.0 block ok x r v there);
@@ -260,7 +260,7 @@ module _ (w : List ℕ) (j : ServerId) (a : ServerAct) (M : ServerMay w j a) (up
   left-short =
       let H = act-server w j a M in
       let e = left_record ∙ its-after w j H (server_step w j a) in
-      omega (arith, ap (λ (x : Server). x.head.votes.len) e, doing.short, few-clients w (sound w H.valid))
+      omega (arith, ap (λ (x : Server). x.head.votes.len) e, doing.short, few_clients w (sound w H.valid))
 
   pub server-called : ServerCalled w j a r row'
   server-called =

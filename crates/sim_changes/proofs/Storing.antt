@@ -39,7 +39,7 @@ use Rattle.sim_layout.proofs.PlaceLaws.{client-place, server-place}
 use Rattle.sim_layout.proofs.ValidLaws.{facts}
 use Rattle.sim_changes.specs.Changes.{Becomes, HasClient, HasServer}
 use Rattle.sim_changes.specs.Inner.{with_client, with_server}
-use Rattle.sim_changes.proofs.Becoming.{sound, few-clients, client-valid, server-valid, client-becomes, server-becomes}
+use Rattle.sim_changes.proofs.Becoming.{sound, few_clients, client_valid, server_valid, client-becomes, server-becomes}
 use Rattle.system.specs.Limits.{system_clients, system_servers}
 use Rattle.system.specs.Numbered.{client_no, server_no}
 use Rattle.server.specs.declared.Head.{Head}
@@ -53,13 +53,13 @@ module _ (w : List ℕ) (j : ℕ) (H : HasServer w (server_no j)) where
   me = record { 0 = j }
 
   pub server-block : valid_server_block (setting_of w).n (setting_of w).clients (server_no j) (server_block_of w (server_no j)) ≡ true
-  server-block = server-valid w (sound w H.valid) j H.first H.last
+  server-block = server_valid w (sound w H.valid) j H.first H.last
 
   pub server-is : server_at (view w) (server_no j) ≡ server_place (server_block_of w (server_no j))
   server-is = server-place w j H.first H.last
 
   few : (setting_of w).clients ≤ system_clients
-  few = few-clients w (sound w H.valid)
+  few = few_clients w (sound w H.valid)
 
   module _ (s : Server) (w' : List ℕ) (f : w' ≡ sets w (servers_from + server_block * (j - 1)) (sets (server_block_of w (server_no j)) 1 (server_words s))) where
     stores : (q : votes.State)
@@ -123,7 +123,7 @@ module _ (w : List ℕ) (k : ℕ) (H : HasClient w (client_no k)) where
   self = record { 0 = k }
 
   pub client-block : valid_client_block (setting_of w).n (setting_of w).m (setting_of w).clients (client_no k) (client_block_of w (client_no k)) ≡ true
-  client-block = client-valid w (sound w H.valid) k H.first H.last
+  client-block = client_valid w (sound w H.valid) k H.first H.last
 
   pub client-is : client_at (view w) (client_no k) ≡ client_place (client_block_of w (client_no k))
   client-is = client-place w k H.first H.last

@@ -125,8 +125,8 @@ module _ (n clients : ℕ) where
   receiver-inside (Check k j t) N = (N.some_client, N.client)
 
   place-within : (r : Receiver) → Few n clients → Inside n clients r → place_of r < receivers
-  place-within (Client k) F (a, b) = omega (arith, F.few-clients, a, b)
-  place-within (Server j) F (a, b) = omega (arith, F.few-servers, a, b)
+  place-within (Client k) F (a, b) = omega (arith, F.few_clients, a, b)
+  place-within (Server j) F (a, b) = omega (arith, F.few_servers, a, b)
 
 pub kept-placed : (n clients sent : ℕ) (x : InTransit) → Few n clients → Kept n clients sent x → (card_of x).place < receivers
 kept-placed n clients sent x F K =

@@ -220,7 +220,7 @@ module _ (n clients sent len : ℕ) (t : List ℕ) where
   making_none few v e h =
       record {
         within = omega arith;
-        few = record { few-servers = few.0; few-clients = few.1 };
+        few = record { few_servers = few.0; few_clients = few.1 };
         valid = holds v (valid_slots n clients sent len t) e h;
         long = refl;
         so_far = sym (ap afresh (slots-none t) ∙ index-none);

@@ -38,7 +38,7 @@ module _ (n clients : ℕ) (F : Few n clients) where
   own-place : (s r : Receiver) → Inside n clients s → Placed r → same_receiver s r ≡ eqb (place_of s) (place_of r)
   own-place (Server i) (Server j) (some, h) (a, b) =
       same_test i.0 j.0 (i.0 - 1) (j.0 - 1) (λ z. omega (arith, z)) (λ z. omega (arith, some, a, z))
-  own-place (Server i) (Client k) (some, h) a = sym (ne_eqb (i.0 - 1) (system_servers + (k.0 - 1)) (λ z. omega (arith, F.few-servers, some, h, z)))
+  own-place (Server i) (Client k) (some, h) a = sym (ne_eqb (i.0 - 1) (system_servers + (k.0 - 1)) (λ z. omega (arith, F.few_servers, some, h, z)))
   own-place (Client i) (Client k) (some, h) a =
       same_test i.0 k.0 (system_servers + (i.0 - 1)) (system_servers + (k.0 - 1)) (λ z. omega (arith, z)) (λ z. omega (arith, some, a, z))
   own-place (Client i) (Server j) (some, h) (a, b) = sym (ne_eqb (system_servers + (i.0 - 1)) (j.0 - 1) (λ z. omega (arith, a, b, z)))

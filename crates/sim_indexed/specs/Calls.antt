@@ -10,8 +10,8 @@ use Rattle.sim_indexed.specs.Indexed.{indexed_size, in_transit, slot_in, valid_i
 
 -- so many servers and clients have their places in the index
 pub record Few (n clients : ℕ) : Type 0 where
-  pub few-servers : n ≤ system_servers
-  pub few-clients : clients ≤ system_clients
+  pub few_servers : n ≤ system_servers
+  pub few_clients : clients ≤ system_clients
 
 abbrev pub Valid : ℕ → ℕ → ℕ → ℕ → List ℕ → Type 0
 Valid n clients sent len t = valid_indexed n clients sent len t ≡ true

@@ -25,7 +25,7 @@ use Rattle.sim_indexed.proofs.IndexedLaws.{parts}
 use Rattle.sim_indexed.proofs.ReceiverLaws.{entries_to, none_to}
 use Rattle.sim_layout.specs.Layout.{transit_from, setting_of, length_of, sent_of, transit_words, view, valid}
 use Rattle.sim_layout.proofs.ValidLaws.{facts}
-use Rattle.sim_layout.proofs.ReadLaws.{few-servers, few-clients}
+use Rattle.sim_layout.proofs.ReadLaws.{few_servers, few_clients}
 
 listed-none : (i : ℕ) → Nothing ≡ listed_at [] i
 unfolding listed_at
@@ -33,7 +33,7 @@ listed-none i = refl
 
 module _ (w : List ℕ) (ok : valid w ≡ true) where
   pub few : Few (setting_of w).n (setting_of w).clients
-  few = record { few-servers = few-servers w ok; few-clients = few-clients w ok }
+  few = record { few_servers = few_servers w ok; few_clients = few_clients w ok }
 
   -- the words that are lent
   pub lent-valid : Valid (setting_of w).n (setting_of w).clients (sent_of w) (length_of w) (take indexed_size (drop transit_from w))
@@ -66,7 +66,7 @@ module _ (w : List ℕ) (ok : valid w ≡ true) where
     pub client-there : b ≡ true → (1 ≤ k.0) × (system_servers + (k.0 - 1) < receivers)
     client-there h =
         let a = within-range k.0 (setting_of w).clients (holds b (within k.0 (setting_of w).clients) e h) in
-        (a.0, omega (arith, a, few.few-clients))
+        (a.0, omega (arith, a, few.few_clients))
 
     pub client-entry : b ≡ true → (x : Listed) → x ≡ listed_at (entries_at (system_servers + (k.0 - 1)) (view w).transit) i
         → x ≡ listed_at (index_of r (view w).transit) i
@@ -84,10 +84,10 @@ module _ (w : List ℕ) (ok : valid w ≡ true) where
     pub server-there : b ≡ true → (1 ≤ j.0) × (j.0 - 1 < receivers)
     server-there h =
         let a = within-range j.0 (setting_of w).n (holds b (within j.0 (setting_of w).n) e h) in
-        (a.0, omega (arith, a, few.few-servers))
+        (a.0, omega (arith, a, few.few_servers))
 
     pub server-entry : b ≡ true → (x : Listed) → x ≡ listed_at (entries_at (j.0 - 1) (view w).transit) i → x ≡ listed_at (index_of r (view w).transit) i
     server-entry h x f =
         let a = within-range j.0 (setting_of w).n (holds b (within j.0 (setting_of w).n) e h) in
-        let own = entries_to (setting_of w).n (setting_of w).clients few (Server j) (a.0, omega (arith, a, few.few-servers)) kept in
+        let own = entries_to (setting_of w).n (setting_of w).clients few (Server j) (a.0, omega (arith, a, few.few_servers)) kept in
         rw is (f ∙ ap (λ (l : List Entry). listed_at l i) own)

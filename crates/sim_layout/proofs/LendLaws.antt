@@ -63,9 +63,9 @@ module _ (w : List ℕ) (k : ClientId) (in-it : ClientIn w k) where
       let z : client_start + client_block - client_start ≡ client_block = omega arith in
       ap (λ (x : ℕ). take x (drop client_start w)) z ∙ client-part w k.0 in-it.first in-it.last
 
-  pub client-read : {A : Type 0} (f : List ℕ → A) (r : A) → r ≡ f (take (client_start + client_block - client_start) (drop client_start w))
+  pub client_read : {A : Type 0} (f : List ℕ → A) (r : A) → r ≡ f (take (client_start + client_block - client_start) (drop client_start w))
       → r ≡ f (client_block_of w k)
-  client-read f r e = e ∙ ap f whole-client
+  client_read f r e = e ∙ ap f whole-client
 
   pub client-lent : {A : Type 0} (f : List ℕ → A) (r : A) → f (client_block_of w k) ≡ r
       → f (take (client_start + client_block - client_start) (drop client_start w)) ≡ r
@@ -88,9 +88,9 @@ module _ (w : List ℕ) (j : ServerId) (in-it : ServerIn w j) where
       let z : server_start + server_block - server_start ≡ server_block = omega arith in
       ap (λ (x : ℕ). take x (drop server_start w)) z ∙ server-part w j.0 in-it.first in-it.last
 
-  pub server-read : {A : Type 0} (f : List ℕ → A) (r : A) → r ≡ f (take (server_start + server_block - server_start) (drop server_start w))
+  pub server_read : {A : Type 0} (f : List ℕ → A) (r : A) → r ≡ f (take (server_start + server_block - server_start) (drop server_start w))
       → r ≡ f (server_block_of w j)
-  server-read f r e = e ∙ ap f whole-server
+  server_read f r e = e ∙ ap f whole-server
 
   pub server-lent : {A : Type 0} (f : List ℕ → A) (r : A) → f (server_block_of w j) ≡ r
       → f (take (server_start + server_block - server_start) (drop server_start w)) ≡ r

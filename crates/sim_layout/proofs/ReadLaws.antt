@@ -57,11 +57,11 @@ module _ (w : List ℕ) (ok : valid w ≡ true) where
   pub words_long : length w ≡ simulation_size
   words_long = (facts w ok).long
 
-  pub few-servers : (setting_of w).n ≤ system_servers
-  few-servers = (range system_servers (setting_of w).n (setting_of w).m (setting_of w).f (facts w ok).range).servers
+  pub few_servers : (setting_of w).n ≤ system_servers
+  few_servers = (range system_servers (setting_of w).n (setting_of w).m (setting_of w).f (facts w ok).range).servers
 
-  pub few-clients : (setting_of w).clients ≤ system_clients
-  few-clients = (within-range (setting_of w).clients system_clients (facts w ok).some).1
+  pub few_clients : (setting_of w).clients ≤ system_clients
+  few_clients = (within-range (setting_of w).clients system_clients (facts w ok).some).1
 
   -- the messages in transit, as they are lent
   its-slots : valid_slots (setting_of w).n (setting_of w).clients (sent_of w) (length_of w) (table (transit_words w)) ≡ true

@@ -68,10 +68,10 @@ module _ (n m clients : ℕ) (z : client.valid_sizes n m ≡ true) (few : client
   stored : Stored n m w
   stored =
       record {
-        client-valid = λ k h. store-valid client.max_places n m k (client_at w k).state (client_fit k h) (client_fit k h).ranges.few;
-        client-read = λ k h. view-store client.max_places n m k (client_at w k).state (client_fit k h) (client_fit k h).ranges.few;
-        server-valid = λ j h. stored-server n clients few j (server-size j h) (server_at w j).state (K.server-fits j.0);
-        server-read = λ j h. shown-server n clients few j (server-size j h) (server_at w j).state (K.server-fits j.0);
+        client_valid = λ k h. store-valid client.max_places n m k (client_at w k).state (client_fit k h) (client_fit k h).ranges.few;
+        client_read = λ k h. view-store client.max_places n m k (client_at w k).state (client_fit k h) (client_fit k h).ranges.few;
+        server_valid = λ j h. stored-server n clients few j (server-size j h) (server_at w j).state (K.server-fits j.0);
+        server_read = λ j h. shown-server n clients few j (server-size j h) (server_at w j).state (K.server-fits j.0);
       }
 
   -- a living client's step by its call

@@ -36,10 +36,10 @@ server_record n w j = server.store n j (server_at w j).state
 
 -- every client and server that is there is stored as a valid record, from which its state is read again
 pub record Stored (n m : ℕ) (w : System) : Type 0 where
-  pub client-valid : (k : ClientId) → has w.clients k.0 ≡ true → client.valid (client_record n m w k) ≡ true
-  pub client-read : (k : ClientId) → has w.clients k.0 ≡ true → client.view (client_record n m w k) ≡ (client_at w k).state
-  pub server-valid : (j : ServerId) → has w.servers j.0 ≡ true → server.valid (server_record n w j) ≡ true
-  pub server-read : (j : ServerId) → has w.servers j.0 ≡ true → server.view (server_record n w j) ≡ (server_at w j).state
+  pub client_valid : (k : ClientId) → has w.clients k.0 ≡ true → client.valid (client_record n m w k) ≡ true
+  pub client_read : (k : ClientId) → has w.clients k.0 ≡ true → client.view (client_record n m w k) ≡ (client_at w k).state
+  pub server_valid : (j : ServerId) → has w.servers j.0 ≡ true → server.valid (server_record n w j) ≡ true
+  pub server_read : (j : ServerId) → has w.servers j.0 ≡ true → server.view (server_record n w j) ≡ (server_at w j).state
 
 -- the bytes that a client's caller has to lend: a message to each of its n servers (a server's: `sends/specs` `Room`)
 abbrev pub client_room : ℕ → ℕ

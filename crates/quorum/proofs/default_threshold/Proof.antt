@@ -1,5 +1,5 @@
 -- `quorum::default_threshold` meets its contract: each return is one case of the definition.
-use Rattle.quorum.proofs.ReturnLaws.{no_default, default_given, few-servers}
+use Rattle.quorum.proofs.ReturnLaws.{no_default, default_given, few_servers}
 use Rattle.quorum.proofs.SaysLaws.{threshold_said}
 use native.Mathlib.Omega.{arith}
 use borrow.Author.Rules.{rules}
@@ -8,11 +8,11 @@ use Rattle.quorum.proofs.default_threshold.Tie as tie
 
 mul-t4 : tie.Need-overflow_mul-result
 mul-t4 c =
-    record { fits = omega (arith, few-servers c.args.n _ c.within_limit.ensures c.if-not-within_limit.false) }
+    record { fits = omega (arith, few_servers c.args.n _ c.within_limit.ensures c.if-not-within_limit.false) }
 
 add-t5 : tie.Need-overflow_add-result
 add-t5 c =
-    record { fits = omega (arith, few-servers c.args.n _ c.within_limit.ensures c.if-not-within_limit.false) }
+    record { fits = omega (arith, few_servers c.args.n _ c.within_limit.ensures c.if-not-within_limit.false) }
 
 pub default_threshold_spec : {M : Type 1} → statement M
 default_threshold_spec =

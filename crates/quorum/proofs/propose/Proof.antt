@@ -5,7 +5,7 @@ use mathlib.Core.Bool.{true}
 use Prim.Native.Nat.{◌≤◌}
 use Rattle.ids.specs.Limits.{within, max_servers}
 use Rattle.ids.proofs.Choice.{holds}
-use Rattle.quorum.proofs.ReturnLaws.{few-servers}
+use Rattle.quorum.proofs.ReturnLaws.{few_servers}
 use Rattle.quorum.proofs.ProposalLaws.{proposes_no_servers, proposes_no_faults, proposes_none, proposes_some}
 use borrow.Author.Rules.{rules}
 use Rattle.quorum.proofs.propose.Statement.{statement}
@@ -17,7 +17,7 @@ module _ (c : tie.Else-not-within_limit) where
   servers = holds _ (within c.args.n max_servers) c.within_limit.ensures c.if-not-within_limit.false
 
   few : c.args.n ≤ max_servers
-  few = few-servers c.args.n _ c.within_limit.ensures c.if-not-within_limit.false
+  few = few_servers c.args.n _ c.within_limit.ensures c.if-not-within_limit.false
 
 returns : tie.Need-returns-then-not-within_limit
 returns c =

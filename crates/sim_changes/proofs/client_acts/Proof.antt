@@ -15,7 +15,7 @@ use Rattle.sim_layout.specs.Parts.{client_block_of}
 use Rattle.sim_changes.specs.Changes.{HasClient}
 use Rattle.sim_changes.proofs.Parties.{client_in_lem}
 use Rattle.sim_changes.proofs.ClientEvents as events
-use Rattle.sim_changes.proofs.ClientEvents.{ClientCalled, ClientTested, client-read, client-held, act-client, act-asks, gone-few}
+use Rattle.sim_changes.proofs.ClientEvents.{ClientCalled, ClientTested, client_read, client-held, act-client, act-asks, gone-few}
 use borrow.Author.Rules.{rules}
 use Rattle.sim_changes.proofs.client_acts.Statement.{statement}
 use Rattle.sim_changes.proofs.client_acts.Tie as tie
@@ -48,7 +48,7 @@ module _ (c : tie.After-client_head) where
   start = c.before.before.before.before.before.before.before
 
   read : client_of c.client_head.result c.client_row.new.row ≡ client_from (client_record (client_block_of (words start) c.args.k))
-  read = client-read _ _ _ c.client_head.ensures c.client_row.ensures
+  read = client_read _ _ _ c.client_head.ensures c.client_row.ensures
 
 -- its call is accepted: the step is the event's, and the buffer had room for all that it sends
 module _ (c : tie.In-Sent) where

@@ -13,7 +13,7 @@ use Rattle.sim_changes.specs.Changes.{HasServer}
 use Rattle.sim_changes.proofs.Parties.{server_in_lem}
 use Rattle.sim_changes.proofs.Storing.{record_held}
 use Rattle.sim_changes.proofs.Sending.{ruled-refused, ruled-few, ruled-full}
-use Rattle.sim_changes.proofs.ServerEvents.{ServerCalled, act-server, server-read, server-padded, server-called, server_sendable, server-sent}
+use Rattle.sim_changes.proofs.ServerEvents.{ServerCalled, act-server, server_read, server-padded, server-called, server_sendable, server-sent}
 use borrow.Author.Rules.{rules}
 use Rattle.sim_changes.proofs.server_steps.Statement.{statement}
 use Rattle.sim_changes.proofs.server_steps.Tie as tie
@@ -38,7 +38,7 @@ module _ (c : tie.After-server_head) where
 
   read : server_of c.server_head.result c.server_row.new.row
       ≡ server_from (server_record (server_block_of (words (entry row_read)) c.args.j))
-  read = server-read _ _ _ c.server_head.ensures c.server_row.ensures
+  read = server_read _ _ _ c.server_head.ensures c.server_row.ensures
 
 -- the call is made
 module _ (c : tie.After-call_server-t) where

@@ -30,11 +30,10 @@ add_spec =
     (tie.spec
     (λ c. search rules)
     (λ c κs. search next-asked)
-    (λ c κs. let s = begun c.before in (within c.before, c.requires.1, c.requires.0.size))
+    (λ c κs. (within c.before, c.requires.1, c.requires.0.size))
     (λ c. search rules)
-    (λ c. let p = c.before.before.before in omega (arith, (left c.before.before.before).size, c.requires.0.size, c.requires.0.place))
-    (λ c. let p = c.before.before.before in
-    record { fits = omega (arith, (left c.before.before.before).count, entries_few _ _ _ c.requires.0, c.requires.1) })
-    (λ c. let p = c.before.before.before in omega (arith, (left c.before.before.before).size, c.requires.0.size, c.requires.0.place))
-    (λ c. let p = c.before.before.before in length-set c.insert.new.x _ _ ∙ (left c.before.before.before).size)
+    (λ c. omega (arith, (left c.before.before.before).size, c.requires.0.size, c.requires.0.place))
+    (λ c. record { fits = omega (arith, (left c.before.before.before).count, entries_few _ _ _ c.requires.0, c.requires.1) })
+    (λ c. omega (arith, (left c.before.before.before).size, c.requires.0.size, c.requires.0.place))
+    (λ c. length-set c.insert.new.x _ _ ∙ (left c.before.before.before).size)
     (λ c. search added_is))

@@ -1,5 +1,5 @@
 -- `sim_layout::client_head` meets its contract: the block is lent, and what the callee says of it is said of the simulation's block.
-use Rattle.sim_layout.proofs.LendLaws.{client-read, client-lent, client_block-long}
+use Rattle.sim_layout.proofs.LendLaws.{client_read, client-lent, client_block-long}
 use lib.ListN.{length}
 use Rattle.sim_blocks.specs.Blocks.{client_record, client_block, holds_client_record}
 use Rattle.words.specs.Records.{client_head_from}
@@ -17,7 +17,7 @@ client-head-requires c κs =
 
 returns : tie.Need-returns
 returns c =
-    client-read c.args.w.now c.args.k c.requires.0 (λ b. client_head_from (client_record b)) _ c.client_head.ensures
+    client_read c.args.w.now c.args.k c.requires.0 (λ b. client_head_from (client_record b)) _ c.client_head.ensures
 
 pub client_head_spec : {M : Type 1} → statement M
 client_head_spec =

@@ -1,5 +1,5 @@
 -- `sim_layout::is_inside` meets its contract: the block is lent, and what the callee says of it is said of the simulation's block.
-use Rattle.sim_layout.proofs.LendLaws.{client-read}
+use Rattle.sim_layout.proofs.LendLaws.{client_read}
 use Rattle.sim_blocks.specs.Blocks.{client_place}
 use Rattle.system.specs.Places.{is_inside}
 use borrow.Author.Rules.{rules}
@@ -9,7 +9,7 @@ use Rattle.sim_layout.proofs.is_inside.Tie as tie
 returns : tie.Need-returns
 returns c =
     let a = c.args in
-    client-read a.w.now a.k c.requires (λ b. is_inside (client_place b)) _ c.is_inside.ensures
+    client_read a.w.now a.k c.requires (λ b. is_inside (client_place b)) _ c.is_inside.ensures
 
 pub is_inside_spec : {M : Type 1} → statement M
 is_inside_spec =

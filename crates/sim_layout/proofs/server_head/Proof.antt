@@ -1,5 +1,5 @@
 -- `sim_layout::server_head` meets its contract: the block is lent, and what the callee says of it is said of the simulation's block.
-use Rattle.sim_layout.proofs.LendLaws.{server-read, server-lent, server_block-long}
+use Rattle.sim_layout.proofs.LendLaws.{server_read, server-lent, server_block-long}
 use lib.ListN.{length}
 use Rattle.sim_blocks.specs.Blocks.{server_record, server_block, holds_server_record}
 use Rattle.words.specs.Records.{server_head_from}
@@ -17,7 +17,7 @@ server-head-requires c κs =
 
 returns : tie.Need-returns
 returns c =
-    server-read c.args.w.now c.args.j c.requires.0 (λ b. server_head_from (server_record b)) _ c.server_head.ensures
+    server_read c.args.w.now c.args.j c.requires.0 (λ b. server_head_from (server_record b)) _ c.server_head.ensures
 
 pub server_head_spec : {M : Type 1} → statement M
 server_head_spec =

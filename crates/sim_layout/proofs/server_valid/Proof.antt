@@ -1,5 +1,5 @@
 -- `sim_layout::server_valid` meets its contract: the block is lent, and what the callee says of it is said of the simulation's block.
-use Rattle.sim_layout.proofs.LendLaws.{server-read}
+use Rattle.sim_layout.proofs.LendLaws.{server_read}
 use Rattle.sim_blocks.specs.Blocks.{valid_server_block}
 use borrow.Author.Rules.{rules}
 use Rattle.sim_layout.proofs.server_valid.Statement.{statement}
@@ -8,7 +8,7 @@ use Rattle.sim_layout.proofs.server_valid.Tie as tie
 returns : tie.Need-returns
 returns c =
     let a = c.args in
-    server-read a.w.now a.j c.requires (λ b. valid_server_block a.n a.clients a.j b) _
+    server_read a.w.now a.j c.requires (λ b. valid_server_block a.n a.clients a.j b) _
     c.valid_server_block.ensures
 
 pub server_valid_spec : {M : Type 1} → statement M

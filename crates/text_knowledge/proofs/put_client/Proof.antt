@@ -7,7 +7,7 @@ use Rattle.words.specs.Records.{client_from}
 use Rattle.sim_blocks.specs.Blocks.{client_record}
 use Rattle.sim_layout.specs.Parts.{client_block_of}
 use Rattle.sim_changes.proofs.Parties.{client_in_lem}
-use Rattle.sim_changes.proofs.ClientEvents.{client-read}
+use Rattle.sim_changes.proofs.ClientEvents.{client_read}
 use Rattle.text_sheet.proofs.SheetLaws.{then}
 use Rattle.text_knowledge.proofs.KnowledgeLaws.{client-held, responses-padded, client-text}
 use borrow.Author.Rules.{rules}
@@ -20,7 +20,7 @@ module _ (c : tie.After-client_head-h) where
   row = c.client_row.new.row
 
   read : client_of c.client_head-h.result row ≡ client_from (client_record (client_block_of c.args.w.now c.args.k))
-  read = client-read _ _ _ c.client_head-h.ensures c.client_row.ensures
+  read = client_read _ _ _ c.client_head-h.ensures c.client_row.ensures
 
 -- and what it says is put behind the number
 module _ (c : tie.After-put_with-p) where

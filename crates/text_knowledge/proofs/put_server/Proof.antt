@@ -7,7 +7,7 @@ use Rattle.words.specs.Records.{server_from}
 use Rattle.sim_blocks.specs.Blocks.{server_record}
 use Rattle.sim_layout.specs.Parts.{server_block_of}
 use Rattle.sim_changes.proofs.Parties.{server_in_lem}
-use Rattle.sim_changes.proofs.ServerEvents.{server-read}
+use Rattle.sim_changes.proofs.ServerEvents.{server_read}
 use Rattle.text_sheet.proofs.SheetLaws.{then}
 use Rattle.text_knowledge.proofs.KnowledgeLaws.{server-held, queue-padded, server-text}
 use borrow.Author.Rules.{rules}
@@ -20,7 +20,7 @@ module _ (c : tie.After-server_head-h) where
   row = c.server_row.new.row
 
   read : server_of c.server_head-h.result row ≡ server_from (server_record (server_block_of c.args.w.now c.args.j))
-  read = server-read _ _ _ c.server_head-h.ensures c.server_row.ensures
+  read = server_read _ _ _ c.server_head-h.ensures c.server_row.ensures
 
 -- and what it says is put behind the number
 module _ (c : tie.After-put_with-p) where
