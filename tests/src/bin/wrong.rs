@@ -195,8 +195,8 @@ fn unproved<'a>(log: &'a str, krate: &str) -> Vec<&'a str> {
 fn verdict(refused: &[&str], judged: bool) -> String {
     let shape = |refusal: &&str| SHAPE.iter().any(|words| refusal.contains(words));
     match refused.first() {
+        _ if !judged => "REFUSED FOR SOMETHING ELSE".to_string(),
         None => "NOT REFUSED".to_string(),
-        Some(_) if !judged => "REFUSED FOR SOMETHING ELSE".to_string(),
         Some(_) if refused.iter().any(shape) => "SHOWS NOTHING".to_string(),
         Some(refusal) => format!("refused, as it must be (first at {})", refusal.split(": ").next().unwrap_or_default()),
     }
@@ -270,7 +270,8 @@ impl Place {
 
     /// Has rt build the libraries that stand below these crates. Right behind `rt ci` there is nothing to do: all are there, from one run.
     fn build(&self, names: &[String]) {
-        let lower: BTreeSet<String> = names.iter().flat_map(|name| self.below(name).into_iter().filter(move |it| it != name)).collect();
+        let lower: BTreeSet<String> =
+            names.iter().flat_map(|name| self.below(name).into_iter().filter(move |it| it != name)).collect();
         if Command::new("tools/fresh").args(&lower).current_dir(&self.root).status().is_ok_and(|status| status.success()) {
             return;
         }
@@ -288,21 +289,23 @@ impl Place {
         }
     }
 
-    /// Runs the prover over a crate's folder; libraries that `first` has are taken from there. The exit status, and what was said.
-    fn rattle(&self, verb: &str, krate: &str, folder: &Path, first: Option<&Path>, words: &[&OsStr]) -> (Option<i32>, String) {
-        let mut folders: Vec<PathBuf> = first.map(Path::to_path_buf).into_iter().collect();
-        folders.extend(self.below(krate).iter().map(|name| self.out(name)));
-        folders.push(self.kit.join("rlibs"));
+    /// Runs `rattle check` on a crate's folder: over the libraries as rt has built them, but for those that are given as sources, each
+    /// with its folder. The exit status, and what was said.
+    fn check(&self, krate: &str, folder: &Path, sources: &BTreeMap<String, PathBuf>, words: &[&OsStr]) -> (Option<i32>, String) {
         let mut command = Command::new(self.kit.join("bin/rattle"));
-        command.args([verb, "--crate-name", krate, "src/lib.rt", "--jobs", "1"]).current_dir(folder);
-        for name in self.needs[krate].iter().map(String::as_str).chain(["std"]) {
-            let rlib = format!("{name}.rlib");
-            let path = folders.iter().map(|folder| folder.join(&rlib)).find(|path| path.exists());
-            let path = path.unwrap_or_else(|| panic!("{krate}: {name} is not built: rt ci, or rt check"));
-            command.arg("--extern").arg(format!("{name}={}", path.display()));
+        command.args(["check", "--crate-name", krate, "src/lib.rt", "--jobs", "1"]).current_dir(folder);
+        for (name, source) in sources {
+            let uses = [&self.needs[name][..], &["core".to_string(), "std".to_string()]].concat().join(",");
+            command.arg("--lib").arg(format!("{name}:{uses}={}", source.join("src/lib.rt").display()));
         }
-        for path in &folders {
-            command.arg("-L").arg(format!("dependency={}", path.display()));
+        let built = self.below(krate).into_iter().filter(|name| name != krate && !sources.contains_key(name));
+        let built = built.map(|name| (self.out(&name), name));
+        for (folder, name) in built.chain(["core", "std"].map(|name| (self.kit.join("rlibs"), name.to_string()))) {
+            // What the crate itself doesn't name may be named by a source.
+            if self.needs[krate].contains(&name) || name == "std" || !sources.is_empty() {
+                command.arg("--extern").arg(format!("{name}={}", folder.join(format!("{name}.rlib")).display()));
+            }
+            command.arg("-L").arg(format!("dependency={}", folder.display()));
         }
         command.arg("--antt-project").arg(self.kit.join("rattle/logic/antt-project.json"));
         command.arg("--logic-built").arg(self.kit.join("logic_built")).args(words);
@@ -318,23 +321,24 @@ impl Place {
         }
     }
 
-    /// What came of an edit of the definitions of a crate below: these must check, and the crate above must be refused in a proof.
+    /// What came of an edit of the definitions of a crate below: these must check, and the crate above must be refused in a proof of its
+    /// own. The crate below and those between are given as sources, without their proofs: what rests on them is not asked here.
     fn tried_below(&self, krate: &str, edit: &Edit, below: &str) -> Vec<(bool, String)> {
         let folder = self.root.join("target/wrong").join(krate).join(&edit.name);
-        let (lower, libraries) = (folder.join(below), folder.join("rlib"));
         let began = Instant::now();
-        self.copy_of(below, &["src", "specs"], &lower);
-        fs::create_dir_all(&libraries).expect("a folder");
-        let made = edit.make(&lower);
-        let library = libraries.join(format!("{below}.rlib"));
-        let (defined, built) = self.rattle("build", below, &lower, None, &["-o".as_ref(), library.as_os_str()]);
-        let above = self.root.join("crates").join(krate);
-        let (status, log) = if defined == Some(0) { self.rattle("check", krate, &above, Some(&libraries), &[]) } else { (defined, built) };
+        let between = self.below(krate).into_iter().filter(|name| name != krate && self.below(name).contains(below));
+        let sources: BTreeMap<String, PathBuf> = between.map(|name| (name.clone(), folder.join(name))).collect();
+        for (name, source) in &sources {
+            self.copy_of(name, &["src", "specs"], source);
+        }
+        let made = edit.make(&folder.join(below));
+        let (status, log) = self.check(krate, &self.root.join("crates").join(krate), &sources, &[]);
         fs::write(folder.join("log"), &log).expect("the log is kept");
         let refused = refusals(&log, krate);
-        let judged = status == Some(1) && log.lines().any(|line| line == "logic=not-proved");
-        let judged = judged && refused.iter().all(|refusal| !refusal.starts_with("specs/"));
-        let said = if made && defined == Some(0) { verdict(&refused, judged) } else { "BAD EDIT".to_string() };
+        let defined = refused.iter().all(|refusal| !refusal.contains("specs/"));
+        let own: Vec<&str> = refused.iter().filter(|refusal| refusal.starts_with("proofs/")).copied().collect();
+        let judged = status == Some(0) || status == Some(1) && log.lines().any(|line| line == "logic=not-proved");
+        let said = if made && defined { verdict(&own, judged) } else { "BAD EDIT".to_string() };
         vec![(said.starts_with("refused"), format!("{krate}/{}: {said}, {} s", edit.name, began.elapsed().as_secs()))]
     }
 
@@ -350,14 +354,14 @@ impl Place {
         // Of bodies alone only these and what they call are proved.
         let bodies: BTreeSet<&String> = run.edits.iter().flat_map(|edit| edit.functions.iter().flatten()).collect();
         let only: Vec<&OsStr> = bodies.iter().flat_map(|name| ["--only".as_ref(), OsStr::new(name.as_str())]).collect();
-        let (status, log) = self.rattle("check", &run.krate, &folder, None, &only);
+        let (status, log) = self.check(&run.krate, &folder, &BTreeMap::new(), &only);
         fs::write(folder.join("log"), &log).expect("the log is kept");
         let refused = refusals(&log, &run.krate);
         let unproved = unproved(&log, &run.krate);
-        let judged = status == Some(1)
-            && log.lines().any(|line| line == "logic=not-proved" || line.starts_with("only="))
-            && (bodies.is_empty() || unproved.iter().all(|name| bodies.iter().any(|body| body == name)))
-            && refused.iter().all(|refusal| run.edits.iter().any(|edit| edit.owns(refusal)));
+        let whole = log.lines().any(|line| line == "logic=not-proved" || line.starts_with("only="));
+        let expected = bodies.is_empty() || unproved.iter().all(|name| bodies.iter().any(|body| body == name));
+        let owned = refused.iter().all(|refusal| run.edits.iter().any(|edit| edit.owns(refusal)));
+        let judged = status == Some(0) || status == Some(1) && whole && expected && owned;
         let verdict = |(edit, made): (&Edit, bool)| {
             let own: Vec<&str> = refused.iter().filter(|refusal| edit.owns(refusal)).copied().collect();
             let said = if made { verdict(&own, judged) } else { "BAD EDIT".to_string() };
