@@ -77,7 +77,7 @@ def renames():
         taken.add(new)
         table[name] = new
     # These stand in their own files alone.
-    table.update((a, new_name(a, words)) for a in aliases if new_name(a, words) not in taken)
+    table.update((a, new_name(a, words)) for a in aliases if new_name(a, words) not in taken | {a})
     return table
 
 
