@@ -1,4 +1,5 @@
 -- The round trips at the calls: what `write` leaves in a buffer `read` accepts as the same message, and what `read` accepted `write` lays down again.
+use Rattle.std.specs.Prelude.{Ok, Err}
 use Prim.Native.Nat.{ℕ, ◌+◌, ◌≤◌}
 use native.Mathlib.Omega.{arith}
 use mathlib.Core.Path.{◌≡◌}
@@ -15,13 +16,11 @@ use Rattle.ids.proofs.Choice.{passed}
 use Rattle.wire.specs.Format.{bytes_of, size_of, valid}
 use Rattle.wire.specs.Calls.{read_of, write_of, write_up_to, buffer_after, buffer_after_up_to}
 use Rattle.wire.specs.declared.Message.{Message}
-use Rattle.wire.specs.declared.Parsed.TheVariants.{Accepted}
-use Rattle.wire.specs.declared.Written.TheVariants.{Bytes, Refused as NotWritten}
 use Rattle.wire.proofs.BytesLaws.{AllBytes}
 use Rattle.wire.proofs.FormatLaws.{length-bytes_of}
 use Rattle.wire.proofs.RoundTrip.{written_is_read, read_is_written}
 
-written_not_refused : (e : Refusal) (n : ℕ) → NotWritten e ≡ Bytes n → ⊥
+written_not_refused : (e : Refusal) (n : ℕ) → Err e ≡ Ok n → ⊥
 written_not_refused e n h = let z : ◌≡◌ {A = ℕ} 0 1 = cc in omega arith
 
 module _ (m : Message) (o : List ℕ) where
@@ -33,7 +32,7 @@ module _ (m : Message) (o : List ℕ) where
       let e : 0 + length (bytes_of m) ≡ size_of m = omega arith in
       simp (v, le-leb _ _ h) (rw e at (sets-eq (bytes_of m) o 0 (omega arith)))
 
-  pub written_buffer_is_read : (n : ℕ) → write_of m (length o) ≡ Bytes n → read_of (buffer_after m o) ≡ Accepted m n
+  pub written_buffer_is_read : (n : ℕ) → write_of m (length o) ≡ Ok n → read_of (buffer_after m o) ≡ Ok (m, n)
   unfolding write_up_to
   written_buffer_is_read n e =
       let r₁ = passed (not (valid m)) (written_not_refused NumberOutOfRange n) e in
@@ -42,7 +41,7 @@ module _ (m : Message) (o : List ℕ) where
       let z : size_of m ≡ n = cc r₂.1 in
       rw (laid v (ltb-false _ _ r₂.0), ← z) (written_is_read m (drop (size_of m) o) v)
 
-  pub accepted_is_written_again : (s : List ℕ) (n : ℕ) → AllBytes s → read_of s ≡ Accepted m n → n ≤ length o → buffer_after m o ≡ take n s ++ drop n o
+  pub accepted_is_written_again : (s : List ℕ) (n : ℕ) → AllBytes s → read_of s ≡ Ok (m, n) → n ≤ length o → buffer_after m o ≡ take n s ++ drop n o
   accepted_is_written_again s n a e h =
       let (v, z, b) = read_is_written max_servers s m n a e in
       rw (laid v (omega arith), z, b)

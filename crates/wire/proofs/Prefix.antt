@@ -1,4 +1,5 @@
 -- Reading looks at no byte behind the message: unless it finds too few bytes, more of them change nothing.
+use Rattle.std.specs.Prelude.{Err}
 use Prim.Native.Nat.{ℕ, ◌≤◌}
 use native.Mathlib.Omega.{arith}
 use mathlib.Core.Path.{◌≡◌, refl}
@@ -14,7 +15,6 @@ use Rattle.ids.proofs.Choice.{decided}
 use Rattle.wire.specs.Bytes.{decode, total}
 use Rattle.wire.specs.Format.{known, widths, header, length_of, length_in, kind_in, field_in, fields_in}
 use Rattle.wire.specs.Calls.{read_up_to}
-use Rattle.wire.specs.declared.Parsed.TheVariants.{Refused as NotRead}
 
 decode_prefix : (ws s t : List ℕ) → total ws ≤ length s → decode ws (s ++ t) ≡ decode ws s
 unfolding decode
@@ -40,7 +40,7 @@ module _ (s t : List ℕ) (four : 4 ≤ length s) where
   longer : (n : ℕ) → n ≤ length s → n ≤ length (s ++ t)
   longer n h = omega (arith, length-append s t)
 
-pub read_prefix : (limit : ℕ) (s t : List ℕ) → (read_up_to limit s ≡ NotRead HeaderShort → ⊥) → (read_up_to limit s ≡ NotRead MessageCut → ⊥)
+pub read_prefix : (limit : ℕ) (s t : List ℕ) → (read_up_to limit s ≡ Err HeaderShort → ⊥) → (read_up_to limit s ≡ Err MessageCut → ⊥)
     → read_up_to limit (s ++ t) ≡ read_up_to limit s
 unfolding read_up_to
 read_prefix limit s t short cut =

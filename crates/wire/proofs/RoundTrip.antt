@@ -8,7 +8,7 @@ use mathlib.Core.Logic.{⊎_elim}
 use lib.Dec.{eqb, ltb}
 use lib.ListN.{length, take, drop, get_or, length-append}
 use borrow.Author.Tests.{le-ltb, eq-eqb, eqb-true, eqb-false, not-false, ltb-false}
-use Rattle.std.specs.Prelude.{if◌then◌else◌}
+use Rattle.std.specs.Prelude.{if◌then◌else◌, Result, Ok, Err}
 use Rattle.ids.specs.Limits.{max_servers}
 use Rattle.ids.specs.declared.Refusal.{Refusal}
 use Rattle.ids.specs.declared.Refusal.TheVariants.{HeaderShort, KindUnknown, LengthWrong, MessageCut, NumberOutOfRange}
@@ -19,7 +19,6 @@ use Rattle.wire.specs.Format.{known, widths, length_of, words, fields_of, messag
 use Rattle.wire.specs.Calls.{read_of, read_up_to}
 use Rattle.wire.specs.declared.Fields.{Fields}
 use Rattle.wire.specs.declared.Message.{Message}
-use Rattle.wire.specs.declared.Parsed.TheVariants.{Accepted, Refused as NotRead}
 use Rattle.wire.proofs.BytesLaws.{AllBytes, Fit, done, next, decode-encode, encode-decode}
 use Rattle.wire.proofs.FormatLaws.{at_least, kind_in_lem, length_fields}
 use Rattle.wire.proofs.NumbersLaws.{Sound, valid_sound, message_fields, kind_of, fields_of-message}
@@ -69,7 +68,7 @@ module _ (f : Fields) (sound : Sound f) (rest : List ℕ) where
       λ i. record { kind = kind-read i; client = field_read 2 i; server = field_read 3 i; timestamp = field_read 4 i; owner = owner i }
 
 -- what is written is read as the same message, with the same count, whatever stands behind it
-pub written_is_read : (m : Message) (rest : List ℕ) → valid m ≡ true → read_of (bytes_of m ++ rest) ≡ Accepted m (size_of m)
+pub written_is_read : (m : Message) (rest : List ℕ) → valid m ≡ true → read_of (bytes_of m ++ rest) ≡ Ok (m, size_of m)
 unfolding read_up_to bytes_of size_of
 written_is_read m rest v =
     let f = fields_of m in
@@ -94,9 +93,10 @@ bytes_differ m m' s s' v v' e =
     let a = written_is_read m s v in
     let b = written_is_read m' s' v' in
     let p : read_of (bytes_of m ++ s) ≡ read_of (bytes_of m' ++ s') = ap read_of e in
-    cc
+    let q : ◌≡◌ {A = Message × ℕ} (m, size_of m) (m', size_of m') = cc in
+    ap (λ (x : Message × ℕ). x.0) q
 
-accepted_not_refused : (e : Refusal) (m : Message) (n : ℕ) → NotRead e ≡ Accepted m n → ⊥
+accepted_not_refused : (e : Refusal) (m : Message) (n : ℕ) → ◌≡◌ {A = Result (Message × ℕ) Refusal} (Err e) (Ok (m, n)) → ⊥
 accepted_not_refused e m n h = let z : ◌≡◌ {A = ℕ} 0 1 = cc in omega arith
 
 -- the tests of `read_up_to` that an accepted message has passed
@@ -108,7 +108,7 @@ pub record Took (limit : ℕ) (s : List ℕ) (m : Message) (n : ℕ) : Type 0 wh
   pub used : length_of (kind_in s) ≡ n
   pub range : valid_up_to limit m ≡ true
 
-pub took : (limit : ℕ) (s : List ℕ) (m : Message) (n : ℕ) → read_up_to limit s ≡ Accepted m n → Took limit s m n
+pub took : (limit : ℕ) (s : List ℕ) (m : Message) (n : ℕ) → read_up_to limit s ≡ Ok (m, n) → Took limit s m n
 unfolding read_up_to
 took limit s m n e =
     let r₁ = passed (ltb (length s) 4) (accepted_not_refused HeaderShort m n) e in
@@ -116,13 +116,14 @@ took limit s m n e =
     let r₃ = passed (not (eqb (length_in s) (length_of (kind_in s)))) (accepted_not_refused LengthWrong m n) r₂.1 in
     let r₄ = passed (ltb (length s) (length_of (kind_in s))) (accepted_not_refused MessageCut m n) r₃.1 in
     let r₅ = passed (not (valid_up_to limit (message_of (fields_in s)))) (accepted_not_refused NumberOutOfRange m n) r₄.1 in
-    let same : message_of (fields_in s) ≡ m = cc r₅.1 in
+    let both : ◌≡◌ {A = Message × ℕ} (message_of (fields_in s), length_of (kind_in s)) (m, n) = cc r₅.1 in
+    let same : message_of (fields_in s) ≡ m = ap (λ (x : Message × ℕ). x.0) both in
     record {
       kind = not-false _ r₂.0;
       claimed = eqb-true _ _ (not-false _ r₃.0);
       whole = ltb-false _ _ r₄.0;
       message = same;
-      used = cc r₅.1;
+      used = ap (λ (x : Message × ℕ). x.1) both;
       range = let v : valid_up_to limit (message_of (fields_in s)) ≡ true = not-false _ r₅.0 in rw same at v;
     }
 
@@ -143,7 +144,7 @@ unfolding bytes_of_fields fields_in length_of
 bytes_of_fields_lem s a l w = numbers-again s l ∙ encode-decode (widths (kind_in s)) a w
 
 -- an accepted message is in range, and is written again as the bytes it was read from
-pub read_is_written : (limit : ℕ) (s : List ℕ) (m : Message) (n : ℕ) → AllBytes s → read_up_to limit s ≡ Accepted m n
+pub read_is_written : (limit : ℕ) (s : List ℕ) (m : Message) (n : ℕ) → AllBytes s → read_up_to limit s ≡ Ok (m, n)
     → (valid_up_to limit m ≡ true) × (size_of m ≡ n) × (bytes_of m ≡ take n s)
 unfolding bytes_of size_of
 read_is_written limit s m n a e =
@@ -153,7 +154,7 @@ read_is_written limit s m n a e =
     (r.range, rw (f, k) r.used, rw (f, ← r.used) (bytes_of_fields_lem s a r.claimed r.whole))
 
 -- bytes behind the message make no difference to it
-pub read_looks_no_further : (s t : List ℕ) (m : Message) (n : ℕ) → AllBytes s → read_of s ≡ Accepted m n → read_of (take n s ++ t) ≡ Accepted m n
+pub read_looks_no_further : (s t : List ℕ) (m : Message) (n : ℕ) → AllBytes s → read_of s ≡ Ok (m, n) → read_of (take n s ++ t) ≡ Ok (m, n)
 read_looks_no_further s t m n a e =
     let (v, z, b) = read_is_written max_servers s m n a e in
     rw (z, b) at (written_is_read m t v)

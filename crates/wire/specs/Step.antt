@@ -1,12 +1,11 @@
 -- What a step of a client or a server gives: the new state and the messages sent, in order; or the refusal, which changes nothing.
-use Rattle.std.specs.Prelude.{ℕ, List, [], ◌∷◌, ◌++◌, ltb, length, if◌then◌else◌}
+use Rattle.wire.specs.declared.Sent.{Sent}
+use Rattle.std.specs.Prelude.{ℕ, List, [], ◌∷◌, ◌++◌, ltb, length, if◌then◌else◌, Ok, Err, Result}
 use Rattle.std.proofs.lemmas.List.Edits.{sets}
 use Rattle.ids.specs.declared.Refusal.{Refusal}
 use Rattle.ids.specs.declared.Refusal.TheVariants.{RoomShort}
 use Rattle.wire.specs.Format.{bytes_of_all, size_of_all}
 use Rattle.wire.specs.declared.Message.{Message}
-use Rattle.wire.specs.declared.Answer.{Answer}
-use Rattle.wire.specs.declared.Answer.TheVariants.{Sent, Refused}
 
 pub record Step (A : Type 0) : Type 0 where
   pub state : A
@@ -36,9 +35,9 @@ module _ {A : Type 0} where
   with_room room (stepped s) = if ltb room (size_of_all s.sent) then refused RoomShort else stepped s
 
   -- what the call answers: the messages sent and their bytes, or the refusal
-  abbrev pub answer_of : Outcome A → Answer
-  answer_of (refused e) = Refused e
-  answer_of (stepped s) = Sent (length s.sent) (size_of_all s.sent)
+  abbrev pub answer_of : Outcome A → Result Sent Refusal
+  answer_of (refused e) = Err e
+  answer_of (stepped s) = Ok (record { messages = length s.sent; bytes = size_of_all s.sent })
 
   -- the buffer afterwards: the messages one after another from its start, the bytes behind them as found
   abbrev pub sent_into : List ℕ → Outcome A → List ℕ

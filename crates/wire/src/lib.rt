@@ -34,32 +34,11 @@ pub struct Fields {
     pub owner: u16,
 }
 
-// A message with the bytes it took, or why there is none.
+// What a step sent: how many messages, in how many bytes.
 #[derive(Clone, Copy)]
-pub enum Parsed {
-    Accepted(Message, usize),
-    Refused(Refusal),
-}
-
-// A message's numbers with the bytes it took, or why there are none.
-#[derive(Clone, Copy)]
-pub enum Numbers {
-    Fitting(Fields, usize),
-    Refused(Refusal),
-}
-
-// The bytes written, or why there are none.
-#[derive(Clone, Copy)]
-pub enum Written {
-    Bytes(usize),
-    Refused(Refusal),
-}
-
-// What a step sent: how many messages, in how many bytes; or why nothing was done.
-#[derive(Clone, Copy)]
-pub enum Answer {
-    Sent(usize, usize),
-    Refused(Refusal),
+pub struct Sent {
+    pub messages: usize,
+    pub bytes: usize,
 }
 
 fn join16(lo: u8, hi: u8) -> u16
@@ -295,44 +274,38 @@ fn fields_in(bytes: &[u8], kind: u16) -> Fields
 }
 
 // The numbers of the message that `bytes` begins with, and the bytes it takes. Bytes behind it are not looked at.
-pub fn read_fields(bytes: &[u8]) -> Numbers
+pub fn read_fields(bytes: &[u8]) -> Result<(Fields, usize), Refusal>
     ensures value { result ≡ numbers_of (read_of bytes.now) }
     ensures numbers { numbers_says result ≡ read_says bytes.now }
 {
     if bytes.len() < 4 {
-        return Numbers::Refused(Refusal::HeaderShort);
+        return Err(Refusal::HeaderShort);
     }
     let kind = get16(bytes, 2);
     if !is_kind(kind) {
-        return Numbers::Refused(Refusal::KindUnknown);
+        return Err(Refusal::KindUnknown);
     }
     let size = length_of(kind);
     if get16(bytes, 0) != size {
-        return Numbers::Refused(Refusal::LengthWrong);
+        return Err(Refusal::LengthWrong);
     }
     if bytes.len() < size as usize {
-        return Numbers::Refused(Refusal::MessageCut);
+        return Err(Refusal::MessageCut);
     }
     let f = fields_in(bytes, kind);
     if !valid_fields(f) {
-        return Numbers::Refused(Refusal::NumberOutOfRange);
+        return Err(Refusal::NumberOutOfRange);
     }
-    Numbers::Fitting(f, size as usize)
+    Ok((f, size as usize))
 }
 
 // The message that `bytes` begins with, and the bytes it takes.
-pub fn read(bytes: &[u8]) -> Parsed
+pub fn read(bytes: &[u8]) -> Result<(Message, usize), Refusal>
     ensures value { result ≡ read_of bytes.now }
     ensures numbers { parsed_says result ≡ read_says bytes.now }
 {
-    let p = read_fields(bytes);
-    match p {
-        Numbers::Fitting(f, used) => {
-            let m = message_of(f);
-            Parsed::Accepted(m, used)
-        }
-        Numbers::Refused(e) => Parsed::Refused(e),
-    }
+    let (f, used) = read_fields(bytes)?;
+    Ok((message_of(f), used))
 }
 
 fn put_front(out: &mut [u8], at: usize, f: Fields)
@@ -375,34 +348,34 @@ pub fn size_of(m: Message) -> usize
 }
 
 // A message's numbers at the start of `out`, if there is room.
-fn lay(f: Fields, out: &mut [u8]) -> Written
+fn lay(f: Fields, out: &mut [u8]) -> Result<usize, Refusal>
     ensures { (result ≡ lay_of f (length out.old)) × (out.new ≡ laid_in f out.old) }
 {
     if out.len() < length_of(f.kind) as usize {
-        return Written::Refused(Refusal::RoomShort);
+        return Err(Refusal::RoomShort);
     }
     let n = put_fields(out, 0, f);
-    Written::Bytes(n)
+    Ok(n)
 }
 
 // Writes `m` at the start of `out`. The bytes behind it stay, and a refusal changes none.
-pub fn write(m: Message, out: &mut [u8]) -> Written
+pub fn write(m: Message, out: &mut [u8]) -> Result<usize, Refusal>
     ensures value { (result ≡ write_of m (length out.old)) × (out.new ≡ buffer_after m out.old) }
     ensures numbers { written_says result ≡ write_says (valid m) (size_of m) (length out.old) }
 {
     if !valid_message(m) {
-        return Written::Refused(Refusal::NumberOutOfRange);
+        return Err(Refusal::NumberOutOfRange);
     }
     lay(fields_of(m), out)
 }
 
 // The same of numbers that may be no message.
-pub fn write_fields(f: Fields, out: &mut [u8]) -> Written
+pub fn write_fields(f: Fields, out: &mut [u8]) -> Result<usize, Refusal>
     ensures value { (result ≡ write_numbers f (length out.old)) × (out.new ≡ numbers_after f out.old) }
     ensures numbers { written_says result ≡ write_says (valid_fields f) (length_of f.kind) (length out.old) }
 {
     if !valid_fields(f) {
-        return Written::Refused(Refusal::NumberOutOfRange);
+        return Err(Refusal::NumberOutOfRange);
     }
     lay(f, out)
 }
