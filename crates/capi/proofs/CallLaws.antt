@@ -1,4 +1,5 @@
 -- What reading and writing a message return and leave, in each case.
+use Rattle.std.specs.Prelude.{Ok, Err, Result, Some, None, Option}
 use Prim.Native.Nat.{ℕ, ◌<◌, ◌≤◌}
 use native.Mathlib.Omega.{arith}
 use mathlib.Core.Path.{◌≡◌, refl}
@@ -17,34 +18,27 @@ use Rattle.wire.specs.Format.{words, fields_of, kind_in, valid_fields}
 use Rattle.wire.specs.Calls.{read_of, numbers_of, write_numbers, numbers_after}
 use Rattle.wire.specs.declared.Fields.{Fields}
 use Rattle.wire.specs.declared.Message.{Message}
-use Rattle.wire.specs.declared.Parsed.{Parsed}
-use Rattle.wire.specs.declared.Parsed.TheVariants.{Accepted, Refused as NotRead}
-use Rattle.wire.specs.declared.Numbers.{Numbers as Read}
-use Rattle.wire.specs.declared.Numbers.TheVariants.{Fitting, Refused as NoNumbers}
-use Rattle.wire.specs.declared.Written.{Written}
 use Rattle.wire.proofs.RoundTrip.{took, short}
 use Rattle.wire.proofs.CallLaws.{written_as_message, buffer_as_message}
 use Rattle.words.specs.Messages.{crossing, message_in}
 use Rattle.capi.specs.Calls.{read_size, read_code, read_words, written_code, write_code, write_buffer}
-use Rattle.words.specs.declared.Crossed.{Crossed}
-use Rattle.words.specs.declared.Crossed.TheVariants.{Numbers, TooLarge}
 
 -- what `sigma_read` returns and leaves, from the numbers that were read
-module _ (s ws : List ℕ) (p : Read) (e : p ≡ numbers_of (read_of s)) where
+module _ (s ws : List ℕ) (p : Result (Fields × ℕ) Refusal) (e : p ≡ numbers_of (read_of s)) where
   -- the message that was read
   record From (f : Fields) (n : ℕ) : Type 0 where
     message : Message
-    accepted : read_of s ≡ Accepted message n
+    accepted : read_of s ≡ Ok (message, n)
     numbers : fields_of message ≡ f
 
-  from : (q : Parsed) (f : Fields) (n : ℕ) → read_of s ≡ q → p ≡ numbers_of q → p ≡ Fitting f n → From f n
-  from (NotRead x) f n a b c = let z : ◌≡◌ {A = ℕ} 0 1 = cc in absurd (omega arith)
-  from (Accepted m n') f n a b c =
+  from : (q : Result (Message × ℕ) Refusal) (f : Fields) (n : ℕ) → read_of s ≡ q → p ≡ numbers_of q → p ≡ Ok (f, n) → From f n
+  from (Err x) f n a b c = let z : ◌≡◌ {A = ℕ} 0 1 = cc in absurd (omega arith)
+  from (Ok (m, n')) f n a b c =
       let g : fields_of m ≡ f = cc in
       let k : n' ≡ n = cc in
       record { message = m; accepted = rw k at a; numbers = g }
 
-  module _ (f : Fields) (n : ℕ) (a : p ≡ Fitting f n) where
+  module _ (f : Fields) (n : ℕ) (a : p ≡ Ok (f, n)) where
     read-from : From f n
     read-from = from (read_of s) f n refl e a
 
@@ -57,23 +51,23 @@ module _ (s ws : List ℕ) (p : Read) (e : p ≡ numbers_of (read_of s)) where
     pub read_done : (l : List ℕ) → read_size ≤ length ws → l ≡ sets ws 0 (words f ++ n ∷ []) → (0 ≡ read_code (read_of s) (length ws)) × (l ≡ read_words (read_of s) ws)
     read_done l h c = let m = read-from in (rw (m.accepted, le-ltb _ _ h), rw (m.accepted, le-ltb _ _ h, m.numbers) c)
 
-  refused : (q : Parsed) (x : Refusal) → p ≡ numbers_of q → p ≡ NoNumbers x → q ≡ NotRead x
-  refused (NotRead y) x b c = let h : y ≡ x = cc in cc
-  refused (Accepted m n) x b c = let z : ◌≡◌ {A = ℕ} 0 1 = cc in absurd (omega arith)
+  refused : (q : Result (Message × ℕ) Refusal) (x : Refusal) → p ≡ numbers_of q → p ≡ Err x → q ≡ Err x
+  refused (Err y) x b c = let h : y ≡ x = cc in cc
+  refused (Ok (m, n)) x b c = let z : ◌≡◌ {A = ℕ} 0 1 = cc in absurd (omega arith)
 
-  pub read-refused : (x : Refusal) (r : ℕ) → p ≡ NoNumbers x → r ≡ code x → (r ≡ read_code (read_of s) (length ws)) × (ws ≡ read_words (read_of s) ws)
-  read-refused x r a c = let q : read_of s ≡ NotRead x = refused (read_of s) x e a in (rw (q, c), rw q)
+  pub read-refused : (x : Refusal) (r : ℕ) → p ≡ Err x → r ≡ code x → (r ≡ read_code (read_of s) (length ws)) × (ws ≡ read_words (read_of s) ws)
+  read-refused x r a c = let q : read_of s ≡ Err x = refused (read_of s) x e a in (rw (q, c), rw q)
 
 -- the same of `sigma_write`, from the numbers that crossed
-module _ (ws out : List ℕ) (g : Crossed) (e : g ≡ crossing ws) where
-  pub write_large : (r : ℕ) → g ≡ TooLarge → r ≡ code NumberOutOfRange → (r ≡ write_code (message_in ws) (length out)) × (out ≡ write_buffer (message_in ws) out)
-  write_large r a c = let q : crossing ws ≡ TooLarge = cc in (rw (q, c), rw q)
+module _ (ws out : List ℕ) (g : Option Fields) (e : g ≡ crossing ws) where
+  pub write_large : (r : ℕ) → g ≡ None → r ≡ code NumberOutOfRange → (r ≡ write_code (message_in ws) (length out)) × (out ≡ write_buffer (message_in ws) out)
+  write_large r a c = let q : crossing ws ≡ None = cc in (rw (q, c), rw q)
 
-  pub write_numbers_lem : (f : Fields) (w : Written) (r : ℕ) (l : List ℕ) → g ≡ Numbers f → w ≡ write_numbers f (length out)
+  pub write_numbers_lem : (f : Fields) (w : Result ℕ Refusal) (r : ℕ) (l : List ℕ) → g ≡ Some f → w ≡ write_numbers f (length out)
       → l ≡ numbers_after f out → r ≡ written_code w
       → (r ≡ write_code (message_in ws) (length out)) × (l ≡ write_buffer (message_in ws) out)
   write_numbers_lem f w r l a b c d =
-      let q : crossing ws ≡ Numbers f = cc in
+      let q : crossing ws ≡ Some f = cc in
       ⊎_elim
       (λ (v : valid_fields f ≡ true). (rw (q, v, d, b, written_as_message f out v, v), rw (q, v, c, buffer_as_message f out v, v)))
       (λ (v : valid_fields f ≡ false). (rw (q, v, d, b, v), rw (q, v, c, v)))

@@ -1,4 +1,5 @@
 -- The two calls that make a record: what each returns and leaves, in each way out.
+use Rattle.std.specs.Prelude.{None}
 use Prim.Native.Nat.{ℕ, ◌<◌, ◌≤◌}
 use native.Mathlib.Omega.{arith}
 use mathlib.Core.Path.{◌≡◌, refl, sym, ◌∙◌}
@@ -14,7 +15,6 @@ use Rattle.ids.specs.declared.ClientId.{ClientId}
 use Rattle.ids.specs.declared.Refusal.TheVariants.{ParameterOutOfRange}
 use Rattle.ids.proofs.Choice.{both, decided}
 use Rattle.ids.proofs.LimitsLaws.{within-range, client-range}
-use Rattle.ids.specs.declared.Owner.TheVariants.{Nobody}
 use Rattle.rows.proofs.RowLaws.{length_row_of}
 use Rattle.client_responses.specs.Row.{place}
 use Rattle.server.specs.Record as server
@@ -119,6 +119,6 @@ client_new-whole n m k x e =
     (λ (v : client.valid_sizes n m && valid_client k ≡ true).
     let (p, q) = both (client.valid_sizes n m) (valid_client k) v in
     let (a, b, c, d) = sizes_range n m p in
-    rw (e, v) (length_row_of client.row_words (map place (replicate n Nobody)) (simp (length-map, length-replicate) (omega arith))))
+    rw (e, v) (length_row_of client.row_words (map place (replicate n None)) (simp (length-map, length-replicate) (omega arith))))
     (λ (v : client.valid_sizes n m && valid_client k ≡ false). rw (e, v))
     (decided (client.valid_sizes n m && valid_client k))

@@ -1,11 +1,11 @@
 -- What an accepted step call leaves in the host's words is a valid record again, so that the next call on it is not refused 21.
+use Rattle.std.specs.Prelude.{Some}
 use Prim.Native.Nat.{ℕ}
 use native.Mathlib.Omega.{arith}
 use mathlib.Core.Path.{◌≡◌, refl, sym, ◌∙◌}
 use mathlib.Core.Bool.{true, false}
 use mathlib.Core.List.{List, map}
 use mathlib.Core.Logic.{⊎_elim}
-use mathlib.Core.Option.{some}
 use lib.Dec.{ltb}
 use lib.ListN.{length, length-map}
 use borrow.Author.Tests.{le-ltb}
@@ -51,7 +51,7 @@ lent-stepped {A} out sent o p h = room-stepped (length out) o p (counted (with_r
 -- these words are a valid server
 pub record ValidServer (ws : List ℕ) : Type 0 where
   pub held : Server
-  pub read : server_in ws ≡ some held
+  pub read : server_in ws ≡ Some held
   pub valid : server.valid held ≡ true
 
 module _ (ws : List ℕ) (call : ServerCall) where
@@ -104,7 +104,7 @@ module _ (ws out sent : List ℕ) (p : Step (List ℕ)) where
 -- these words are a valid client
 pub record ValidClient (ws : List ℕ) : Type 0 where
   pub held : Client
-  pub read : client_in ws ≡ some held
+  pub read : client_in ws ≡ Some held
   pub valid : client.valid held ≡ true
 
 kept : (call : ClientCall) (c : Client) (q : Step client-state.State) → client_outcome call c ≡ stepped q

@@ -1,11 +1,12 @@
 -- The step calls: from the outcome of a step to what the call returns and leaves. Each law is one way out of a call.
+use Rattle.wire.specs.declared.Sent.{Sent}
+use Rattle.std.specs.Prelude.{Ok, Err, Result, Some, None, Option}
 use Prim.Native.Nat.{ℕ, ◌+◌, ◌*◌, ◌-◌, ◌<◌, ◌≤◌}
 use native.Mathlib.Omega.{arith}
 use mathlib.Core.Path.{◌≡◌, refl, sym, ap, ◌∙◌}
 use mathlib.Core.Bool.{Bool, true, false}
 use mathlib.Core.List.{List, ◌++◌, map, append-nil}
-use mathlib.Core.Logic.{⊎_elim}
-use mathlib.Core.Option.{Option, none, some}
+use mathlib.Core.Logic.{⊎_elim, tt}
 use lib.Dec.{ltb}
 use lib.ListN.{length, take, drop, length-append, length-drop, length-map}
 use lib.Seq.{sets, sets-eq, take_all, drop-length, drop_at, length-take-le}
@@ -19,21 +20,16 @@ use Rattle.rows.proofs.RowLaws.{length_row_of}
 use Rattle.wire.specs.Format as format
 use Rattle.wire.specs.Format.{size_of_all}
 use Rattle.wire.specs.Step.{Step, Outcome, refused, stepped, with_room, answer_of}
-use Rattle.wire.specs.declared.Answer.{Answer}
-use Rattle.wire.specs.declared.Answer.TheVariants.{Sent, Refused}
 use Rattle.wire.specs.declared.Message.{Message}
 use Rattle.ids.specs.Limits.{max_servers, valid_stamped_up_to, valid_parties_up_to}
 use Rattle.server_votes.specs.Figure1 as votes
 use Rattle.server_votes.specs.Places.{mails}
-use Rattle.server_votes.specs.declared.Mail.{Mail}
-use Rattle.server_votes.specs.declared.Mail.TheVariants.{Nothing, One}
 use Rattle.server.specs.Record as server
 use Rattle.server.specs.Calls as server_calls
 use Rattle.server.specs.Parts.{three_mails, sent_answer, sent_buffer}
 use Rattle.server.specs.Rows.{Turns}
 use Rattle.server.specs.declared.Head.{Head as ServerHead}
 use Rattle.server.specs.declared.Server.{Server}
-use Rattle.server.specs.declared.Ruling.TheVariants.{Done, Refused as Ruled}
 use Rattle.server.specs.declared.Turned.{Turned as ServerTurned}
 use Rattle.client_responses.specs.Figure1 as client-state
 use Rattle.client_responses.specs.Row.{place}
@@ -121,7 +117,7 @@ module _ {A : Type 0} where
   room-stepped room (stepped x) p h = (passed (ltb room (size_of_all x.sent)) (never RoomShort p) h).1
 
   -- what an accepted step answers fits the words it is stored in
-  fitting : (x : Outcome A) (a : Answer) → a ≡ answer_of x
+  fitting : (x : Outcome A) (a : Result Sent Refusal) → a ≡ answer_of x
       → ((p : Step A) → x ≡ stepped p → (length p.sent ≤ max_word) × (size_of_all p.sent ≤ max_word)) → Storable a
   fitting (refused e) a q k = record { few = λ i n h. let z : ◌≡◌ {A = ℕ} 0 1 = cc in absurd (omega arith) }
   fitting (stepped p) a q k =
@@ -132,25 +128,25 @@ module _ {A : Type 0} where
 
 -- THE SERVER'S CALL
 -- the messages of a step are three at most
-mail_few : (m : Mail) → length (mails m) ≤ 1
-mail_few Nothing = omega arith
-mail_few (One x) = omega arith
+mail_few : (m : Option Message) → length (mails m) ≤ 1
+mail_few None = omega arith
+mail_few (Some x) = omega arith
 
-module _ (a b c : Mail) where
+module _ (a b c : Option Message) where
   three_few : length (three_mails a b c) ≤ 3
   unfolding three_mails
   three_few = simp length-append (omega (arith, mail_few a, mail_few b, mail_few c))
 
-  pub three_storable : (x : Answer) (room : ℕ) → x ≡ sent_answer (three_mails a b c) room → Storable x
+  pub three_storable : (x : Result Sent Refusal) (room : ℕ) → x ≡ sent_answer (three_mails a b c) room → Storable x
   unfolding sent_answer
   three_storable x room e =
       let ms : List Message = three_mails a b c in
       ⊎_elim
       (λ (t : ltb room (size_of_all ms) ≡ true). record
-      { few = λ i n h. let k : x ≡ Refused RoomShort = rw t at e in let z : ◌≡◌ {A = ℕ} 0 1 = cc in absurd (omega arith) })
+      { few = λ i n h. let k : x ≡ Err RoomShort = rw t at e in let z : ◌≡◌ {A = ℕ} 0 1 = cc in absurd (omega arith) })
       (λ (t : ltb room (size_of_all ms) ≡ false).
       record {
-        few = λ i n h. let k : x ≡ Sent (length ms) (size_of_all ms) = rw t at e in let c₁ : length ms ≡ i = cc in let c₂ : size_of_all
+        few = λ i n h. let k : x ≡ Ok (record { messages = length ms; bytes = size_of_all ms }) = rw t at e in let c₁ : length ms ≡ i = cc in let c₂ : size_of_all
             ms ≡ n = cc in (omega (arith, three_few), omega (arith, three_few, size_few ms));
       })
       (decided (ltb room (size_of_all ms)))
@@ -161,7 +157,7 @@ module _ (p : Step (List ℕ)) (ws out sent : List ℕ) where
   unfolding with_room
   counts-short r l h = short_leaves (λ (x : List ℕ). x) ws out sent (stepped p) r l h
 
-  pub sent_leaves : (a : Answer) (r : ℕ) (ws' out' sent' : List ℕ) → 2 ≤ length sent → a ≡ sent_answer p.sent (length out) → out' ≡ sent_buffer p.sent out
+  pub sent_leaves : (a : Result Sent Refusal) (r : ℕ) (ws' out' sent' : List ℕ) → 2 ≤ length sent → a ≡ sent_answer p.sent (length out) → out' ≡ sent_buffer p.sent out
       → (r ≡ answer_code a) × (ws' ≡ answer_record p.state ws a) × (sent' ≡ answer_counts sent a)
       → Leaves (lent out sent (stepped p)) r ws ws' out out' sent sent'
   unfolding with_room sent_answer sent_buffer
@@ -200,9 +196,9 @@ module _ (ws : List ℕ) (b : Bool) (e : b ≡ holds_server ws) where
 
       module _ (call : ServerCall) (t : ServerTurned) (after : List ℕ) (T : Turns h row (server_outcome call (server.server_of h row)) t after) where
         by_outcome : (o : Outcome votes.State) → server_outcome call (server.server_of h row) ≡ o → Turns h row o t after
-            → (length after ≡ length row) × (t.ruling ≡ Done → t.head.votes.len ≤ max_word)
+            → (length after ≡ length row) × (t.ruling ≡ Ok tt → t.head.votes.len ≤ max_word)
         by_outcome (refused x) q T =
-            (ap length T.row, λ d. let k : Ruled x ≡ Done = sym T.ruled ∙ d in let z : ◌≡◌ {A = ℕ} 0 1 = cc in absurd (omega arith))
+            (ap length T.row, λ d. let k : Err x ≡ Ok tt = sym T.ruled ∙ d in let z : ◌≡◌ {A = ℕ} 0 1 = cc in absurd (omega arith))
         by_outcome (stepped p) q T =
             let g = (server-accepted call (server.server_of h row) p q).room in
             (ap length T.row ∙ length_row_of (length row) p.state.queue g, λ d. rw T.head (omega (arith, g, row-long)))
@@ -210,7 +206,7 @@ module _ (ws : List ℕ) (b : Bool) (e : b ≡ holds_server ws) where
         pub server-kept : length after ≡ server.row_words
         server-kept = (by_outcome (server_outcome call (server.server_of h row)) refl T).0 ∙ row-long
 
-        pub server-short : t.ruling ≡ Done → t.head.votes.len ≤ max_word
+        pub server-short : t.ruling ≡ Ok tt → t.head.votes.len ≤ max_word
         server-short = (by_outcome (server_outcome call (server.server_of h row)) refl T).1
 
         on_server_lem : on_server ws (server_outcome call) ≡ turned_words t after
@@ -324,14 +320,14 @@ module _ (ws : List ℕ) (b : Bool) (e : b ≡ holds_client ws) where
 -- words that are no message: the step refuses what stands for them
 server-takes : (x : Option Message) (s : Server) → server_calls.message_outcome s (message_or x) ≡ server_takes x s
 unfolding server_calls.message_outcome_up_to format.valid_up_to valid_stamped_up_to valid_parties_up_to
-server-takes (some m) s = refl
-server-takes none s =
+server-takes (Some m) s = refl
+server-takes None s =
     ⊎_elim (λ (v : server.valid s ≡ true). rw v) (λ (v : server.valid s ≡ false). rw v) (decided (server.valid s))
 
 client-takes : (x : Option Message) (c : Client) → client_calls.message_outcome c (message_or x) ≡ client_takes x c
 unfolding client_calls.message_outcome_up_to format.valid_up_to valid_stamped_up_to valid_parties_up_to
-client-takes (some m) c = refl
-client-takes none c =
+client-takes (Some m) c = refl
+client-takes None c =
     ⊎_elim (λ (v : client.valid c ≡ true). rw v) (λ (v : client.valid c ≡ false). rw v) (decided (client.valid c))
 
 module _ (ws : List ℕ) (x : Option Message) (m : Message) (e : m ≡ message_or x) where

@@ -1,17 +1,16 @@
 -- Definitions that only the contracts of private functions cite: no promise rests on them.
-use Rattle.std.specs.Prelude.{ℕ, ◌≤◌, ◌≡◌, List, [], ◌∷◌}
+use mathlib.Core.Logic.{tt}
+use Rattle.wire.specs.declared.Sent.{Sent}
+use Rattle.ids.specs.declared.Refusal.{Refusal}
+use Rattle.std.specs.Prelude.{ℕ, ◌≤◌, ◌≡◌, List, [], ◌∷◌, Ok, Err, Result, ⊤}
 use Rattle.std.proofs.lemmas.List.Edits.{sets}
 use Rattle.ids.specs.Refusals.{code}
 use Rattle.ids.specs.declared.Refusal.TheVariants.{RoomShort}
 use Rattle.wire.specs.Step.{Outcome, refused, stepped}
-use Rattle.wire.specs.declared.Answer.{Answer}
-use Rattle.wire.specs.declared.Answer.TheVariants.{Sent, Refused}
 use Rattle.server_votes.specs.Figure1 as votes
 use Rattle.server.specs.Record as server
 use Rattle.server.specs.Calls as server_calls
 use Rattle.server.specs.Parts.{three_mails}
-use Rattle.server.specs.declared.Ruling.{Ruling}
-use Rattle.server.specs.declared.Ruling.TheVariants.{Done, Refused as Ruled}
 use Rattle.server.specs.declared.Turned.{Turned}
 use Rattle.server.specs.declared.Server.{Server}
 use Rattle.client_responses.specs.Figure1 as client-state
@@ -23,40 +22,40 @@ use Rattle.capi.specs.declared.ServerCall.TheVariants.{Message as ServerMessage,
 use Rattle.capi.specs.declared.ClientCall.{ClientCall}
 use Rattle.capi.specs.declared.ClientCall.TheVariants.{Message as ClientMessage, Begin, Exit}
 
-abbrev pub answer_code : Answer → ℕ
-answer_code (Refused e) = code e
-answer_code (Sent k n) = 0
+abbrev pub answer_code : Result Sent Refusal → ℕ
+answer_code (Err e) = code e
+answer_code (Ok s) = 0
 
 -- with the words of the new record
-abbrev pub answer_record : List ℕ → List ℕ → Answer → List ℕ
-answer_record new ws (Refused e) = ws
-answer_record new ws (Sent k n) = sets ws 0 new
+abbrev pub answer_record : List ℕ → List ℕ → Result Sent Refusal → List ℕ
+answer_record new ws (Err e) = ws
+answer_record new ws (Ok s) = sets ws 0 new
 
-abbrev pub answer_counts : List ℕ → Answer → List ℕ
-answer_counts sent (Refused e) = sent
-answer_counts sent (Sent k n) = sets sent 0 (k ∷ (n ∷ []))
+abbrev pub answer_counts : List ℕ → Result Sent Refusal → List ℕ
+answer_counts sent (Err e) = sent
+answer_counts sent (Ok s) = sets sent 0 (s.messages ∷ (s.bytes ∷ []))
 
 -- where the counts have no room
 abbrev pub short_code : {A : Type 0} → Outcome A → ℕ
 short_code (refused e) = code e
 short_code (stepped p) = code RoomShort
 
-abbrev pub short_answer : Answer → ℕ
-short_answer (Refused e) = code e
-short_answer (Sent k n) = code RoomShort
+abbrev pub short_answer : Result Sent Refusal → ℕ
+short_answer (Err e) = code e
+short_answer (Ok s) = code RoomShort
 
 -- what an answer counts fits a word
-pub record Storable (a : Answer) : Type 0 where
-  pub few : (k n : ℕ) → a ≡ Sent k n → (k ≤ max_word) × (n ≤ max_word)
+pub record Storable (a : Result Sent Refusal) : Type 0 where
+  pub few : (k n : ℕ) → a ≡ Ok (record { messages = k; bytes = n }) → (k ≤ max_word) × (n ≤ max_word)
 
 -- a server's step on a lent row, with the record as words: one that was made, and any
 abbrev pub accepted_words : Turned → List ℕ → Outcome (List ℕ)
 accepted_words t row =
     stepped (record { state = server_words (server.server_of t.head row); sent = three_mails t.first t.second t.third })
 
-abbrev pub ruled_words : Ruling → Outcome (List ℕ) → Outcome (List ℕ)
-ruled_words (Ruled e) o = refused e
-ruled_words Done o = o
+abbrev pub ruled_words : Result ⊤ Refusal → Outcome (List ℕ) → Outcome (List ℕ)
+ruled_words (Err e) o = refused e
+ruled_words (Ok tt) o = o
 
 abbrev pub turned_words : Turned → List ℕ → Outcome (List ℕ)
 turned_words t row = ruled_words t.ruling (accepted_words t row)

@@ -1,7 +1,6 @@
 -- The step calls of C. Each has one outcome: the refusal, or the words of the new record with the messages sent. What it returns and what it
 -- leaves in record, buffer and counts are four short functions of that outcome.
-use Rattle.std.specs.Prelude.{ℕ, ◌≡◌, Bool, ◌&&◌, not, List, [], ◌∷◌, ltb, leb, length, if◌then◌else◌}
-use Rattle.std.proofs.Math.Option.{Option, none, some}
+use Rattle.std.specs.Prelude.{ℕ, ◌≡◌, Bool, ◌&&◌, not, List, [], ◌∷◌, ltb, leb, length, if◌then◌else◌, Some, None, Option}
 use Rattle.std.proofs.lemmas.List.Edits.{sets}
 use Rattle.ids.specs.Choice.{maybe}
 use Rattle.ids.specs.Limits.{valid_client}
@@ -74,12 +73,12 @@ on_client ws f = maybe (client_in ws) (refused InvalidRecord) (λ c. in_words (c
 
 -- the server takes a message; 5, behind 21, for words that are none
 abbrev pub server_takes : Option Message → Server → Outcome votes.State
-server_takes none s = if server.valid s then refused NumberOutOfRange else refused InvalidRecord
-server_takes (some m) s = server_calls.message_outcome s m
+server_takes None s = if server.valid s then refused NumberOutOfRange else refused InvalidRecord
+server_takes (Some m) s = server_calls.message_outcome s m
 
 abbrev pub client_takes : Option Message → Client → Outcome client-state.State
-client_takes none c = if client.valid c then refused NumberOutOfRange else refused InvalidRecord
-client_takes (some m) c = client_calls.message_outcome c m
+client_takes None c = if client.valid c then refused NumberOutOfRange else refused InvalidRecord
+client_takes (Some m) c = client_calls.message_outcome c m
 
 -- THE CALLS, on the words of a record and, for a message, its words
 abbrev pub server_message : List ℕ → List ℕ → Outcome (List ℕ)

@@ -3,7 +3,7 @@
 
 #![tactic(auto)]
 
-ghost use Rattle.std.specs.Prelude.{◌≡◌, [], ◌∷◌, ◌++◌, ◌+◌, ◌≤◌, length};
+ghost use Rattle.std.specs.Prelude.{◌≡◌, Ok, [], ◌∷◌, ◌++◌, ◌+◌, ◌≤◌, length};
 ghost use Rattle.std.proofs.lemmas.List.Edits.{sets};
 ghost use Rattle.wire.specs.Format.{words as words_of};
 ghost use Rattle.wire.specs.Calls.{read_of};
@@ -18,9 +18,7 @@ ghost use Rattle.capi.specs.Steps.{lent, Leaves, code_of, record_into, server_me
 ghost use Rattle.capi.specs.Inner.{answer_code, answer_record, answer_counts, short_code, short_answer, Storable, turned_words, accepted_words, server_outcome, client_outcome};
 
 use ids::{ClientId, Refusal, ServerId};
-use server::Ruling;
-use wire::{Answer, Fields, Message, Numbers, Written};
-use words::Crossed;
+use wire::{Fields, Message, Sent};
 
 // The words that a message that was read is given in: its five, and the bytes it took.
 pub const READ_WORDS: usize = 6;
@@ -42,25 +40,24 @@ pub fn put_words(words: &mut [u32], f: Fields, used: u32)
 pub fn sigma_read(bytes: &[u8], words: &mut [u32]) -> u32
     ensures { (result ≡ read_code (read_of bytes.now) (length words.old)) × (words.new ≡ read_words (read_of bytes.now) words.old) }
 {
-    let p = wire::read_fields(bytes);
-    match p {
-        Numbers::Fitting(f, used) => {
+    match wire::read_fields(bytes) {
+        Ok((f, used)) => {
             if words.len() < READ_WORDS {
                 return ids::code_of(Refusal::RoomShort);
             }
             put_words(words, f, used as u32);
             0
         }
-        Numbers::Refused(e) => ids::code_of(e),
+        Err(e) => ids::code_of(e),
     }
 }
 
-fn written_code(w: Written) -> u32
+fn written_code(w: Result<usize, Refusal>) -> u32
     ensures { result ≡ written_code w }
 {
     match w {
-        Written::Bytes(_) => 0,
-        Written::Refused(e) => ids::code_of(e),
+        Ok(_) => 0,
+        Err(e) => ids::code_of(e),
     }
 }
 
@@ -68,10 +65,9 @@ fn written_code(w: Written) -> u32
 pub fn sigma_write(words: &[u32], out: &mut [u8]) -> u32
     ensures { (result ≡ write_code (message_in words.now) (length out.old)) × (out.new ≡ write_buffer (message_in words.now) out.old) }
 {
-    let g = words::cross(words);
-    match g {
-        Crossed::Numbers(f) => written_code(wire::write_fields(f, out)),
-        Crossed::TooLarge => ids::code_of(Refusal::NumberOutOfRange),
+    match words::cross(words) {
+        Some(f) => written_code(wire::write_fields(f, out)),
+        None => ids::code_of(Refusal::NumberOutOfRange),
     }
 }
 
@@ -135,17 +131,28 @@ fn server_step(h: server::Head, row: &mut [u32], call: ServerCall) -> server::Tu
 }
 
 // An accepted step's record and counts are stored; a refused one's number is returned.
-fn server_store(a: Answer, h: server::Head, row: &[u32], state: &mut [u32], sent: &mut [u32]) -> u32
+fn server_store(
+    a: Result<Sent, Refusal>,
+    h: server::Head,
+    row: &[u32],
+    state: &mut [u32],
+    sent: &mut [u32],
+) -> u32
     requires { (server_head + length row.now ≤ length state.old) × (2 ≤ length sent.old) × (h.votes.len ≤ max_word) × Storable a }
     ensures { (result ≡ answer_code a) × (state.new ≡ answer_record (server_words (server.server_of h row.now)) state.old a) × (sent.new ≡ answer_counts sent.old a) }
 {
     match a {
-        Answer::Sent(count, bytes) => {
+        Ok(
+            Sent {
+                messages: count,
+                bytes,
+            },
+        ) => {
             put_server(state, h, row);
             put_counts(sent, count, bytes);
             0
         }
-        Answer::Refused(e) => ids::code_of(e),
+        Err(e) => ids::code_of(e),
     }
 }
 
@@ -179,13 +186,12 @@ fn server_finish(
     out: &mut [u8],
     sent: &mut [u32],
 ) -> u32
-    requires { (server_head + length row.now ≤ length state.old) × (t.ruling ≡ Ruling.Done → t.head.votes.len ≤ max_word) }
+    requires { (server_head + length row.now ≤ length state.old) × (t.ruling ≡ Ok tt → t.head.votes.len ≤ max_word) }
     ensures { Leaves (lent out.old sent.old (turned_words t row.now)) result state.old state.new out.old out.new sent.old sent.new }
 {
-    let ruling = t.ruling;
-    match ruling {
-        Ruling::Done => server_send(t, row, state, out, sent),
-        Ruling::Refused(e) => ids::code_of(e),
+    match t.ruling {
+        Ok(()) => server_send(t, row, state, out, sent),
+        Err(e) => ids::code_of(e),
     }
 }
 
@@ -214,12 +220,12 @@ fn client_step(h: client::Head, row: &mut [u32], call: ClientCall, out: &mut [u8
 }
 
 // The answer's number where there is no room for the counts: 6, unless the step is refused otherwise.
-fn short_answer(a: Answer) -> u32
+fn short_answer(a: Result<Sent, Refusal>) -> u32
     ensures { result ≡ short_answer a }
 {
     match a {
-        Answer::Sent(_, _) => ids::code_of(Refusal::RoomShort),
-        Answer::Refused(e) => ids::code_of(e),
+        Ok(_) => ids::code_of(Refusal::RoomShort),
+        Err(e) => ids::code_of(e),
     }
 }
 
@@ -243,13 +249,18 @@ fn client_finish(t: client::Turned, state: &mut [u32], sent: &mut [u32]) -> u32
 {
     let answer = t.answer;
     match answer {
-        Answer::Sent(count, bytes) => {
+        Ok(
+            Sent {
+                messages: count,
+                bytes,
+            },
+        ) => {
             let h = t.head;
             words::put_client_head(state, h);
             put_counts(sent, count, bytes);
             0
         }
-        Answer::Refused(e) => ids::code_of(e),
+        Err(e) => ids::code_of(e),
     }
 }
 
@@ -334,14 +345,14 @@ fn server_made(r: server::Stepped, state: &mut [u32]) -> u32
 {
     let answer = r.answer;
     match answer {
-        Answer::Sent(_, _) => {
+        Ok(_) => {
             let s = r.server;
             let head = s.head;
             let row = s.row;
             put_server(state, head, &row);
             0
         }
-        Answer::Refused(e) => ids::code_of(e),
+        Err(e) => ids::code_of(e),
     }
 }
 
@@ -351,14 +362,14 @@ fn client_made(r: client::Stepped, state: &mut [u32]) -> u32
 {
     let answer = r.answer;
     match answer {
-        Answer::Sent(_, _) => {
+        Ok(_) => {
             let c = r.client;
             let head = c.head;
             let row = c.row;
             put_client(state, head, &row);
             0
         }
-        Answer::Refused(e) => ids::code_of(e),
+        Err(e) => ids::code_of(e),
     }
 }
 

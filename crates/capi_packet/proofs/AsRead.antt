@@ -1,4 +1,5 @@
 -- A message of a packet comes to C as `sigma_read` gives it of its part alone: the same number, the same words.
+use Rattle.std.specs.Prelude.{Ok, Some}
 use Prim.Native.Nat.{ℕ, ◌-◌}
 use native.Mathlib.Omega.{arith}
 use mathlib.Core.Path.{◌≡◌}
@@ -7,12 +8,11 @@ use lib.ListN.{length}
 use Rattle.wire.specs.Calls.{read_of}
 use Rattle.wire.specs.declared.Message.{Message}
 use Rattle.packet.specs.Reading.{next_of, part_of}
-use Rattle.packet.specs.declared.Next.TheVariants.{Message as Gave}
 use Rattle.packet.proofs.Shown.{shows}
 use Rattle.capi.specs.Calls.{read_code, read_words}
 use Rattle.capi_packet.specs.Calls.{next_code, next_words}
 
-module _ (s : List ℕ) (at : ℕ) (m : Message) (next : ℕ) (g : next_of s at ≡ Gave m next) (ws : List ℕ) where
+module _ (s : List ℕ) (at : ℕ) (m : Message) (next : ℕ) (g : next_of s at ≡ Ok (Some (m, next))) (ws : List ℕ) where
   its-bytes : next - at ≡ length (part_of s at)
   its-bytes = omega (arith, (shows s at m next g).long)
 

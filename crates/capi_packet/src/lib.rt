@@ -13,8 +13,7 @@ ghost use Rattle.capi.specs.Calls.{read_size, written_code};
 ghost use Rattle.capi_packet.specs.Calls.{next_code, next_words};
 
 use ids::Refusal;
-use packet::Next;
-use wire::{Fields, Written};
+use wire::Fields;
 
 // The numbers of no message, for the packet's end.
 fn no_fields() -> Fields
@@ -46,9 +45,9 @@ pub fn sigma_packet_next(packet: &[u8], at: usize, words: &mut [u32]) -> u32
     ensures { (result ≡ next_code (next_of packet.now at) (length words.old)) × (words.new ≡ next_words (next_of packet.now at) at words.old) }
 {
     match packet::next_at(packet, at) {
-        Next::Message(m, next) => answer(words, wire::fields_of(m), (next - at) as u32),
-        Next::End => answer(words, no_fields(), 0),
-        Next::Refused(e) => ids::code_of(e),
+        Ok(Some((m, next))) => answer(words, wire::fields_of(m), (next - at) as u32),
+        Ok(None) => answer(words, no_fields(), 0),
+        Err(e) => ids::code_of(e),
     }
 }
 
@@ -57,7 +56,7 @@ pub fn sigma_packet_pack(bytes: &[u8], out: &mut [u8]) -> u32
     ensures { (result ≡ written_code (pack_of bytes.now (length out.old))) × (out.new ≡ buffer_after bytes.now out.old) }
 {
     match packet::pack(bytes, out) {
-        Written::Bytes(_) => 0,
-        Written::Refused(e) => ids::code_of(e),
+        Ok(_) => 0,
+        Err(e) => ids::code_of(e),
     }
 }

@@ -1,4 +1,5 @@
 -- Each return of the exported calls is one case of its definition.
+use Rattle.std.specs.Prelude.{Ok, Err, Result, Some, None, Option}
 use mathlib.Core.Path.{◌≡◌, refl, ap, ◌∙◌}
 use Prim.Native.Nat.{ℕ, ◌≤◌, ◌<◌}
 use mathlib.Core.List.{List, [], ◌∷◌}
@@ -13,13 +14,9 @@ use Rattle.ids.specs.Limits.{max_servers}
 use Rattle.ids.specs.Refusals.{code}
 use Rattle.ids.specs.declared.Refusal.{Refusal}
 use Rattle.ids.specs.declared.Refusal.TheVariants.{RoomShort, ParameterOutOfRange, Unsafe as NotSafe, Stalls as Stalling}
-use Rattle.system.specs.declared.Event.{Event as Happening}
+use Rattle.system.specs.declared.Event.{Event as Happening, Event}
 use Rattle.quorum.specs.declared.Verdict.{Verdict}
 use Rattle.quorum.specs.declared.Verdict.TheVariants.{Accepted, Unsafe, Stalls, OutOfRange}
-use Rattle.quorum.specs.declared.Asked.{Asked}
-use Rattle.quorum.specs.declared.Asked.TheVariants.{Event, Refused}
-use Rattle.quorum.specs.declared.Threshold.{Threshold}
-use Rattle.quorum.specs.declared.Threshold.TheVariants.{Default, OutOfRange as Outside}
 use Rattle.quorum.specs.Check.{in_range, margin, is_unsafe, is_stalling, judged, verdict, Demand3}
 use Rattle.quorum.proofs.CheckLaws.{range, margin-kept}
 use Rattle.ids.proofs.Choice.{Test, decided}
@@ -77,22 +74,22 @@ module _ (n m f : ℕ) (ws new : List ℕ) (r : ℕ) (v : Verdict) (e : (v ≡ v
   pub setting-refused : v ≡ OutOfRange → r ≡ code ParameterOutOfRange → Tells n m f ws r ws
   setting-refused a p = rw (← e.0, a) (p, refl, rw a at e.1)
 
-module _ (n m f i : ℕ) (ws new : List ℕ) (r : ℕ) (v : Asked) (e : v ≡ run_event n m f i) where
-  pub event-given : (x : Happening) (k j : ℕ) → v ≡ Event x → k ≡ event_kind x → j ≡ event_number x → (r ≡ with_words 2 ws 0) × (new ≡ given ws (k ∷ j ∷ [])) →
+module _ (n m f i : ℕ) (ws new : List ℕ) (r : ℕ) (v : Result Event Refusal) (e : v ≡ run_event n m f i) where
+  pub event-given : (x : Happening) (k j : ℕ) → v ≡ Ok x → k ≡ event_kind x → j ≡ event_number x → (r ≡ with_words 2 ws 0) × (new ≡ given ws (k ∷ j ∷ [])) →
       (r ≡ event_code (run_event n m f i) ws) × (new ≡ event_words (run_event n m f i) ws)
   event-given x k j a s q p = rw (← e, a) (p.0, rw (← s, ← q) p.1)
 
-  pub event-refused : (x : Refusal) → v ≡ Refused x → r ≡ code x → (r ≡ event_code (run_event n m f i) ws) × (ws ≡ event_words (run_event n m f i) ws)
+  pub event-refused : (x : Refusal) → v ≡ Err x → r ≡ code x → (r ≡ event_code (run_event n m f i) ws) × (ws ≡ event_words (run_event n m f i) ws)
   event-refused x a p = rw (← e, a) (p, refl)
 
-module _ (n : ℕ) (ws : List ℕ) (v : Threshold) (e : v ≡ threshold_of n) where
-  pub threshold_short : (x r : ℕ) → v ≡ Default x → length ws < 1 → r ≡ code RoomShort
+module _ (n : ℕ) (ws : List ℕ) (v : Option ℕ) (e : v ≡ threshold_of n) where
+  pub threshold_short : (x r : ℕ) → v ≡ Some x → length ws < 1 → r ≡ code RoomShort
       → (r ≡ threshold_code (threshold_of n) ws) × (ws ≡ threshold_words (threshold_of n) ws)
   threshold_short x r a h p = rw (← e, a, lt-ltb (length ws) 1 h) (p, refl)
 
-  pub threshold_given : (x : ℕ) → v ≡ Default x → 1 ≤ length ws → (0 ≡ threshold_code (threshold_of n) ws) × (set ws 0 x ≡ threshold_words (threshold_of n) ws)
+  pub threshold_given : (x : ℕ) → v ≡ Some x → 1 ≤ length ws → (0 ≡ threshold_code (threshold_of n) ws) × (set ws 0 x ≡ threshold_words (threshold_of n) ws)
   threshold_given x a h = rw (← e, a, le-ltb (length ws) 1 h) (refl, refl)
 
-  pub threshold_refused : (r : ℕ) → v ≡ Outside → r ≡ code ParameterOutOfRange
+  pub threshold_refused : (r : ℕ) → v ≡ None → r ≡ code ParameterOutOfRange
       → (r ≡ threshold_code (threshold_of n) ws) × (ws ≡ threshold_words (threshold_of n) ws)
   threshold_refused r a p = rw (← e, a) (p, refl)

@@ -1,16 +1,13 @@
 -- What the exported calls of the setting check return, 0 or a refusal's number, and what they leave in the words they were lent.
-use Rattle.std.specs.Prelude.{ℕ, ◌-◌, List, [], ◌∷◌, ltb, ℤ, pos, negsuc, length, if◌then◌else◌}
+use Rattle.ids.specs.declared.Refusal.{Refusal}
+use Rattle.std.specs.Prelude.{ℕ, ◌-◌, List, [], ◌∷◌, ltb, ℤ, pos, negsuc, length, if◌then◌else◌, Ok, Err, Result, Some, None, Option}
 use Rattle.std.proofs.lemmas.List.Edits.{sets}
 use Rattle.ids.specs.Refusals.{code}
 use Rattle.ids.specs.declared.Refusal.TheVariants.{RoomShort, ParameterOutOfRange}
-use Rattle.system.specs.declared.Event.{Event as Happening}
+use Rattle.system.specs.declared.Event.{Event as Happening, Event}
 use Rattle.system.specs.declared.Event.TheVariants.{Try, Exit, Fall, Down, Up, Take, Drop, Miss, Check}
 use Rattle.quorum.specs.declared.Verdict.{Verdict}
 use Rattle.quorum.specs.declared.Verdict.TheVariants.{Accepted, Unsafe, Stalls, OutOfRange}
-use Rattle.quorum.specs.declared.Asked.{Asked}
-use Rattle.quorum.specs.declared.Asked.TheVariants.{Event, Refused}
-use Rattle.quorum.specs.declared.Threshold.{Threshold}
-use Rattle.quorum.specs.declared.Threshold.TheVariants.{Default, OutOfRange as Outside}
 use Rattle.quorum.specs.Check.{number_of}
 
 -- a signed number in 32 bits, two's complement
@@ -62,19 +59,19 @@ event_number (Miss j) = j.0
 event_number (Check j) = j.0
 
 -- `sigma_run_event`: 7, 17; then, with room for two words, 0 with the event and its number
-abbrev pub event_code : Asked → List ℕ → ℕ
-event_code (Refused x) ws = code x
-event_code (Event e) ws = with_words 2 ws 0
+abbrev pub event_code : Result Event Refusal → List ℕ → ℕ
+event_code (Err x) ws = code x
+event_code (Ok e) ws = with_words 2 ws 0
 
-abbrev pub event_words : Asked → List ℕ → List ℕ
-event_words (Refused x) ws = ws
-event_words (Event e) ws = given ws (event_kind e ∷ event_number e ∷ [])
+abbrev pub event_words : Result Event Refusal → List ℕ → List ℕ
+event_words (Err x) ws = ws
+event_words (Ok e) ws = given ws (event_kind e ∷ event_number e ∷ [])
 
 -- `sigma_default_threshold`: 7; then, with room for a word, 0 with the threshold
-abbrev pub threshold_code : Threshold → List ℕ → ℕ
-threshold_code Outside ws = code ParameterOutOfRange
-threshold_code (Default t) ws = with_words 1 ws 0
+abbrev pub threshold_code : Option ℕ → List ℕ → ℕ
+threshold_code None ws = code ParameterOutOfRange
+threshold_code (Some t) ws = with_words 1 ws 0
 
-abbrev pub threshold_words : Threshold → List ℕ → List ℕ
-threshold_words Outside ws = ws
-threshold_words (Default t) ws = given ws (t ∷ [])
+abbrev pub threshold_words : Option ℕ → List ℕ → List ℕ
+threshold_words None ws = ws
+threshold_words (Some t) ws = given ws (t ∷ [])

@@ -9,7 +9,7 @@ ghost use Rattle.quorum.specs.Threshold.{threshold_of};
 ghost use Rattle.capi_quorum.specs.Calls.{signed_word, with_words, given, setting_code, setting_words, event_kind, event_number, event_code, event_words, threshold_code, threshold_words};
 
 use ids::Refusal;
-use quorum::{Asked, Threshold, Verdict};
+use quorum::Verdict;
 use system::Event;
 
 // A signed number in the bits of a word.
@@ -87,10 +87,9 @@ fn number_of(e: Event) -> u32
 pub fn sigma_run_event(n: u32, m: u32, f: u32, i: u32, words: &mut [u32]) -> u32
     ensures { (result ≡ event_code (run_event n m f i) words.old) × (words.new ≡ event_words (run_event n m f i) words.old) }
 {
-    let a = quorum::run_event(n, m, f, i);
-    match a {
-        Asked::Event(e) => put_two(words, kind_of(e), number_of(e), 0),
-        Asked::Refused(x) => ids::code_of(x),
+    match quorum::run_event(n, m, f, i) {
+        Ok(e) => put_two(words, kind_of(e), number_of(e), 0),
+        Err(x) => ids::code_of(x),
     }
 }
 
@@ -98,15 +97,14 @@ pub fn sigma_run_event(n: u32, m: u32, f: u32, i: u32, words: &mut [u32]) -> u32
 pub fn sigma_default_threshold(n: u32, words: &mut [u32]) -> u32
     ensures { (result ≡ threshold_code (threshold_of n) words.old) × (words.new ≡ threshold_words (threshold_of n) words.old) }
 {
-    let t = quorum::default_threshold(n);
-    match t {
-        Threshold::Default(x) => {
+    match quorum::default_threshold(n) {
+        Some(x) => {
             if words.len() < 1 {
                 return ids::code_of(Refusal::RoomShort);
             }
             words[0] = x;
             0
         }
-        Threshold::OutOfRange => ids::code_of(Refusal::ParameterOutOfRange),
+        None => ids::code_of(Refusal::ParameterOutOfRange),
     }
 }

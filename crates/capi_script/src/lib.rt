@@ -13,12 +13,12 @@ ghost use Rattle.capi_script.specs.Inner.{short_of};
 use ids::Refusal;
 use script::Progress;
 
-fn number_of(p: Progress) -> u32
+fn number_of(p: Result<Progress, Refusal>) -> u32
     ensures { result ≡ code_of p }
 {
     match p {
-        Progress::Took(_, _) => 0,
-        Progress::Refused(x) => ids::code_of(x),
+        Ok(_) => 0,
+        Err(x) => ids::code_of(x),
     }
 }
 
@@ -33,16 +33,16 @@ fn short_number(state: &[u32]) -> u32
 }
 
 // The bytes used and the bytes written.
-fn put_counts(counts: &mut [usize], p: Progress)
+fn put_counts(counts: &mut [usize], p: Result<Progress, Refusal>)
     requires { 2 ≤ length counts.old }
     ensures { counts.new ≡ counts_of counts.old p }
 {
     match p {
-        Progress::Took(used, wrote) => {
+        Ok(Progress { used, wrote }) => {
             counts[0] = used;
             counts[1] = wrote;
         }
-        Progress::Refused(_) => {}
+        Err(_) => {}
     }
 }
 

@@ -1,4 +1,5 @@
 -- The calls on a simulation, return by return: an accepted event has the number 0 and its two words; any other number leaves all that was lent.
+use Rattle.sim_changes.specs.declared.Effect.{Effect}
 use Prim.Native.Nat.{ℕ, ◌≤◌, ◌<◌}
 use native.Mathlib.Omega.{arith}
 use mathlib.Core.Path.{◌≡◌, refl, sym, ap, ◌∙◌}
@@ -8,7 +9,7 @@ use mathlib.Core.Logic.{⊎_elim}
 use lib.Dec.{eqb}
 use lib.ListN.{length, set}
 use borrow.Author.Tests.{ne_eqb, lt-ltb, le-ltb}
-use Rattle.std.specs.Prelude.{if◌then◌else◌}
+use Rattle.std.specs.Prelude.{if◌then◌else◌, Ok, Err}
 use Rattle.ids.specs.Refusals.{code, Says, accepts, refuses}
 use Rattle.ids.specs.declared.Refusal.{Refusal}
 use Rattle.ids.specs.declared.Refusal.TheVariants.{RoomShort, BadLine, NoSuchParty, InvalidRecord}
@@ -20,10 +21,6 @@ use Rattle.system.specs.Events.{Result}
 use Rattle.system.specs.Places.{System}
 use Rattle.system.specs.Runs.{is_stepped}
 use Rattle.sim_layout.specs.Layout.{simulation_size, view, valid}
-use Rattle.sim_changes.specs.declared.Moved.{Moved}
-use Rattle.sim_changes.specs.declared.Moved.TheVariants as moved
-use Rattle.sim_changes.specs.declared.Reply.{Reply}
-use Rattle.sim_changes.specs.declared.Reply.TheVariants as reply
 use Rattle.sim_changes.specs.Happens.{happens, reply_of, event_reply, moved_says, reply_says, event_says, EventLeaves}
 use Rattle.simulation.specs.Opens.{open_says}
 use Rattle.script_lines.specs.declared.Command.{Command}
@@ -37,11 +34,11 @@ abbrev number : Says ℕ → ℕ
 number s = s.number
 
 -- `sigma_simulation_new`
-module _ (b : Bool) (r : Moved) (h : moved_says r ≡ open_says b) where
-  pub new_made : (c : ℕ) → r ≡ moved.Sent c → 0 ≡ (open_says b).number
+module _ (b : Bool) (r : Result ℕ Refusal) (h : moved_says r ≡ open_says b) where
+  pub new_made : (c : ℕ) → r ≡ Ok c → 0 ≡ (open_says b).number
   new_made c e = ap number (rw e at h)
 
-  pub new_refused : (x : Refusal) (k : ℕ) → r ≡ moved.Refused x → k ≡ code x → k ≡ (open_says b).number
+  pub new_refused : (x : Refusal) (k : ℕ) → r ≡ Err x → k ≡ code x → k ≡ (open_says b).number
   new_refused x k e p = p ∙ ap number (rw e at h)
 
 -- words that are too few or too many are no simulation
@@ -68,13 +65,13 @@ module _ (w : List ℕ) (e : Happening) where
   unfolding event_says
   short-size n k p = rw (wrong_size w n, refused-room 0 InvalidRecord) p
 
-  module _ (copy : List ℕ) (c : copy ≡ w) (r : Reply) (h : reply_says r ≡ event_says copy e) where
-    pub short-accepted : (sent holders k : ℕ) → r ≡ reply.Accepted sent holders → k ≡ code RoomShort → k ≡ (with_words 0 (event_says w e)).number
+  module _ (copy : List ℕ) (c : copy ≡ w) (r : Result Effect Refusal) (h : reply_says r ≡ event_says copy e) where
+    pub short-accepted : (sent holders k : ℕ) → r ≡ Ok (record { sent = sent; holders = holders }) → k ≡ code RoomShort → k ≡ (with_words 0 (event_says w e)).number
     short-accepted sent holders k q p =
         let s : accepts (sent ∷ holders ∷ []) ≡ event_says w e = rw (q, c) at h in
         p ∙ ap number (sym (accepted-short 0 (sent ∷ holders ∷ []) (omega arith)) ∙ ap (with_words 0) s)
 
-    pub short-refused : (x : Refusal) (k : ℕ) → r ≡ reply.Refused x → k ≡ code x → k ≡ (with_words 0 (event_says w e)).number
+    pub short-refused : (x : Refusal) (k : ℕ) → r ≡ Err x → k ≡ code x → k ≡ (with_words 0 (event_says w e)).number
     short-refused x k q p =
         let s : refuses (code x) ≡ event_says w e = rw (q, c) at h in
         p ∙ ap number (sym (refused-room 0 x) ∙ ap (with_words 0) s)
@@ -99,13 +96,13 @@ not_0 k n z = let t : eqb 0 0 ≡ false = rw z at n in clash (eqb 0 0) refl t
 given-none : (answer : List ℕ) (s : Says ℕ) → eqb s.number 0 ≡ false → answer ≡ given answer s
 given-none answer s n = rw n refl
 
-not_stepped : (u : System) (o : Result) (x : Refusal) → reply_of u o ≡ reply.Refused x → is_stepped o ≡ false
+not_stepped : (u : System) (o : Result) (x : Refusal) → reply_of u o ≡ Err x → is_stepped o ≡ false
 unfolding reply_of
 not_stepped u (refused y) x h = refl
 not_stepped u (stepped s) x h = let z : ◌≡◌ {A = ℕ} 0 1 = cc in absurd (omega arith)
 
 -- a refused event leaves the simulation
-kept_by : (w : List ℕ) (e : Happening) (w' : List ℕ) (x : Refusal) → EventLeaves w e w' → event_reply w e ≡ reply.Refused x → w' ≡ w
+kept_by : (w : List ℕ) (e : Happening) (w' : List ℕ) (x : Refusal) → EventLeaves w e w' → event_reply w e ≡ Err x → w' ≡ w
 unfolding event_reply
 kept_by w e w' x L h =
     ⊎_elim
@@ -126,11 +123,11 @@ module _ (w : List ℕ) (e : Happening) (answer : List ℕ) where
         kept = λ n. refl;
       }
 
-  module _ (w' : List ℕ) (r : Reply) (h : (EventLeaves w e w' × (r ≡ event_reply w e)) × (reply_says r ≡ event_says w e)) where
+  module _ (w' : List ℕ) (r : Result Effect Refusal) (h : (EventLeaves w e w' × (r ≡ event_reply w e)) × (reply_says r ≡ event_says w e)) where
     goes : (x : Happening) → ◌≡◌ {A = Line} (Event e) (Event x) → EventLeaves w x w'
     goes x q = let z : e ≡ x = cc in rw (← z) h.0.0
 
-    pub happens-accepted : answer_words ≤ length answer → (sent holders : ℕ) → r ≡ reply.Accepted sent holders
+    pub happens-accepted : answer_words ≤ length answer → (sent holders : ℕ) → r ≡ Ok (record { sent = sent; holders = holders })
         → Leaves w (Event e) answer 0 w' (set (set answer 0 sent) 1 holders)
     unfolding simulation_says
     happens-accepted le sent holders q =
@@ -139,7 +136,7 @@ module _ (w : List ℕ) (e : Happening) (answer : List ℕ) where
         ap (with_words (length answer)) s ∙ accepted-room (length answer) (sent ∷ holders ∷ []) le in
         record { number = rw t refl; told = rw t refl; happened = λ x p _. goes x p; kept = λ n. absurd (n (ap number t)) }
 
-    pub happens-refused : (x : Refusal) (k : ℕ) → r ≡ reply.Refused x → k ≡ code x → Leaves w (Event e) answer k w' answer
+    pub happens-refused : (x : Refusal) (k : ℕ) → r ≡ Err x → k ≡ code x → Leaves w (Event e) answer k w' answer
     unfolding simulation_says
     happens-refused x k q p =
         let s : event_says w e ≡ refuses (code x) = rw q at (sym h.1) in

@@ -12,7 +12,7 @@ ghost use Rattle.capi_simulation.specs.Calls.{command_of, asked, simulation_says
 use ids::Refusal;
 use script_lines::{Command, Line};
 use sim_layout::SIMULATION_WORDS;
-use simulation::{Moved, Reply, Simulation};
+use simulation::{Effect, Simulation};
 use system::{Event, Setting};
 
 // The words of an answer: the messages sent, and the living holders.
@@ -23,10 +23,9 @@ pub fn sigma_simulation_new(n: u32, m: u32, f: u32, clients: u32, words: &mut [u
     ensures { (result ≡ (open_says (opens (length words.old) (record { n = n; m = m; f = f; clients = clients }))).number) × NewLeaves (record { n = n; m = m; f = f; clients = clients }) words.old words.new }
 {
     let s = Setting { n, m, f, clients };
-    let made = simulation::new(words, s);
-    match made {
-        Moved::Sent(_) => 0,
-        Moved::Refused(x) => ids::code_of(x),
+    match simulation::new(words, s) {
+        Ok(_) => 0,
+        Err(x) => ids::code_of(x),
     }
 }
 
@@ -84,11 +83,9 @@ fn short(words: &[u32], e: Event) -> u32
     let mut copy = [0u32; SIMULATION_WORDS];
     rows::copy(words, &mut copy);
     let s = Simulation { words: copy };
-    let h = simulation::event_of(s, e);
-    let reply = h.reply;
-    match reply {
-        Reply::Accepted(_, _) => ids::code_of(Refusal::RoomShort),
-        Reply::Refused(x) => ids::code_of(x),
+    match simulation::event_of(s, e).reply {
+        Ok(_) => ids::code_of(Refusal::RoomShort),
+        Err(x) => ids::code_of(x),
     }
 }
 
@@ -98,14 +95,13 @@ fn happen(words: &mut [u32], e: Event, answer: &mut [u32]) -> u32
     if answer.len() < ANSWER_WORDS {
         return short(words, e);
     }
-    let reply = simulation::event(words, e);
-    match reply {
-        Reply::Accepted(sent, holders) => {
+    match simulation::event(words, e) {
+        Ok(Effect { sent, holders }) => {
             answer[0] = sent;
             answer[1] = holders;
             0
         }
-        Reply::Refused(x) => ids::code_of(x),
+        Err(x) => ids::code_of(x),
     }
 }
 

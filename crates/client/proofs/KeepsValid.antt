@@ -8,7 +8,7 @@ use mathlib.Core.List.{List, [], ◌∷◌, map}
 use lib.Dec.{eqb, leb}
 use lib.ListN.{length, get_or, set, replicate, length-map, length-replicate, length-set}
 use borrow.Author.Tests.{not-true, not-false, le-leb, lt-leb, lt-ltb, eq-eqb, ne_eqb, leb-true, leb-false}
-use Rattle.std.specs.Prelude.{if◌then◌else◌}
+use Rattle.std.specs.Prelude.{if◌then◌else◌, Some, None, Option}
 use Rattle.ids.specs.Limits.{max_servers, max_timestamp, valid_client, valid_owner}
 use Rattle.ids.specs.Lists.{every}
 use Rattle.ids.specs.Requests.{same, is_request}
@@ -16,8 +16,6 @@ use Rattle.ids.specs.declared.ClientId.{ClientId}
 use Rattle.ids.specs.declared.ServerId.{ServerId}
 use Rattle.ids.specs.declared.Timestamp.{Timestamp}
 use Rattle.ids.specs.declared.Request.{Request}
-use Rattle.ids.specs.declared.Owner.{Owner}
-use Rattle.ids.specs.declared.Owner.TheVariants.{Nobody, Of}
 use Rattle.ids.specs.declared.Refusal.{Refusal}
 use Rattle.ids.specs.declared.Refusal.TheVariants.{InvalidRecord, WrongSection, TimestampsSpent, NotForClient, NumberOutOfRange}
 use Rattle.ids.proofs.ListLaws.{every-same, every_set}
@@ -69,13 +67,13 @@ abbrev pub Fits : ℕ → ℕ → ClientId → State → Type 0
 Fits = FitsUpTo max_servers
 
 -- the places of responses, and the responses again
-responses-again : (l : List Owner) → every valid_owner l ≡ true → map shown (map place l) ≡ l
+responses-again : (l : List (Option Request)) → every valid_owner l ≡ true → map shown (map place l) ≡ l
 responses-again [] h = refl
 responses-again (o ∷ l) h =
     let (a, b) = both (valid_owner o) (every valid_owner l) h in
     rw (shown-place o a, responses-again l b)
 
-places_fit : (l : List Owner) → every valid_owner l ≡ true → every fits_place (map place l) ≡ true
+places_fit : (l : List (Option Request)) → every valid_owner l ≡ true → every fits_place (map place l) ≡ true
 places_fit [] h = refl
 places_fit (o ∷ l) h =
     let (a, b) = both (valid_owner o) (every valid_owner l) h in
@@ -151,22 +149,22 @@ view-fits {limit} c K =
     }
 
 -- a state without responses
-none_filled : (n : ℕ) → count (map filled (replicate n Nobody)) ≡ 0
+none_filled : (n : ℕ) → count (map filled (replicate n None)) ≡ 0
 none_filled zero = refl
 none_filled (suc n) = omega (arith, none_filled n)
 
 module _ {limit : ℕ} (n m : ℕ) (k : ClientId) (R : InRangeUpTo limit n m k) (t seen : Timestamp) where
   without-fits : (a : Section) → fits_timestamp a t ≡ true
-      → fits_section (enough m) a (record { client = k; timestamp = t }) (replicate n Nobody) ≡ true → no_more a m (replicate n Nobody) ≡ true
+      → fits_section (enough m) a (record { client = k; timestamp = t }) (replicate n None) ≡ true → no_more a m (replicate n None) ≡ true
       → FitsUpTo limit n m k (without n a t seen)
   unfolding valid_owner
   without-fits a h g b =
       record {
         ranges = R;
-        long = length-replicate n Nobody;
+        long = length-replicate n None;
         timestamp = h;
-        owners = every-same valid_owner n Nobody refl;
-        own = every-same (own_is_current (record { client = k; timestamp = t })) n Nobody refl;
+        owners = every-same valid_owner n None refl;
+        own = every-same (own_is_current (record { client = k; timestamp = t })) n None refl;
         section = g;
         more = b;
       }
@@ -179,9 +177,9 @@ module _ {limit : ℕ} (n m : ℕ) (k : ClientId) (R : InRangeUpTo limit n m k) 
   remainder_fits = without-fits Remainder refl (rw none_filled refl) refl
 
 -- one response more
-pub heard-length : (r : Request) (l : List Owner) (j : ServerId) (o : Owner) → length (heard r l j o) ≡ length l
+pub heard-length : (r : Request) (l : List (Option Request)) (j : ServerId) (o : Option Request) → length (heard r l j o) ≡ length l
 unfolding heard
-heard-length r l j o = by_test (not (is_request r (get_or l (j.0 - 1) Nobody)) && current r o) where
+heard-length r l j o = by_test (not (is_request r (get_or l (j.0 - 1) None)) && current r o) where
   by_test : (b : Bool) → length (if b then set l (j.0 - 1) o else l) ≡ length l
   by_test true = length-set l (j.0 - 1) o
   by_test false = refl
@@ -195,11 +193,11 @@ count_set f [] i x = omega arith
 count_set f (y ∷ l) zero x = omega (arith, one_at_most (f x))
 count_set f (y ∷ l) (suc i) x = omega (arith, count_set f l i x)
 
-own-filled : (r : Request) (o : Owner) → (if is_request r o then 1 else 0) ≤ (if filled o then 1 else 0)
-own-filled r Nobody = omega arith
-own-filled r (Of q) = one_at_most (same q r)
+own-filled : (r : Request) (o : Option Request) → (if is_request r o then 1 else 0) ≤ (if filled o then 1 else 0)
+own-filled r None = omega arith
+own-filled r (Some q) = one_at_most (same q r)
 
-own-count : (r : Request) (l : List Owner) → count (map (is_request r) l) ≤ count (map filled l)
+own-count : (r : Request) (l : List (Option Request)) → count (map (is_request r) l) ≤ count (map filled l)
 own-count r [] = omega arith
 own-count r (o ∷ l) = omega (arith, own-filled r o, own-count r l)
 
@@ -207,12 +205,12 @@ by_client : (a b : Bool) → not a || b ≡ true → not a || (a && b) ≡ true
 by_client true b h = h
 by_client false b h = refl
 
-current-own : (r : Request) (o : Owner) → current r o ≡ true → own_is_current r o ≡ true
+current-own : (r : Request) (o : Option Request) → current r o ≡ true → own_is_current r o ≡ true
 unfolding same
-current-own r Nobody h = refl
-current-own r (Of q) h = by_client (eqb q.client.0 r.client.0) (eqb q.timestamp.0 r.timestamp.0) h
+current-own r None h = refl
+current-own r (Some q) h = by_client (eqb q.client.0 r.client.0) (eqb q.timestamp.0 r.timestamp.0) h
 
-module _ (r : Request) (l : List Owner) (j : ServerId) (o : Owner) (f : Owner → Bool) where
+module _ (r : Request) (l : List (Option Request)) (j : ServerId) (o : Option Request) (f : Option Request → Bool) where
   every-chosen : (a b : Bool) → current r o ≡ b → every f l ≡ true → (current r o ≡ true → f o ≡ true)
       → every f (if a && b then set l (j.0 - 1) o else l) ≡ true
   every-chosen true true e h g = every_set f l (j.0 - 1) o h (g e)
@@ -221,7 +219,7 @@ module _ (r : Request) (l : List Owner) (j : ServerId) (o : Owner) (f : Owner �
 
   pub heard-every : every f l ≡ true → (current r o ≡ true → f o ≡ true) → every f (heard r l j o) ≡ true
   unfolding heard
-  heard-every h g = every-chosen (not (is_request r (get_or l (j.0 - 1) Nobody))) (current r o) refl h g
+  heard-every h g = every-chosen (not (is_request r (get_or l (j.0 - 1) None))) (current r o) refl h g
 
   count-chosen : (b : Bool) → count (map f (if b then set l (j.0 - 1) o else l)) ≤ suc (count (map f l))
   count-chosen true = count_set f l (j.0 - 1) o
@@ -229,10 +227,10 @@ module _ (r : Request) (l : List Owner) (j : ServerId) (o : Owner) (f : Owner �
 
   heard-count : count (map f (heard r l j o)) ≤ suc (count (map f l))
   unfolding heard
-  heard-count = count-chosen (not (is_request r (get_or l (j.0 - 1) Nobody)) && current r o)
+  heard-count = count-chosen (not (is_request r (get_or l (j.0 - 1) None)) && current r o)
 
 -- document 01's words on the critical section: exactly m responses, all its own
-module _ (m : ℕ) (r : Request) (l : List Owner) where
+module _ (m : ℕ) (r : Request) (l : List (Option Request)) where
   abbrev exactly : Bool
   exactly = eqb (count (map filled l)) m && eqb (count (own r l)) m
 
@@ -256,11 +254,11 @@ module _ (m : ℕ) (r : Request) (l : List Owner) where
   critical_exactly = by_counts (leb m (count (own r l))) (leb (count (map filled l)) m) refl refl
 
 -- what lines 10 to 18 leave
-module _ {limit : ℕ} (n m : ℕ) (k : ClientId) (c : State) (l : List Owner) (B : FitsUpTo limit n m k (without n Trying c.timestamp c.seen)) where
+module _ {limit : ℕ} (n m : ℕ) (k : ClientId) (c : State) (l : List (Option Request)) (B : FitsUpTo limit n m k (without n Trying c.timestamp c.seen)) where
   abbrev mine : Request
   mine = record { client = k; timestamp = c.timestamp }
 
-  abbrev with : Section → List Owner → State
+  abbrev with : Section → List (Option Request) → State
   with s a = record { section = s; timestamp = c.timestamp; seen = c.seen; responses = a }
 
   module _ (long : length l ≡ n) (owners : every valid_owner l ≡ true) (own : every (own_is_current mine) l ≡ true) (most : count (map filled l) ≤ m) where
@@ -277,7 +275,7 @@ module _ {limit : ℕ} (n m : ℕ) (k : ClientId) (c : State) (l : List Owner) (
         }
 
     judged : (a b : Bool) → leb m (count (map filled l)) ≡ a → leb m (count (map (is_request mine) l)) ≡ b
-        → FitsUpTo limit n m k (if a then (if b then with Critical l else with Trying (replicate n Nobody)) else with Trying l)
+        → FitsUpTo limit n m k (if a then (if b then with Critical l else with Trying (replicate n None)) else with Trying l)
     unfolding enough
     judged true true e g = left-fits Critical B.timestamp g (le-leb (count (map filled l)) m most)
     judged true false e g = B
@@ -293,7 +291,7 @@ module _ {limit : ℕ} (n m : ℕ) (k : ClientId) (c : State) (l : List Owner) (
     judge-fits = rw lifted (judged (leb m (count (map filled l))) (leb m (count (map (is_request mine) l))) refl refl)
 
 -- trying, fewer than m places are filled
-few-filled : (m : ℕ) (l : List Owner) → not (enough m (map filled l)) ≡ true → suc (count (map filled l)) ≤ m
+few-filled : (m : ℕ) (l : List (Option Request)) → not (enough m (map filled l)) ≡ true → suc (count (map filled l)) ≤ m
 unfolding enough
 few-filled m l h = leb-false m (count (map filled l)) (not-true _ h)
 
@@ -311,8 +309,8 @@ saw-fits n m k t s F =
     }
 
 -- lines 7 to 18, by the section
-module _ {limit : ℕ} (n m : ℕ) (k : ClientId) (j : ServerId) (o : Owner) (v : valid_owner o ≡ true) where
-  upon_response_lem : (a : Section) (t seen : Timestamp) (l : List Owner)
+module _ {limit : ℕ} (n m : ℕ) (k : ClientId) (j : ServerId) (o : Option Request) (v : valid_owner o ≡ true) where
+  upon_response_lem : (a : Section) (t seen : Timestamp) (l : List (Option Request))
       → FitsUpTo limit n m k (record { section = a; timestamp = t; seen = seen; responses = l })
       → FitsUpTo limit n m k (upon_response (enough m) n k j o (record { section = a; timestamp = t; seen = seen; responses = l })).state
   unfolding upon_response

@@ -5,11 +5,10 @@ use mathlib.Core.Bool.{Bool, true, false}
 use mathlib.Core.List.{List, [], ◌∷◌, map}
 use native.Mathlib.Omega.{arith}
 use lib.ListN.{length, take, replicate}
-use Rattle.std.specs.Prelude.{if◌then◌else◌}
+use Rattle.std.specs.Prelude.{if◌then◌else◌, Some, None}
 use Rattle.ids.specs.Requests.{same, no_request}
 use Rattle.ids.specs.declared.ClientId.{ClientId}
 use Rattle.ids.specs.declared.Request.{Request}
-use Rattle.ids.specs.declared.Owner.TheVariants.{Nobody, Of}
 use Rattle.ids.proofs.RequestLaws.{same_true}
 use Rattle.rows.specs.Rows.{requests_in, row_of, Padded}
 use Rattle.rows.proofs.RowLaws.{row_kept, row_of-none}
@@ -24,8 +23,8 @@ map-replicate f zero x = refl
 map-replicate f (suc n) x = rw (map-replicate f n x)
 
 -- the row of a state without responses
-pub row-without : (size n : ℕ) → 2 * n ≤ size → row_of size (map place (replicate n Nobody)) ≡ replicate size 0
-row-without size n h = rw (map-replicate place n Nobody) (row_of-none size n h)
+pub row-without : (size n : ℕ) → 2 * n ≤ size → row_of size (map place (replicate n None)) ≡ replicate size 0
+row-without size n h = rw (map-replicate place n None) (row_of-none size n h)
 
 -- a record, by its head
 pub with-head : (row : List ℕ) (h d : Head) → h ≡ d → client_of h row ≡ client_of d row
@@ -38,7 +37,7 @@ unfolding store_in
 fresh-stored places n m k h = ap (client_of (head_in n m k (fresh n))) (sym (row-without (2 * places) n (omega (arith, h))))
 
 -- a place that shows nobody is the empty one
-placed : (b : Bool) (q : Request) → same q no_request ≡ b → place (if b then Nobody else Of q) ≡ q
+placed : (b : Bool) (q : Request) → same q no_request ≡ b → place (if b then None else Some q) ≡ q
 placed true q e = sym (same_true q no_request e)
 placed false q e = refl
 

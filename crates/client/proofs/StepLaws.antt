@@ -8,13 +8,12 @@ use lib.Dec.{eqb, leb}
 use lib.ListN.{length, replicate}
 use lib.Seq.{sets}
 use borrow.Author.Tests.{lt-ltb, le-ltb, le-leb, lt-leb, eq-eqb, ne_eqb, eqb-true, leb-true}
-use Rattle.std.specs.Prelude.{if◌then◌else◌}
+use Rattle.std.specs.Prelude.{if◌then◌else◌, Ok, Option}
 use Rattle.ids.specs.Limits.{max_timestamp, valid_client, valid_owner, valid_parties_up_to}
 use Rattle.ids.specs.declared.ClientId.{ClientId}
 use Rattle.ids.specs.declared.ServerId.{ServerId}
 use Rattle.ids.specs.declared.Timestamp.{Timestamp}
 use Rattle.ids.specs.declared.Request.{Request}
-use Rattle.ids.specs.declared.Owner.{Owner}
 use Rattle.ids.specs.declared.Refusal.{Refusal}
 use Rattle.ids.specs.declared.Refusal.TheVariants.{WrongSection, TimestampsSpent, RoomShort, NotForClient, NumberOutOfRange, InvalidRecord}
 use Rattle.ids.proofs.Choice.{both, fails, holds, of_choice}
@@ -25,7 +24,6 @@ use Rattle.wire.proofs.NumbersLaws.{valid-head}
 use Rattle.wire.specs.Step.{Step, Outcome, refused, stepped, stay, tell, with_room}
 use Rattle.wire.specs.Says.{answer_says, outcome_says, new_says}
 use Rattle.wire.proofs.SaysLaws.{answer-said}
-use Rattle.wire.specs.declared.Answer.TheVariants.{Sent}
 use Rattle.wire.specs.declared.Message.{Message}
 use Rattle.wire.specs.declared.Message.TheVariants.{Release, Response, Check}
 use Rattle.wire.proofs.Sequence.{size_of_all-one, bytes_of_all-one}
@@ -77,7 +75,7 @@ module _ (c : Client) (x : Outcome State) (o : List ℕ) (t : Turned) (after l :
 -- a step that sends nothing needs no room
 pub answers_stay : (h : Head) (row : List ℕ) (x : Outcome State) (o : List ℕ) (r : Turned) (s : State) → x ≡ stepped (stay s)
     → row_of (length row) (map place s.responses) ≡ row
-    → r ≡ record { head = head_in h.n h.m h.id s; answer = Sent 0 0 } → Answers h row x o r row o
+    → r ≡ record { head = head_in h.n h.m h.id s; answer = Ok (record { messages = 0; bytes = 0 }) } → Answers h row x o r row o
 unfolding size_of_all bytes_of_all
 answers_stay h row x o r s q e p = answers-done h row x o r (stay s) q row o (omega arith) p (sym e) refl
 
@@ -89,7 +87,7 @@ module _ (h : Head) (row : List ℕ) (f : ServerId → Message) (plain : (j : Se
     all_short g p = answers-short h row x o r _ q (omega (arith, size-to_all f plain h.n)) p
 
     all_done : (after l : List ℕ) → Padded row h.n → message_bytes * h.n ≤ length o
-        → r ≡ record { head = head_with h a t; answer = Sent h.n (message_bytes * h.n) } → after ≡ replicate (length row) 0
+        → r ≡ record { head = head_with h a t; answer = Ok (record { messages = h.n; bytes = message_bytes * h.n }) } → after ≡ replicate (length row) 0
         → l ≡ sets o 0 (bytes_of_all (to_all f h.n)) → Answers h row x o r after l
     all_done after l k g p z e =
         answers-done h row x o r _ q after l (omega (arith, size-to_all f plain h.n)) (rw (length-to_all f h.n, size-to_all f plain h.n) p) (z ∙
@@ -141,12 +139,12 @@ module _ (h : Head) (row : List ℕ) (o : List ℕ) (r : Turned) where
 
   module _ (after l : List ℕ) (k : Padded row h.n) (g : message_bytes * h.n ≤ length o) (z : after ≡ replicate (length row) 0) where
     pub tries-done : (last : Timestamp) → last ≡ later h.timestamp h.seen
-        → r ≡ record { head = head_with h Trying (taken last); answer = Sent h.n (message_bytes * h.n) }
+        → r ≡ record { head = head_with h Trying (taken last); answer = Ok (record { messages = h.n; bytes = message_bytes * h.n }) }
         → l ≡ sets o 0 (bytes_of_all (to_all (requests h.id (taken last)) h.n)) → Answers h row tried o r after l
     tries-done last q p e =
         all_done h row (requests h.id (taken last)) (request-plain h.id (taken last)) _ _ _ o r (its_try last q) after l k g p z e
 
-    pub exits-done : r ≡ record { head = head_with h Remainder left; answer = Sent h.n (message_bytes * h.n) }
+    pub exits-done : r ≡ record { head = head_with h Remainder left; answer = Ok (record { messages = h.n; bytes = message_bytes * h.n }) }
         → l ≡ sets o 0 (bytes_of_all (to_all (releases h.id h.timestamp) h.n)) → Answers h row exited o r after l
     exits-done p e = all_done h row (releases h.id h.timestamp) (release_plain h.id h.timestamp) _ _ _ o r its_exit after l k g p z e
 
@@ -236,7 +234,7 @@ module _ (h : Head) (row : List ℕ) (found : ℕ) (o : List ℕ) (r : Turned) (
 
   pub yields-done : (q : Request) (after l : List ℕ) → Padded row h.n → message_bytes * found ≤ length o → q ≡ request h
       → l ≡ sets o 0 (bytes_of_all (round q 1 (responses_in row h.n))) → after ≡ replicate (length row) 0
-      → r ≡ record { head = head_with h Trying h.timestamp; answer = Sent found (message_bytes * found) } → Answers h row (stepped yielded) o r after l
+      → r ≡ record { head = head_with h Trying h.timestamp; answer = Ok (record { messages = found; bytes = message_bytes * found }) } → Answers h row (stepped yielded) o r after l
   yields-done q after l good g e w z p =
       answers-done h row (stepped yielded) o r yielded refl after l (omega (arith, its-size)) (rw (its-length, its-size) p) (z ∙
       sym (row-without (length row) h.n (padded-words row h.n good))) (rw e at w)
@@ -246,7 +244,7 @@ module _ (full mine : Bool) (h : Head) (row : List ℕ) (good : Padded row h.n) 
   abbrev decided : Step State
   decided = decide full mine h.n h.id (view (client_of h row)) (responses_in row h.n)
 
-  pub decide-waits : (o : List ℕ) (r : Turned) → full ≡ false → r ≡ record { head = head_with h Trying h.timestamp; answer = Sent 0 0 }
+  pub decide-waits : (o : List ℕ) (r : Turned) → full ≡ false → r ≡ record { head = head_with h Trying h.timestamp; answer = Ok (record { messages = 0; bytes = 0 }) }
       → Answers h row (stepped decided) o r row o
   unfolding view
   decide-waits o r t p =
@@ -257,7 +255,7 @@ module _ (full mine : Bool) (h : Head) (row : List ℕ) (good : Padded row h.n) 
 
   module _ (t : full ≡ true) where
     pub decide-enters : (o : List ℕ) (r : Turned) → mine ≡ true
-        → r ≡ record { head = head_with h Critical h.timestamp; answer = Sent 0 0 } → Answers h row (stepped decided) o r row o
+        → r ≡ record { head = head_with h Critical h.timestamp; answer = Ok (record { messages = 0; bytes = 0 }) } → Answers h row (stepped decided) o r row o
     unfolding view
     decide-enters o r u p =
         let e : full ≡ true = holds full full refl t in
@@ -277,16 +275,16 @@ unfolding judge enough view
 verdicts h row q found mine f e g = rw (f, g, e)
 
 -- `upon_response`: what is known of the row in which o was heard, and of the request that stood in its place
-abbrev pub responded : Head → List ℕ → ServerId → Owner → Outcome State
+abbrev pub responded : Head → List ℕ → ServerId → Option Request → Outcome State
 responded h row j o = stepped (upon_response (enough h.m) h.n h.id j o (view (client_of h row)))
 
-pub record Heard (h : Head) (row : List ℕ) (j : ServerId) (o : Owner) (old : Request) (mid : List ℕ) : Type 0 where
+pub record Heard (h : Head) (row : List ℕ) (j : ServerId) (o : Option Request) (old : Request) (mid : List ℕ) : Type 0 where
   pub padded : Padded mid h.n
   pub size : length mid ≡ length row
   pub judges : responded h row j o ≡ stepped (judge (enough h.m) h.n h.id (view (client_of h mid)) (responses_in mid h.n))
   pub undone : (after : List ℕ) → Put mid after (j.0 - 1) old → after ≡ row
 
-module _ (h : Head) (row : List ℕ) (v : valid (client_of h row) ≡ true) (j : ServerId) (o : Owner) (x : Bool) (p : x ≡ is_trying h.section) where
+module _ (h : Head) (row : List ℕ) (v : valid (client_of h row) ≡ true) (j : ServerId) (o : Option Request) (x : Bool) (p : x ≡ is_trying h.section) where
   good : Padded row h.n
   good = valid-padded (client_of h row) v
 
@@ -296,7 +294,7 @@ module _ (h : Head) (row : List ℕ) (v : valid (client_of h row) ≡ true) (j :
   elsewhere t = rw (fails x (is_trying h.section) p t)
 
   pub respond_elsewhere : (b : List ℕ) (r : Turned) → x ≡ false
-      → r ≡ record { head = head_with h h.section h.timestamp; answer = Sent 0 0 } → Answers h row (responded h row j o) b r row b
+      → r ≡ record { head = head_with h h.section h.timestamp; answer = Ok (record { messages = 0; bytes = 0 }) } → Answers h row (responded h row j o) b r row b
   unfolding view
   respond_elsewhere b r t e = answers_stay h row (responded h row j o) b r (view (client_of h row)) (elsewhere t) (row-again row h.n good) e
 
@@ -318,7 +316,7 @@ module _ (h : Head) (row : List ℕ) (v : valid (client_of h row) ≡ true) (j :
         }
 
 -- what was done to the heard row is done to the row, unless it was refused: then the place is put back
-module _ (h : Head) (row : List ℕ) (j : ServerId) (o : Owner) (old : Request) (mid : List ℕ) (H : Heard h row j o old mid) (r : Turned) (left : List ℕ) where
+module _ (h : Head) (row : List ℕ) (j : ServerId) (o : Option Request) (old : Request) (mid : List ℕ) (H : Heard h row j o old mid) (r : Turned) (left : List ℕ) where
   stays_by : (w : Outcome State) → r ≡ turned h w → left ≡ row_after mid w → is_refused r.answer ≡ false → left ≡ row_after row w
   stays_by (refused e) p a n = let z : true ≡ false = ap (λ (x : Turned). is_refused x.answer) (sym p) ∙ n in absurd (true≢false z)
   stays_by (stepped s) p a n = a ∙ ap (λ (k : ℕ). row_of k (map place s.state.responses)) H.size
@@ -347,7 +345,7 @@ module _ (h : Head) (row : List ℕ) (v : valid (client_of h row) ≡ true) (j :
   unfolding view
   kept = row-again row h.n (valid-padded (client_of h row) v)
 
-  pub check-same : t.0 ≡ h.timestamp.0 → r ≡ record { head = head_with h h.section h.timestamp; answer = Sent 0 0 } → Answers h row asked o r row o
+  pub check-same : t.0 ≡ h.timestamp.0 → r ≡ record { head = head_with h h.section h.timestamp; answer = Ok (record { messages = 0; bytes = 0 }) } → Answers h row asked o r row o
   unfolding upon_check view
   check-same g e = answers_stay h row asked o r (view (client_of h row)) (rw (eq-eqb t.0 h.timestamp.0 g)) kept e
 
@@ -363,7 +361,7 @@ module _ (h : Head) (row : List ℕ) (v : valid (client_of h row) ≡ true) (j :
     check-short s e = answers-short h row asked o r _ its_release (omega (arith, one_size)) e
 
     pub check_done : (b : List ℕ) (n : ℕ) → message_bytes ≤ length o → n ≡ 0 + size_of (Release h.id j t)
-        → b ≡ sets o 0 (bytes_of (Release h.id j t)) → r ≡ record { head = head_with h h.section h.timestamp; answer = Sent 1 n }
+        → b ≡ sets o 0 (bytes_of (Release h.id j t)) → r ≡ record { head = head_with h h.section h.timestamp; answer = Ok (record { messages = 1; bytes = n }) }
         → Answers h row asked o r row b
     unfolding view
     check_done b n s z e p =
@@ -403,7 +401,7 @@ module _ (t : Timestamp) (h : Head) (row : List ℕ) where
 module _ (t : Timestamp) (h : Head) (row : List ℕ) (g : Head) (p : g ≡ saw_in t h) (o : List ℕ) (r s : Turned) (after l : List ℕ) (e : s ≡ settled h r)
     (j : ServerId)
   where
-    pub responded_to : (q : Owner) → t ≡ told q
+    pub responded_to : (q : Option Request) → t ≡ told q
         → Answers g row (stepped (upon_response (enough g.m) g.n g.id j q (view (client_of g row)))) o r after l
         → Answers h row (stepped (responds (enough h.m) h.n h.id j q (view (client_of h row)))) o s after l
     unfolding view
@@ -419,7 +417,7 @@ module _ (t : Timestamp) (h : Head) (row : List ℕ) (g : Head) (p : g ≡ saw_i
 
 -- `receive`: whom the message is for
 module _ (h : Head) (row : List ℕ) (k : ClientId) (j : ServerId) (x : Bool) (p : x ≡ for_client h k j) where
-  pub response_elsewhere : (o : Owner) → x ≡ false → received (client_of h row) (Response k j o) ≡ refused NotForClient
+  pub response_elsewhere : (o : Option Request) → x ≡ false → received (client_of h row) (Response k j o) ≡ refused NotForClient
   response_elsewhere o t = rw (fails x (for_client h k j) p t)
 
   pub check_elsewhere : (s : Timestamp) → x ≡ false → received (client_of h row) (Check k j s) ≡ refused NotForClient
@@ -435,14 +433,14 @@ module _ (h : Head) (row : List ℕ) (k : ClientId) (j : ServerId) (x : Bool) (p
     pub its-server : j.0 ≤ h.n
     its-server = leb-true j.0 h.n its-parts.1
 
-    pub response-taken : (o : Owner)
+    pub response-taken : (o : Option Request)
         → received (client_of h row) (Response k j o) ≡ stepped (responds (enough h.m) h.n h.id j o (view (client_of h row)))
     response-taken o = rw (holds x (for_client h k j) p t, its-client)
 
     pub check-taken : (s : Timestamp) → received (client_of h row) (Check k j s) ≡ stepped (checked h.id j s (view (client_of h row)))
     check-taken s = rw (holds x (for_client h k j) p t, its-client)
 
-pub response-range : (limit : ℕ) (k : ClientId) (j : ServerId) (o : Owner) → format.valid_up_to limit (Response k j o) ≡ true → (1 ≤ j.0) × (valid_owner o ≡ true)
+pub response-range : (limit : ℕ) (k : ClientId) (j : ServerId) (o : Option Request) → format.valid_up_to limit (Response k j o) ≡ true → (1 ≤ j.0) × (valid_owner o ≡ true)
 unfolding format.valid_up_to valid_response_up_to fields_of
 response-range limit k j o h =
     let (c, s) = parties_range limit k j (valid-head limit (Response k j o) h) in
@@ -470,6 +468,6 @@ module _ (n m : ℕ) (k : ClientId) (x : Bool) (p : x ≡ valid_sizes n m) where
     stored-fresh = sym (fresh-stored max_places n m k (sizes_range n m (holds x (valid_sizes n m) p t)).1)
 
     pub new_done : (c : Client) → y ≡ true → c ≡ client_of (head_in n m k (fresh n)) (replicate row_words 0)
-        → NewGives n m k (record { client = c; answer = Sent 0 0 })
+        → NewGives n m k (record { client = c; answer = Ok (record { messages = 0; bytes = 0 }) })
     unfolding new_result
-    new_done c u e = said_new (record { client = c; answer = Sent 0 0 }) (rw (holds x (valid_sizes n m) p t, holds y (valid_client k) q u, e, stored-fresh))
+    new_done c u e = said_new (record { client = c; answer = Ok (record { messages = 0; bytes = 0 }) }) (rw (holds x (valid_sizes n m) p t, holds y (valid_client k) q u, e, stored-fresh))

@@ -1,4 +1,5 @@
 -- Validity, test by test: what the code's tests decide of it, and what a valid record is known to be.
+use Rattle.std.specs.Prelude.{Option}
 use Prim.Native.Nat.{ℕ, ◌*◌, ◌≤◌, ◌<◌}
 use native.Mathlib.Omega.{arith}
 use mathlib.Core.Path.{◌≡◌, refl, sym, ◌∙◌, ap}
@@ -12,7 +13,6 @@ use Rattle.ids.specs.Limits.{within, max_servers, max_timestamp, valid_client, v
 use Rattle.ids.specs.Lists.{every}
 use Rattle.ids.specs.declared.Timestamp.{Timestamp}
 use Rattle.ids.specs.declared.Request.{Request}
-use Rattle.ids.specs.declared.Owner.{Owner}
 use Rattle.ids.proofs.Choice.{fails, holds, both, and_true, and_goes_on, and_stops, decided}
 use Rattle.ids.proofs.LimitsLaws.{within-range}
 use Rattle.rows.specs.Rows.{Padded}
@@ -33,7 +33,7 @@ below : (a b : ℕ) → ltb a b ≡ not (leb b a)
 below a b =
     ⊎_elim (λ t. le-ltb a b (leb-true b a t) ∙ sym (ap not t)) (λ f. lt-ltb a b (leb-false b a f) ∙ sym (ap not f)) (decided (leb b a))
 
-module _ (m : ℕ) (r : Request) (l : List Owner) (found : ℕ) (f : found ≡ count (map filled l)) where
+module _ (m : ℕ) (r : Request) (l : List (Option Request)) (found : ℕ) (f : found ≡ count (map filled l)) where
   pub section_remainder : eqb found 0 ≡ fits_section (enough m) Remainder r l && no_more Remainder m l
   section_remainder = rw (← f) (sym (and_true (eqb found 0)))
 

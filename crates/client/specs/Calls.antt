@@ -1,5 +1,5 @@
 -- The client's calls: the row 'kiosk' of document 01's table, each number in its order, and what is left in head, row and buffer.
-use Rattle.std.specs.Prelude.{ℕ, ◌≡◌, Bool, ◌&&◌, not, List, map, eqb, leb, length, replicate, if◌then◌else◌}
+use Rattle.std.specs.Prelude.{ℕ, ◌≡◌, Bool, ◌&&◌, not, List, map, eqb, leb, length, replicate, if◌then◌else◌, Ok, Err}
 use Rattle.ids.specs.Limits.{max_servers, valid_client}
 use Rattle.ids.specs.declared.ClientId.{ClientId}
 use Rattle.ids.specs.declared.ServerId.{ServerId}
@@ -7,7 +7,6 @@ use Rattle.ids.specs.declared.Refusal.TheVariants.{ParameterOutOfRange, NotForCl
 use Rattle.wire.specs.Format as format
 use Rattle.wire.specs.Step.{Outcome, refused, stepped, answer_of, sent_into}
 use Rattle.wire.specs.Says.{answer_says, outcome_says, new_says}
-use Rattle.wire.specs.declared.Answer.TheVariants.{Sent, Refused}
 use Rattle.wire.specs.declared.Message.{Message}
 use Rattle.wire.specs.declared.Message.TheVariants.{Request, Yield, Release, Inquiry, Response, Check}
 use Rattle.rows.specs.Rows.{row_of}
@@ -26,8 +25,8 @@ blank = client_of (head_in 0 0 (record { 0 = 0 }) (fresh 0)) (replicate row_word
 -- a new client with n servers and threshold m
 unfoldable pub new_result : ℕ → ℕ → ClientId → Stepped
 new_result n m k =
-    if valid_sizes n m && valid_client k then record { client = store n m k (fresh n); answer = Sent 0 0 }
-    else record { client = blank; answer = Refused ParameterOutOfRange }
+    if valid_sizes n m && valid_client k then record { client = store n m k (fresh n); answer = Ok (record { messages = 0; bytes = 0 }) }
+    else record { client = blank; answer = Err ParameterOutOfRange }
 
 -- answer and record, and the answer in document 01's numbers
 abbrev pub NewGives : ℕ → ℕ → ClientId → Stepped → Type 0

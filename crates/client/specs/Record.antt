@@ -1,11 +1,10 @@
 -- The client's record: a head, and the responses in a row. Which records are valid, and how a record and the state of Figure 1 are one another.
-use Rattle.std.specs.Prelude.{ℕ, ◌*◌, Bool, true, ◌&&◌, not, List, map, eqb, leb, ltb}
+use Rattle.std.specs.Prelude.{ℕ, ◌*◌, Bool, true, ◌&&◌, not, List, map, eqb, leb, ltb, Option}
 use Rattle.ids.specs.Lists.{every}
 use Rattle.ids.specs.Limits.{within, max_servers, max_timestamp, valid_client, valid_owner}
 use Rattle.ids.specs.declared.ClientId.{ClientId}
 use Rattle.ids.specs.declared.Timestamp.{Timestamp}
 use Rattle.ids.specs.declared.Request.{Request}
-use Rattle.ids.specs.declared.Owner.{Owner}
 use Rattle.rows.specs.Rows.{row_of}
 use Rattle.rows.specs.Good.{good_row}
 use Rattle.client_responses.specs.declared.Section.{Section}
@@ -55,12 +54,12 @@ valid_sizes = valid_sizes_up_to max_servers
 
 -- the tests that go with the section: in the remainder section no response; trying, not enough of them; in the critical section enough of
 -- its own, and, by document 01's bar on a holder's other answers, no more than m in all
-abbrev pub fits_section : Quorum → Section → Request → List Owner → Bool
+abbrev pub fits_section : Quorum → Section → Request → List (Option Request) → Bool
 fits_section wins Remainder r l = eqb (count (map filled l)) 0
 fits_section wins Trying r l = not (wins (map filled l))
 fits_section wins Critical r l = wins (own r l)
 
-abbrev pub no_more : Section → ℕ → List Owner → Bool
+abbrev pub no_more : Section → ℕ → List (Option Request) → Bool
 no_more Remainder m l = true
 no_more Trying m l = true
 no_more Critical m l = leb (count (map filled l)) m
@@ -76,7 +75,7 @@ unfoldable pub valid_up_to : ℕ → Client → Bool
 valid_up_to limit c =
     let h : Head = c.head in
     let r : Request = record { client = h.id; timestamp = h.timestamp } in
-    let l : List Owner = (view c).responses in
+    let l : List (Option Request) = (view c).responses in
     valid_sizes_up_to limit h.n h.m && valid_client h.id && fits_timestamp h.section h.timestamp && good_row c.row h.n
     && every valid_owner l && every (own_is_current r) l && fits_section (enough h.m) h.section r l && no_more h.section h.m l
 

@@ -2,7 +2,7 @@
 
 #![tactic(auto)]
 
-ghost use Rattle.std.specs.Prelude.{◌≡◌, true, ◌&&◌, ◌+◌, ◌*◌, ◌≤◌, ◌<◌, length, replicate};
+ghost use Rattle.std.specs.Prelude.{◌≡◌, Ok, true, ◌&&◌, ◌+◌, ◌*◌, ◌≤◌, ◌<◌, length, replicate};
 ghost use Rattle.std.proofs.lemmas.List.Edits.{sets};
 ghost use Rattle.ids.specs.Limits.{max_timestamp, valid_owner};
 ghost use Rattle.wire.specs.Format.{message_bytes, bytes_of_all};
@@ -17,8 +17,8 @@ ghost use Rattle.client.specs.Steps.{Answers};
 ghost use Rattle.client.specs.Inner.{request, head_with, saw_in, valid_places, is_refused, settled, refused_new, requests, releases, yields};
 
 use client_responses::Section;
-use ids::{ClientId, Owner, Refusal, Request, ServerId, Timestamp};
-use wire::{Answer, MESSAGE_BYTES, Message};
+use ids::{ClientId, Refusal, Request, ServerId, Timestamp};
+use wire::{MESSAGE_BYTES, Message, Sent};
 
 // The last timestamp, taken or seen, with which a client may still try.
 pub const LAST_TRY: u32 = 4_294_967_293;
@@ -50,14 +50,14 @@ pub struct Client {
 #[derive(Clone, Copy)]
 pub struct Turned {
     pub head: Head,
-    pub answer: Answer,
+    pub answer: Result<Sent, Refusal>,
 }
 
 // The same with the record.
 #[derive(Clone, Copy)]
 pub struct Stepped {
     pub client: Client,
-    pub answer: Answer,
+    pub answer: Result<Sent, Refusal>,
 }
 
 fn valid_sizes(limit: u32, n: u16, m: u16) -> bool
@@ -156,7 +156,7 @@ pub fn valid_row(h: Head, row: &[u32]) -> bool
 fn refuse(h: Head, e: Refusal) -> Turned
     ensures { result ≡ turned h (refused e) }
 {
-    let answer = Answer::Refused(e);
+    let answer = Err(e);
     Turned { head: h, answer }
 }
 
@@ -197,7 +197,7 @@ fn saw(h: Head, t: Timestamp) -> Head
 
 // The answer with the head in another section and with another timestamp, once `count` messages of `size` bytes are sent.
 fn moved(h: Head, section: Section, timestamp: Timestamp, count: usize, size: usize) -> Turned
-    ensures { result ≡ record { head = head_with h section timestamp; answer = Answer.Sent count size } }
+    ensures { result ≡ record { head = head_with h section timestamp; answer = Ok (record { messages = count; bytes = size }) } }
 {
     let id = h.id;
     let seen = h.seen;
@@ -209,7 +209,10 @@ fn moved(h: Head, section: Section, timestamp: Timestamp, count: usize, size: us
         timestamp,
         seen,
     };
-    let answer = Answer::Sent(count, size);
+    let answer = Ok(Sent {
+        messages: count,
+        bytes: size,
+    });
     Turned { head, answer }
 }
 
@@ -376,17 +379,20 @@ fn judge(h: Head, row: &mut [u32], out: &mut [u8]) -> Turned
     decide(full, own, h, row, out)
 }
 
-fn is_refused(a: Answer) -> bool
+fn is_refused(a: Result<Sent, Refusal>) -> bool
     ensures { result ≡ is_refused a }
 {
-    match a {
-        Answer::Sent(_, _) => false,
-        Answer::Refused(_) => true,
-    }
+    a.is_err()
 }
 
 // Lines 7 to 18 of a valid record and a RESPONSE for it. Where the yields have no room the place that was heard is put back.
-fn upon_response(h: Head, row: &mut [u32], j: ServerId, o: Owner, out: &mut [u8]) -> Turned
+fn upon_response(
+    h: Head,
+    row: &mut [u32],
+    j: ServerId,
+    o: Option<Request>,
+    out: &mut [u8],
+) -> Turned
     requires { (valid (client_of h row.old) ≡ true) × (1 ≤ j.0) × (j.0 ≤ h.n) × (valid_owner o ≡ true) }
     ensures { Answers h row.old (stepped (upon_response (enough h.m) h.n h.id j o (view (client_of h row.old)))) out.old result row.new out.new }
 {
@@ -434,7 +440,13 @@ fn settle(h: Head, r: Turned) -> Turned
 }
 
 // A valid record takes a RESPONSE for it, and has seen its timestamp in every section: for `message_row`, and for callers that know as much.
-pub fn respond_row(h: Head, row: &mut [u32], j: ServerId, o: Owner, out: &mut [u8]) -> Turned
+pub fn respond_row(
+    h: Head,
+    row: &mut [u32],
+    j: ServerId,
+    o: Option<Request>,
+    out: &mut [u8],
+) -> Turned
     requires { (valid (client_of h row.old) ≡ true) × (1 ≤ j.0) × (j.0 ≤ h.n) × (valid_owner o ≡ true) }
     ensures { Answers h row.old (stepped (responds (enough h.m) h.n h.id j o (view (client_of h row.old)))) out.old result row.new out.new }
 {
@@ -464,7 +476,7 @@ fn take_response(
     row: &mut [u32],
     k: ClientId,
     j: ServerId,
-    o: Owner,
+    o: Option<Request>,
     out: &mut [u8],
 ) -> Turned
     requires { (valid (client_of h row.old) ≡ true) × (format.valid (Message.Response k j o) ≡ true) }
@@ -557,7 +569,7 @@ fn no_client() -> Stepped
     ensures { result ≡ refused_new }
 {
     let client = fresh(0, 0, ClientId(0));
-    let answer = Answer::Refused(Refusal::ParameterOutOfRange);
+    let answer = Err(Refusal::ParameterOutOfRange);
     Stepped { client, answer }
 }
 
@@ -572,7 +584,10 @@ pub fn new(n: u16, m: u16, id: ClientId) -> Stepped
         return no_client();
     }
     let client = fresh(n, m, id);
-    let answer = Answer::Sent(0, 0);
+    let answer = Ok(Sent {
+        messages: 0,
+        bytes: 0,
+    });
     Stepped { client, answer }
 }
 

@@ -1,4 +1,5 @@
 -- A place by its two words, and the places of a row one after another: what a loop that counts them knows before place i.
+use Rattle.std.specs.Prelude.{Option}
 use Prim.Native.Nat.{ℕ, zero, suc, ◌+◌, ◌*◌, ◌≤◌, ◌<◌}
 use native.Mathlib.Numerals.{add-one}
 use native.Mathlib.Omega.{arith}
@@ -13,7 +14,6 @@ use Rattle.ids.specs.Limits.{max_client, max_timestamp, valid_owner, valid_reque
 use Rattle.ids.specs.Lists.{every}
 use Rattle.ids.specs.Requests.{same, is_request, no_request}
 use Rattle.ids.specs.declared.Request.{Request}
-use Rattle.ids.specs.declared.Owner.{Owner}
 use Rattle.rows.specs.Rows.{requests_in}
 use Rattle.rows.proofs.WordLaws.{requests-at}
 use Rattle.client_responses.specs.Figure1.{filled, count}
@@ -131,14 +131,14 @@ module _ (ws : List ℕ) (n : ℕ) (size : 2 * n ≤ length ws) where
   pub response-at : (i : ℕ) → i < n → drop i (responses_in ws n) ≡ shown (get_or (requests_in ws) i no_request) ∷ drop (suc i) (responses_in ws n)
   response-at i h =
       drop-cons (responses_in ws n) i (shown no_request) (omega (arith, length-responses))
-      ∙ ap (λ (o : Owner). o ∷ drop (suc i) (responses_in ws n)) (get_or-map shown (take n (requests_in ws)) i no_request ∙
+      ∙ ap (λ (o : Option Request). o ∷ drop (suc i) (responses_in ws n)) (get_or-map shown (take n (requests_in ws)) i no_request ∙
       ap shown (get_or-take n (requests_in ws) i no_request h))
 
   pub words-at : (i : ℕ) → i < n → get_or (requests_in ws) i no_request ≡ pair (get_or ws (2 * i) 0) (get_or ws (2 * i + 1) 0)
   words-at i h = rw add-one (requests-at ws i (omega arith))
 
 -- `found` places before place i pass the test f
-pub record Counting (f : Owner → Bool) (ws : List ℕ) (n found i : ℕ) : Type 0 where
+pub record Counting (f : Option Request → Bool) (ws : List ℕ) (n found i : ℕ) : Type 0 where
   pub within : i ≤ n
   pub size : 2 * n ≤ length ws
   pub few : found ≤ i
@@ -148,7 +148,7 @@ one_at_most : (b : Bool) → one b ≤ 1
 one_at_most true = omega arith
 one_at_most false = omega arith
 
-module _ (f : Owner → Bool) (ws : List ℕ) (n : ℕ) where
+module _ (f : Option Request → Bool) (ws : List ℕ) (n : ℕ) where
   pub counting_none : 2 * n ≤ length ws → Counting f ws n 0 0
   counting_none h = record { within = omega arith; size = h; few = omega arith; rest = omega arith }
 
@@ -162,7 +162,7 @@ module _ (f : Owner → Bool) (ws : List ℕ) (n : ℕ) where
           let q = words-at ws n C.size i h in
           let g : x ≡ one (f (shown (get_or (requests_in ws) i no_request))) = rw q e in
           let d : count (map f (drop i (responses_in ws n))) ≡ one (f (shown (get_or (requests_in ws) i no_request))) + count
-          (map f (drop (suc i) (responses_in ws n))) = ap (λ (l : List Owner). count (map f l)) (response-at ws n C.size i h) in
+          (map f (drop (suc i) (responses_in ws n))) = ap (λ (l : List (Option Request)). count (map f l)) (response-at ws n C.size i h) in
           record {
             within = omega arith;
             size = C.size;
@@ -173,7 +173,7 @@ module _ (f : Owner → Bool) (ws : List ℕ) (n : ℕ) where
     pub counting_all : n ≤ i → found ≡ count (map f (responses_in ws n))
     counting_all h =
         let d : drop i (responses_in ws n) ≡ [] = drop_of_length-le (responses_in ws n) {i = i} (omega (arith, length-responses ws n C.size)) in
-        let z : count (map f (drop i (responses_in ws n))) ≡ 0 = ap (λ (l : List Owner). count (map f l)) d in
+        let z : count (map f (drop i (responses_in ws n))) ≡ 0 = ap (λ (l : List (Option Request)). count (map f l)) d in
         omega (arith, C.rest)
 
 -- no misfit: every response is in range, and every own one current
@@ -182,6 +182,6 @@ none-step true true n p q e = let z : 0 + n ≡ n = omega arith in rw z e
 none-step true false n p q e = ne_eqb (1 + n) 0 (λ h. omega arith) ∙ sym (and_false p)
 none-step false b n p q e = ne_eqb (1 + n) 0 (λ h. omega arith)
 
-pub no_misfit : (r : Request) (l : List Owner) → eqb (count (map (misfit r) l)) 0 ≡ every valid_owner l && every (own_is_current r) l
+pub no_misfit : (r : Request) (l : List (Option Request)) → eqb (count (map (misfit r) l)) 0 ≡ every valid_owner l && every (own_is_current r) l
 no_misfit r [] = refl
 no_misfit r (o ∷ l) = none-step (valid_owner o) (own_is_current r o) (count (map (misfit r) l)) (every valid_owner l) (every (own_is_current r) l) (no_misfit r l)

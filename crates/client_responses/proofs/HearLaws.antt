@@ -9,32 +9,30 @@ use lib.Dec.{eqb}
 use lib.ListN.{length, get_or, take, set, length-set, get_or-map}
 use lib.Seq.{sets, length-sets, take-set-lt, drop-set-lt, get_or-take, set-set, set-get_or}
 use borrow.Author.Tests.{eq-eqb, ne_eqb, le-leb}
-use Rattle.std.specs.Prelude.{if◌then◌else◌}
+use Rattle.std.specs.Prelude.{if◌then◌else◌, Some, None, Option}
 use Rattle.ids.specs.Limits.{max_client, valid_owner}
 use Rattle.ids.specs.Requests.{same, is_request, no_request}
 use Rattle.ids.specs.declared.ServerId.{ServerId}
 use Rattle.ids.specs.declared.Request.{Request}
-use Rattle.ids.specs.declared.Owner.{Owner}
-use Rattle.ids.specs.declared.Owner.TheVariants.{Nobody, Of}
 use Rattle.ids.proofs.LimitsLaws.{client-range, request-range}
 use Rattle.rows.specs.Rows.{words_of, request_words, requests_in, fits_place, Places, Put, Padded}
 use Rattle.rows.proofs.WordLaws.{put-requests, put-size, put_made, row-again}
 use Rattle.client_responses.specs.Figure1.{current, told, heard}
 use Rattle.client_responses.specs.Row.{shown, place, responses_in, place_of, heard_row}
 
-pub current-other : (r q : Request) → (q.client.0 ≡ r.client.0 → ⊥) → true ≡ current r (Of q)
+pub current-other : (r q : Request) → (q.client.0 ≡ r.client.0 → ⊥) → true ≡ current r (Some q)
 current-other r q n = rw (ne_eqb q.client.0 r.client.0 n)
 
-pub current-own : (r q : Request) → q.client.0 ≡ r.client.0 → eqb q.timestamp.0 r.timestamp.0 ≡ current r (Of q)
+pub current-own : (r q : Request) → q.client.0 ≡ r.client.0 → eqb q.timestamp.0 r.timestamp.0 ≡ current r (Some q)
 current-own r q e = rw (eq-eqb q.client.0 r.client.0 e)
 
 -- what a response tells of is the timestamp of its place
-pub told-place : (o : Owner) (q : Request) → q ≡ place o → q.timestamp ≡ told o
-told-place Nobody q e = rw e
-told-place (Of r) q e = rw e
+pub told-place : (o : Option Request) (q : Request) → q ≡ place o → q.timestamp ≡ told o
+told-place None q e = rw e
+told-place (Some r) q e = rw e
 
 -- the tests of the code
-module _ (r : Request) (row : List ℕ) (j : ServerId) (o : Owner) (q : Request) (g : q ≡ place_of row j) (b : Bool) (p : b ≡ is_request r (shown q)) where
+module _ (r : Request) (row : List ℕ) (j : ServerId) (o : Option Request) (q : Request) (g : q ≡ place_of row j) (b : Bool) (p : b ≡ is_request r (shown q)) where
   its : is_request r (shown (place_of row j)) ≡ b
   its = sym (p ∙ ap (λ (x : Request). is_request r (shown x)) g)
 
@@ -52,24 +50,24 @@ module _ (r : Request) (row : List ℕ) (j : ServerId) (o : Owner) (q : Request)
     hear_new x after t e P = let h : a ≡ true = t in rw (its, f, ← d, h, ← e) P.words
 
 -- a response as a place
-pub shown-place : (o : Owner) → valid_owner o ≡ true → shown (place o) ≡ o
+pub shown-place : (o : Option Request) → valid_owner o ≡ true → shown (place o) ≡ o
 unfolding valid_owner same
-shown-place Nobody h = refl
-shown-place (Of q) h =
+shown-place None h = refl
+shown-place (Some q) h =
     let k = client-range q.client (request-range q h).0 in
     rw (ne_eqb q.client.0 0 (λ e. omega arith))
 
-pub place-fits : (o : Owner) → valid_owner o ≡ true → fits_place (place o) ≡ true
+pub place-fits : (o : Option Request) → valid_owner o ≡ true → fits_place (place o) ≡ true
 unfolding valid_owner
-place-fits Nobody h = refl
-place-fits (Of q) h = le-leb q.client.0 max_client (client-range q.client (request-range q h).0).1
+place-fits None h = refl
+place-fits (Some q) h = le-leb q.client.0 max_client (client-range q.client (request-range q h).0).1
 
 map-set : {A B : Type 0} (f : A → B) (l : List A) (i : ℕ) (a : A) → map f (set l i a) ≡ set (map f l) i (f a)
 map-set f [] i a = refl
 map-set f (x ∷ l) zero a = refl
 map-set f (x ∷ l) (suc i) a = rw (map-set f l i a)
 
-nobody_shown : shown no_request ≡ Nobody
+nobody_shown : shown no_request ≡ None
 unfolding same
 nobody_shown = refl
 
@@ -97,7 +95,7 @@ module _ (row : List ℕ) (i : ℕ) (x : Request) where
         rest = rw (z, e, drop-set-lt n (requests_in row) i x h) good.rest;
       }
 
-  chosen-shown : (b : Bool) (n : ℕ) (o : Owner) → i < n → fits_place x ≡ true → shown x ≡ o
+  chosen-shown : (b : Bool) (n : ℕ) (o : Option Request) → i < n → fits_place x ≡ true → shown x ≡ o
       → responses_in (chosen b) n ≡ (if b then set (responses_in row n) i o else responses_in row n)
   chosen-shown false n o h f e = refl
   chosen-shown true n o h f e = rw (put-requests row (chosen true) i x (put_it f), take-set-lt n (requests_in row) i x h, map-set, e)
@@ -117,7 +115,7 @@ module _ (row : List ℕ) (i : ℕ) (x : Request) where
         let s : length after ≡ length row = put-size (chosen b) after i old P ∙ chosen-size b in
         sym (row-again after (rw (g, s) places.even)) ∙ ap request_words g ∙ row-again row places.even
 
-module _ (r : Request) (row : List ℕ) (j : ServerId) (o : Owner) (v : valid_owner o ≡ true) where
+module _ (r : Request) (row : List ℕ) (j : ServerId) (o : Option Request) (v : valid_owner o ≡ true) where
   abbrev hears : Bool
   hears = not (is_request r (shown (place_of row j))) && current r o
 
@@ -137,9 +135,9 @@ module _ (r : Request) (row : List ℕ) (j : ServerId) (o : Owner) (v : valid_ow
     unfolding heard_row
     heard_row-padded good = chosen-padded row (j.0 - 1) (place o) hears n inside (place-fits o v) good
 
-    place-shows : get_or (responses_in row n) (j.0 - 1) Nobody ≡ shown (place_of row j)
+    place-shows : get_or (responses_in row n) (j.0 - 1) None ≡ shown (place_of row j)
     place-shows =
-        ap (λ (d : Owner). get_or (responses_in row n) (j.0 - 1) d) (sym nobody_shown) ∙
+        ap (λ (d : Option Request). get_or (responses_in row n) (j.0 - 1) d) (sym nobody_shown) ∙
         get_or-map shown (take n (requests_in row)) (j.0 - 1) no_request ∙
         ap shown (get_or-take n (requests_in row) (j.0 - 1) no_request inside)
 

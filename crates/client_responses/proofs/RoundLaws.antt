@@ -9,13 +9,11 @@ use lib.Dec.{eqb}
 use lib.ListN.{length, get_or, take, length-append, get_or-map}
 use lib.Seq.{sets, length-sets, take-suc, take_all, length-take-le, get_or-take}
 use borrow.Author.Tests.{eq-eqb, ne_eqb}
-use Rattle.std.specs.Prelude.{if◌then◌else◌}
+use Rattle.std.specs.Prelude.{if◌then◌else◌, Some, None, Option}
 use Rattle.ids.specs.Order.{before}
 use Rattle.ids.specs.Requests.{same, no_request}
 use Rattle.ids.specs.declared.ServerId.{ServerId}
 use Rattle.ids.specs.declared.Request.{Request}
-use Rattle.ids.specs.declared.Owner.{Owner}
-use Rattle.ids.specs.declared.Owner.TheVariants.{Nobody, Of}
 use Rattle.wire.specs.Format.{bytes_of, size_of, bytes_of_all, size_of_all, message_bytes}
 use Rattle.wire.specs.declared.Message.{Message}
 use Rattle.wire.specs.declared.Message.TheVariants.{Request as REQUEST, Yield as YIELD, Inquiry as INQUIRY}
@@ -70,26 +68,26 @@ module _ (r : Request) (j : ServerId) (q : Request) where
       replies-one l n h = rw (one, size_of_all-one, bytes_of_all-one) h
 
 module _ (r : Request) where
-  size-replies : (j : ServerId) (o : Owner) → size_of_all (replies r j o) ≡ message_bytes * (if filled o then 1 else 0)
+  size-replies : (j : ServerId) (o : Option Request) → size_of_all (replies r j o) ≡ message_bytes * (if filled o then 1 else 0)
   unfolding size_of_all
-  size-replies j Nobody = refl
-  size-replies j (Of q) = omega (arith, size-reply r j q)
+  size-replies j None = refl
+  size-replies j (Some q) = omega (arith, size-reply r j q)
 
-  pub size-round : (j : ℕ) (l : List Owner) → size_of_all (round r j l) ≡ message_bytes * count (map filled l)
+  pub size-round : (j : ℕ) (l : List (Option Request)) → size_of_all (round r j l) ≡ message_bytes * count (map filled l)
   unfolding round size_of_all
   size-round j [] = refl
   size-round j (o ∷ l) = rw size_of_all-append (omega (arith, size-replies (record { 0 = j }) o, size-round (suc j) l))
 
-  length-replies : (j : ServerId) (o : Owner) → length (replies r j o) ≡ (if filled o then 1 else 0)
-  length-replies j Nobody = refl
-  length-replies j (Of q) = refl
+  length-replies : (j : ServerId) (o : Option Request) → length (replies r j o) ≡ (if filled o then 1 else 0)
+  length-replies j None = refl
+  length-replies j (Some q) = refl
 
-  pub length-round : (j : ℕ) (l : List Owner) → length (round r j l) ≡ count (map filled l)
+  pub length-round : (j : ℕ) (l : List (Option Request)) → length (round r j l) ≡ count (map filled l)
   unfolding round
   length-round j [] = refl
   length-round j (o ∷ l) = rw length-append (omega (arith, length-replies (record { 0 = j }) o, length-round (suc j) l))
 
-  round-more : (j : ℕ) (l : List Owner) (o : Owner) → round r j (l ++ o ∷ []) ≡ round r j l ++ replies r (record { 0 = j + length l }) o
+  round-more : (j : ℕ) (l : List (Option Request)) (o : Option Request) → round r j (l ++ o ∷ []) ≡ round r j l ++ replies r (record { 0 = j + length l }) o
   unfolding round
   round-more j [] o = let e : j + 0 ≡ j = omega arith in rw (append-nil, e)
   round-more j (x ∷ l) o =

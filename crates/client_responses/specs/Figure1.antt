@@ -1,14 +1,12 @@
 -- The client: Figure 1 of the report, lines 1 to 25, on a section, a timestamp, the largest timestamp seen and the responses of n servers.
 -- Document 01 says kiosk for client, ticket for timestamp, answers for responses, holding the wall for being in the critical section.
-use Rattle.std.specs.Prelude.{ℕ, zero, suc, ◌+◌, ◌-◌, max, Bool, true, false, ◌&&◌, ◌||◌, not, List, [], ◌∷◌, ◌++◌, map, eqb, leb, replicate, get_or, set, if◌then◌else◌}
+use Rattle.std.specs.Prelude.{ℕ, zero, suc, ◌+◌, ◌-◌, max, Bool, true, false, ◌&&◌, ◌||◌, not, List, [], ◌∷◌, ◌++◌, map, eqb, leb, replicate, get_or, set, if◌then◌else◌, Some, None, Option}
 use Rattle.ids.specs.Order.{before}
 use Rattle.ids.specs.Requests.{is_request}
 use Rattle.ids.specs.declared.ClientId.{ClientId}
 use Rattle.ids.specs.declared.ServerId.{ServerId}
 use Rattle.ids.specs.declared.Timestamp.{Timestamp}
 use Rattle.ids.specs.declared.Request.{Request}
-use Rattle.ids.specs.declared.Owner.{Owner}
-use Rattle.ids.specs.declared.Owner.TheVariants.{Nobody, Of}
 use Rattle.ids.specs.declared.Refusal.TheVariants.{WrongSection, TimestampsSpent}
 use Rattle.wire.specs.Format.{owner_timestamp}
 use Rattle.wire.specs.Step.{Step, stay, tell, Outcome, refused}
@@ -24,11 +22,11 @@ pub record State : Type 0 where
   -- the largest timestamp that a RESPONSE or a CHECK has told it of, 0 before the first
   pub seen : Timestamp
   -- resp[1..n]: the owner that each server named, nobody for (nil, nil)
-  pub responses : List Owner
+  pub responses : List (Option Request)
 
 abbrev pub fresh : ℕ → State
 fresh n =
-    record { section = Remainder; timestamp = record { 0 = 0 }; seen = record { 0 = 0 }; responses = replicate n Nobody }
+    record { section = Remainder; timestamp = record { 0 = 0 }; seen = record { 0 = 0 }; responses = replicate n None }
 
 -- the request that client k stands for
 abbrev pub request : ClientId → State → Request
@@ -85,9 +83,9 @@ try_checked c o =
 abbrev pub exit_checked : {A : Type 0} → State → Outcome A → Outcome A
 exit_checked c o = if is_critical c.section then o else refused WrongSection
 
-abbrev pub filled : Owner → Bool
-filled Nobody = false
-filled (Of o) = true
+abbrev pub filled : Option Request → Bool
+filled None = false
+filled (Some o) = true
 
 abbrev pub count : List Bool → ℕ
 count [] = 0
@@ -110,7 +108,7 @@ to_all f (suc n) = to_all f n ++ (f (record { 0 = suc n }) ∷ [])
 unfoldable pub tries : ℕ → ClientId → State → Step State
 tries n k c =
     record {
-      state = record { section = Trying; timestamp = taken c; seen = c.seen; responses = replicate n Nobody };
+      state = record { section = Trying; timestamp = taken c; seen = c.seen; responses = replicate n None };
       sent = to_all (λ j. REQUEST k j (taken c)) n;
     }
 
@@ -119,24 +117,24 @@ unfoldable pub exits : ℕ → ClientId → State → Step State
 exits n k c =
     record {
       state =
-          record { section = Remainder; timestamp = next c.timestamp; seen = c.seen; responses = replicate n Nobody };
+          record { section = Remainder; timestamp = next c.timestamp; seen = c.seen; responses = replicate n None };
       sent = to_all (λ j. RELEASE k j c.timestamp) n;
     }
 
 -- the response of server j, and the responses with o in its place
-abbrev pub response_of : List Owner → ServerId → Owner
-response_of l j = get_or l (j.0 - 1) Nobody
+abbrev pub response_of : List (Option Request) → ServerId → Option Request
+response_of l j = get_or l (j.0 - 1) None
 
-abbrev pub with_response : List Owner → ServerId → Owner → List Owner
+abbrev pub with_response : List (Option Request) → ServerId → Option Request → List (Option Request)
 with_response l j o = set l (j.0 - 1) o
 
 -- line 8's second part: the owner is another client, or nobody, or this very request
-abbrev pub current : Request → Owner → Bool
-current r Nobody = true
-current r (Of o) = not (eqb o.client.0 r.client.0) || eqb o.timestamp.0 r.timestamp.0
+abbrev pub current : Request → Option Request → Bool
+current r None = true
+current r (Some o) = not (eqb o.client.0 r.client.0) || eqb o.timestamp.0 r.timestamp.0
 
 -- lines 8 and 9: the responses of request r after server j named owner o
-unfoldable pub heard : Request → List Owner → ServerId → Owner → List Owner
+unfoldable pub heard : Request → List (Option Request) → ServerId → Option Request → List (Option Request)
 heard r l j o = if not (is_request r (response_of l j)) && current r o then with_response l j o else l
 
 -- lines 15 to 17: what r's client sends to server j, which named o
@@ -147,35 +145,35 @@ reply r j o =
     else INQUIRY r.client j r.timestamp
 
 -- line 14 to 17 at one server: nothing to one that named nobody
-abbrev pub replies : Request → ServerId → Owner → List Message
-replies r j Nobody = []
-replies r j (Of o) = reply r j o ∷ []
+abbrev pub replies : Request → ServerId → Option Request → List Message
+replies r j None = []
+replies r j (Some o) = reply r j o ∷ []
 
 -- lines 14 to 17, for the responses of the servers from j on
-unfoldable pub round : Request → ℕ → List Owner → List Message
+unfoldable pub round : Request → ℕ → List (Option Request) → List Message
 round r j [] = []
 round r j (o ∷ l) = replies r (record { 0 = j }) o ++ round r (suc j) l
 
 -- which responses are request r's own
-abbrev pub own : Request → List Owner → List Bool
+abbrev pub own : Request → List (Option Request) → List Bool
 own r l = map (is_request r) l
 
 -- lines 10 to 18, for client k in state c with responses l, by the quorum's verdicts on the filled places and on the own ones: with enough
 -- responses of its own it enters, with enough it yields and forgets them, else it waits on
-abbrev pub decide : Bool → Bool → ℕ → ClientId → State → List Owner → Step State
+abbrev pub decide : Bool → Bool → ℕ → ClientId → State → List (Option Request) → Step State
 decide full mine n k c l =
-    let with : Section → List Owner → State =
+    let with : Section → List (Option Request) → State =
     λ s a. record { section = s; timestamp = c.timestamp; seen = c.seen; responses = a } in
     if full then
     (if mine then stay (with Critical l)
-    else record { state = with Trying (replicate n Nobody); sent = round (request k c) 1 l })
+    else record { state = with Trying (replicate n None); sent = round (request k c) 1 l })
     else stay (with Trying l)
 
-unfoldable pub judge : Quorum → ℕ → ClientId → State → List Owner → Step State
+unfoldable pub judge : Quorum → ℕ → ClientId → State → List (Option Request) → Step State
 judge wins n k c l = decide (wins (map filled l)) (wins (own (request k c) l)) n k c l
 
 -- lines 7 to 18: upon a RESPONSE of server j that names o; outside the trying section it changes nothing
-unfoldable pub upon_response : Quorum → ℕ → ClientId → ServerId → Owner → State → Step State
+unfoldable pub upon_response : Quorum → ℕ → ClientId → ServerId → Option Request → State → Step State
 upon_response wins n k j o c =
     if is_trying c.section then judge wins n k c (heard (request k c) c.responses j o) else stay c
 
@@ -184,11 +182,11 @@ unfoldable pub upon_check : ClientId → ServerId → Timestamp → State → St
 upon_check k j t c = if eqb t.0 c.timestamp.0 then stay c else tell c (RELEASE k j t)
 
 -- the timestamp that a RESPONSE tells of, 0 if it names nobody
-abbrev pub told : Owner → Timestamp
+abbrev pub told : Option Request → Timestamp
 told o = record { 0 = owner_timestamp o }
 
 -- Client k takes a RESPONSE or a CHECK of server j: it has seen the timestamp, in every section and whatever the lines make of it (L4).
-abbrev pub responds : Quorum → ℕ → ClientId → ServerId → Owner → State → Step State
+abbrev pub responds : Quorum → ℕ → ClientId → ServerId → Option Request → State → Step State
 responds wins n k j o c = upon_response wins n k j o (saw (told o) c)
 
 abbrev pub checked : ClientId → ServerId → Timestamp → State → Step State

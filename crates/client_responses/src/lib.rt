@@ -13,7 +13,7 @@ ghost use Rattle.client_responses.specs.Figure1.{filled as filled_of, count, own
 ghost use Rattle.client_responses.specs.Row.{shown, place, responses_in, place_of, misfit as misfit_of, heard_row};
 ghost use Rattle.client_responses.specs.Inner.{pair, one};
 
-use ids::{Owner, Request, ServerId, Timestamp};
+use ids::{Request, ServerId, Timestamp};
 use wire::Message;
 
 #[derive(Clone, Copy)]
@@ -124,12 +124,12 @@ pub fn is_own(r: Request, q: Request) -> bool
 }
 
 // Line 8's second part: the owner is another client, or nobody, or the request `r` itself.
-fn is_current(r: Request, o: Owner) -> bool
+fn is_current(r: Request, o: Option<Request>) -> bool
     ensures { result ≡ current r o }
 {
     match o {
-        Owner::Nobody => true,
-        Owner::Of(q) => {
+        None => true,
+        Some(q) => {
             if q.client.0 != r.client.0 {
                 return true;
             }
@@ -138,17 +138,17 @@ fn is_current(r: Request, o: Owner) -> bool
     }
 }
 
-fn place_of(o: Owner) -> Request
+fn place_of(o: Option<Request>) -> Request
     ensures { result ≡ place o }
 {
     match o {
-        Owner::Nobody => rows::nobody(),
-        Owner::Of(q) => q,
+        None => rows::nobody(),
+        Some(q) => q,
     }
 }
 
 // The timestamp that a RESPONSE tells of, 0 if it names nobody.
-pub fn told(o: Owner) -> Timestamp
+pub fn told(o: Option<Request>) -> Timestamp
     ensures { result ≡ told_of o }
 {
     let q = place_of(o);
@@ -156,7 +156,7 @@ pub fn told(o: Owner) -> Timestamp
 }
 
 // Lines 8 and 9: server `j` named `o`. Returns what stood in its place, for a caller that must undo it.
-pub fn hear(r: Request, row: &mut [u32], j: ServerId, o: Owner) -> Request
+pub fn hear(r: Request, row: &mut [u32], j: ServerId, o: Option<Request>) -> Request
     requires { Places row.old × (1 ≤ j.0) × (2 * j.0 ≤ length row.old) }
     ensures { (result ≡ place_of row.old j) × (row.new ≡ heard_row r row.old j o) }
 {

@@ -6,7 +6,6 @@
 
 use ids::Refusal;
 use quorum::Verdict;
-use script_numbers::Reading;
 use std::env::{Env, FillError};
 
 // What is said of the setting.
@@ -41,11 +40,11 @@ fn is_there(rt: &impl Env, i: usize) -> bool {
 }
 
 // Argument `i` as a number. One that is longer than a number is none.
-fn argument(rt: &impl Env, i: usize) -> Reading {
+fn argument(rt: &impl Env, i: usize) -> Option<u32> {
     let mut word = [0u8; 11];
     match rt.arg(i, &mut word) {
         Ok(n) => script_numbers::read_number(&word[0..n]),
-        Err(_) => Reading::Nothing,
+        Err(_) => None,
     }
 }
 
@@ -55,28 +54,16 @@ fn refuse(rt: &HostRuntime, out: &mut [u8]) {
     console::write_out(rt, &rt.stderr(), &out[0..end]);
 }
 
-fn propose(rt: &HostRuntime, out: &mut [u8], n: Reading, f: Reading) {
-    let Reading::Number(n) = n else {
-        refuse(rt, out);
-        return;
-    };
-    let Reading::Number(f) = f else {
+fn propose(rt: &HostRuntime, out: &mut [u8], n: Option<u32>, f: Option<u32>) {
+    let (Some(n), Some(f)) = (n, f) else {
         refuse(rt, out);
         return;
     };
     say_thresholds(rt, out, n, f);
 }
 
-fn answer(rt: &HostRuntime, out: &mut [u8], n: Reading, m: Reading, f: Reading) {
-    let Reading::Number(n) = n else {
-        refuse(rt, out);
-        return;
-    };
-    let Reading::Number(m) = m else {
-        refuse(rt, out);
-        return;
-    };
-    let Reading::Number(f) = f else {
+fn answer(rt: &HostRuntime, out: &mut [u8], n: Option<u32>, m: Option<u32>, f: Option<u32>) {
+    let (Some(n), Some(m), Some(f)) = (n, m, f) else {
         refuse(rt, out);
         return;
     };

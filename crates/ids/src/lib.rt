@@ -37,13 +37,6 @@ pub struct Request {
     pub timestamp: Timestamp,
 }
 
-// Whom a server names as the owner of its vote.
-#[derive(Clone, Copy)]
-pub enum Owner {
-    Nobody,
-    Of(Request),
-}
-
 // Why a call is refused; `code` gives each its number in document 01's table, and from 22 on in document 02.
 #[derive(Clone, Copy)]
 pub enum Refusal {
@@ -102,12 +95,13 @@ pub fn valid_request(q: Request) -> bool
     valid_client(q.client) && valid_timestamp(q.timestamp)
 }
 
-pub fn valid_owner(o: Owner) -> bool
+// The same of whom a server names as the owner of its vote, if anybody.
+pub fn valid_owner(o: Option<Request>) -> bool
     ensures { result ≡ valid_owner o }
 {
     match o {
-        Owner::Nobody => true,
-        Owner::Of(q) => valid_request(q),
+        None => true,
+        Some(q) => valid_request(q),
     }
 }
 

@@ -1,11 +1,11 @@
 -- The listing has every short run and no other list: a system that events led to accepts no event but of its clients, its servers and the messages ever
 -- sent, since what is in transit has such a number; and the beginnings of a run are runs.
+use Rattle.std.specs.Prelude.{Some}
 use mathlib.Core.Path.{◌≡◌, refl}
 use mathlib.Core.Logic.{⊎_elim}
 use Prim.Native.Nat.{ℕ, zero, suc, ◌+◌, ◌≤◌, ◌<◌, zero-le}
 use native.Mathlib.Omega.{arith}
 use mathlib.Core.Bool.{Bool, true, false, false≢true}
-use mathlib.Core.Option.{some}
 use mathlib.Core.List.Memᴰ.{append_left}
 use mathlib.Core.List.Memᴰ.{append_right}
 use mathlib.Core.List.Memᴰ.{cases_cons as cons-cases}
@@ -89,7 +89,7 @@ module _ (P : ℕ → Type 0) (i : ℕ) where
   present-number (more {x = x} {l = l} p t) h =
       branch (λ b. b ≡ true → P i) (eqb x.number i) (λ e _. rw (eqb-true x.number i e) at p) (λ _ g. present-number t g) h
 
-pending-present : (i : ℕ) {m : Message} (l : List InTransit) → pending i l ≡ some m → present i l ≡ true
+pending-present : (i : ℕ) {m : Message} (l : List InTransit) → pending i l ≡ Some m → present i l ≡ true
 unfolding pending
 pending-present i [] h = absurd (let z : ◌≡◌ {A = ℕ} 0 1 = cc in omega arith)
 pending-present i {m} (x ∷ l) h =

@@ -1,5 +1,6 @@
 -- How far events lead: each one sends at most as many messages as there are servers, or three; so after i of them there are at most i times as
 -- many, with numbers from 1, and no more in transit.
+use Rattle.ids.specs.declared.Request.{Request}
 use Prim.Native.Nat.{ℕ, suc, ◌+◌, ◌*◌, ◌≤◌, ◌<◌, zero-le, max}
 use native.Mathlib.Nat.{le_refl, suc-mul}
 use native.Mathlib.Omega.{arith}
@@ -9,10 +10,9 @@ use mathlib.Core.Logic.{⊎_elim}
 use mathlib.Core.List.{List, [], ◌∷◌, ◌++◌, map}
 use lib.Dec.{eqb}
 use lib.ListN.{length, length-append, length-map}
-use Rattle.std.specs.Prelude.{if◌then◌else◌}
+use Rattle.std.specs.Prelude.{if◌then◌else◌, Option}
 use Rattle.ids.specs.declared.ClientId.{ClientId}
 use Rattle.ids.specs.declared.ServerId.{ServerId}
-use Rattle.ids.specs.declared.Owner.{Owner}
 use Rattle.ids.proofs.Choice.{decided}
 use Rattle.wire.specs.declared.Message.{Message}
 use Rattle.client_responses.specs.declared.Section.{Section}
@@ -88,7 +88,7 @@ trying-within Remainder e = absurd (false≢true e)
 trying-within Trying e = refl
 trying-within Critical e = refl
 
-answers-few : (n : ℕ) (wins : Quorum) (k : ClientId) (j : ServerId) (o : Owner) (c : State) → Fine n wins k c → length (responds wins n k j o c).sent ≤ n
+answers-few : (n : ℕ) (wins : Quorum) (k : ClientId) (j : ServerId) (o : Option Request) (c : State) → Fine n wins k c → length (responds wins n k j o c).sent ≤ n
 unfolding upon_response
 answers-few n wins k j o c f =
     ⊎_elim

@@ -1,14 +1,13 @@
 -- The listing as text: document 02, L5. A run is a line of its events as a script has them, with commas between them; the last line has
 -- two numbers, the runs and those with two holders at some moment.
-use Rattle.std.specs.Prelude.{ℕ, List, [], ◌∷◌, ◌++◌, map, length}
+use Rattle.ids.specs.declared.Refusal.{Refusal}
+use Rattle.std.specs.Prelude.{ℕ, List, [], ◌∷◌, ◌++◌, map, length, Ok, Err, Result}
 use Rattle.system.specs.declared.Event.{Event}
 use Rattle.system.specs.declared.Setting.{Setting}
 use Rattle.script_numbers.specs.Decimals.{decimal}
 use Rattle.script_lines.specs.Words.{newline}
 use Rattle.script_lines.specs.Printed.{event_line, printed, refused_line}
 use Rattle.listing.specs.Listing.{each, runs, meetings}
-use Rattle.listing.specs.declared.Asked.{Asked}
-use Rattle.listing.specs.declared.Asked.TheVariants.{Runs, Refused}
 
 abbrev pub comma : ℕ
 comma = 44
@@ -32,6 +31,6 @@ unfoldable pub listing : Setting → ℕ → List ℕ
 listing s events = each run_line (runs s events) ++ counts_line (length (runs s events)) (meetings s events)
 
 -- what is printed for what is asked
-unfoldable pub text_of : Asked → List ℕ
-text_of (Runs s events) = listing s events
-text_of (Refused x) = refused_line x
+unfoldable pub text_of : Result (Setting × ℕ) Refusal → List ℕ
+text_of (Ok (s, events)) = listing s events
+text_of (Err x) = refused_line x

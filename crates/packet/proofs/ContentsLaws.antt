@@ -1,12 +1,12 @@
 -- What bytes carry, part by part: the first part that reading refuses decides, and a place is found by passing the parts in front of it.
+use Rattle.std.specs.Prelude.{Ok, Err, Result, Some, None, Option, ⊤}
 use Prim.Native.Nat.{ℕ, ◌+◌, ◌-◌, ◌<◌, ◌≤◌}
 use native.Mathlib.Nat.{add-sub_cancel_left}
 use native.Mathlib.Omega.{arith}
 use mathlib.Core.Path.{◌≡◌, refl, sym, ap, ◌∙◌}
 use mathlib.Core.Bool.{true, false}
 use mathlib.Core.List.{List, [], ◌∷◌}
-use mathlib.Core.Logic.{⊎_elim}
-use mathlib.Core.Option.{Option, none, some}
+use mathlib.Core.Logic.{⊎_elim, tt}
 use lib.ListN.{length, take, drop, length-drop}
 use lib.Seq.{drop-drop, length-take-le}
 use borrow.Author.Tests.{eq-eqb, ne_eqb}
@@ -17,13 +17,9 @@ use Rattle.ids.proofs.Choice.{decided, clash}
 use Rattle.wire.specs.Format.{length_in}
 use Rattle.wire.specs.Calls.{read_of}
 use Rattle.wire.specs.declared.Message.{Message}
-use Rattle.wire.specs.declared.Parsed.{Parsed}
-use Rattle.wire.specs.declared.Parsed.TheVariants.{Accepted, Refused as NotRead}
 use Rattle.packet.specs.Packet.{total_bytes, fits, with_first, cut, Piece, Contents, refused, carries, in_front, read_parts, contents_of, pieces}
 use Rattle.packet.specs.Reading.{starts, find_in}
 use Rattle.packet.specs.Inner.{size_in, walked, judged, Reached}
-use Rattle.packet.specs.declared.Verdict.{Verdict}
-use Rattle.packet.specs.declared.Verdict.TheVariants.{Accepted as Good, Refused}
 use Rattle.packet.proofs.WalkLaws.{sized, unfit, cut-empty, cut-next, walked_next, walked_stuck}
 
 pub contents_empty : (s : List ℕ) → length s ≡ 0 → contents_of s ≡ carries []
@@ -33,14 +29,14 @@ contents_empty s h = rw (cut-empty s h)
 -- the walk decides first
 module _ (p : List ℕ) where
   broken : (o : Option (List (List ℕ))) → maybe o false (λ ps. true) ≡ false → maybe o (refused PacketMalformed) read_parts ≡ refused PacketMalformed
-  broken none h = refl
-  broken (some ps) h = clash true refl h
+  broken None h = refl
+  broken (Some ps) h = clash true refl h
 
   front : (o : Option (List (List ℕ))) → maybe o false (λ ps. true) ≡ true
       → maybe (with_first p o) (refused PacketMalformed) read_parts ≡ in_front p (read_of p) (maybe o (refused PacketMalformed) read_parts)
   unfolding read_parts
-  front none h = clash false h refl
-  front (some ps) h = refl
+  front None h = clash false h refl
+  front (Some ps) h = refl
 
 pub contents_broken : (s : List ℕ) → walked s ≡ false → contents_of s ≡ refused PacketMalformed
 unfolding contents_of walked
@@ -77,15 +73,15 @@ part_at s at size h w e =
     }
 
 -- the first part that is refused decides
-first-refused : (p : List ℕ) (q : Parsed) (e : Refusal) (rest : Contents) → q ≡ NotRead e → judged (in_front p q rest) ≡ Refused e
+first-refused : (p : List ℕ) (q : Result (Message × ℕ) Refusal) (e : Refusal) (rest : Contents) → q ≡ Err e → judged (in_front p q rest) ≡ Err e
 first-refused p q e rest h = rw h
 
-first-accepted : (p : List ℕ) (q : Parsed) (m : Message) (n : ℕ) (rest : Contents) → q ≡ Accepted m n → judged (in_front p q rest) ≡ judged rest
+first-accepted : (p : List ℕ) (q : Result (Message × ℕ) Refusal) (m : Message) (n : ℕ) (rest : Contents) → q ≡ Ok (m, n) → judged (in_front p q rest) ≡ judged rest
 first-accepted p q m n (refused e) h = rw h
 first-accepted p q m n (carries ps) h = rw h
 
 -- the part from `at` to `at + size`, as the code lends it
-pub lent-part : (s : List ℕ) (at size : ℕ) (q : Parsed) → q ≡ read_of (take (at + size - at) (drop at s)) → q ≡ read_of (take size (drop at s))
+pub lent-part : (s : List ℕ) (at size : ℕ) (q : Result (Message × ℕ) Refusal) → q ≡ read_of (take (at + size - at) (drop at s)) → q ≡ read_of (take size (drop at s))
 lent-part s at size q r = rw (add-sub_cancel_left at size) at r
 
 -- what `first_bad` knows at its loop's head: the walk ends with the bytes, and from `at` on they are judged as from `from` on
@@ -99,49 +95,49 @@ module _ (s : List ℕ) (from : ℕ) where
   judging_start h w = record { within = h; walks = w; same = refl }
 
   module _ (at : ℕ) (inv : Judging s from at) where
-    pub judging_done : length s ≤ at → Good ≡ judged (contents_of (drop from s))
+    pub judging_done : length s ≤ at → Ok tt ≡ judged (contents_of (drop from s))
     judging_done h = sym (ap judged (contents_empty (drop at s) (omega (arith, length-drop at s)))) ∙ inv.same
 
     module _ (size : ℕ) (h : at < length s) (e : size ≡ size_in (drop at s)) where
       pub its-part : PartAt s at size
       its-part = part_at s at size h inv.walks e
 
-      module _ (q : Parsed) (r : q ≡ read_of (take (at + size - at) (drop at s))) where
-        pub judging_more : (m : Message) (n : ℕ) → q ≡ Accepted m n → Judging s from (at + size)
+      module _ (q : Result (Message × ℕ) Refusal) (r : q ≡ read_of (take (at + size - at) (drop at s))) where
+        pub judging_more : (m : Message) (n : ℕ) → q ≡ Ok (m, n) → Judging s from (at + size)
         judging_more m n a =
             let p = its-part in
-            let b : read_of (take size (drop at s)) ≡ Accepted m n = sym (lent-part s at size q r) ∙ a in
+            let b : read_of (take size (drop at s)) ≡ Ok (m, n) = sym (lent-part s at size q r) ∙ a in
             let j = first-accepted (take size (drop at s)) (read_of (take size (drop at s))) m n (contents_of (drop (at + size) s)) b in
             record { within = p.within; walks = p.walked_on; same = sym (ap judged p.contents ∙ j) ∙ inv.same }
 
-        pub judging_bad : (x : Refusal) → q ≡ NotRead x → Refused x ≡ judged (contents_of (drop from s))
+        pub judging_bad : (x : Refusal) → q ≡ Err x → Err x ≡ judged (contents_of (drop from s))
         judging_bad x a =
             let p = its-part in
-            let b : read_of (take size (drop at s)) ≡ NotRead x = sym (lent-part s at size q r) ∙ a in
+            let b : read_of (take size (drop at s)) ≡ Err x = sym (lent-part s at size q r) ∙ a in
             let j = first-refused (take size (drop at s)) (read_of (take size (drop at s))) x (contents_of (drop (at + size) s)) b in
             sym (ap judged p.contents ∙ j) ∙ inv.same
 
 -- bytes that carry messages: the walk ends with them, and the first is accepted
-never : (x : Refusal) → ◌≡◌ {A = Verdict} (Refused x) Good → ⊥
+never : (x : Refusal) → ◌≡◌ {A = Result ⊤ Refusal} (Err x) (Ok tt) → ⊥
 never x h = let z : ◌≡◌ {A = ℕ} 0 1 = cc in omega arith
 
-pub carried_walks : (s : List ℕ) → judged (contents_of s) ≡ Good → walked s ≡ true
+pub carried_walks : (s : List ℕ) → judged (contents_of s) ≡ Ok tt → walked s ≡ true
 carried_walks s h =
     ⊎_elim (λ (w : walked s ≡ true). w) (λ (w : walked s ≡ false). absurd (never PacketMalformed (sym (ap judged (contents_broken s w)) ∙ h)))
     (decided (walked s))
 
 -- the part in front of those that are carried: the message that it is read as
-pub record First (p : List ℕ) (q : Parsed) (rest : Contents) : Type 0 where
+pub record First (p : List ℕ) (q : Result (Message × ℕ) Refusal) (rest : Contents) : Type 0 where
   pub message : Message
   pub used : ℕ
-  pub read : q ≡ Accepted message used
-  pub others : judged rest ≡ Good
+  pub read : q ≡ Ok (message, used)
+  pub others : judged rest ≡ Ok tt
   pub list : pieces (in_front p q rest) ≡ record { message = message; part = p } ∷ pieces rest
 
-pub first : (p : List ℕ) (q : Parsed) (rest : Contents) → judged (in_front p q rest) ≡ Good → First p q rest
-first p (NotRead x) rest h = absurd (never x h)
-first p (Accepted m n) (refused x) h = absurd (never x h)
-first p (Accepted m n) (carries ps) h = record { message = m; used = n; read = refl; others = refl; list = refl }
+pub first : (p : List ℕ) (q : Result (Message × ℕ) Refusal) (rest : Contents) → judged (in_front p q rest) ≡ Ok tt → First p q rest
+first p (Err x) rest h = absurd (never x h)
+first p (Ok (m, n)) (refused x) h = absurd (never x h)
+first p (Ok (m, n)) (carries ps) h = record { message = m; used = n; read = refl; others = refl; list = refl }
 
 -- what is at a place: found at once where a message starts, else behind the first part
 module _ (from : ℕ) (p : Piece) (ps : List Piece) (at : ℕ) where
@@ -154,7 +150,7 @@ module _ (from : ℕ) (p : Piece) (ps : List Piece) (at : ℕ) where
   found-behind n = rw (ne_eqb at from n)
 
 -- the search begins at the first place
-pub reached-first : (s : List ℕ) (at : ℕ) → total_bytes ≤ length s → judged (contents_of (drop total_bytes s)) ≡ Good → Reached s at total_bytes
+pub reached-first : (s : List ℕ) (at : ℕ) → total_bytes ≤ length s → judged (contents_of (drop total_bytes s)) ≡ Ok tt → Reached s at total_bytes
 reached-first s at h g = record { within = h; carried = g; found = refl }
 
 -- the part that stands at a place that was reached

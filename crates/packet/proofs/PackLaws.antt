@@ -1,4 +1,6 @@
 -- What packing answers and leaves, in each case; and the bytes that are laid down so far.
+use mathlib.Core.Logic.{tt}
+use Rattle.std.specs.Prelude.{Ok, Err}
 use Prim.Native.Nat.{ℕ, ◌+◌, ◌-◌, ◌/◌, ◌%◌, ◌<◌, ◌≤◌}
 use native.Mathlib.Omega.{arith}
 use native.Mathlib.Numerals.{add-one}
@@ -10,12 +12,10 @@ use borrow.Author.Tests.{lt-ltb, le-ltb}
 use Rattle.ids.specs.declared.Refusal.{Refusal}
 use Rattle.ids.specs.declared.Refusal.TheVariants.{PacketMalformed, RoomShort}
 use Rattle.wire.specs.Bytes.{little_endian}
-use Rattle.wire.specs.declared.Written.TheVariants.{Bytes, Refused}
 use Rattle.wire.proofs.BytesLaws.{stored_on}
 use Rattle.packet.specs.Packet.{total_bytes, max_total, contents_of}
 use Rattle.packet.specs.Packing.{packed_bytes, packed, pack_of, buffer_after}
 use Rattle.packet.specs.Inner.{judged}
-use Rattle.packet.specs.declared.Verdict.TheVariants.{Accepted as Good, Refused as Bad}
 use Rattle.packet.proofs.PlaceLaws.{good-carries, bad_refused}
 
 -- what `put_packet` knows at its loop's head: behind the total the bytes before place i are laid down
@@ -49,20 +49,20 @@ laid_packet o l bytes t e h =
 
 -- what `pack` answers and leaves
 module _ (bytes o : List ℕ) where
-  pub pack_long : max_total - total_bytes < length bytes → (Refused PacketMalformed ≡ pack_of bytes (length o)) × (o ≡ buffer_after bytes o)
+  pub pack_long : max_total - total_bytes < length bytes → (Err PacketMalformed ≡ pack_of bytes (length o)) × (o ≡ buffer_after bytes o)
   unfolding pack_of buffer_after
   pack_long h = let t = lt-ltb max_total (packed_bytes bytes) (omega arith) in (rw t, rw t)
 
   module _ (short : length bytes ≤ max_total - total_bytes) where
-    pub pack_refused : (x : Refusal) → Bad x ≡ judged (contents_of bytes) → (Refused x ≡ pack_of bytes (length o)) × (o ≡ buffer_after bytes o)
+    pub pack_refused : (x : Refusal) → Err x ≡ judged (contents_of bytes) → (Err x ≡ pack_of bytes (length o)) × (o ≡ buffer_after bytes o)
     unfolding pack_of buffer_after
     pack_refused x h =
         let t = le-ltb max_total (packed_bytes bytes) (omega arith) in
         let b = bad_refused (contents_of bytes) x (sym h) in
         (rw (t, b), rw (t, b))
 
-    module _ (good : Good ≡ judged (contents_of bytes)) (total : ℕ) (its : total ≡ packed_bytes bytes) where
-      pub pack_room : length o < total → (Refused RoomShort ≡ pack_of bytes (length o)) × (o ≡ buffer_after bytes o)
+    module _ (good : Ok tt ≡ judged (contents_of bytes)) (total : ℕ) (its : total ≡ packed_bytes bytes) where
+      pub pack_room : length o < total → (Err RoomShort ≡ pack_of bytes (length o)) × (o ≡ buffer_after bytes o)
       unfolding pack_of buffer_after
       pack_room h =
           let t = le-ltb max_total (packed_bytes bytes) (omega arith) in
@@ -70,7 +70,7 @@ module _ (bytes o : List ℕ) where
           let r = lt-ltb (length o) (packed_bytes bytes) (omega arith) in
           (rw (t, g, r), rw (t, g, r))
 
-      pub pack_done : total ≤ length o → (l : List ℕ) → l ≡ sets o 0 (packed bytes) → (Bytes total ≡ pack_of bytes (length o)) × (l ≡ buffer_after bytes o)
+      pub pack_done : total ≤ length o → (l : List ℕ) → l ≡ sets o 0 (packed bytes) → (Ok total ≡ pack_of bytes (length o)) × (l ≡ buffer_after bytes o)
       unfolding pack_of buffer_after
       pack_done h l e =
           let t = le-ltb max_total (packed_bytes bytes) (omega arith) in

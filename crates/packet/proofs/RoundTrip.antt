@@ -1,4 +1,5 @@
 -- What is packed is read as the messages that were packed, and an accepted packet's messages, packed again, are the same bytes.
+use Rattle.std.specs.Prelude.{Ok, Err, Result}
 use Prim.Native.Nat.{ℕ, ◌+◌, ◌≤◌}
 use native.Mathlib.Omega.{arith}
 use mathlib.Core.Path.{◌≡◌, refl, sym, ap, ◌∙◌}
@@ -17,9 +18,6 @@ use Rattle.wire.specs.Bytes.{little_endian, number}
 use Rattle.wire.specs.Format.{valid, bytes_of, bytes_of_all, size_of_all}
 use Rattle.wire.specs.Calls.{read_of}
 use Rattle.wire.specs.declared.Message.{Message}
-use Rattle.wire.specs.declared.Parsed.TheVariants.{Accepted}
-use Rattle.wire.specs.declared.Written.{Written}
-use Rattle.wire.specs.declared.Written.TheVariants.{Bytes, Refused}
 use Rattle.wire.proofs.BytesLaws.{AllBytes, none, more, bytes_drop, number-little_endian, little_endian-number}
 use Rattle.wire.proofs.FormatLaws.{length-bytes_of}
 use Rattle.wire.proofs.RoundTrip.{written_is_read, read_is_written}
@@ -62,11 +60,11 @@ module _ (bytes t : List ℕ) (short : packed_bytes bytes ≤ max_total) where
   packed_is_read = rw (packed-framed, its_body)
 
 -- what the call leaves behind
-module _ (bytes o : List ℕ) (n : ℕ) (written : pack_of bytes (length o) ≡ Bytes n) where
-  refused_not_written : (x : Refusal) → ◌≡◌ {A = Written} (Refused x) (Bytes n) → ⊥
+module _ (bytes o : List ℕ) (n : ℕ) (written : pack_of bytes (length o) ≡ Ok n) where
+  refused_not_written : (x : Refusal) → ◌≡◌ {A = Result ℕ Refusal} (Err x) (Ok n) → ⊥
   refused_not_written x h = let z : ◌≡◌ {A = ℕ} 0 1 = cc in omega arith
 
-  by_contents : (c : Contents) → contents_of bytes ≡ c → pack_in c (packed_bytes bytes) (length o) ≡ Bytes n
+  by_contents : (c : Contents) → contents_of bytes ≡ c → pack_in c (packed_bytes bytes) (length o) ≡ Ok n
       → (packed_bytes bytes ≤ length o) × (ps : List Piece) × (contents_of bytes ≡ carries ps)
   by_contents (refused x) e h = absurd (refused_not_written x h)
   by_contents (carries ps) e h = (ltb-false _ _ (passed (ltb (length o) (packed_bytes bytes)) (refused_not_written RoomShort) h).0, ps, e)
@@ -92,7 +90,7 @@ unfolding messages
 messages_of [] = refl
 messages_of (m ∷ ms) = ap (λ l. m ∷ l) (messages_of ms)
 
-read-bytes : (m : Message) → valid m ≡ true → read_of (bytes_of m) ≡ Accepted m (length (bytes_of m))
+read-bytes : (m : Message) → valid m ≡ true → read_of (bytes_of m) ≡ Ok (m, length (bytes_of m))
 read-bytes m v = rw (append-nil (bytes_of m), ← length-bytes_of m) at (written_is_read m [] v)
 
 carried-messages : (ms : List Message) → every valid ms ≡ true → Carries (bytes_of_all ms) (pieces_of ms)
@@ -181,6 +179,6 @@ module _ (s : List ℕ) (ps : List Piece) (accepted : packet_of s ≡ carries ps
   packed-again o h =
       let g = is_framed s its_frame in
       let l : length (up_to_total s) ≡ total_in s = length-take-le (total_in s) s g.within in
-      let w : pack_of (bytes_of_all (messages ps)) (length o) ≡ Bytes (total_in s) = packs-again (length o) ∙ rw (le-ltb (length o) (total_in s) h) in
+      let w : pack_of (bytes_of_all (messages ps)) (length o) ≡ Ok (total_in s) = packs-again (length o) ∙ rw (le-ltb (length o) (total_in s) h) in
       let z : 0 + length (up_to_total s) ≡ total_in s = omega arith in
       rw (w, read_is_packed) (rw z at (sets-eq (up_to_total s) o 0 (omega arith)))

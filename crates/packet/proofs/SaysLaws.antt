@@ -1,30 +1,26 @@
 -- The answers in document 02's numbers: each definition of an answer, said in numbers, is in the order of the refusals.
+use Rattle.ids.specs.declared.Refusal.{Refusal}
+use Rattle.wire.specs.declared.Message.{Message}
 use Prim.Native.Nat.{ℕ}
 use mathlib.Core.Path.{◌≡◌, refl, sym, ap, ◌∙◌}
 use mathlib.Core.Bool.{true, false, not}
 use mathlib.Core.List.{List, [], ◌∷◌}
 use mathlib.Core.Logic.{⊎_elim}
-use mathlib.Core.Option.{Option, none, some}
 use lib.Dec.{eqb, ltb}
 use lib.ListN.{length}
 use Rattle.ids.specs.Choice.{maybe}
-use Rattle.std.specs.Prelude.{if◌then◌else◌}
+use Rattle.std.specs.Prelude.{if◌then◌else◌, Ok, Err, Result, Some, None, Option}
 use Rattle.ids.specs.Refusals.{code, Says, accepts, refuses}
 use Rattle.ids.specs.declared.Refusal.TheVariants.{PacketMalformed, RoomShort}
 use Rattle.ids.proofs.Choice.{of_choice, decided}
 use Rattle.ids.proofs.Codes.{some_number}
 use Rattle.wire.specs.Calls.{read_of}
 use Rattle.wire.specs.Says.{parsed_says, read_says, written_says}
-use Rattle.wire.specs.declared.Parsed.{Parsed}
-use Rattle.wire.specs.declared.Parsed.TheVariants.{Accepted, Refused as NotRead}
-use Rattle.wire.specs.declared.Written.{Written}
-use Rattle.wire.specs.declared.Written.TheVariants.{Bytes, Refused as NotWritten}
 use Rattle.wire.proofs.SaysLaws.{read-said}
 use Rattle.packet.specs.Packet.{total_bytes, max_total, cut, Contents, refused, carries, in_front, read_parts, contents_of, framed, body_of, packet_of}
 use Rattle.packet.specs.Reading.{Found, starts, ends, nowhere, find_in, next_found, next_in, next_of}
 use Rattle.packet.specs.Packing.{packed_bytes, pack_in, pack_of, buffer_after}
 use Rattle.packet.specs.Says.{next_says, first_bad, body_number, found_says, packet_says, pack_says}
-use Rattle.packet.specs.declared.Next.{Next}
 
 -- the number of what is carried: 0 where it is accepted
 abbrev number_of : Contents → ℕ
@@ -34,11 +30,11 @@ number_of (carries ps) = 0
 read_number : (p : List ℕ) → (read_says p).number ≡ (parsed_says (read_of p)).number
 read_number p = ap (λ (s : Says ℕ). s.number) (sym (read-said p (read_of p) refl).1)
 
-front-number : (p : List ℕ) (q : Parsed) (rest : Contents)
+front-number : (p : List ℕ) (q : Result (Message × ℕ) Refusal) (rest : Contents)
     → number_of (in_front p q rest) ≡ (if eqb (parsed_says q).number 0 then number_of rest else (parsed_says q).number)
-front-number p (NotRead e) rest = rw (some_number e)
-front-number p (Accepted m n) (refused e) = refl
-front-number p (Accepted m n) (carries ps) = refl
+front-number p (Err e) rest = rw (some_number e)
+front-number p (Ok (m, n)) (refused e) = refl
+front-number p (Ok (m, n)) (carries ps) = refl
 
 parts-number : (ps : List (List ℕ)) → number_of (read_parts ps) ≡ first_bad ps
 unfolding read_parts first_bad
@@ -46,8 +42,8 @@ parts-number [] = refl
 parts-number (p ∷ ps) = rw (read_number p, ← parts-number ps) (front-number p (read_of p) (read_parts ps))
 
 cut-number : (o : Option (List (List ℕ))) → number_of (maybe o (refused PacketMalformed) read_parts) ≡ maybe o 22 first_bad
-cut-number none = refl
-cut-number (some ps) = parts-number ps
+cut-number None = refl
+cut-number (Some ps) = parts-number ps
 
 body_number_lem : (s : List ℕ) → number_of (contents_of s) ≡ body_number s
 unfolding contents_of body_number
@@ -82,7 +78,7 @@ module _ (s : List ℕ) (at : ℕ) where
       (λ (f : framed s ≡ true). ap (λ c. next_says (next_in c at)) (with_frame f) ∙ by_contents f (with_frame f) (contents_of (body_of s)) refl)
       without_frame (decided (framed s))
 
-  pub next-said : (r : Next) → r ≡ next_of s at → (r ≡ next_of s at) × (next_says r ≡ packet_says s at)
+  pub next-said : (r : Result (Option (Message × ℕ)) Refusal) → r ≡ next_of s at → (r ≡ next_of s at) × (next_says r ≡ packet_says s at)
   next-said r e = (e, ap next_says e ∙ next_row)
 
 -- packing
@@ -95,14 +91,14 @@ module _ (bytes : List ℕ) (room : ℕ) where
   pack_contents (refused e) h = let n : body_number bytes ≡ code e = sym (body_number_lem bytes) ∙ ap number_of h in rw (n, some_number e)
   pack_contents (carries ps) h =
       let n : body_number bytes ≡ 0 = sym (body_number_lem bytes) ∙ ap number_of h in
-      rw n (of_choice written_says (ltb room (packed_bytes bytes)) (NotWritten RoomShort) (Bytes (packed_bytes bytes)) refl refl)
+      rw n (of_choice written_says (ltb room (packed_bytes bytes)) (Err RoomShort) (Ok (packed_bytes bytes)) refl refl)
 
   pack_row : written_says (pack_of bytes room) ≡ pack_says bytes room
   unfolding pack_of pack_says
   pack_row =
-      of_choice written_says (ltb max_total (packed_bytes bytes)) (NotWritten PacketMalformed) (pack_in (contents_of bytes) (packed_bytes bytes) room) refl
+      of_choice written_says (ltb max_total (packed_bytes bytes)) (Err PacketMalformed) (pack_in (contents_of bytes) (packed_bytes bytes) room) refl
       (pack_contents (contents_of bytes) refl)
 
-pub pack_said : (bytes buffer : List ℕ) (r : Written) (l : List ℕ) → (r ≡ pack_of bytes (length buffer)) × (l ≡ buffer_after bytes buffer)
+pub pack_said : (bytes buffer : List ℕ) (r : Result ℕ Refusal) (l : List ℕ) → (r ≡ pack_of bytes (length buffer)) × (l ≡ buffer_after bytes buffer)
     → ((r ≡ pack_of bytes (length buffer)) × (l ≡ buffer_after bytes buffer)) × (written_says r ≡ pack_says bytes (length buffer))
 pack_said bytes buffer r l e = (e, ap written_says e.0 ∙ pack_row bytes (length buffer))

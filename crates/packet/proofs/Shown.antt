@@ -1,4 +1,5 @@
 -- The part that is shown is a stretch of the packet: from the place asked for to the place behind the message.
+use Rattle.std.specs.Prelude.{Ok, Err, Result, Some, None, Option}
 use Prim.Native.Nat.{ℕ, ◌+◌, ◌-◌, ◌≤◌}
 use native.Mathlib.Omega.{arith}
 use mathlib.Core.Path.{◌≡◌, refl, sym, ap, ◌∙◌}
@@ -14,11 +15,8 @@ use Rattle.ids.specs.declared.Refusal.TheVariants.{PacketMalformed}
 use Rattle.ids.proofs.Choice.{decided}
 use Rattle.wire.specs.Calls.{read_of}
 use Rattle.wire.specs.declared.Message.{Message}
-use Rattle.wire.specs.declared.Parsed.TheVariants.{Accepted}
 use Rattle.packet.specs.Packet.{total_bytes, Piece, Contents, refused, carries, contents_of, total_in, framed, up_to_total, body_of, packet_of, pieces, joined}
 use Rattle.packet.specs.Reading.{Found, starts, ends, nowhere, find_in, next_found, next_in, next_of, part_found, part_of}
-use Rattle.packet.specs.declared.Next.{Next}
-use Rattle.packet.specs.declared.Next.TheVariants.{Message as Gave, End, Refused}
 use Rattle.packet.specs.Parts.{Carries, done, next}
 use Rattle.packet.proofs.Parts.{never, carried_only, carried-joined}
 use Rattle.packet.proofs.TotalLaws.{is_framed}
@@ -62,7 +60,7 @@ stands from (q ∷ ps) at p h =
 
 -- a message that is found is what its part is read as, all of it
 pub found-read : (s : List ℕ) (ps : List Piece) → Carries s ps → (from at : ℕ) (q : Piece) → find_in from ps at ≡ starts q
-    → read_of q.part ≡ Accepted q.message (length q.part)
+    → read_of q.part ≡ Ok (q.message, length q.part)
 unfolding find_in
 found-read whole all done from at q h =
     ⊎_elim (λ (e : eqb at from ≡ true). absurd (ends_not_starts q (rw e at h))) (λ (e : eqb at from ≡ false). absurd (nowhere_not_starts q (rw e at h)))
@@ -93,7 +91,7 @@ pub record Shows (s : List ℕ) (at : ℕ) (m : Message) (next : ℕ) : Type 0 w
   pub lent : total_in s ≤ length s
   pub shown : take (next - at) (drop at s) ≡ part_of s at
   pub long : at + length (part_of s at) ≡ next
-  pub read : read_of (part_of s at) ≡ Accepted m (length (part_of s at))
+  pub read : read_of (part_of s at) ≡ Ok (m, length (part_of s at))
   pub found : find_in total_bytes carried at ≡ starts (record { message = m; part = part_of s at })
 
 -- an accepted packet has its total, and its messages stand behind it
@@ -107,14 +105,14 @@ pub accepted-carries : (s : List ℕ) (ps : List Piece) → packet_of s ≡ carr
 accepted-carries s ps h = carried_only (body_of s) ps (accepted-framed s ps h).1
 
 module _ (s : List ℕ) (at : ℕ) (m : Message) (next : ℕ) where
-  refused_not_given : (x : Refusal) → ◌≡◌ {A = Next} (Refused x) (Gave m next) → ⊥
+  refused_not_given : (x : Refusal) → ◌≡◌ {A = Result (Option (Message × ℕ)) Refusal} (Err x) (Ok (Some (m, next))) → ⊥
   refused_not_given x h = let z : ◌≡◌ {A = ℕ} 0 1 = cc in omega arith
 
-  end_not_given : ◌≡◌ {A = Next} End (Gave m next) → ⊥
+  end_not_given : ◌≡◌ {A = Result (Option (Message × ℕ)) Refusal} (Ok None) (Ok (Some (m, next))) → ⊥
   end_not_given h = let z : ◌≡◌ {A = ℕ} 0 1 = cc in omega arith
 
   module _ (ps : List Piece) (accepted : packet_of s ≡ carries ps) where
-    by_found : (f : Found) → find_in total_bytes ps at ≡ f → next_found at f ≡ Gave m next → Shows s at m next
+    by_found : (f : Found) → find_in total_bytes ps at ≡ f → next_found at f ≡ Ok (Some (m, next)) → Shows s at m next
     unfolding part_of
     by_found ends e h = absurd (end_not_given h)
     by_found nowhere e h = absurd (refused_not_given PacketMalformed h)
@@ -146,17 +144,17 @@ module _ (s : List ℕ) (at : ℕ) (m : Message) (next : ℕ) where
           found = rw (part, ← i) e;
         }
 
-  by_contents : (c : Contents) → packet_of s ≡ c → next_in c at ≡ Gave m next → Shows s at m next
+  by_contents : (c : Contents) → packet_of s ≡ c → next_in c at ≡ Ok (Some (m, next)) → Shows s at m next
   by_contents (refused x) e h = absurd (refused_not_given x h)
   by_contents (carries ps) e h = by_found ps e (find_in total_bytes ps at) refl h
 
-  pub shows : next_of s at ≡ Gave m next → Shows s at m next
+  pub shows : next_of s at ≡ Ok (Some (m, next)) → Shows s at m next
   unfolding next_of
   shows h = by_contents (packet_of s) refl h
 
 -- where no message is given, no part is shown
 module _ (s : List ℕ) (at : ℕ) where
-  none_found : (ps : List Piece) (f : Found) → find_in total_bytes ps at ≡ f → ((m : Message) (next : ℕ) → next_found at f ≡ Gave m next → ⊥)
+  none_found : (ps : List Piece) (f : Found) → find_in total_bytes ps at ≡ f → ((m : Message) (next : ℕ) → next_found at f ≡ Ok (Some (m, next)) → ⊥)
       → part_found (find_in total_bytes ps at) ≡ []
   none_found ps ends e n = rw e
   none_found ps nowhere e n = rw e
@@ -166,25 +164,25 @@ module _ (s : List ℕ) (at : ℕ) where
   unfolding find_in
   empty-part = ⊎_elim (λ (e : eqb at total_bytes ≡ true). rw e) (λ (e : eqb at total_bytes ≡ false). rw e) (decided (eqb at total_bytes))
 
-  none-carried : (c : Contents) → packet_of s ≡ c → ((m : Message) (next : ℕ) → next_in c at ≡ Gave m next → ⊥) → part_found (find_in total_bytes (pieces c) at) ≡ []
+  none-carried : (c : Contents) → packet_of s ≡ c → ((m : Message) (next : ℕ) → next_in c at ≡ Ok (Some (m, next)) → ⊥) → part_found (find_in total_bytes (pieces c) at) ≡ []
   none-carried (refused x) e n = empty-part
   none-carried (carries ps) e n = none_found ps (find_in total_bytes ps at) refl n
 
-  shows-none : ((m : Message) (next : ℕ) → next_of s at ≡ Gave m next → ⊥) → part_of s at ≡ []
+  shows-none : ((m : Message) (next : ℕ) → next_of s at ≡ Ok (Some (m, next)) → ⊥) → part_of s at ≡ []
   unfolding next_of part_of
   shows-none n = none-carried (packet_of s) refl n
 
-  pub end_shows : (r : Next) → r ≡ next_of s at → r ≡ End → [] ≡ part_of s at
+  pub end_shows : (r : Result (Option (Message × ℕ)) Refusal) → r ≡ next_of s at → r ≡ Ok None → [] ≡ part_of s at
   end_shows r e h = sym (shows-none (λ m next g. end_not_given s at m next (sym h ∙ (e ∙ g))))
 
-  pub refused-shows : (r : Next) → r ≡ next_of s at → (x : Refusal) → r ≡ Refused x → [] ≡ part_of s at
+  pub refused-shows : (r : Result (Option (Message × ℕ)) Refusal) → r ≡ next_of s at → (x : Refusal) → r ≡ Err x → [] ≡ part_of s at
   refused-shows r e x h = sym (shows-none (λ m next g. refused_not_given s at m next x (sym h ∙ (e ∙ g))))
 
 -- a packet that is refused gives nothing: at every place its refusal, and no part
 module _ (s : List ℕ) (x : Refusal) (h : packet_of s ≡ refused x) (at : ℕ) where
-  its_refusal : next_of s at ≡ Refused x
+  its_refusal : next_of s at ≡ Err x
   unfolding next_of
   its_refusal = rw h
 
-  pub refused_gives_nothing : (next_of s at ≡ Refused x) × (part_of s at ≡ [])
+  pub refused_gives_nothing : (next_of s at ≡ Err x) × (part_of s at ≡ [])
   refused_gives_nothing = (its_refusal, sym (refused-shows s at (next_of s at) refl x its_refusal))

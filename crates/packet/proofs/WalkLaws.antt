@@ -1,11 +1,11 @@
 -- The walk: one part at a time, whatever the count of parts that `cut_into` is given, and where it stops.
+use Rattle.std.specs.Prelude.{Some, None, Option}
 use Prim.Native.Nat.{ℕ, zero, suc, ◌+◌, ◌*◌, ◌-◌, ◌<◌, ◌≤◌}
 use native.Mathlib.Omega.{arith}
 use mathlib.Core.Path.{◌≡◌, refl, sym, ◌∙◌}
 use mathlib.Core.Bool.{true, false}
 use mathlib.Core.List.{List, []}
 use mathlib.Core.Logic.{⊎_elim}
-use mathlib.Core.Option.{Option, none, some}
 use lib.Dec.{eqb}
 use lib.ListN.{length, get_or, take, drop, length-drop}
 use lib.Seq.{drop-drop}
@@ -109,7 +109,7 @@ same-cut (suc c) (suc d) s a b =
     (decided (fits s)))
     (decided (eqb (length s) 0))
 
-pub cut-empty : (s : List ℕ) → length s ≡ 0 → cut s ≡ some []
+pub cut-empty : (s : List ℕ) → length s ≡ 0 → cut s ≡ Some []
 unfolding cut_into
 cut-empty s h = simp (eq-eqb (length s) 0 h)
 
@@ -121,14 +121,14 @@ cut-next s f =
     let r = same-cut (length s) (suc (length (drop (length_in s) s))) (drop (length_in s) s) (omega arith) (omega arith) in
     simp (ne_eqb (length s) 0 (λ e. omega arith), f, r)
 
-pub cut_stuck : (s : List ℕ) → (length s ≡ 0 → ⊥) → fits s ≡ false → cut s ≡ none
+pub cut_stuck : (s : List ℕ) → (length s ≡ 0 → ⊥) → fits s ≡ false → cut s ≡ None
 unfolding cut_into
 cut_stuck s n f = simp (ne_eqb (length s) 0 n, f)
 
 -- whether the walk ends with the bytes, part by part
 with_first_lem : (p : List ℕ) (o : Option (List (List ℕ))) → maybe (with_first p o) false (λ ps. true) ≡ maybe o false (λ ps. true)
-with_first_lem p none = refl
-with_first_lem p (some ps) = refl
+with_first_lem p None = refl
+with_first_lem p (Some ps) = refl
 
 pub walked_empty : (s : List ℕ) → length s ≡ 0 → walked s ≡ true
 unfolding walked

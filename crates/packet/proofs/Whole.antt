@@ -1,4 +1,5 @@
 -- Reading a packet to its end gives its messages, all of them, in order, each with its part; a packet that is not accepted whole gives nothing.
+use Rattle.std.specs.Prelude.{Ok, Err, Result, Some, None, Option}
 use Prim.Native.Nat.{ℕ, ◌+◌, ◌<◌}
 use native.Mathlib.Omega.{arith}
 use mathlib.Core.Path.{◌≡◌, refl, sym, ap, ◌∙◌}
@@ -9,8 +10,6 @@ use Rattle.ids.specs.declared.Refusal.{Refusal}
 use Rattle.wire.specs.declared.Message.{Message}
 use Rattle.packet.specs.Packet.{total_bytes, Piece, Contents, refused, carries, body_of, packet_of, joined}
 use Rattle.packet.specs.Reading.{Found, starts, ends, find_in, next_found, next_in, next_of, part_found, part_of, ReadFrom, ended, gave}
-use Rattle.packet.specs.declared.Next.{Next}
-use Rattle.packet.specs.declared.Next.TheVariants.{Message as Gave, End, Refused}
 use Rattle.packet.specs.Parts.{Carries, done, next}
 use Rattle.packet.proofs.Parts.{read-part, carried-joined}
 use Rattle.packet.proofs.Shown.{accepted-carries}
@@ -72,7 +71,7 @@ module _ (s : List ℕ) (all : List Piece) (accepted : packet_of s ≡ carries a
   parts-joined = carried-joined (body_of s) all (accepted-carries s all accepted)
 
 -- and nothing else can be read: the calls determine the list
-given_not_end : (m : Message) (n : ℕ) → ◌≡◌ {A = Next} (Gave m n) End → ⊥
+given_not_end : (m : Message) (n : ℕ) → ◌≡◌ {A = Result (Option (Message × ℕ)) Refusal} (Ok (Some (m, n))) (Ok None) → ⊥
 given_not_end m n h = let z : ◌≡◌ {A = ℕ} 0 1 = cc in omega arith
 
 module _ (s : List ℕ) where
@@ -88,19 +87,19 @@ module _ (s : List ℕ) where
 
   -- a message or the end is given of an accepted packet alone
   module _ (at : ℕ) where
-    by_contents : (c : Contents) → packet_of s ≡ c → (answer : Next) → next_in c at ≡ answer → ((x : Refusal) → answer ≡ Refused x → ⊥)
+    by_contents : (c : Contents) → packet_of s ≡ c → (answer : Result (Option (Message × ℕ)) Refusal) → next_in c at ≡ answer → ((x : Refusal) → answer ≡ Err x → ⊥)
         → (ps : List Piece) × (packet_of s ≡ carries ps)
     by_contents (refused x) e answer h n = absurd (n x (sym h))
     by_contents (carries ps) e answer h n = (ps, e)
 
-    pub nothing_unless_accepted : (answer : Next) → next_of s at ≡ answer → ((x : Refusal) → answer ≡ Refused x → ⊥)
+    pub nothing_unless_accepted : (answer : Result (Option (Message × ℕ)) Refusal) → next_of s at ≡ answer → ((x : Refusal) → answer ≡ Err x → ⊥)
         → (ps : List Piece) × (packet_of s ≡ carries ps)
     unfolding next_of
     nothing_unless_accepted answer h n = by_contents (packet_of s) refl answer h n
 
   first-answer : (at : ℕ) (ps : List Piece) → ReadFrom s at ps → (all : List Piece) × (packet_of s ≡ carries all)
-  first-answer at ps (ended e) = nothing_unless_accepted at End e (λ x h. let z : ◌≡◌ {A = ℕ} 0 1 = cc in omega arith)
-  first-answer at ps (gave {next = n} {m = m} g r) = nothing_unless_accepted at (Gave m n) g (λ x h. let z : ◌≡◌ {A = ℕ} 0 1 = cc in omega arith)
+  first-answer at ps (ended e) = nothing_unless_accepted at (Ok None) e (λ x h. let z : ◌≡◌ {A = ℕ} 0 1 = cc in omega arith)
+  first-answer at ps (gave {next = n} {m = m} g r) = nothing_unless_accepted at (Ok (Some (m, n))) g (λ x h. let z : ◌≡◌ {A = ℕ} 0 1 = cc in omega arith)
 
   -- so what was read to the end is what the packet carries
   pub read-exactly : (ps : List Piece) → ReadFrom s total_bytes ps → packet_of s ≡ carries ps

@@ -1,6 +1,5 @@
 -- A packet (document 02, L1): a total of two bytes, then messages one after another. What a packet carries, all of it or nothing.
-use Rattle.std.specs.Prelude.{ℕ, zero, suc, Bool, ◌&&◌, List, [], ◌∷◌, ◌++◌, eqb, leb, length, take, drop, if◌then◌else◌}
-use Rattle.std.proofs.Math.Option.{Option, none, some}
+use Rattle.std.specs.Prelude.{ℕ, zero, suc, Bool, ◌&&◌, List, [], ◌∷◌, ◌++◌, eqb, leb, length, take, drop, if◌then◌else◌, Ok, Err, Result, Some, None, Option}
 use Rattle.ids.specs.Choice.{maybe}
 use Rattle.ids.specs.Limits.{max_short}
 use Rattle.ids.specs.declared.Refusal.{Refusal}
@@ -9,8 +8,6 @@ use Rattle.wire.specs.Bytes.{number}
 use Rattle.wire.specs.Format.{length_in}
 use Rattle.wire.specs.Calls.{read_of}
 use Rattle.wire.specs.declared.Message.{Message}
-use Rattle.wire.specs.declared.Parsed.{Parsed}
-use Rattle.wire.specs.declared.Parsed.TheVariants.{Accepted, Refused as NotRead}
 
 -- the bytes of the total, and so the place of the first message
 abbrev pub total_bytes : ℕ
@@ -29,16 +26,16 @@ unfoldable pub fits : List ℕ → Bool
 fits s = leb least_length (length_in s) && leb (length_in s) (length s)
 
 abbrev pub with_first : {A : Type 0} → A → Option (List A) → Option (List A)
-with_first a none = none
-with_first a (some l) = some (a ∷ l)
+with_first a None = None
+with_first a (Some l) = Some (a ∷ l)
 
 -- THE WALK: the bytes cut into fewer than so many parts, each as long as its length field says; none if they don't end with a part
 unfoldable pub cut_into : ℕ → List ℕ → Option (List (List ℕ))
-cut_into zero s = none
+cut_into zero s = None
 cut_into (suc count) s =
-    if eqb (length s) 0 then some []
+    if eqb (length s) 0 then Some []
     else if fits s then with_first (take (length_in s) s) (cut_into count (drop (length_in s) s))
-    else none
+    else None
 
 -- a part has a byte at least, so there are no more parts than bytes
 abbrev pub cut : List ℕ → Option (List (List ℕ))
@@ -54,10 +51,10 @@ pub data Contents : Type 0 where
   carries : List Piece → Contents
 
 -- a part in front of others: the first one that reading refuses decides. A part is as long as its length field says, so that reading uses all of it
-abbrev pub in_front : List ℕ → Parsed → Contents → Contents
-in_front p (NotRead e) rest = refused e
-in_front p (Accepted m used) (refused e) = refused e
-in_front p (Accepted m used) (carries ps) = carries (record { message = m; part = p } ∷ ps)
+abbrev pub in_front : List ℕ → Result (Message × ℕ) Refusal → Contents → Contents
+in_front p (Err e) rest = refused e
+in_front p (Ok (m, used)) (refused e) = refused e
+in_front p (Ok (m, used)) (carries ps) = carries (record { message = m; part = p } ∷ ps)
 
 unfoldable pub read_parts : List (List ℕ) → Contents
 read_parts [] = carries []

@@ -1,12 +1,11 @@
 -- Packing messages that stand one after another: the total is put before their bytes.
-use Rattle.std.specs.Prelude.{ℕ, ◌+◌, List, [], ◌∷◌, ◌++◌, ltb, length, if◌then◌else◌}
+use Rattle.ids.specs.declared.Refusal.{Refusal}
+use Rattle.std.specs.Prelude.{ℕ, ◌+◌, List, [], ◌∷◌, ◌++◌, ltb, length, if◌then◌else◌, Ok, Err, Result}
 use Rattle.std.proofs.lemmas.List.Edits.{sets}
 use Rattle.ids.specs.declared.Refusal.TheVariants.{PacketMalformed, RoomShort}
 use Rattle.wire.specs.Bytes.{little_endian}
 use Rattle.wire.specs.Format.{bytes_of}
 use Rattle.wire.specs.declared.Message.{Message}
-use Rattle.wire.specs.declared.Written.{Written}
-use Rattle.wire.specs.declared.Written.TheVariants.{Bytes, Refused}
 use Rattle.packet.specs.Packet.{total_bytes, max_total, Piece, Contents, refused, carries, contents_of}
 
 abbrev pub packed_bytes : List ℕ → ℕ
@@ -17,22 +16,22 @@ unfoldable pub packed : List ℕ → List ℕ
 packed bytes = little_endian total_bytes (packed_bytes bytes) ++ bytes
 
 -- refusal 6 comes last
-abbrev pub by_room : ℕ → ℕ → Written
-by_room size room = if ltb room size then Refused RoomShort else Bytes size
+abbrev pub by_room : ℕ → ℕ → Result ℕ Refusal
+by_room size room = if ltb room size then Err RoomShort else Ok size
 
-abbrev pub pack_in : Contents → ℕ → ℕ → Written
-pack_in (refused e) size room = Refused e
+abbrev pub pack_in : Contents → ℕ → ℕ → Result ℕ Refusal
+pack_in (refused e) size room = Err e
 pack_in (carries ps) size room = by_room size room
 
 -- 22 where two bytes can't say the total, then as the reader refuses, then 6
-unfoldable pub pack_of : List ℕ → ℕ → Written
+unfoldable pub pack_of : List ℕ → ℕ → Result ℕ Refusal
 pack_of bytes room =
-    if ltb max_total (packed_bytes bytes) then Refused PacketMalformed else pack_in (contents_of bytes) (packed_bytes bytes) room
+    if ltb max_total (packed_bytes bytes) then Err PacketMalformed else pack_in (contents_of bytes) (packed_bytes bytes) room
 
 -- the buffer afterwards: the packet from its start, the bytes behind it as found; after a refusal all as found
-abbrev pub packed_into : Written → List ℕ → List ℕ → List ℕ
-packed_into (Refused e) bytes buffer = buffer
-packed_into (Bytes n) bytes buffer = sets buffer 0 (packed bytes)
+abbrev pub packed_into : Result ℕ Refusal → List ℕ → List ℕ → List ℕ
+packed_into (Err e) bytes buffer = buffer
+packed_into (Ok n) bytes buffer = sets buffer 0 (packed bytes)
 
 unfoldable pub buffer_after : List ℕ → List ℕ → List ℕ
 buffer_after bytes buffer = packed_into (pack_of bytes (length buffer)) bytes buffer

@@ -1,5 +1,7 @@
 -- The answers in document 02's numbers: what each case says, and the order of the refusals.
-use Rattle.std.specs.Prelude.{ℕ, ◌+◌, not, List, [], ◌∷◌, eqb, ltb, length, if◌then◌else◌}
+use Rattle.ids.specs.declared.Refusal.{Refusal}
+use Rattle.wire.specs.declared.Message.{Message}
+use Rattle.std.specs.Prelude.{ℕ, ◌+◌, not, List, [], ◌∷◌, eqb, ltb, length, if◌then◌else◌, Ok, Err, Result, Some, None, Option}
 use Rattle.ids.specs.Choice.{maybe}
 use Rattle.ids.specs.Refusals.{code, Says, accepts, refuses}
 use Rattle.wire.specs.Format.{fields_of}
@@ -7,14 +9,12 @@ use Rattle.wire.specs.Says.{read_values, read_says}
 use Rattle.packet.specs.Packet.{max_total, framed, cut, body_of}
 use Rattle.packet.specs.Reading.{Found, starts, ends, nowhere, found_in}
 use Rattle.packet.specs.Packing.{packed_bytes}
-use Rattle.packet.specs.declared.Next.{Next}
-use Rattle.packet.specs.declared.Next.TheVariants.{Message, End, Refused}
 
 -- the message's five numbers and the place behind it; nothing at the packet's end
-abbrev pub next_says : Next → Says ℕ
-next_says (Message m next) = accepts (read_values (fields_of m) next)
-next_says End = accepts []
-next_says (Refused e) = refuses (code e)
+abbrev pub next_says : Result (Option (Message × ℕ)) Refusal → Says ℕ
+next_says (Ok (Some (m, next))) = accepts (read_values (fields_of m) next)
+next_says (Ok None) = accepts []
+next_says (Err e) = refuses (code e)
 
 -- the number of the first part that reading refuses, 0 for none
 unfoldable pub first_bad : List (List ℕ) → ℕ

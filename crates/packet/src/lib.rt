@@ -3,18 +3,17 @@
 
 #![tactic(auto)]
 
-ghost use Rattle.std.specs.Prelude.{◌≡◌, true, ◌+◌, ◌*◌, ◌≤◌, length, drop};
+ghost use Rattle.std.specs.Prelude.{◌≡◌, Ok, true, ◌+◌, ◌*◌, ◌≤◌, length, drop};
 ghost use Rattle.std.proofs.lemmas.List.Edits.{sets};
 ghost use Rattle.packet.specs.Packet.{total_bytes, max_total, contents_of, pieces};
 ghost use Rattle.packet.specs.Reading.{find_in, next_found, next_of, part_of};
 ghost use Rattle.packet.specs.Packing.{packed_bytes, packed, pack_of, buffer_after};
 ghost use Rattle.packet.specs.Says.{next_says, packet_says, pack_says};
 ghost use Rattle.packet.specs.Inner.{size_in, walked, judged, total_of, Reached};
-ghost use Rattle.packet.specs.declared.Verdict.TheVariants.{Accepted};
 ghost use Rattle.wire.specs.Says.{written_says};
 
 use ids::Refusal;
-use wire::{Message, Parsed, Written};
+use wire::Message;
 
 // The bytes of the total, and so the place of the first message.
 pub const TOTAL_BYTES: usize = 2;
@@ -24,21 +23,6 @@ pub const MAX_TOTAL: usize = ids::MAX_SHORT as usize;
 
 // The least length field that the walk goes by.
 const LEAST_LENGTH: usize = 4;
-
-// What reading at a place gives: a message with the place behind it, the packet's end, or why neither.
-#[derive(Clone, Copy)]
-pub enum Next {
-    Message(Message, usize),
-    End,
-    Refused(Refusal),
-}
-
-// Whether the messages of a packet are all accepted.
-#[derive(Clone, Copy)]
-pub enum Verdict {
-    Accepted,
-    Refused(Refusal),
-}
 
 fn join(lo: u8, hi: u8) -> usize
     ensures { result ≡ lo + 256 * hi }
@@ -80,32 +64,26 @@ fn walks(bytes: &[u8], from: usize) -> bool
 }
 
 // The first refusal of the messages from a place on, which the walk has passed.
-fn first_bad(bytes: &[u8], from: usize) -> Verdict
+fn first_bad(bytes: &[u8], from: usize) -> Result<(), Refusal>
     requires { (from ≤ length bytes.now) × (walked (drop from bytes.now) ≡ true) }
     ensures { result ≡ judged (contents_of (drop from bytes.now)) }
 {
     let mut at = from;
     while at < bytes.len() {
         let end = at + size_at(bytes, at);
-        match wire::read(&bytes[at..end]) {
-            Parsed::Accepted(_, _) => {
-                at = end;
-            }
-            Parsed::Refused(e) => {
-                return Verdict::Refused(e);
-            }
-        }
+        wire::read(&bytes[at..end])?;
+        at = end;
     }
-    Verdict::Accepted
+    Ok(())
 }
 
 // 22 by the walk, then the first bad message's refusal.
-fn judge(bytes: &[u8], from: usize) -> Verdict
+fn judge(bytes: &[u8], from: usize) -> Result<(), Refusal>
     requires { from ≤ length bytes.now }
     ensures { result ≡ judged (contents_of (drop from bytes.now)) }
 {
     if !walks(bytes, from) {
-        return Verdict::Refused(Refusal::PacketMalformed);
+        return Err(Refusal::PacketMalformed);
     }
     first_bad(bytes, from)
 }
@@ -129,7 +107,7 @@ fn total_of(packet: &[u8]) -> usize
 
 // The first place from `at` on where a message starts or the packet ends.
 fn reach(bytes: &[u8], at: usize) -> usize
-    requires { (at ≤ length bytes.now) × (total_bytes ≤ length bytes.now) × (judged (contents_of (drop total_bytes bytes.now)) ≡ Accepted) }
+    requires { (at ≤ length bytes.now) × (total_bytes ≤ length bytes.now) × (judged (contents_of (drop total_bytes bytes.now)) ≡ Ok tt) }
     ensures { (at ≤ result) × Reached bytes.now at result }
 {
     let mut place = TOTAL_BYTES;
@@ -140,53 +118,48 @@ fn reach(bytes: &[u8], at: usize) -> usize
 }
 
 // What is at a place of a packet whose messages are all accepted.
-fn message_at(bytes: &[u8], at: usize) -> Next
-    requires { (total_bytes ≤ length bytes.now) × (judged (contents_of (drop total_bytes bytes.now)) ≡ Accepted) }
+fn message_at(bytes: &[u8], at: usize) -> Result<Option<(Message, usize)>, Refusal>
+    requires { (total_bytes ≤ length bytes.now) × (judged (contents_of (drop total_bytes bytes.now)) ≡ Ok tt) }
     ensures { result ≡ next_found at (find_in total_bytes (pieces (contents_of (drop total_bytes bytes.now))) at) }
 {
     if bytes.len() < at {
-        return Next::Refused(Refusal::PacketMalformed);
+        return Err(Refusal::PacketMalformed);
     }
     let place = reach(bytes, at);
     if place != at {
-        return Next::Refused(Refusal::PacketMalformed);
+        return Err(Refusal::PacketMalformed);
     }
     let end = place + size_at(bytes, place);
     if place == bytes.len() {
-        return Next::End;
+        return Ok(None);
     }
-    match wire::read(&bytes[place..end]) {
-        Parsed::Accepted(m, _) => Next::Message(m, end),
-        // Not met: the packet was judged.
-        Parsed::Refused(e) => Next::Refused(e),
-    }
+    // No refusal is met: the packet was judged.
+    let (m, _) = wire::read(&bytes[place..end])?;
+    Ok(Some((m, end)))
 }
 
-// The message at a place of the packet, which is judged whole first. Bytes behind the packet are not looked at.
-pub fn next_at(packet: &[u8], at: usize) -> Next
+// The message at a place of the packet with the place behind it, or `None` where the packet ends. The packet is judged whole first. Bytes behind the packet are not looked at.
+pub fn next_at(packet: &[u8], at: usize) -> Result<Option<(Message, usize)>, Refusal>
     ensures value { result ≡ next_of packet.now at }
     ensures numbers { next_says result ≡ packet_says packet.now at }
 {
     let total = total_of(packet);
     if total == 0 {
-        return Next::Refused(Refusal::PacketMalformed);
+        return Err(Refusal::PacketMalformed);
     }
     let whole = &packet[0..total];
-    match judge(whole, TOTAL_BYTES) {
-        Verdict::Accepted => message_at(whole, at),
-        Verdict::Refused(e) => Next::Refused(e),
-    }
+    judge(whole, TOTAL_BYTES)?;
+    message_at(whole, at)
 }
 
 // The part of the packet from a place to the one behind the message that was given there, else an empty one. No byte is copied.
-fn part_of(packet: &[u8], at: usize, next: Next) -> &[u8]
+fn part_of(packet: &[u8], at: usize, next: Result<Option<(Message, usize)>, Refusal>) -> &[u8]
     requires { next ≡ next_of packet.now at }
     ensures { result.now ≡ part_of packet.now at }
 {
     match next {
-        Next::Message(_, end) => &packet[at..end],
-        Next::End => &packet[0..0],
-        Next::Refused(_) => &packet[0..0],
+        Ok(Some((_, end))) => &packet[at..end],
+        Ok(None) | Err(_) => &packet[0..0],
     }
 }
 
@@ -201,9 +174,9 @@ pub fn part_at(packet: &[u8], at: usize) -> &[u8]
 //
 //     let given = reader.next();
 //     match given.next {
-//         Next::Message(m, behind) => { .. m .. given.part .. reader = reader.moved(behind); }
-//         Next::End => ..
-//         Next::Refused(e) => ..
+//         Ok(Some((m, behind))) => { .. m .. given.part .. reader = reader.moved(behind); }
+//         Ok(None) => ..
+//         Err(e) => ..
 //     }
 #[derive(Clone, Copy)]
 pub struct Reader<'a> {
@@ -214,7 +187,7 @@ pub struct Reader<'a> {
 // What a reader gives: the next message with the place behind it, and the part of the packet that it came from.
 #[derive(Clone, Copy)]
 pub struct Given<'a> {
-    pub next: Next,
+    pub next: Result<Option<(Message, usize)>, Refusal>,
     pub part: &'a [u8],
 }
 
@@ -265,23 +238,18 @@ fn put_packet(bytes: &[u8], out: &mut [u8])
 }
 
 // Packs messages that stand one after another, as a step wrote them. The bytes behind the packet stay, and a refusal changes none.
-pub fn pack(bytes: &[u8], out: &mut [u8]) -> Written
+pub fn pack(bytes: &[u8], out: &mut [u8]) -> Result<usize, Refusal>
     ensures value { (result ≡ pack_of bytes.now (length out.old)) × (out.new ≡ buffer_after bytes.now out.old) }
     ensures numbers { written_says result ≡ pack_says bytes.now (length out.old) }
 {
     if bytes.len() > MAX_TOTAL - TOTAL_BYTES {
-        return Written::Refused(Refusal::PacketMalformed);
+        return Err(Refusal::PacketMalformed);
     }
-    match judge(bytes, 0) {
-        Verdict::Accepted => {}
-        Verdict::Refused(e) => {
-            return Written::Refused(e);
-        }
-    }
+    judge(bytes, 0)?;
     let total = TOTAL_BYTES + bytes.len();
     if out.len() < total {
-        return Written::Refused(Refusal::RoomShort);
+        return Err(Refusal::RoomShort);
     }
     put_packet(bytes, out);
-    Written::Bytes(total)
+    Ok(total)
 }

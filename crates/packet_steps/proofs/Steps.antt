@@ -1,4 +1,6 @@
 -- What an accepted step wrote is packed without a refusal but 6: every number in it is in range, and it is far shorter than a packet may be.
+use Rattle.ids.specs.declared.Request.{Request as Pair}
+use Rattle.std.specs.Prelude.{Some, None, Option}
 use Prim.Native.Nat.{ℕ, ◌+◌, ◌*◌, ◌≤◌}
 use native.Mathlib.Omega.{arith}
 use mathlib.Core.Path.{◌≡◌, refl, sym, ap, ◌∙◌}
@@ -14,8 +16,6 @@ use Rattle.ids.specs.Requests.{by_owner}
 use Rattle.ids.specs.declared.ClientId.{ClientId}
 use Rattle.ids.specs.declared.ServerId.{ServerId}
 use Rattle.ids.specs.declared.Timestamp.{Timestamp}
-use Rattle.ids.specs.declared.Owner.{Owner}
-use Rattle.ids.specs.declared.Owner.TheVariants.{Nobody, Of}
 use Rattle.ids.specs.declared.Refusal.TheVariants.{InvalidRecord, NumberOutOfRange, RoomShort, WrongSection, TimestampsSpent, NotForClient, NotForServer, QueueFull, NoOwner}
 use Rattle.ids.proofs.Choice.{both, passed}
 use Rattle.ids.proofs.LimitsLaws.{within-range, stamped_request}
@@ -170,11 +170,11 @@ module _ (s : Server) (p : Step server_figure.State) where
     server_received_valid (Response k j o) w e = absurd (never NotForServer p e)
     server_received_valid (Check k j t) w e = absurd (never NotForServer p e)
 
-    suspected-valid : (o : Owner)
+    suspected-valid : (o : Option Pair)
         → by_owner {B = Outcome server_figure.State} o (refused NoOwner) (λ x. stepped (server_figure.suspect s.head.id (server.view s))) ≡ stepped p
         → every format.valid p.sent ≡ true
-    suspected-valid Nobody e = absurd (never NoOwner p e)
-    suspected-valid (Of x) e =
+    suspected-valid None e = absurd (never NoOwner p e)
+    suspected-valid (Some x) e =
         let g : server_figure.suspect s.head.id (server.view s) ≡ p = cc in
         rw (← g) (of_server.suspect-valid s.head.id its-id (server.view s) (view-good max_servers s v).1)
 

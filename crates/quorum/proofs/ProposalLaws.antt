@@ -1,5 +1,6 @@
 -- A setting is accepted exactly if 2 m > n + f and m + f ≤ n: so the thresholds are those from the least above half of n + f to n − f, and
 -- the default one is accepted exactly up to (n − 1) / 3 faults.
+use Rattle.std.specs.Prelude.{Some, None, Option}
 use mathlib.Core.Path.{◌≡◌, refl, sym, ap, ◌∙◌}
 use mathlib.Core.Logic.{inl, inr}
 use Prim.Native.Nat.{ℕ, ◌+◌, ◌*◌, ◌-◌, ◌/◌, ◌≤◌, ◌<◌}
@@ -12,8 +13,6 @@ use Rattle.ids.proofs.Choice.{decided, both, fails, of_choice, Test}
 use Rattle.quorum.specs.Check.{in_range_up_to, in_range, is_unsafe, judged, verdict}
 use Rattle.quorum.specs.Proposal.{is_accepted, Proposes, above_half, Bears, proposal_of, proposal_says, propose_says}
 use Rattle.quorum.specs.Threshold.{threshold_of, TwoThirds, most_faults}
-use Rattle.quorum.specs.declared.Threshold.{Threshold}
-use Rattle.quorum.specs.declared.Threshold.TheVariants.{Default, OutOfRange as Outside}
 use Rattle.quorum.proofs.ThresholdLaws.{two_thirds}
 use Rattle.quorum.specs.declared.Proposal.{Proposal}
 use Rattle.quorum.specs.declared.Proposal.TheVariants.{Thresholds, NoThreshold, OutOfRange}
@@ -126,13 +125,13 @@ module _ (n t f : ℕ) (servers : within n max_servers ≡ true) (h : TwoThirds 
       go (inr u) = rw u (beyond (leb-false f (most_faults n) u) (decided (leb (2 * t) (n + f))))
 
 -- what a threshold is, and whether it is one
-abbrev amount : Threshold → ℕ
-amount (Default m) = m
-amount Outside = 0
+abbrev amount : Option ℕ → ℕ
+amount (Some m) = m
+amount None = 0
 
-abbrev is_default : Threshold → Bool
-is_default (Default m) = true
-is_default Outside = false
+abbrev is_default : Option ℕ → Bool
+is_default (Some m) = true
+is_default None = false
 
 pub bears : (n : ℕ) → Bears n (most_faults n)
 unfolding threshold_of

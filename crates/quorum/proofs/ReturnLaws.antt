@@ -1,4 +1,6 @@
 -- Each return of the calls is one case of its definition.
+use Rattle.ids.specs.declared.Refusal.{Refusal}
+use Rattle.std.specs.Prelude.{Ok, Err, Result, Some, None}
 use mathlib.Core.Path.{◌≡◌, sym, ◌∙◌}
 use mathlib.Core.Logic.{inl, inr}
 use Prim.Native.Nat.{ℕ, ◌+◌, ◌*◌, ◌-◌, ◌/◌, ◌≤◌, ◌<◌}
@@ -13,16 +15,13 @@ use mir.Val.{to_z, of_z}
 use Rattle.ids.specs.Limits.{within, max_servers}
 use Rattle.ids.specs.declared.Refusal.TheVariants.{ParameterOutOfRange, NoSuchParty}
 use Rattle.ids.proofs.Choice.{decided, both, holds, fails, Test, clash}
-use Rattle.system.specs.declared.Event.{Event as Happening}
+use Rattle.system.specs.declared.Event.{Event as Happening, Event}
 use Rattle.system.specs.declared.Event.TheVariants.{Try, Down, Up}
 use Rattle.system.specs.Setting as setting
 use Rattle.system.specs.Setting.{takes, lost, unsafe_run}
 use Rattle.quorum.proofs.Settings.{shows-unsafe, unsafe_iff, stalls_iff}
 use Rattle.quorum.specs.declared.Verdict.{Verdict}
 use Rattle.quorum.specs.declared.Verdict.TheVariants.{Accepted, Unsafe, Stalls, OutOfRange}
-use Rattle.quorum.specs.declared.Asked.{Asked}
-use Rattle.quorum.specs.declared.Asked.TheVariants.{Event, Refused}
-use Rattle.quorum.specs.declared.Threshold.TheVariants.{Default, OutOfRange as Outside}
 use Rattle.quorum.specs.Check.{in_range_up_to, in_range, margin, is_unsafe, is_stalling, judged, verdict, number_of, Demand3}
 use Rattle.quorum.specs.Run.{listed_event, run_event}
 use Rattle.quorum.specs.Inner.{run_length, longest_run, first_entry, restart, second_entry, event_at}
@@ -137,17 +136,17 @@ module _ (n m f : ℕ) (x : Bool) (p : x ≡ in_range n m f) where
   in_bounds t = let r = range max_servers n m f (holds x (in_range n m f) p t) in (r.servers, r.threshold, r.faults)
 
   -- run_event
-  pub event-refuses : (i : ℕ) → x ≡ false → Refused ParameterOutOfRange ≡ run_event n m f i
+  pub event-refuses : (i : ℕ) → x ≡ false → Err ParameterOutOfRange ≡ run_event n m f i
   unfolding run_event
   event-refuses i t = rw (fails x (in_range n m f) p t)
 
-  pub event-listed : (i : ℕ) (a : Asked) → x ≡ true → a ≡ listed_event n m f i → a ≡ run_event n m f i
+  pub event-listed : (i : ℕ) (a : Result Event Refusal) → x ≡ true → a ≡ listed_event n m f i → a ≡ run_event n m f i
   unfolding run_event
   event-listed i a t e = rw (holds x (in_range n m f) p t) e
 
 -- listed
 module _ (n m f i : ℕ) where
-  pub not_unsafe : n + f < 2 * m → Refused NoSuchParty ≡ listed_event n m f i
+  pub not_unsafe : n + f < 2 * m → Err NoSuchParty ≡ listed_event n m f i
   unfolding listed_event
   not_unsafe h = rw (is_safe n m f h)
 
@@ -155,7 +154,7 @@ module _ (n m f i : ℕ) where
     at_length : within i count ≡ within i (length (unsafe_run n m))
     at_length = rw (k, unsafe-length n m r.1)
 
-    pub outside-run : x ≡ false → Refused NoSuchParty ≡ listed_event n m f i
+    pub outside-run : x ≡ false → Err NoSuchParty ≡ listed_event n m f i
     unfolding listed_event
     outside-run t = rw (is-unsafe n m f h, sym at_length ∙ fails x (within i count) p t)
 
@@ -165,7 +164,7 @@ module _ (n m f i : ℕ) where
     pub event_bounds : x ≡ true → (n ≤ max_servers) × (m ≤ n) × (i ≤ longest_run)
     event_bounds t = (r.0, r.1, omega (arith, (inside-run t).1, r.0, r.1))
 
-    pub run_element : (e : Happening) → x ≡ true → e ≡ event_at n m i → Event e ≡ listed_event n m f i
+    pub run_element : (e : Happening) → x ≡ true → e ≡ event_at n m i → Ok e ≡ listed_event n m f i
     unfolding listed_event
     run_element e t q =
         let b = inside-run t in
@@ -227,13 +226,13 @@ module _ (n m i : ℕ) (e : Happening) where
 
 -- default_threshold
 module _ (n : ℕ) (x : Bool) (p : x ≡ within n max_servers) where
-  pub no_default : x ≡ false → Outside ≡ threshold_of n
+  pub no_default : x ≡ false → None ≡ threshold_of n
   unfolding threshold_of
   no_default t = rw (fails x (within n max_servers) p t)
 
   pub few_servers : x ≡ true → n ≤ max_servers
   few_servers t = leb-true n max_servers (both (leb 1 n) (leb n max_servers) (holds x (within n max_servers) p t)).1
 
-  pub default_given : x ≡ true → Default ((2 * n + 2) / 3) ≡ threshold_of n
+  pub default_given : x ≡ true → Some ((2 * n + 2) / 3) ≡ threshold_of n
   unfolding threshold_of
   default_given t = rw (holds x (within n max_servers) p t)

@@ -1,5 +1,5 @@
 -- The thresholds that the commissioning screen proposes for n servers and f faults: exactly those with which the setting is accepted.
-use Rattle.std.specs.Prelude.{◌≡◌, ℕ, ◌+◌, ◌-◌, ◌/◌, Bool, true, false, ◌&&◌, [], ◌∷◌, leb, if◌then◌else◌}
+use Rattle.std.specs.Prelude.{◌≡◌, ℕ, ◌+◌, ◌-◌, ◌/◌, Bool, true, false, ◌&&◌, [], ◌∷◌, leb, if◌then◌else◌, Some}
 use Rattle.ids.specs.Limits.{within, max_servers}
 use Rattle.ids.specs.Refusals.{code, Says, accepts, refuses}
 use Rattle.ids.specs.declared.Refusal.TheVariants.{ParameterOutOfRange}
@@ -7,7 +7,6 @@ use Rattle.quorum.specs.declared.Proposal.{Proposal}
 use Rattle.quorum.specs.declared.Proposal.TheVariants.{Thresholds, NoThreshold, OutOfRange}
 use Rattle.quorum.specs.declared.Verdict.{Verdict}
 use Rattle.quorum.specs.declared.Verdict.TheVariants.{Accepted, Unsafe, Stalls, OutOfRange as Outside}
-use Rattle.quorum.specs.declared.Threshold.TheVariants.{Default}
 use Rattle.quorum.specs.Check.{verdict}
 use Rattle.quorum.specs.Threshold.{threshold_of}
 
@@ -29,7 +28,7 @@ Proposes n f p = (m : ℕ) → names p m ≡ is_accepted (verdict n m f)
 
 -- the default threshold of n servers is accepted with every number of faults up to r, and with no other
 abbrev pub Bears : ℕ → ℕ → Type 0
-Bears n r = (m f : ℕ) → threshold_of n ≡ Default m → is_accepted (verdict n m f) ≡ leb f r
+Bears n r = (m f : ℕ) → threshold_of n ≡ Some m → is_accepted (verdict n m f) ≡ leb f r
 
 -- the least whole number above half of x
 abbrev pub above_half : ℕ → ℕ

@@ -1,18 +1,16 @@
 -- The default threshold for n servers: two thirds of n, rounded up. Document 01 says usual threshold.
-use Rattle.std.specs.Prelude.{ℕ, ◌+◌, ◌-◌, ◌*◌, ◌/◌, ◌≤◌, ◌<◌, [], ◌∷◌, if◌then◌else◌}
+use Rattle.std.specs.Prelude.{ℕ, ◌+◌, ◌-◌, ◌*◌, ◌/◌, ◌≤◌, ◌<◌, [], ◌∷◌, if◌then◌else◌, Some, None, Option}
 use Rattle.ids.specs.Limits.{within, max_servers}
 use Rattle.ids.specs.Refusals.{code, Says, accepts, refuses}
 use Rattle.ids.specs.declared.Refusal.TheVariants.{ParameterOutOfRange}
-use Rattle.quorum.specs.declared.Threshold.{Threshold}
-use Rattle.quorum.specs.declared.Threshold.TheVariants.{Default, OutOfRange}
 
-unfoldable pub threshold_of : ℕ → Threshold
-threshold_of n = if within n max_servers then Default ((2 * n + 2) / 3) else OutOfRange
+unfoldable pub threshold_of : ℕ → Option ℕ
+threshold_of n = if within n max_servers then Some ((2 * n + 2) / 3) else None
 
 -- the answers in document 01's numbers: the threshold
-abbrev pub threshold_says : Threshold → Says ℕ
-threshold_says (Default t) = accepts (t ∷ [])
-threshold_says OutOfRange = refuses (code ParameterOutOfRange)
+abbrev pub threshold_says : Option ℕ → Says ℕ
+threshold_says (Some t) = accepts (t ∷ [])
+threshold_says None = refuses (code ParameterOutOfRange)
 
 unfoldable pub default_says : ℕ → Says ℕ
 default_says n = if within n max_servers then accepts ((2 * n + 2) / 3 ∷ []) else refuses 7

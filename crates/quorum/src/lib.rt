@@ -26,20 +26,6 @@ pub enum Verdict {
     OutOfRange,
 }
 
-// An event of the unsafe run, asked for by its number.
-#[derive(Clone, Copy)]
-pub enum Asked {
-    Event(Event),
-    Refused(Refusal),
-}
-
-// The threshold that the commissioning screen proposes.
-#[derive(Clone, Copy)]
-pub enum Threshold {
-    Default(u32),
-    OutOfRange,
-}
-
 // The thresholds that the commissioning screen proposes: all from the first to the second.
 #[derive(Clone, Copy)]
 pub enum Proposal {
@@ -197,40 +183,39 @@ fn event_at(n: u32, m: u32, i: u32) -> Event
     second_entry(n, m, lost, i - second)
 }
 
-fn listed(n: u32, m: u32, f: u32, i: u32) -> Asked
+fn listed(n: u32, m: u32, f: u32, i: u32) -> Result<Event, Refusal>
     requires { (n ≤ max_servers) × (m ≤ n) × (f ≤ n) }
     ensures { result ≡ listed_event n m f i }
 {
     if n + f < 2 * m {
-        return Asked::Refused(Refusal::NoSuchParty);
+        return Err(Refusal::NoSuchParty);
     }
     if !ids::within_limit(i, events(n, m)) {
-        return Asked::Refused(Refusal::NoSuchParty);
+        return Err(Refusal::NoSuchParty);
     }
-    let e = event_at(n, m, i);
-    Asked::Event(e)
+    Ok(event_at(n, m, i))
 }
 
 // The event with number i, from 1, of the run that shows an unsafe setting.
-pub fn run_event(n: u32, m: u32, f: u32, i: u32) -> Asked
+pub fn run_event(n: u32, m: u32, f: u32, i: u32) -> Result<Event, Refusal>
     ensures value { result ≡ run_event n m f i }
     ensures numbers { asked_says result ≡ event_says n m f i }
 {
     if !in_range(n, m, f) {
-        return Asked::Refused(Refusal::ParameterOutOfRange);
+        return Err(Refusal::ParameterOutOfRange);
     }
     listed(n, m, f, i)
 }
 
-// Two thirds of n, rounded up.
-pub fn default_threshold(n: u32) -> Threshold
+// The threshold that the commissioning screen proposes: two thirds of n, rounded up. `None` where n is out of range.
+pub fn default_threshold(n: u32) -> Option<u32>
     ensures value { result ≡ threshold_of n }
     ensures numbers { threshold_says result ≡ default_says n }
 {
     if !ids::within_limit(n, ids::MAX_SERVERS) {
-        return Threshold::OutOfRange;
+        return None;
     }
-    Threshold::Default((2 * n + 2) / 3)
+    Some((2 * n + 2) / 3)
 }
 
 // The most faults with which the default threshold of n servers is accepted.

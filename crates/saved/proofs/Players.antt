@@ -1,6 +1,7 @@
 -- What a player from before L3 answers is today's answer, but for messages of a server that it does not know, which it refuses with 5: on all
 -- bytes, every message and every record that it can have. Only the test of a message's numbers reads the limit, and it is the last one; and a client's
 -- lines pass on what it has seen without a look at it.
+use Rattle.ids.specs.declared.Request.{Request as Pair}
 use Prim.Native.Nat.{ℕ, ◌<◌, ◌≤◌}
 use native.Mathlib.Omega.{arith}
 use mathlib.Core.Path.{◌≡◌, refl, sym, ap, ◌∙◌}
@@ -11,12 +12,11 @@ use lib.Dec.{leb, ltb, eqb}
 use lib.ListN.{length}
 use lib.Seq.{sets}
 use borrow.Author.Tests.{le-leb, lt-leb}
-use Rattle.std.specs.Prelude.{if◌then◌else◌}
+use Rattle.std.specs.Prelude.{if◌then◌else◌, Ok, Err, Option}
 use Rattle.ids.specs.Limits.{max_servers, earlier_servers, within, valid_client, valid_timestamp, valid_parties_up_to, valid_stamped_up_to}
 use Rattle.ids.specs.declared.ClientId.{ClientId}
 use Rattle.ids.specs.declared.ServerId.{ServerId}
 use Rattle.ids.specs.declared.Timestamp.{Timestamp}
-use Rattle.ids.specs.declared.Owner.{Owner}
 use Rattle.ids.specs.declared.Refusal.TheVariants.{HeaderShort, KindUnknown, LengthWrong, MessageCut, NumberOutOfRange, RoomShort, InvalidRecord}
 use Rattle.ids.proofs.Choice.{decided, and_true}
 use Rattle.wire.specs.Format.{valid_up_to, valid_response_up_to, valid_named, valid, fields_of, bytes_of, server_named, message_of, fields_in, kind_in, length_in, length_of, known, size_of}
@@ -24,8 +24,6 @@ use Rattle.wire.specs.Calls.{read_up_to, read_of, write_up_to, write_of, buffer_
 use Rattle.wire.specs.Step.{Outcome, refused, stepped}
 use Rattle.wire.specs.declared.Message.{Message}
 use Rattle.wire.specs.declared.Message.TheVariants.{Request, Yield, Release, Inquiry, Response, Check}
-use Rattle.wire.specs.declared.Parsed.TheVariants.{Accepted, Refused as NotRead}
-use Rattle.wire.specs.declared.Written.TheVariants.{Bytes, Refused as NotWritten}
 use Rattle.wire.proofs.RoundTrip.{written_is_read}
 use Rattle.server.specs.Record as server
 use Rattle.server.specs.Calls as server_calls
@@ -54,7 +52,7 @@ module _ (k : ClientId) (j : ServerId) where
   unfolding valid_stamped_up_to valid_parties_up_to
   stamped t = rw (below j.0) (last-asked (valid_client k) (within j.0 max_servers) (valid_timestamp t) (leb j.0 earlier_servers))
 
-  answered : (o : Owner) → valid_response_up_to earlier_servers k j o ≡ valid_response_up_to max_servers k j o && leb j.0 earlier_servers
+  answered : (o : Option Pair) → valid_response_up_to earlier_servers k j o ≡ valid_response_up_to max_servers k j o && leb j.0 earlier_servers
   unfolding valid_response_up_to valid_parties_up_to
   answered o = rw (below j.0) (last-asked (valid_client k) (within j.0 max_servers) (valid_named o) (leb j.0 earlier_servers))
 
@@ -77,16 +75,16 @@ read_known_lem s =
     (by_tests m (length_of (kind_in s)) (ltb (length s) 4) (not (known (kind_in s))) (not (eqb (length_in s) (length_of (kind_in s))))
     (ltb (length s) (length_of (kind_in s))) (valid m))
   where
-    by_last : (m : Message) (n : ℕ) (k : Bool) → (if not k then NotRead NumberOutOfRange else Accepted m n) ≡ (if k then Accepted m n else NotRead NumberOutOfRange)
+    by_last : (m : Message) (n : ℕ) (k : Bool) → (if not k then Err NumberOutOfRange else Ok (m, n)) ≡ (if k then Ok (m, n) else Err NumberOutOfRange)
     by_last m n true = refl
     by_last m n false = refl
 
     by_tests : (m : Message) (n : ℕ) (a b c d v : Bool)
-        → (if a then NotRead HeaderShort else if b then NotRead KindUnknown else if c then NotRead LengthWrong else if d then NotRead MessageCut
-        else if not (v && earlier_knows m) then NotRead NumberOutOfRange else Accepted m n)
+        → (if a then Err HeaderShort else if b then Err KindUnknown else if c then Err LengthWrong else if d then Err MessageCut
+        else if not (v && earlier_knows m) then Err NumberOutOfRange else Ok (m, n))
         ≡ read_known
-        (if a then NotRead HeaderShort else if b then NotRead KindUnknown else if c then NotRead LengthWrong else if d then NotRead MessageCut
-        else if not v then NotRead NumberOutOfRange else Accepted m n)
+        (if a then Err HeaderShort else if b then Err KindUnknown else if c then Err LengthWrong else if d then Err MessageCut
+        else if not v then Err NumberOutOfRange else Ok (m, n))
     by_tests m n true b c d v = refl
     by_tests m n false true c d v = refl
     by_tests m n false false true d v = refl
@@ -96,12 +94,12 @@ read_known_lem s =
 
 -- so every message of an unknown server is refused with 5, whatever stands behind it
 pub unknown_refused : (m : Message) (rest : List ℕ) → valid m ≡ true → earlier_servers < (server_named m).0
-    → earlier_read (bytes_of m ++ rest) ≡ NotRead NumberOutOfRange
+    → earlier_read (bytes_of m ++ rest) ≡ Err NumberOutOfRange
 unknown_refused m rest v h = read_known_lem (bytes_of m ++ rest) ∙ rw (written_is_read m rest v, lt-leb (server_named m).0 earlier_servers h)
 
 -- and what is accepted of today's messages is accepted as the same
 pub known-accepted : (m : Message) (rest : List ℕ) → valid m ≡ true → (server_named m).0 ≤ earlier_servers
-    → earlier_read (bytes_of m ++ rest) ≡ Accepted m (size_of m)
+    → earlier_read (bytes_of m ++ rest) ≡ Ok (m, size_of m)
 known-accepted m rest v h = read_known_lem (bytes_of m ++ rest) ∙ rw (written_is_read m rest v, le-leb (server_named m).0 earlier_servers h)
 
 -- WRITING: the answer and the buffer
@@ -109,8 +107,8 @@ pub write_known_lem : (m : Message) (room : ℕ) → earlier_write m room ≡ wr
 unfolding write_up_to
 write_known_lem m room = rw (valid-known m) (by_tests (valid m) (earlier_knows m))
   where
-    by_tests : (v k : Bool) → (if not (v && k) then NotWritten NumberOutOfRange else if ltb room (size_of m) then NotWritten RoomShort else Bytes (size_of m))
-        ≡ (if k then (if not v then NotWritten NumberOutOfRange else if ltb room (size_of m) then NotWritten RoomShort else Bytes (size_of m)) else NotWritten NumberOutOfRange)
+    by_tests : (v k : Bool) → (if not (v && k) then Err NumberOutOfRange else if ltb room (size_of m) then Err RoomShort else Ok (size_of m))
+        ≡ (if k then (if not v then Err NumberOutOfRange else if ltb room (size_of m) then Err RoomShort else Ok (size_of m)) else Err NumberOutOfRange)
     by_tests true true = refl
     by_tests true false = refl
     by_tests false true = refl
@@ -143,17 +141,17 @@ server-known s m v = rw (v, server-below earlier_servers max_servers (omega arit
 
 -- What a client has seen changes no other part of a step: Figure 1's lines pass it on.
 module _ (n : ℕ) (k : ClientId) (s : responses.State) where
-  decide-blind : (a b : Bool) (l : List Owner) → blind_step (responses.decide a b n k s l) ≡ responses.decide a b n k (blind s) l
+  decide-blind : (a b : Bool) (l : List (Option Pair)) → blind_step (responses.decide a b n k s l) ≡ responses.decide a b n k (blind s) l
   decide-blind true true l = refl
   decide-blind true false l = refl
   decide-blind false b l = refl
 
-  judge-blind : (wins : responses.Quorum) (l : List Owner) → blind_step (responses.judge wins n k s l) ≡ responses.judge wins n k (blind s) l
+  judge-blind : (wins : responses.Quorum) (l : List (Option Pair)) → blind_step (responses.judge wins n k s l) ≡ responses.judge wins n k (blind s) l
   unfolding responses.judge
   judge-blind wins l =
       decide-blind (wins (map responses.filled l)) (wins (responses.own (responses.request k s) l)) l
 
-  response-blind : (wins : responses.Quorum) (j : ServerId) (o : Owner)
+  response-blind : (wins : responses.Quorum) (j : ServerId) (o : Option Pair)
       → blind_step (responses.upon_response wins n k j o s) ≡ responses.upon_response wins n k j o (blind s)
   unfolding responses.upon_response
   response-blind wins j o =

@@ -6,9 +6,8 @@ use mathlib.Core.Path.{◌≡◌, refl, sym, ap, ◌∙◌}
 use mathlib.Core.Bool.{Bool, true, false}
 use mathlib.Core.List.{List, ◌++◌, append_assoc, append-nil, map}
 use mathlib.Core.Logic.{⊎_elim}
-use mathlib.Core.Option.{none, some}
 use lib.ListN.{length, replicate, replicate-append-replicate, length-map}
-use Rattle.std.specs.Prelude.{if◌then◌else◌}
+use Rattle.std.specs.Prelude.{if◌then◌else◌, Some, None}
 use Rattle.ids.specs.Limits.{max_servers, earlier_servers}
 use Rattle.ids.specs.declared.Request.{Request}
 use Rattle.ids.proofs.Choice.{both}
@@ -48,19 +47,19 @@ wider_row size k l h =
     append_assoc (request_words l) (replicate (size - 2 * length l) 0) (replicate k 0) ∙ rw (replicate-append-replicate, z)
 
 -- words that are read as a record hold one
-read-holds : {A : Type 0} (b : Bool) (x y : A) → (if b then some x else none) ≡ some y → (b ≡ true) × (x ≡ y)
+read-holds : {A : Type 0} (b : Bool) (x y : A) → (if b then Some x else None) ≡ Some y → (b ≡ true) × (x ≡ y)
 read-holds true x y e = (refl, cc)
 read-holds false x y e = (cc, cc)
 
 -- words that are read as a valid record of today are sound
 module _ (ws : List ℕ) where
-  server_sound : (s : Server) → server_in ws ≡ some s → server.valid s ≡ true → sound_server server.row_words max_servers ws ≡ true
+  server_sound : (s : Server) → server_in ws ≡ Some s → server.valid s ≡ true → sound_server server.row_words max_servers ws ≡ true
   unfolding sound_server
   server_sound s r v =
       let (a, b) = read-holds (holds_server_of server.row_words ws) (server_from ws) s r in
       rw a (ap (λ (x : Server). server.valid x) b ∙ v)
 
-  client_sound : (c : Client) → client_in ws ≡ some c → client.valid c ≡ true → sound_client client.row_words max_servers ws ≡ true
+  client_sound : (c : Client) → client_in ws ≡ Some c → client.valid c ≡ true → sound_client client.row_words max_servers ws ≡ true
   unfolding sound_client
   client_sound c r v =
       let (a, b) = read-holds (holds_client_of client.row_words ws) (client_from ws) c r in
@@ -114,14 +113,14 @@ module _ (row k limit : ℕ) (more : row + k ≡ server.row_words) (h : limit �
   server-shows : server.view (server_today s) ≡ server.view s
   server-shows = server_records.view-store server.queue_places s.head.n s.head.id (server.view s) (omega (arith, short, more))
 
-  server_read : server_in (ws ++ replicate k 0) ≡ some (server_today s)
+  server_read : server_in (ws ++ replicate k 0) ≡ Some (server_today s)
   server_read =
       rw server-words
       (server_read_back (server_today s) server_valid server.row_words (length_row_of server.row_words (server.view s).queue (omega (arith, short, more))))
 
   server_taken_as : server_now ws ≡ ws ++ replicate k 0 → ServerTaken ws
   server_taken_as now =
-      let r : server_in (server_now ws) ≡ some (server_today s) = rw now server_read in
+      let r : server_in (server_now ws) ≡ Some (server_today s) = rw now server_read in
       let (a, b) = again servers (server_now ws) (server_sound (server_now ws) (server_today s) r server_valid) in
       record { read = r; valid = server_valid; shows = server-shows; saved = a; again = b }
 
@@ -154,7 +153,7 @@ server_fitting ws v =
 
 -- what is known of a client's words in today's order
 record Renewed (ws : List ℕ) : Type 0 where
-  read : client_in (wider_client ws) ≡ some (client_today (client_from ws))
+  read : client_in (wider_client ws) ≡ Some (client_today (client_from ws))
   valid : client.valid (client_today (client_from ws)) ≡ true
   shows : client.view (client_today (client_from ws)) ≡ client.view (client_from ws)
 
@@ -206,7 +205,7 @@ module _ (row k limit : ℕ) (more : row + k ≡ client.row_words) (h : limit �
   client-shows : client.view (client_today c) ≡ client.view c
   client-shows = client_laws.view-store client.max_places c.head.n c.head.m c.head.id (client.view c) fits fits.ranges.few
 
-  client_read : client_in (ws ++ replicate k 0) ≡ some (client_today c)
+  client_read : client_in (ws ++ replicate k 0) ≡ Some (client_today c)
   unfolding client.store_in
   client_read =
       rw client-words

@@ -1,7 +1,8 @@
 -- Players from before document 02, L3, whose messages reach players of today and whose records are taken over (`Forms`): they know the servers 1 to 31, and
 -- their reading, writing and steps are today's definitions at that limit; a client has no clock, so that it takes a message by Figure 1's lines alone. They
 -- answer as today, but 5 for a message of a server that they do not know; a client leaves what today's does but for what it has seen.
-use Rattle.std.specs.Prelude.{ℕ, Bool, not, List, leb, if◌then◌else◌}
+use Rattle.ids.specs.declared.Refusal.{Refusal}
+use Rattle.std.specs.Prelude.{ℕ, Bool, not, List, leb, if◌then◌else◌, Ok, Err, Result}
 use Rattle.ids.specs.Limits.{earlier_servers}
 use Rattle.ids.specs.declared.Refusal.TheVariants.{NumberOutOfRange, NotForClient, InvalidRecord}
 use Rattle.wire.specs.Format as format
@@ -10,10 +11,6 @@ use Rattle.wire.specs.Calls.{read_up_to, write_up_to, buffer_after_up_to}
 use Rattle.wire.specs.Step.{Step, Outcome, refused, stepped}
 use Rattle.wire.specs.declared.Message.{Message}
 use Rattle.wire.specs.declared.Message.TheVariants.{Request, Yield, Release, Inquiry, Response, Check}
-use Rattle.wire.specs.declared.Parsed.{Parsed}
-use Rattle.wire.specs.declared.Parsed.TheVariants.{Accepted, Refused as NotRead}
-use Rattle.wire.specs.declared.Written.{Written}
-use Rattle.wire.specs.declared.Written.TheVariants.{Refused as NotWritten}
 use Rattle.server.specs.Calls as server
 use Rattle.server.specs.declared.Server.{Server}
 use Rattle.server_votes.specs.Figure1 as votes
@@ -23,10 +20,10 @@ use Rattle.client.specs.declared.Client.{Client}
 use Rattle.client_responses.specs.Figure1 as responses
 
 -- an old player's calls
-abbrev pub earlier_read : List ℕ → Parsed
+abbrev pub earlier_read : List ℕ → Result (Message × ℕ) Refusal
 earlier_read = read_up_to earlier_servers
 
-abbrev pub earlier_write : Message → ℕ → Written
+abbrev pub earlier_write : Message → ℕ → Result ℕ Refusal
 earlier_write = write_up_to earlier_servers
 
 abbrev pub earlier_buffer : Message → List ℕ → List ℕ
@@ -73,12 +70,12 @@ abbrev pub earlier_knows : Message → Bool
 earlier_knows m = leb (server_named m).0 earlier_servers
 
 -- today's answers, as an old player gives them
-abbrev pub read_known : Parsed → Parsed
-read_known (NotRead e) = NotRead e
-read_known (Accepted m n) = if earlier_knows m then Accepted m n else NotRead NumberOutOfRange
+abbrev pub read_known : Result (Message × ℕ) Refusal → Result (Message × ℕ) Refusal
+read_known (Err e) = Err e
+read_known (Ok (m, n)) = if earlier_knows m then Ok (m, n) else Err NumberOutOfRange
 
-abbrev pub write_known : Message → Written → Written
-write_known m w = if earlier_knows m then w else NotWritten NumberOutOfRange
+abbrev pub write_known : Message → Result ℕ Refusal → Result ℕ Refusal
+write_known m w = if earlier_knows m then w else Err NumberOutOfRange
 
 abbrev pub take_known : {A : Type 0} → Message → Outcome A → Outcome A
 take_known m o = if earlier_knows m then o else refused NumberOutOfRange

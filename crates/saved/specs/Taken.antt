@@ -1,6 +1,5 @@
 -- What is promised of a saved record that is taken over.
-use Rattle.std.specs.Prelude.{◌≡◌, true, List, ℕ}
-use Rattle.std.proofs.Math.Option.{some}
+use Rattle.std.specs.Prelude.{◌≡◌, true, List, ℕ, Some}
 use Rattle.server.specs.Record as server
 use Rattle.server.specs.declared.Server.{Server}
 use Rattle.client.specs.Record as client
@@ -21,7 +20,7 @@ saved_as ws = client_from (ordered ws)
 
 -- Taken over, the words ws are that record; it is valid, and shows the state that the saved one shows, owner and queue; taken over once more, it is as it was.
 pub record ServerTaken (ws : List ℕ) : Type 0 where
-  pub read : server_in (server_now ws) ≡ some (server_today (server_from ws))
+  pub read : server_in (server_now ws) ≡ Some (server_today (server_from ws))
   pub valid : server.valid (server_today (server_from ws)) ≡ true
   pub shows : server.view (server_today (server_from ws)) ≡ server.view (server_from ws)
   pub saved : saved_server (server_now ws) ≡ true
@@ -29,7 +28,7 @@ pub record ServerTaken (ws : List ℕ) : Type 0 where
 
 -- The same of a client: section, timestamp, what it has seen and responses.
 pub record ClientTaken (ws : List ℕ) : Type 0 where
-  pub read : client_in (client_now ws) ≡ some (client_today (saved_as ws))
+  pub read : client_in (client_now ws) ≡ Some (client_today (saved_as ws))
   pub valid : client.valid (client_today (saved_as ws)) ≡ true
   pub shows : client.view (client_today (saved_as ws)) ≡ client.view (saved_as ws)
   pub saved : saved_client (client_now ws) ≡ true

@@ -1,4 +1,7 @@
 -- On a valid state and with room the script's calls are not refused: what they used and wrote lies within what they were lent.
+use Rattle.script.specs.declared.Progress.{Progress}
+use Rattle.ids.specs.declared.Refusal.{Refusal}
+use Rattle.std.specs.Prelude.{Ok, Result}
 use mathlib.Core.Path.{◌≡◌, refl, sym, ap, ◌∙◌}
 use Prim.Native.Nat.{ℕ, ◌≤◌}
 use native.Mathlib.Omega.{arith}
@@ -12,19 +15,17 @@ use Rattle.script_output.specs.Reader.{Fed, fed_within, finished, max_printed}
 use Rattle.script_output.proofs.Cuts.{used-few}
 use Rattle.script.specs.State.{view, valid, state_size}
 use Rattle.script.specs.Calls.{new_answer, new_words, feed_answer, FeedLeaves, finish_answer, FinishLeaves, max_ending}
-use Rattle.script.specs.declared.Progress.{Progress}
-use Rattle.script.specs.declared.Progress.TheVariants.{Took}
 use Rattle.script.proofs.NewLaws.{new_valid}
 
-pub begun : (w w' : List ℕ) (p : Progress) → state_size ≡ length w → (p ≡ new_answer w) × (w' ≡ new_words w) → valid w' ≡ true
+pub begun : (w w' : List ℕ) (p : Result Progress Refusal) → state_size ≡ length w → (p ≡ new_answer w) × (w' ≡ new_words w) → valid w' ≡ true
 begun w w' p e f = rw f.1 (new_valid w (sym e))
 
-module _ (w input out w' out' : List ℕ) (p : Progress) (v : valid w ≡ true) (room : max_printed ≤ length out)
+module _ (w input out w' out' : List ℕ) (p : Result Progress Refusal) (v : valid w ≡ true) (room : max_printed ≤ length out)
     (f : (p ≡ feed_answer w input (length out)) × FeedLeaves w input out w' out') where
   abbrev pub fed-all : Fed
   fed-all = fed_within (length out) (view w) input
 
-  pub fed_took : p ≡ Took fed-all.used (length fed-all.out)
+  pub fed_took : p ≡ Ok (record { used = fed-all.used; wrote = length fed-all.out })
   unfolding feed_answer
   fed_took = f.0 ∙ rw (v, le-ltb (length out) max_printed room) refl
 
@@ -34,7 +35,7 @@ module _ (w input out w' out' : List ℕ) (p : Progress) (v : valid w ≡ true) 
   pub fed-valid : valid w' ≡ true
   fed-valid = f.1.again feeds
 
-  module _ (u k : ℕ) (t : p ≡ Took u k) where
+  module _ (u k : ℕ) (t : p ≡ Ok (record { used = u; wrote = k })) where
     pub took_used : u ≡ fed-all.used
     took_used = cc (sym t ∙ fed_took)
 
@@ -46,16 +47,16 @@ module _ (w input out w' out' : List ℕ) (p : Progress) (v : valid w ≡ true) 
         let e : k ≡ length fed-all.out = cc (sym t ∙ fed_took) in
         omega (arith, e, f.1.within feeds, ap length (f.1.bytes feeds), length-sets out 0 fed-all.out)
 
-module _ (w out w' out' : List ℕ) (p : Progress) (v : valid w ≡ true) (room : max_ending ≤ length out)
+module _ (w out w' out' : List ℕ) (p : Result Progress Refusal) (v : valid w ≡ true) (room : max_ending ≤ length out)
     (f : (p ≡ finish_answer w (length out)) × FinishLeaves w out w' out') where
-  end_took : p ≡ Took 0 (length (finished (view w)))
+  end_took : p ≡ Ok (record { used = 0; wrote = length (finished (view w)) })
   unfolding finish_answer
   end_took = f.0 ∙ rw (v, le-ltb (length out) max_ending room) refl
 
   finishes : valid w && leb max_ending (length out) ≡ true
   finishes = rw (v, le-leb max_ending (length out) room)
 
-  pub end_wrote : (u k : ℕ) → p ≡ Took u k → k ≤ length out'
+  pub end_wrote : (u k : ℕ) → p ≡ Ok (record { used = u; wrote = k }) → k ≤ length out'
   end_wrote u k t =
       let e : k ≡ length (finished (view w)) = cc (sym t ∙ end_took) in
       omega (arith, e, f.1.within finishes, ap length (f.1.bytes finishes), length-sets out 0 (finished (view w)))

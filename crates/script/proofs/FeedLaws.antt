@@ -1,4 +1,7 @@
 -- The bytes of a part one after another: what is left of the part prints behind what is printed, as the definition has it.
+use Rattle.script.specs.declared.Progress.{Progress}
+use Rattle.ids.specs.declared.Refusal.{Refusal}
+use Rattle.std.specs.Prelude.{Ok, Err, Result}
 use mathlib.Core.Path.{◌≡◌, refl, sym, ap, ◌∙◌}
 use Prim.Native.Nat.{ℕ, suc, ◌+◌, ◌-◌, ◌≤◌, ◌<◌}
 use native.Mathlib.Numerals.{add-one}
@@ -12,8 +15,6 @@ use borrow.Author.Tests.{lt-ltb, le-ltb, le-leb, lt-leb}
 use Rattle.ids.proofs.Choice.{clash, fails, holds}
 use Rattle.ids.specs.declared.Refusal.TheVariants.{RoomShort, InvalidRecord}
 use Rattle.wire.proofs.BytesLaws.{stored_on}
-use Rattle.script.specs.declared.Progress.{Progress}
-use Rattle.script.specs.declared.Progress.TheVariants.{Took, Refused}
 use Rattle.script_output.specs.Reader.{Reader, Printed, taken, Fed, max_printed, followed, fed_within, ended, last_line, finished, max_kept}
 use Rattle.script.specs.State.{stage_closed, stage_at, length_at, view, valid, state_size}
 use Rattle.script.specs.Calls.{feed_answer, Leaves, FeedLeaves, finish_answer, FinishLeaves, max_ending}
@@ -161,10 +162,10 @@ module _ (w out : List ℕ) (most : ℕ) (r : Reader) (printed : List ℕ) where
       record { reader = λ e. p; again = λ e. q; bytes = λ e. b; within = λ e. n; kept = clash (valid w && leb most (length out)) t }
 
 module _ (w input out : List ℕ) (x : Bool) (e : x ≡ valid w) where
-  abbrev Feeds : List ℕ → List ℕ → Progress → Type 0
+  abbrev Feeds : List ℕ → List ℕ → Result Progress Refusal → Type 0
   Feeds w' out' r = (r ≡ feed_answer w input (length out)) × FeedLeaves w input out w' out'
 
-  pub feed_invalid : x ≡ false → Feeds w out (Refused InvalidRecord)
+  pub feed_invalid : x ≡ false → Feeds w out (Err InvalidRecord)
   unfolding feed_answer
   feed_invalid n = let f = fails x (valid w) e n in (rw f, invalid_leaves w out max_printed _ _ f)
 
@@ -175,11 +176,11 @@ module _ (w input out : List ℕ) (x : Bool) (e : x ≡ valid w) where
     pub feed_sound : Sound w
     feed_sound = sound w good
 
-    pub feed_short : length out < max_printed → Feeds w out (Refused RoomShort)
+    pub feed_short : length out < max_printed → Feeds w out (Err RoomShort)
     unfolding feed_answer
     feed_short h = (rw (good, lt-ltb (length out) max_printed h), short_leaves w out max_printed _ _ good h)
 
-    pub feed_done : max_printed ≤ length out → (w' out' : List ℕ) (r : Progress) → FedAs w input out w' out' r → Feeds w' out' r
+    pub feed_done : max_printed ≤ length out → (w' out' : List ℕ) (r : Result Progress Refusal) → FedAs w input out w' out' r → Feeds w' out' r
     unfolding feed_answer
     feed_done h w' out' r A = (
       rw (good, le-ltb (length out) max_printed h) A.answer,
@@ -222,10 +223,10 @@ module _ (w out : List ℕ) (S : Sound w) (room : max_ending ≤ length out) whe
         }
 
 module _ (w out : List ℕ) (x : Bool) (e : x ≡ valid w) where
-  abbrev Finishes : List ℕ → List ℕ → Progress → Type 0
+  abbrev Finishes : List ℕ → List ℕ → Result Progress Refusal → Type 0
   Finishes w' out' r = (r ≡ finish_answer w (length out)) × FinishLeaves w out w' out'
 
-  pub finish_invalid : x ≡ false → Finishes w out (Refused InvalidRecord)
+  pub finish_invalid : x ≡ false → Finishes w out (Err InvalidRecord)
   unfolding finish_answer
   finish_invalid n = let f = fails x (valid w) e n in (rw f, invalid_leaves w out max_ending _ _ f)
 
@@ -236,11 +237,11 @@ module _ (w out : List ℕ) (x : Bool) (e : x ≡ valid w) where
     pub finish_sound : Sound w
     finish_sound = sound w fine
 
-    pub finish_short : length out < max_ending → Finishes w out (Refused RoomShort)
+    pub finish_short : length out < max_ending → Finishes w out (Err RoomShort)
     unfolding finish_answer
     finish_short h = (rw (fine, lt-ltb (length out) max_ending h), short_leaves w out max_ending _ _ fine h)
 
-    pub finish_done : max_ending ≤ length out → (w' out' : List ℕ) (r : ℕ) → Closes w out w' out' r → Finishes w' out' (Took 0 r)
+    pub finish_done : max_ending ≤ length out → (w' out' : List ℕ) (r : ℕ) → Closes w out w' out' r → Finishes w' out' (Ok (record { used = 0; wrote = r }))
     unfolding finish_answer
     finish_done h w' out' r A = (
       rw (fine, le-ltb (length out) max_ending h, A.place),

@@ -1,17 +1,17 @@
 -- What a line does to the state: each store changes one of the counts or the simulation, and the stage is what the definition says.
+use Rattle.sim_changes.specs.declared.Effect.{Effect}
 use mathlib.Core.Path.{◌≡◌, refl, sym, ap, ◌∙◌}
 use Prim.Native.Nat.{ℕ, suc, ◌+◌, ◌-◌, ◌≤◌, ◌<◌, max}
 use native.Mathlib.Numerals.{add-one}
 use native.Mathlib.Omega.{arith}
 use mathlib.Core.Bool.{Bool, true, false}
 use mathlib.Core.List.{List, [], ◌∷◌, map}
-use mathlib.Core.Option.{Option, none, some}
 use lib.Dec.{leb}
 use lib.ListN.{length, get_or, set, take, drop, replicate, length-map, length-set, length-replicate}
 use lib.Seq.{sets, length-sets}
 use borrow.Rule.Slice.PartMut.{put_mid, put_same}
 use borrow.Author.Tests.{eq-eqb, ne_eqb, le-leb, lt-leb, leb-false, lt-ltb, le-ltb}
-use Rattle.std.specs.Prelude.{if◌then◌else◌}
+use Rattle.std.specs.Prelude.{if◌then◌else◌, Ok, Err, Some, None, Option}
 use Rattle.ids.specs.Limits.{within, max_short}
 use Rattle.ids.specs.declared.Refusal.{Refusal}
 use Rattle.ids.specs.declared.Refusal.TheVariants.{BadLine, ParameterOutOfRange, NoSuchParty}
@@ -31,11 +31,10 @@ use Rattle.sim_blocks.proofs.RegionBlocks.{length-blocks}
 use Rattle.sim_blocks.specs.Blocks.{client_place, client_block}
 use Rattle.wire.specs.Step.{refused, stepped}
 use Rattle.system.specs.declared.Setting.{Setting}
-use Rattle.script_lines.specs.declared.First.TheVariants.{Setting as Opens, Bad as NotOpening}
 use Rattle.script_lines.specs.declared.Line.TheVariants.{Event as Says, Unknown, Bad}
 use Rattle.script_numbers.specs.Decimals.{largest32}
 use Rattle.script_lines.specs.Words.{newline}
-use Rattle.script_lines.specs.Lines.{event_in, sixteen_bits, line_of, first_of, setting_in as line-setting}
+use Rattle.script_lines.specs.Lines.{event_in, sixteen_bits, line_of, setting_in as line-setting}
 use Rattle.script_lines.specs.Printed.{header_line, no_line, ok_line, end_line, refused_line}
 use Rattle.script_lines.proofs.PrintedLaws.{Small, no_short, ok_short, header-short, end_short, refused-short}
 use Rattle.sim_blocks.proofs.Fronts.{Clearing, clearing_more, clearing_all}
@@ -47,19 +46,14 @@ use Rattle.sim_layout.proofs.PlaceLaws.{client-there, server-there}
 use Rattle.sim_changes.proofs.Answers.{no_client-tries, no_client-exits, no_client_falls, no_server-downs, no_server-ups, no_server-misses, no_server_checks}
 use Rattle.sim_changes.specs.Happens as bounded
 use Rattle.simulation.specs.Opens.{in_range, opens}
-use Rattle.sim_changes.specs.declared.Reply.{Reply}
-use Rattle.sim_changes.specs.declared.Reply.TheVariants as reply
 use Rattle.sim_run.specs.declared.Counts.{Counts}
 use Rattle.sim_run.specs.declared.Went.{Went}
-use Rattle.sim_run.specs.declared.Begun.{Begun}
-use Rattle.sim_run.specs.declared.Begun.TheVariants as begun
 use Rattle.sim_run.specs.Run.{Run, fresh, started, moved, next}
 use Rattle.sim_run.specs.Calls.{max_accepted, run_in, counts_of, new_answer, NewLeaves, Goes}
 use Rattle.sim_run.proofs.Whole.{moved-system, moved-accepted, moved-holding}
 use Rattle.script_output.specs.Output.{max_lines, answer_line}
 use Rattle.script_output.specs.Reader.{Script, Stage, opening, running, closed, Reader, Printed, unanswered, opened, onward, line_taken, worked, behind, taken, ended, last_line, max_kept, max_printed}
 use Rattle.script.specs.State.{stage_opening, stage_running, stage_closed, stage_at, answered_at, accepted_at, holding_at, length_at, state_size, Head, head_in, kept_in, simulation_in, counts_in, script_in, stage_of, view, valid_run, valid_idle, valid, state_head}
-use Rattle.script.specs.declared.Progress.TheVariants.{Took, Refused}
 use Rattle.script.specs.Calls.{new_answer as new_script, new_words}
 use Rattle.script.specs.Inner.{Sound, Ready, Reads, Prints, Does, Takes, happened, passing, reply_line, with_counts, without_line}
 use Rattle.script.proofs.StateLaws.{Is, itself-is, view-is, valid-is, store-stage, store-answered, store-accepted, store-holding, store_simulation, Facts, RunFacts, run-facts, from-run, from-facts}
@@ -119,12 +113,12 @@ prints b h = record { place = b.0; bytes = b.1; few = h }
 prints-none : (out : List ℕ) (at : ℕ) → Prints out at [] out at
 prints-none out at = record { place = omega arith; bytes = refl; few = omega arith }
 
-module _ (out out' : List ℕ) (at r i : ℕ) (p : Reply) (small : i ≤ largest32) where
-  pub replied_no : (x : Refusal) → p ≡ reply.Refused x → Put out at (no_line i x) out' r → Prints out at (reply_line i p) out' r
+module _ (out out' : List ℕ) (at r i : ℕ) (p : Result Effect Refusal) (small : i ≤ largest32) where
+  pub replied_no : (x : Refusal) → p ≡ Err x → Put out at (no_line i x) out' r → Prints out at (reply_line i p) out' r
   unfolding reply_line
   replied_no x e b = rw e (prints b (omega (arith, no_short i x small)))
 
-  pub replied_ok : (sent k : ℕ) → sent ≤ largest32 → k ≤ largest32 → p ≡ reply.Accepted sent k → Put out at (ok_line i sent k) out' r
+  pub replied_ok : (sent k : ℕ) → sent ≤ largest32 → k ≤ largest32 → p ≡ Ok (record { sent = sent; holders = k }) → Put out at (ok_line i sent k) out' r
       → Prints out at (reply_line i p) out' r
   unfolding reply_line
   replied_ok sent k hs hk e b = rw e (prints b (omega (arith, ok_short i sent k small hs hk)))
@@ -309,11 +303,11 @@ newly w w' e p = rw (eq-eqb (length w) state_size e) p
 pub all-cleared : (o l : List ℕ) (i : ℕ) → length o ≡ state_size → Clearing o 0 state_size l i → state_size ≤ i → l ≡ replicate state_size 0
 all-cleared o l i e S h = clearing_all o 0 state_size l i S h ∙ covered o (replicate state_size 0) (length-replicate {A = ℕ} state_size 0 ∙ sym e)
 
-pub newly_answered : (w : List ℕ) → length w ≡ state_size → Took 0 0 ≡ new_script w
+pub newly_answered : (w : List ℕ) → length w ≡ state_size → Ok (record { used = 0; wrote = 0 }) ≡ new_script w
 unfolding new_script
 newly_answered w e = rw (eq-eqb (length w) state_size e)
 
-pub not_new : (w : List ℕ) → (length w ≡ state_size → ⊥) → (Refused ParameterOutOfRange ≡ new_script w) × (w ≡ new_words w)
+pub not_new : (w : List ℕ) → (length w ≡ state_size → ⊥) → (Err ParameterOutOfRange ≡ new_script w) × (w ≡ new_words w)
 unfolding new_script new_words
 not_new w ne = (rw (ne_eqb (length w) state_size ne), rw (ne_eqb (length w) state_size ne))
 
@@ -336,12 +330,12 @@ opens-range : (s : Setting) (l : ℕ) → l ≡ simulation_size → opens l s �
 unfolding opens
 opens-range s l e = rw (eq-eqb l simulation_size e)
 
-begun-refused : (b : Bool) (s : Setting) (x : Refusal) → begun.Refused x ≡ new_answer b s → (b ≡ false) × (x ≡ ParameterOutOfRange)
+begun-refused : (b : Bool) (s : Setting) (x : Refusal) → Err x ≡ new_answer b s → (b ≡ false) × (x ≡ ParameterOutOfRange)
 unfolding new_answer
 begun-refused true s x e = let z : ◌≡◌ {A = ℕ} 0 1 = cc in absurd (omega arith)
 begun-refused false s x e = (refl, (cc))
 
-begun-run : (b : Bool) (s : Setting) (c : Counts) → begun.Run c ≡ new_answer b s → (b ≡ true) × (c ≡ counts_of (started s))
+begun-run : (b : Bool) (s : Setting) (c : Counts) → Ok c ≡ new_answer b s → (b ≡ true) × (c ≡ counts_of (started s))
 unfolding new_answer
 begun-run true s c e = (refl, (cc))
 begun-run false s c e = let z : ◌≡◌ {A = ℕ} 0 1 = cc in absurd (omega arith)
@@ -349,7 +343,7 @@ begun-run false s c e = let z : ◌≡◌ {A = ℕ} 0 1 = cc in absurd (omega ar
 module _ (w out : List ℕ) (at : ℕ) (R : Ready w out at) (zeroth : get_or w stage_at 0 ≡ stage_opening) where
   -- the setting is out of range
   pub open_refused : (s : Setting) → in_range s ≡ false → (x : Refusal) → x ≡ ParameterOutOfRange → (w' out' : List ℕ) (r : ℕ) →
-      Does w out at (record { now = closed; out = refused_line x }) w' out' r → Does w out at (opened (some s)) w' out' r
+      Does w out at (record { now = closed; out = refused_line x }) w' out' r → Does w out at (opened (Some s)) w' out' r
   unfolding opened
   open_refused s out_of_lem x q w' out' r D = rw (out_of_lem, ← q) D
 
@@ -357,7 +351,7 @@ module _ (w out : List ℕ) (at : ℕ) (R : Ready w out at) (zeroth : get_or w s
   pub open_running : (s : Setting) (s' : List ℕ) → in_range s ≡ true → run_in (counts_of (started s)) s' ≡ started s → layout.valid s' ≡ true
       → length s' ≡ simulation_size → (out' : List ℕ) (r : ℕ) →
       Put out at (header_line s) out' r
-      → Does w out at (opened (some s)) (with_counts (set (sets w state_head s') stage_at stage_running) 0 (counts_of (started s))) out' r
+      → Does w out at (opened (Some s)) (with_counts (set (sets w state_head s') stage_at stage_running) 0 (counts_of (started s))) out' r
   unfolding opened stage_of
   open_running s s' in-it u v long out' r b =
       let lent = store_simulation (itself-is w R.long) s' long in
@@ -396,50 +390,50 @@ module _ (w : List ℕ) where
     unread_line h = rw (stage-running w one, le-ltb (get_or w answered_at 0) max_lines h)
 
     module _ (more : get_or w answered_at 0 < max_lines) where
-      pub bad_line : event_in (view w).line ≡ none → worked (view w).stage (view w).line ≡ passing (script_in (head_in w) (simulation_in w)) BadLine
+      pub bad_line : event_in (view w).line ≡ None → worked (view w).stage (view w).line ≡ passing (script_in (head_in w) (simulation_in w)) BadLine
       unfolding worked line_taken head_in
       bad_line e = rw (stage-running w one, lt-ltb (get_or w answered_at 0) max_lines more, e)
 
-      pub event-line : (e : Event) → event_in (view w).line ≡ some e → worked (view w).stage (view w).line ≡ happened (script_in (head_in w) (simulation_in w)) e
+      pub event-line : (e : Event) → event_in (view w).line ≡ Some e → worked (view w).stage (view w).line ≡ happened (script_in (head_in w) (simulation_in w)) e
       unfolding worked line_taken head_in
       event-line e q = rw (stage-running w one, lt-ltb (get_or w answered_at 0) max_lines more, q)
 
       -- an event of a party whose number is too large for its type
-      pub unknown_line : (e : Event) → event_in (view w).line ≡ some e → bounded.happens (simulation_in w) e ≡ refused NoSuchParty →
+      pub unknown_line : (e : Event) → event_in (view w).line ≡ Some e → bounded.happens (simulation_in w) e ≡ refused NoSuchParty →
           worked (view w).stage (view w).line ≡ passing (script_in (head_in w) (simulation_in w)) NoSuchParty
       unfolding head_in answer_line moved
       unknown_line e q nobody = event-line e q ∙ rw nobody
 
 -- what the parser said of the line
-pub parsed_bad : (o : Option Event) → Bad ≡ line_of o → o ≡ none
+pub parsed_bad : (o : Option Event) → Bad ≡ line_of o → o ≡ None
 unfolding line_of
-parsed_bad none e = refl
-parsed_bad (some x) e = absurd (by_bits (sixteen_bits x) e)
+parsed_bad None e = refl
+parsed_bad (Some x) e = absurd (by_bits (sixteen_bits x) e)
   where
     by_bits : (b : Bool) → Bad ≡ (if b then Says x else Unknown) → ⊥
     by_bits true e = let z : ◌≡◌ {A = ℕ} 0 1 = cc in omega arith
     by_bits false e = let z : ◌≡◌ {A = ℕ} 0 1 = cc in omega arith
 
-pub parsed_event : (o : Option Event) (x : Event) → Says x ≡ line_of o → o ≡ some x
+pub parsed_event : (o : Option Event) (x : Event) → Says x ≡ line_of o → o ≡ Some x
 unfolding line_of
-parsed_event none x e = let z : ◌≡◌ {A = ℕ} 0 1 = cc in absurd (omega arith)
-parsed_event (some y) x e = by_bits (sixteen_bits y) e
+parsed_event None x e = let z : ◌≡◌ {A = ℕ} 0 1 = cc in absurd (omega arith)
+parsed_event (Some y) x e = by_bits (sixteen_bits y) e
   where
-    by_bits : (b : Bool) → Says x ≡ (if b then Says y else Unknown) → some y ≡ some x
-    by_bits true e = let z : y ≡ x = cc in ap some z
+    by_bits : (b : Bool) → Says x ≡ (if b then Says y else Unknown) → Some y ≡ Some x
+    by_bits true e = let z : y ≡ x = cc in ap Some z
     by_bits false e = let z : ◌≡◌ {A = ℕ} 0 1 = cc in absurd (omega arith)
 
 pub record IsUnknown (o : Option Event) : Type 0 where
   pub event : Event
-  pub read : o ≡ some event
+  pub read : o ≡ Some event
   pub wide : sixteen_bits event ≡ false
 
 pub parsed_unknown : (o : Option Event) → Unknown ≡ line_of o → IsUnknown o
 unfolding line_of
-parsed_unknown none e = let z : ◌≡◌ {A = ℕ} 0 1 = cc in absurd (omega arith)
-parsed_unknown (some y) e = by_bits (sixteen_bits y) refl e
+parsed_unknown None e = let z : ◌≡◌ {A = ℕ} 0 1 = cc in absurd (omega arith)
+parsed_unknown (Some y) e = by_bits (sixteen_bits y) refl e
   where
-    by_bits : (b : Bool) → sixteen_bits y ≡ b → Unknown ≡ (if b then Says y else Unknown) → IsUnknown (some y)
+    by_bits : (b : Bool) → sixteen_bits y ≡ b → Unknown ≡ (if b then Says y else Unknown) → IsUnknown (Some y)
     by_bits true q e = let z : ◌≡◌ {A = ℕ} 0 1 = cc in absurd (omega arith)
     by_bits false q e = record { event = y; read = refl; wide = q }
 
@@ -530,7 +524,7 @@ module _ (w out : List ℕ) (at : ℕ) (R : Ready w out at) (N : Reads w) (e : E
     event-happened out' r b = happened_does w out at R N e s' went leaves w' words out' r b
 
 -- a new run's two ends
-module _ (w out : List ℕ) (at : ℕ) (R : Ready w out at) (zeroth : get_or w stage_at 0 ≡ stage_opening) (s : Setting) (s' : List ℕ) (made : Begun)
+module _ (w out : List ℕ) (at : ℕ) (R : Ready w out at) (zeroth : get_or w stage_at 0 ≡ stage_opening) (s : Setting) (s' : List ℕ) (made : Result Counts Refusal)
     (N : NewLeaves s (take simulation_size (drop state_head w)) s' × (made ≡ new_answer (opens (length (take simulation_size (drop state_head w))) s) s)) where
   abbrev opens_it : Bool
   opens_it = opens (length (take simulation_size (drop state_head w))) s
@@ -541,7 +535,7 @@ module _ (w out : List ℕ) (at : ℕ) (R : Ready w out at) (zeroth : get_or w s
   as_range : opens_it ≡ in_range s
   as_range = opens-range s (length (take simulation_size (drop state_head w))) lent-long
 
-  module _ (x : Refusal) (e : made ≡ begun.Refused x) where
+  module _ (x : Refusal) (e : made ≡ Err x) where
     refusing : (opens_it ≡ false) × (x ≡ ParameterOutOfRange)
     refusing = begun-refused opens_it s x (sym e ∙ N.1)
 
@@ -556,10 +550,10 @@ module _ (w out : List ℕ) (at : ℕ) (R : Ready w out at) (zeroth : get_or w s
 
     pub begin_refused : (w' out' : List ℕ) (r : ℕ)
         → Does (put_mid state_head simulation_size w s') out at (record { now = closed; out = refused_line x }) w' out' r
-        → Does w out at (opened (some s)) w' out' r
+        → Does w out at (opened (Some s)) w' out' r
     begin_refused w' out' r D = open_refused w out at R zeroth s (sym as_range ∙ refusing.0) x refusing.1 w' out' r (rw same-words at D)
 
-  module _ (c : Counts) (e : made ≡ begun.Run c) where
+  module _ (c : Counts) (e : made ≡ Ok c) where
     running_it : (opens_it ≡ true) × (c ≡ counts_of (started s))
     running_it = begun-run opens_it s c (sym e ∙ N.1)
 
@@ -578,7 +572,7 @@ module _ (w out : List ℕ) (at : ℕ) (R : Ready w out at) (zeroth : get_or w s
           ap length p ∙ (counts_same (set (put_mid state_head simulation_size w s') stage_at stage_running) 0 c ∙
           (length-set (put_mid state_head simulation_size w s') stage_at stage_running ∙ (begin_long ∙ sym R.long)))
 
-      pub begin_running : (out' : List ℕ) (r : ℕ) → Put out at (header_line s) out' r → Does w out at (opened (some s)) w' out' r
+      pub begin_running : (out' : List ℕ) (r : ℕ) → Put out at (header_line s) out' r → Does w out at (opened (Some s)) w' out' r
       begin_running out' r b =
           rw (p, running_it.1, back w s' R.long fresh-long)
           (open_running w out at R zeroth s s' (sym as_range ∙ running_it.0) (N.0.run running_it.0) (N.0.again running_it.0) fresh-long
@@ -586,25 +580,25 @@ module _ (w out : List ℕ) (at : ℕ) (R : Ready w out at) (zeroth : get_or w s
 
 -- an event line, by what the parser said of it -------------------------------------------------------------------------------------
 
-pub first_bad_lem : (o : Option Setting) → NotOpening ≡ first_of o → o ≡ none
-first_bad_lem none e = refl
-first_bad_lem (some s) e = let z : ◌≡◌ {A = ℕ} 0 1 = cc in absurd (omega arith)
+pub first_bad_lem : (o : Option Setting) → None ≡ o → o ≡ None
+first_bad_lem None e = refl
+first_bad_lem (Some s) e = let z : ◌≡◌ {A = ℕ} 0 1 = cc in absurd (omega arith)
 
-pub first-setting : (o : Option Setting) (s : Setting) → Opens s ≡ first_of o → o ≡ some s
-first-setting none s e = let z : ◌≡◌ {A = ℕ} 0 1 = cc in absurd (omega arith)
-first-setting (some t) s e = let z : t ≡ s = cc in ap some z
+pub first-setting : (o : Option Setting) (s : Setting) → Some s ≡ o → o ≡ Some s
+first-setting None s e = let z : ◌≡◌ {A = ℕ} 0 1 = cc in absurd (omega arith)
+first-setting (Some t) s e = let z : t ≡ s = cc in ap Some z
 
 module _ (w out : List ℕ) (at : ℕ) (R : Ready w out at) where
   module _ (w' out' : List ℕ) (r : ℕ) where
     pub swapped : (p q : Printed Stage) → p ≡ q → Does w out at q w' out' r → Does w out at p w' out' r
     swapped p q e D = rw e D
 
-    pub bad_first : NotOpening ≡ first_of (line-setting (view w).line) → Does w out at (record { now = closed; out = refused_line BadLine }) w' out' r
+    pub bad_first : None ≡ line-setting (view w).line → Does w out at (record { now = closed; out = refused_line BadLine }) w' out' r
         → Does w out at (opened (line-setting (view w).line)) w' out' r
     unfolding opened
     bad_first e D = rw (first_bad_lem (line-setting (view w).line) e) D
 
-    pub setting-first : (s : Setting) → Opens s ≡ first_of (line-setting (view w).line) → Does w out at (opened (some s)) w' out' r
+    pub setting-first : (s : Setting) → Some s ≡ line-setting (view w).line → Does w out at (opened (Some s)) w' out' r
         → Does w out at (opened (line-setting (view w).line)) w' out' r
     setting-first s e D = rw (first-setting (line-setting (view w).line) s e) D
 

@@ -1,33 +1,32 @@
 -- What the calls on a script's state give and leave.
-use Rattle.std.specs.Prelude.{ℕ, ◌≤◌, ◌*◌, ◌≡◌, Bool, true, false, ◌&&◌, List, [], ◌∷◌, eqb, ltb, leb, length, replicate, if◌then◌else◌}
+use Rattle.script.specs.declared.Progress.{Progress}
+use Rattle.ids.specs.declared.Refusal.{Refusal}
+use Rattle.std.specs.Prelude.{ℕ, ◌≤◌, ◌*◌, ◌≡◌, Bool, true, false, ◌&&◌, List, [], ◌∷◌, eqb, ltb, leb, length, replicate, if◌then◌else◌, Ok, Err, Result}
 use Rattle.std.proofs.lemmas.List.Edits.{sets}
 use Rattle.ids.specs.Refusals.{code, Says, accepts, refuses}
 use Rattle.ids.specs.declared.Refusal.TheVariants.{RoomShort, InvalidRecord, ParameterOutOfRange}
-use Rattle.script.specs.declared.Progress.{Progress}
-use Rattle.script.specs.declared.Progress.TheVariants.{Took, Refused}
-use Rattle.sim_changes.specs.declared.Reply.TheVariants as reply
 use Rattle.script_output.specs.Reader.{closed, Reader, max_printed, fed_within, finished}
 use Rattle.script.specs.State.{state_size, view, valid}
 
 -- a new script: 7 if the words are too few or too many
-unfoldable pub new_answer : List ℕ → Progress
-new_answer w = if eqb (length w) state_size then Took 0 0 else Refused ParameterOutOfRange
+unfoldable pub new_answer : List ℕ → Result Progress Refusal
+new_answer w = if eqb (length w) state_size then Ok (record { used = 0; wrote = 0 }) else Err ParameterOutOfRange
 
 unfoldable pub new_words : List ℕ → List ℕ
 new_words w = if eqb (length w) state_size then replicate state_size 0 else w
 
 -- 21 an invalid state, 6 no room for a line
-unfoldable pub feed_answer : List ℕ → List ℕ → ℕ → Progress
+unfoldable pub feed_answer : List ℕ → List ℕ → ℕ → Result Progress Refusal
 feed_answer w input room =
     if valid w then
-    if ltb room max_printed then Refused RoomShort
-    else Took (fed_within room (view w) input).used (length (fed_within room (view w) input).out)
-    else Refused InvalidRecord
+    if ltb room max_printed then Err RoomShort
+    else Ok (record { used = (fed_within room (view w) input).used; wrote = length (fed_within room (view w) input).out })
+    else Err InvalidRecord
 
 -- the answers in document 01's numbers: the bytes used and the bytes written
-abbrev pub progress_says : Progress → Says ℕ
-progress_says (Refused x) = refuses (code x)
-progress_says (Took used wrote) = accepts (used ∷ wrote ∷ [])
+abbrev pub progress_says : Result Progress Refusal → Says ℕ
+progress_says (Err x) = refuses (code x)
+progress_says (Ok s) = accepts (s.used ∷ s.wrote ∷ [])
 
 unfoldable pub new_says : List ℕ → Says ℕ
 new_says w = if eqb (length w) state_size then accepts (0 ∷ 0 ∷ []) else refuses 7
@@ -59,10 +58,10 @@ FeedLeaves w input out w' out' =
 abbrev pub max_ending : ℕ
 max_ending = 2 * max_printed
 
-unfoldable pub finish_answer : List ℕ → ℕ → Progress
+unfoldable pub finish_answer : List ℕ → ℕ → Result Progress Refusal
 finish_answer w room =
-    if valid w then if ltb room max_ending then Refused RoomShort else Took 0 (length (finished (view w)))
-    else Refused InvalidRecord
+    if valid w then if ltb room max_ending then Err RoomShort else Ok (record { used = 0; wrote = length (finished (view w)) })
+    else Err InvalidRecord
 
 unfoldable pub finish_says : List ℕ → ℕ → Says ℕ
 finish_says w room =

@@ -1,12 +1,10 @@
 -- Definitions that only the contracts of private functions cite: no promise rests on them.
-use Rattle.std.specs.Prelude.{ℕ, suc, ◌+◌, ◌≤◌, ◌<◌, ◌≡◌, true, List, [], length, get_or, set, replicate}
+use Rattle.script.specs.declared.Progress.{Progress}
+use Rattle.sim_changes.specs.declared.Effect.{Effect}
+use Rattle.std.specs.Prelude.{ℕ, suc, ◌+◌, ◌≤◌, ◌<◌, ◌≡◌, true, List, [], length, get_or, set, replicate, Ok, Err, Result}
 use Rattle.std.proofs.lemmas.List.Edits.{sets}
 use Rattle.ids.specs.declared.Refusal.{Refusal}
-use Rattle.script.specs.declared.Progress.{Progress}
-use Rattle.script.specs.declared.Progress.TheVariants.{Took, Refused}
 use Rattle.system.specs.declared.Event.{Event}
-use Rattle.sim_changes.specs.declared.Reply.{Reply}
-use Rattle.sim_changes.specs.declared.Reply.TheVariants as reply
 use Rattle.sim_run.specs.declared.Counts.{Counts}
 use Rattle.sim_run.specs.Run.{happens, next}
 use Rattle.script_lines.specs.Printed.{no_line, ok_line}
@@ -57,8 +55,8 @@ pub record Takes (out : List ℕ) (at : ℕ) (p : Printed Reader) (w' out' : Lis
   pub prints : Prints out at p.out out' r
 
 -- the bytes were taken in while there was room for a line
-pub record FedAs (w input out w' out' : List ℕ) (r : Progress) : Type 0 where
-  pub answer : r ≡ Took (fed_within (length out) (view w) input).used (length (fed_within (length out) (view w) input).out)
+pub record FedAs (w input out w' out' : List ℕ) (r : Result Progress Refusal) : Type 0 where
+  pub answer : r ≡ Ok (record { used = (fed_within (length out) (view w) input).used; wrote = length (fed_within (length out) (view w) input).out })
   pub reader : view w' ≡ (fed_within (length out) (view w) input).now
   pub again : valid w' ≡ true
   pub bytes : out' ≡ sets out 0 (fed_within (length out) (view w) input).out
@@ -84,9 +82,9 @@ abbrev pub passing : Script → Refusal → Printed Stage
 passing r x = record { now = running (onward r r.run); out = no_line (suc r.answered) x }
 
 -- the line of a reply, and the words with the lines answered and the counts stored
-unfoldable pub reply_line : ℕ → Reply → List ℕ
-reply_line i (reply.Refused x) = no_line i x
-reply_line i (reply.Accepted sent holders) = ok_line i sent holders
+unfoldable pub reply_line : ℕ → Result Effect Refusal → List ℕ
+reply_line i (Err x) = no_line i x
+reply_line i (Ok s) = ok_line i s.sent s.holders
 
 abbrev pub with_counts : List ℕ → ℕ → Counts → List ℕ
 with_counts w answered c = set (set (set w answered_at answered) accepted_at c.accepted) holding_at c.holding

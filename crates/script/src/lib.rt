@@ -4,11 +4,10 @@
 
 #![tactic(auto)]
 
-ghost use Rattle.std.specs.Prelude.{◌≡◌, true, ◌≤◌, ◌+◌, [], length, get_or, set, replicate};
-ghost use Rattle.std.proofs.Math.Option.{some};
+ghost use Rattle.std.specs.Prelude.{◌≡◌, true, Some, ◌≤◌, ◌+◌, [], length, get_or, set, replicate};
 ghost use Rattle.std.proofs.lemmas.List.Edits.{sets};
 ghost use Rattle.ids.specs.Lists.{every};
-ghost use Rattle.script_lines.specs.Lines.{event_in, line_of, setting_in, first_of};
+ghost use Rattle.script_lines.specs.Lines.{event_in, line_of, setting_in};
 ghost use Rattle.script_lines.specs.Printed.{refused_line};
 ghost use Rattle.script_output.specs.Reader.{closed, opened, worked, behind, taken, ended, last_line, finished, max_kept, max_printed};
 ghost use Rattle.script.specs.State.{head_in, kept_in, simulation_in, counts_in, script_in, byte_word, valid_line, valid_run, valid_idle, view, valid as is_valid, state_size, stage_at, length_at, stage_opening, stage_running, stage_closed};
@@ -16,8 +15,9 @@ ghost use Rattle.script.specs.Calls.{new_answer, new_words, feed_answer, FeedLea
 ghost use Rattle.script.specs.Inner.{Sound, Ready, Reads, Prints, Does, Takes, FedAs, Closes, happened, passing, with_counts, without_line, reply_line};
 
 use ids::Refusal;
-use script_lines::{First, Line};
-use sim_run::{Begun, Counts, Reply};
+use script_lines::Line;
+use sim_changes::Effect;
+use sim_run::Counts;
 use system::{Event, Setting};
 
 // The words of the head: the stage, the event lines answered and those accepted, the most holders at once, and the bytes of the line so far.
@@ -57,11 +57,11 @@ pub const MAX_PRINTED: usize = 52;
 
 pub const MAX_ENDING: usize = 2 * MAX_PRINTED;
 
-// Bytes used and bytes written, or the refusal.
+// Bytes used and bytes written.
 #[derive(Clone, Copy)]
-pub enum Progress {
-    Took(usize, usize),
-    Refused(Refusal),
+pub struct Progress {
+    pub used: usize,
+    pub wrote: usize,
 }
 
 // Whether the words of the line are bytes.
@@ -192,9 +192,9 @@ fn copy_line(w: &[u32], line: &mut [u8])
     }
 }
 
-fn read_setting(w: &[u32]) -> First
+fn read_setting(w: &[u32]) -> Option<Setting>
     requires { Sound w.now }
-    ensures { result ≡ first_of (setting_in (view w.now).line) }
+    ensures { result ≡ setting_in (view w.now).line }
 {
     let mut line = [0u8; LINE];
     copy_line(w, &mut line);
@@ -253,12 +253,11 @@ fn start(w: &mut [u32], c: Counts)
 // The first line is a setting.
 fn begin(w: &mut [u32], out: &mut [u8], at: usize, s: Setting) -> usize
     requires { Ready w.old out.old at × (get_or w.old stage_at 0 ≡ stage_opening) }
-    ensures { Does w.old out.old at (opened (some s)) w.new out.new result }
+    ensures { Does w.old out.old at (opened (Some s)) w.new out.new result }
 {
-    let begun = sim_run::new(&mut w[STATE_HEAD..STATE_WORDS], s);
-    match begun {
-        Begun::Refused(x) => refuse(w, out, at, x),
-        Begun::Run(counts) => {
+    match sim_run::new(&mut w[STATE_HEAD..STATE_WORDS], s) {
+        Err(x) => refuse(w, out, at, x),
+        Ok(counts) => {
             start(w, counts);
             script_lines::put_header(out, at, s)
         }
@@ -270,21 +269,20 @@ fn open(w: &mut [u32], out: &mut [u8], at: usize) -> usize
     requires { Ready w.old out.old at × (get_or w.old stage_at 0 ≡ stage_opening) }
     ensures { Does w.old out.old at (opened (setting_in (view w.old).line)) w.new out.new result }
 {
-    let first = read_setting(w);
-    match first {
-        First::Bad => refuse(w, out, at, Refusal::BadLine),
-        First::Setting(s) => begin(w, out, at, s),
+    match read_setting(w) {
+        None => refuse(w, out, at, Refusal::BadLine),
+        Some(s) => begin(w, out, at, s),
     }
 }
 
 // The answer to event number `number`.
-fn put_reply(out: &mut [u8], at: usize, number: u32, reply: Reply) -> usize
+fn put_reply(out: &mut [u8], at: usize, number: u32, reply: Result<Effect, Refusal>) -> usize
     requires { at + max_printed ≤ length out.old }
     ensures { Prints out.old at (reply_line number reply) out.new result }
 {
     match reply {
-        Reply::Refused(x) => script_lines::put_no(out, at, number, x),
-        Reply::Accepted(sent, holders) => script_lines::put_ok(out, at, number, sent, holders),
+        Err(x) => script_lines::put_no(out, at, number, x),
+        Ok(Effect { sent, holders }) => script_lines::put_ok(out, at, number, sent, holders),
     }
 }
 
@@ -356,15 +354,15 @@ fn take(w: &mut [u32], out: &mut [u8], at: usize, b: u8) -> usize
 }
 
 // A new script.
-pub fn new(w: &mut [u32]) -> Progress
+pub fn new(w: &mut [u32]) -> Result<Progress, Refusal>
     ensures value { (result ≡ new_answer w.old) × (w.new ≡ new_words w.old) }
     ensures numbers { progress_says result ≡ new_says w.old }
 {
     if w.len() != STATE_WORDS {
-        return Progress::Refused(Refusal::ParameterOutOfRange);
+        return Err(Refusal::ParameterOutOfRange);
     }
     clear(w);
-    Progress::Took(0, 0)
+    Ok(Progress { used: 0, wrote: 0 })
 }
 
 fn clear(w: &mut [u32])
@@ -379,7 +377,7 @@ fn clear(w: &mut [u32])
 }
 
 // The bytes of the input, one after another, while there is room for a line.
-fn take_all(w: &mut [u32], input: &[u8], out: &mut [u8]) -> Progress
+fn take_all(w: &mut [u32], input: &[u8], out: &mut [u8]) -> Result<Progress, Refusal>
     requires { Sound w.old }
     ensures { FedAs w.old input.now out.old w.new out.new result }
 {
@@ -387,24 +385,24 @@ fn take_all(w: &mut [u32], input: &[u8], out: &mut [u8]) -> Progress
     let mut at: usize = 0;
     while used < input.len() {
         if out.len() - at < MAX_PRINTED {
-            return Progress::Took(used, at);
+            return Ok(Progress { used, wrote: at });
         }
         at = take(w, out, at, input[used]);
         used += 1;
     }
-    Progress::Took(used, at)
+    Ok(Progress { used, wrote: at })
 }
 
 // The next part of the input. Refused 21, 6.
-pub fn feed(w: &mut [u32], input: &[u8], out: &mut [u8]) -> Progress
+pub fn feed(w: &mut [u32], input: &[u8], out: &mut [u8]) -> Result<Progress, Refusal>
     ensures value { (result ≡ feed_answer w.old input.now (length out.old)) × FeedLeaves w.old input.now out.old w.new out.new }
     ensures numbers { progress_says result ≡ feed_says w.old input.now (length out.old) }
 {
     if !valid(w) {
-        return Progress::Refused(Refusal::InvalidRecord);
+        return Err(Refusal::InvalidRecord);
     }
     if out.len() < MAX_PRINTED {
-        return Progress::Refused(Refusal::RoomShort);
+        return Err(Refusal::RoomShort);
     }
     take_all(w, input, out)
 }
@@ -461,16 +459,16 @@ fn close(w: &mut [u32], out: &mut [u8]) -> usize
 }
 
 // The end of the input. Refused 21, 6.
-pub fn finish(w: &mut [u32], out: &mut [u8]) -> Progress
+pub fn finish(w: &mut [u32], out: &mut [u8]) -> Result<Progress, Refusal>
     ensures value { (result ≡ finish_answer w.old (length out.old)) × FinishLeaves w.old out.old w.new out.new }
     ensures numbers { progress_says result ≡ finish_says w.old (length out.old) }
 {
     if !valid(w) {
-        return Progress::Refused(Refusal::InvalidRecord);
+        return Err(Refusal::InvalidRecord);
     }
     if out.len() < MAX_ENDING {
-        return Progress::Refused(Refusal::RoomShort);
+        return Err(Refusal::RoomShort);
     }
     let wrote = close(w, out);
-    Progress::Took(0, wrote)
+    Ok(Progress { used: 0, wrote })
 }

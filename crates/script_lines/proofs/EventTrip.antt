@@ -4,13 +4,12 @@ use native.Mathlib.Omega.{arith}
 use mathlib.Core.Path.{◌≡◌, refl, sym, ap, ◌∙◌}
 use mathlib.Core.Bool.{true, false}
 use mathlib.Core.Logic.{⊎_elim}
-use mathlib.Core.Option.{none, some}
 use mathlib.Core.List.{List, [], ◌∷◌, ◌++◌}
 use lib.Dec.{eqb}
 use lib.ListN.{length}
 use borrow.Author.Tests.{le-leb, eqb-true}
 use Rattle.ids.specs.Choice.{maybe}
-use Rattle.std.specs.Prelude.{if◌then◌else◌}
+use Rattle.std.specs.Prelude.{if◌then◌else◌, Some, None}
 use Rattle.ids.proofs.Choice.{decided, both}
 use Rattle.system.specs.declared.Event.{Event}
 use Rattle.system.specs.declared.Event.TheVariants.{Try, Exit, Fall, Down, Up, Take, Drop, Miss, Check}
@@ -45,8 +44,8 @@ event-short e h = omega (arith, length-event e, word-short e, decimal-short (num
 -- its word, what stands behind it, and the event that the two are
 record Parts (e : Event) : Type 0 where
   first : word (event_line e) ≡ word_of e
-  second : rest (event_line e) ≡ some (decimal (number_of e))
-  event : event_of (command_in (word_of e)) (number_of e) ≡ some e
+  second : rest (event_line e) ≡ Some (decimal (number_of e))
+  event : event_of (command_in (word_of e)) (number_of e) ≡ Some e
 
 parts : (e : Event) → Parts e
 unfolding event_line spaced word rest command_in same event_of
@@ -60,7 +59,7 @@ parts (Drop i) = record { first = refl; second = refl; event = refl }
 parts (Miss j) = record { first = refl; second = refl; event = refl }
 parts (Check j) = record { first = refl; second = refl; event = refl }
 
-pub event-read : (e : Event) → number_of e ≤ largest32 → event_in (event_line e) ≡ some e
+pub event-read : (e : Event) → number_of e ≤ largest32 → event_in (event_line e) ≡ Some e
 unfolding event_in
 event-read e h =
     let p = parts e in
@@ -78,13 +77,13 @@ same-is (b ∷ l) (c ∷ k) e =
     let (h, t) = both (eqb b c) (same l k) e in
     rw (eqb-true b c h, same-is l k t)
 
-pub rest_joins : (l r : List ℕ) → rest l ≡ some r → word l ++ (space ∷ r) ≡ l
+pub rest_joins : (l r : List ℕ) → rest l ≡ Some r → word l ++ (space ∷ r) ≡ l
 unfolding word rest
 rest_joins [] r e = let z : ◌≡◌ {A = ℕ} 0 1 = cc in absurd (omega arith)
 rest_joins (b ∷ l) r e =
     ⊎_elim
-    (λ (t : eqb b space ≡ true). let f : some l ≡ some r = rw t at e in let g : l ≡ r = cc in rw (t, eqb-true b space t, g))
-    (λ (t : eqb b space ≡ false). let f : rest l ≡ some r = rw t at e in rw (t, rest_joins l r f))
+    (λ (t : eqb b space ≡ true). let f : Some l ≡ Some r = rw t at e in let g : l ≡ r = cc in rw (t, eqb-true b space t, g))
+    (λ (t : eqb b space ≡ false). let f : rest l ≡ Some r = rw t at e in rw (t, rest_joins l r f))
     (decided (eqb b space))
 
 record Named (w : List ℕ) (x : ℕ) (e : Event) : Type 0 where
@@ -92,19 +91,19 @@ record Named (w : List ℕ) (x : ℕ) (e : Event) : Type 0 where
   counted : number_of e ≡ x
 
 -- one test of `command_in`: w is the word v, whose command c makes e', or the rest of the tests decide
-tested : (w : List ℕ) (x : ℕ) (e : Event) (v : List ℕ) (c c' : Command) (e' : Event) → event_of c x ≡ some e' → word_of e' ≡ v → number_of e' ≡ x
-    → (event_of c' x ≡ some e → Named w x e) → event_of (if same w v then c else c') x ≡ some e → Named w x e
+tested : (w : List ℕ) (x : ℕ) (e : Event) (v : List ℕ) (c c' : Command) (e' : Event) → event_of c x ≡ Some e' → word_of e' ≡ v → number_of e' ≡ x
+    → (event_of c' x ≡ Some e → Named w x e) → event_of (if same w v then c else c') x ≡ Some e → Named w x e
 tested w x e v c c' e' made called counted go h =
     ⊎_elim
     (λ (t : same w v ≡ true).
     let m : w ≡ v = same-is w v t in
-    let f : event_of c x ≡ some e = rw t at h in
+    let f : event_of c x ≡ Some e = rw t at h in
     let s : e' ≡ e = cc in
     record { called = ap word_of (sym s) ∙ (called ∙ sym m); counted = ap number_of (sym s) ∙ counted })
-    (λ (t : same w v ≡ false). let f : event_of c' x ≡ some e = rw t at h in go f)
+    (λ (t : same w v ≡ false). let f : event_of c' x ≡ Some e = rw t at h in go f)
     (decided (same w v))
 
-event-named : (w : List ℕ) (x : ℕ) (e : Event) → event_of (command_in w) x ≡ some e → Named w x e
+event-named : (w : List ℕ) (x : ℕ) (e : Event) → event_of (command_in w) x ≡ Some e → Named w x e
 unfolding event_of command_in
 event-named w x e =
     tested w x e (text "try") command.Try _ (Try (client_no x)) refl refl refl (
@@ -116,20 +115,20 @@ event-named w x e =
     tested w x e (text "drop") command.Drop _ (Drop (record { 0 = x })) refl refl refl (
     tested w x e (text "miss") command.Miss _ (Miss (server_no x)) refl refl refl (
     tested w x e (text "check") command.Check _ (Check (server_no x)) refl refl refl (
-    λ (h : none ≡ some e). let z : ◌≡◌ {A = ℕ} 0 1 = cc in absurd (omega arith))))))))))
+    λ (h : None ≡ Some e). let z : ◌≡◌ {A = ℕ} 0 1 = cc in absurd (omega arith))))))))))
 
-pub event-printed : (l : List ℕ) (e : Event) → event_in l ≡ some e → event_line e ≡ l
+pub event-printed : (l : List ℕ) (e : Event) → event_in l ≡ Some e → event_line e ≡ l
 unfolding event_in event_line spaced
 event-printed l e h =
     ⊎_elim
     (λ (t : short l ≡ true).
-    let f : maybe (rest l) none (λ r. maybe (number r) none (λ x. event_of (command_in (word l)) x)) ≡ some e = rw t at h in
-    let p = through (rest l) (λ r. maybe (number r) none (λ x. event_of (command_in (word l)) x)) e f in
+    let f : maybe (rest l) None (λ r. maybe (number r) None (λ x. event_of (command_in (word l)) x)) ≡ Some e = rw t at h in
+    let p = through (rest l) (λ r. maybe (number r) None (λ x. event_of (command_in (word l)) x)) e f in
     let q = through (number p.value) (λ x. event_of (command_in (word l)) x) e p.gives in
     let n = event-named (word l) q.value e q.gives in
     let d : decimal q.value ≡ p.value = number-printed p.value q.value q.is in
     rw (n.called, n.counted, d) (rest_joins l p.value p.is))
-    (λ (t : short l ≡ false). let f : none ≡ some e = rw t at h in let z : ◌≡◌ {A = ℕ} 0 1 = cc in absurd (omega arith))
+    (λ (t : short l ≡ false). let f : None ≡ Some e = rw t at h in let z : ◌≡◌ {A = ℕ} 0 1 = cc in absurd (omega arith))
     (decided (short l))
 
 -- at the calls: an event that `put_event` has written is the one that `parse_event` answers with

@@ -4,19 +4,15 @@ use Prim.Native.String.{String}
 use native.Mathlib.Omega.{arith}
 use mathlib.Core.Path.{◌≡◌, refl, ◌∙◌, sym}
 use mathlib.Core.Bool.{Bool, true, false}
-use mathlib.Core.Option.{none, some}
 use mathlib.Core.List.{List, [], ◌∷◌}
 use lib.ListN.{length, take, drop}
 use borrow.Author.Tests.{le-leb, lt-leb}
-use Rattle.std.specs.Prelude.{if◌then◌else◌}
+use Rattle.std.specs.Prelude.{if◌then◌else◌, Some, None, Option}
 use Rattle.script_numbers.specs.Decimals.{number}
 use Rattle.script_lines.specs.Words.{text, same, word, rest}
 use Rattle.script_lines.specs.Lines.{command_in, event_of, event_in, line_of, max_line}
-use Rattle.script_numbers.specs.Answers.{reading_of}
 use Rattle.script_lines.specs.declared.Command.{Command}
 use Rattle.script_lines.specs.declared.Command.TheVariants as command
-use Rattle.script_numbers.specs.declared.Reading.{Reading}
-use Rattle.script_numbers.specs.declared.Reading.TheVariants.{Number, Nothing}
 use Rattle.script_lines.specs.declared.Line.{Line}
 use Rattle.script_lines.specs.declared.Line.TheVariants.{Bad}
 use Rattle.script_numbers.proofs.ReadLaws.{read_some, read_none}
@@ -32,24 +28,24 @@ module _ (s : List ℕ) (p : ℕ) (short : length s ≤ max_line) (ends : (p ≡
   event_one_word e = simp (le-leb (length s) max_line short, cut-none s 0 p ends.0 e)
 
   module _ (n : p ≡ length s → ⊥) where
-    behind : rest s ≡ some (drop (p + 1) s)
+    behind : rest s ≡ Some (drop (p + 1) s)
     behind = cut_some s 0 p ends.0 (omega (arith, ends.1))
 
-    module _ (r : Reading) (read : r ≡ reading_of (number (take (length s - (p + 1)) (drop (p + 1) s)))) where
-      read_all : r ≡ reading_of (number (drop (p + 1) s))
+    module _ (r : Option ℕ) (read : r ≡ number (take (length s - (p + 1)) (drop (p + 1) s))) where
+      read_all : r ≡ number (drop (p + 1) s)
       read_all = rw (cut_end s 0 p ends.0) at read
 
-      pub event_no_number : r ≡ Nothing → Bad ≡ line_of (event_in s)
+      pub event_no_number : r ≡ None → Bad ≡ line_of (event_in s)
       unfolding event_in line_of
       event_no_number e =
-          let o : number (drop (p + 1) s) ≡ none = read_none _ (sym read_all ∙ e) in
+          let o : number (drop (p + 1) s) ≡ None = read_none _ (sym read_all ∙ e) in
           simp (le-leb (length s) max_line short, behind, o)
 
-      pub event_command : (x : ℕ) (c : Command) (l : Line) → r ≡ Number x → c ≡ command_in (take (p - 0) (drop 0 s))
+      pub event_command : (x : ℕ) (c : Command) (l : Line) → r ≡ Some x → c ≡ command_in (take (p - 0) (drop 0 s))
           → l ≡ line_of (event_of c x) → l ≡ line_of (event_in s)
       unfolding event_in
       event_command x c l e k f =
-          let o : number (drop (p + 1) s) ≡ some x = read_some _ x (sym read_all ∙ e) in
+          let o : number (drop (p + 1) s) ≡ Some x = read_some _ x (sym read_all ∙ e) in
           let w : c ≡ command_in (word s) = rw (cut_word s 0 p ends.0) at k in
           simp (le-leb (length s) max_line short, behind, o, ← w) f
 

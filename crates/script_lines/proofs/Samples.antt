@@ -1,6 +1,6 @@
 -- Lines of document 01 and of our readings of it, computed by the definitions: the definitions checked by example.
+use Rattle.std.specs.Prelude.{Some}
 use mathlib.Core.Path.{◌≡◌, refl}
-use mathlib.Core.Option.{some}
 use mathlib.Core.List.{List, [], ◌∷◌, map}
 use Prim.Native.String.{String}
 use Rattle.ids.specs.declared.Refusal.TheVariants.{BadLine, NoSuchParty}
@@ -37,7 +37,7 @@ pub bad_lines_lem : map says bad_lines ≡ map (λ s. Bad) bad_lines
 unfolding event_in line_of sixteen_bits event_of command_in same word rest number_up_to digits_up_to digit_up_to
 bad_lines_lem = refl
 
-pub first-line : setting_in (text "setting 2 1 0 2") ≡ some (record { n = 2; m = 1; f = 0; clients = 2 })
+pub first-line : setting_in (text "setting 2 1 0 2") ≡ Some (record { n = 2; m = 1; f = 0; clients = 2 })
 unfolding setting_in four_in same word rest number_up_to digits_up_to digit_up_to
 first-line = refl
 

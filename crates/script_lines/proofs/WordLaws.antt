@@ -1,11 +1,11 @@
 -- Words in a line: a loop that has passed the bytes before place i still has to look at those from i on.
+use Rattle.std.specs.Prelude.{Some, None}
 use Prim.Native.Nat.{ℕ, suc, ◌+◌, ◌-◌, ◌≤◌, ◌<◌}
 use native.Mathlib.Omega.{arith}
 use native.Mathlib.Numerals.{add-one}
 use mathlib.Core.Path.{◌≡◌, refl, ap, ◌∙◌}
 use mathlib.Core.Bool.{Bool, true, false}
 use mathlib.Core.Logic.{⊎_elim}
-use mathlib.Core.Option.{none, some}
 use mathlib.Core.List.{List, [], ◌∷◌}
 use lib.Dec.{eqb}
 use lib.ListN.{length, take, drop, get_or, length-drop}
@@ -106,7 +106,7 @@ word-taken [] = refl
 word-taken (b ∷ l) =
     ⊎_elim (λ (t : eqb b space ≡ true). rw t) (λ (t : eqb b space ≡ false). rw (t, word-taken l)) (decided (eqb b space))
 
-pub rest-none : (l : List ℕ) → length (word l) ≡ length l → rest l ≡ none
+pub rest-none : (l : List ℕ) → length (word l) ≡ length l → rest l ≡ None
 unfolding word rest
 rest-none [] e = refl
 rest-none (b ∷ l) e =
@@ -116,7 +116,7 @@ rest-none (b ∷ l) e =
     t (rest-none l g))
     (decided (eqb b space))
 
-pub rest_some : (l : List ℕ) → length (word l) < length l → rest l ≡ some (drop (suc (length (word l))) l)
+pub rest_some : (l : List ℕ) → length (word l) < length l → rest l ≡ Some (drop (suc (length (word l))) l)
 unfolding word rest
 rest_some [] h = absurd (omega arith)
 rest_some (b ∷ l) h =
@@ -131,10 +131,10 @@ module _ (s : List ℕ) (at p : ℕ) (e : p ≡ at + length (word (drop at s))) 
   pub cut_word : take (p - at) (drop at s) ≡ word (drop at s)
   cut_word = let z : p - at ≡ length (word (drop at s)) = omega arith in rw z (word-taken (drop at s))
 
-  pub cut-none : p ≡ length s → rest (drop at s) ≡ none
+  pub cut-none : p ≡ length s → rest (drop at s) ≡ None
   cut-none h = rest-none (drop at s) (omega (arith, length-drop at s))
 
-  pub cut_some : p < length s → rest (drop at s) ≡ some (drop (p + 1) s)
+  pub cut_some : p < length s → rest (drop at s) ≡ Some (drop (p + 1) s)
   cut_some h =
       let z : at + suc (length (word (drop at s))) ≡ p + 1 = omega (arith, add-one p) in
       rest_some (drop at s) (omega (arith, length-drop at s)) ∙ rw (drop-drop, z)

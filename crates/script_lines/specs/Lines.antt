@@ -1,6 +1,5 @@
 -- The lines of a script, without their newline: document 01, 'The gallery script'.
-use Rattle.std.specs.Prelude.{ℕ, Bool, true, ◌&&◌, List, leb, length, if◌then◌else◌}
-use Rattle.std.proofs.Math.Option.{Option, none, some}
+use Rattle.std.specs.Prelude.{ℕ, Bool, true, ◌&&◌, List, leb, length, if◌then◌else◌, Some, None, Option}
 use Rattle.ids.specs.Limits.{max_short}
 use Rattle.ids.specs.Choice.{maybe}
 use Rattle.system.specs.Setting.{takes}
@@ -13,8 +12,6 @@ use Rattle.script_lines.specs.declared.Command.TheVariants as command
 use Rattle.system.specs.declared.Setting.{Setting}
 use Rattle.script_lines.specs.declared.Line.{Line}
 use Rattle.script_lines.specs.declared.Line.TheVariants.{Event as Says, Unknown, Bad}
-use Rattle.script_lines.specs.declared.First.{First}
-use Rattle.script_lines.specs.declared.First.TheVariants.{Setting as Opens, Bad as NotOpening}
 use Rattle.system.specs.Numbered.{client_no, server_no}
 
 -- the bytes of the longest line that is read
@@ -41,22 +38,22 @@ command_in w =
 
 -- the event with this number, whatever the number is
 unfoldable pub event_of : Command → ℕ → Option Event
-event_of command.Try x = some (Try (client_no x))
-event_of command.Exit x = some (Exit (client_no x))
-event_of command.Fall x = some (Fall (client_no x))
-event_of command.Down x = some (Down (server_no x))
-event_of command.Up x = some (Up (server_no x))
-event_of command.Take x = some (takes x)
-event_of command.Drop x = some (Drop (record { 0 = x }))
-event_of command.Miss x = some (Miss (server_no x))
-event_of command.Check x = some (Check (server_no x))
-event_of command.Other x = none
+event_of command.Try x = Some (Try (client_no x))
+event_of command.Exit x = Some (Exit (client_no x))
+event_of command.Fall x = Some (Fall (client_no x))
+event_of command.Down x = Some (Down (server_no x))
+event_of command.Up x = Some (Up (server_no x))
+event_of command.Take x = Some (takes x)
+event_of command.Drop x = Some (Drop (record { 0 = x }))
+event_of command.Miss x = Some (Miss (server_no x))
+event_of command.Check x = Some (Check (server_no x))
+event_of command.Other x = None
 
 -- a command, one space, and a number to the line's end
 unfoldable pub event_in : List ℕ → Option Event
 event_in l =
-    if short l then maybe (rest l) none (λ r. maybe (number r) none (λ x. event_of (command_in (word l)) x))
-    else none
+    if short l then maybe (rest l) None (λ r. maybe (number r) None (λ x. event_of (command_in (word l)) x))
+    else None
 
 -- whether the number of the client or server that the event names has 16 bits; with more there is no such party
 unfoldable pub sixteen_bits : Event → Bool
@@ -72,25 +69,20 @@ sixteen_bits (Check j) = leb j.0 max_short
 
 -- the answer to an event line
 unfoldable pub line_of : Option Event → Line
-line_of none = Bad
-line_of (some e) = if sixteen_bits e then Says e else Unknown
+line_of None = Bad
+line_of (Some e) = if sixteen_bits e then Says e else Unknown
 
 -- the first line --------------------------------------------------------------------------------------------------------------
 
 -- a number before the first space, and then what f makes of it and of what stands behind that space
 abbrev pub next : {A : Type 0} → List ℕ → (ℕ → List ℕ → Option A) → Option A
-next l f = maybe (number (word l)) none (λ x. maybe (rest l) none (λ r. f x r))
+next l f = maybe (number (word l)) None (λ x. maybe (rest l) None (λ r. f x r))
 
 -- four numbers, to the line's end
 unfoldable pub four_in : List ℕ → Option Setting
 four_in l =
-    next l (λ n l₁. next l₁ (λ m l₂. next l₂ (λ f l₃. maybe (number l₃) none (λ k.
-    some (record { n = n; m = m; f = f; clients = k })))))
+    next l (λ n l₁. next l₁ (λ m l₂. next l₂ (λ f l₃. maybe (number l₃) None (λ k.
+    Some (record { n = n; m = m; f = f; clients = k })))))
 
 unfoldable pub setting_in : List ℕ → Option Setting
-setting_in l = if short l && same (word l) (text "setting") then maybe (rest l) none four_in else none
-
--- the answer to the first line
-abbrev pub first_of : Option Setting → First
-first_of none = NotOpening
-first_of (some s) = Opens s
+setting_in l = if short l && same (word l) (text "setting") then maybe (rest l) None four_in else None

@@ -1,8 +1,7 @@
 -- The words of a line: bytes that single spaces divide.
-use Rattle.std.specs.Prelude.{ℕ, Bool, true, false, ◌&&◌, List, [], ◌∷◌, ◌++◌, eqb, if◌then◌else◌}
+use Rattle.std.specs.Prelude.{ℕ, Bool, true, false, ◌&&◌, List, [], ◌∷◌, ◌++◌, eqb, if◌then◌else◌, Some, None, Option}
 use Prim.Native.Char.{code}
 use Prim.Native.String.{String, [] as end, ◌∷◌ as ◌then◌}
-use Rattle.std.proofs.Math.Option.{Option, none, some}
 
 -- a text's bytes; ours are ASCII
 abbrev pub text : String → List ℕ
@@ -28,8 +27,8 @@ word (b ∷ l) = if eqb b space then [] else b ∷ word l
 
 -- what stands behind the first space, if there is one
 unfoldable pub rest : List ℕ → Option (List ℕ)
-rest [] = none
-rest (b ∷ l) = if eqb b space then some l else rest l
+rest [] = None
+rest (b ∷ l) = if eqb b space then Some l else rest l
 
 -- words with a space between each two
 unfoldable pub spaced : List (List ℕ) → List ℕ

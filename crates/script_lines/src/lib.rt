@@ -7,13 +7,12 @@ ghost use Rattle.std.proofs.lemmas.List.Edits.{sets};
 ghost use Rattle.ids.specs.Limits.{max_short};
 ghost use Rattle.script_numbers.specs.Decimals.{decimal};
 ghost use Rattle.script_lines.specs.Words.{same, word, spaced};
-ghost use Rattle.script_lines.specs.Lines.{command_in, event_of, event_in, line_of, four_in, setting_in, first_of};
+ghost use Rattle.script_lines.specs.Lines.{command_in, event_of, event_in, line_of, four_in, setting_in};
 ghost use Rattle.script_lines.specs.Says.{line_says, event_says, first_says, setting_says};
 ghost use Rattle.script_lines.specs.Printed.{header_line, ok_line, no_line, end_line, refused_line, word_of, number_of, event_line, four_words, setting_line};
 ghost use Rattle.script_lines.specs.Inner.{names, field_at};
 
 use ids::{ClientId, MAX_SHORT, Refusal, ServerId};
-use script_numbers::Reading;
 use system::{Event, MessageNumber, Setting};
 
 // The bytes of the longest line that is read, without its newline.
@@ -41,20 +40,6 @@ pub enum Line {
     Event(Event),
     Unknown,
     Bad,
-}
-
-// The first line: its setting, or none.
-#[derive(Clone, Copy)]
-pub enum First {
-    Setting(Setting),
-    Bad,
-}
-
-// A number that a space ends, with the place behind that space.
-#[derive(Clone, Copy)]
-pub enum Field {
-    Number(u32, usize),
-    Nothing,
 }
 
 // Whether two words are the same.
@@ -218,62 +203,50 @@ pub fn parse_event(line: &[u8]) -> Line
     }
     let q = p + 1;
     match script_numbers::read_number(&line[q..n]) {
-        Reading::Number(x) => line_of(command_in(&line[0..p]), x),
-        Reading::Nothing => Line::Bad,
+        Some(x) => line_of(command_in(&line[0..p]), x),
+        None => Line::Bad,
     }
 }
 
 // The number before the first space from `at` on, and the place behind that space.
-fn read_field(line: &[u8], at: usize) -> Field
+fn read_field(line: &[u8], at: usize) -> Option<(u32, usize)>
     requires { at ≤ length line.now }
     ensures { result ≡ field_at line.now at }
 {
     let p = word_end(line, at);
     if p == line.len() {
-        return Field::Nothing;
+        return None;
     }
-    match script_numbers::read_number(&line[at..p]) {
-        Reading::Number(x) => Field::Number(x, p + 1),
-        Reading::Nothing => Field::Nothing,
-    }
+    let x = script_numbers::read_number(&line[at..p])?;
+    Some((x, p + 1))
 }
 
 // Four numbers from `at` to the line's end.
-fn four_from(line: &[u8], at: usize) -> First
+fn four_from(line: &[u8], at: usize) -> Option<Setting>
     requires { at ≤ length line.now }
-    ensures { result ≡ first_of (four_in (drop at line.now)) }
+    ensures { result ≡ four_in (drop at line.now) }
 {
-    let Field::Number(n, a) = read_field(line, at) else {
-        return First::Bad;
-    };
-    let Field::Number(m, b) = read_field(line, a) else {
-        return First::Bad;
-    };
-    let Field::Number(f, c) = read_field(line, b) else {
-        return First::Bad;
-    };
-    let e = line.len();
-    let Reading::Number(clients) = script_numbers::read_number(&line[c..e]) else {
-        return First::Bad;
-    };
-    let s = Setting { n, m, f, clients };
-    First::Setting(s)
+    let (n, a) = read_field(line, at)?;
+    let (m, b) = read_field(line, a)?;
+    let (f, c) = read_field(line, b)?;
+    let clients = script_numbers::read_number(&line[c..])?;
+    Some(Setting { n, m, f, clients })
 }
 
 // The setting of the first line, without its newline.
-pub fn parse_setting(line: &[u8]) -> First
-    ensures value { result ≡ first_of (setting_in line.now) }
+pub fn parse_setting(line: &[u8]) -> Option<Setting>
+    ensures value { result ≡ setting_in line.now }
     ensures numbers { first_says result ≡ setting_says (setting_in line.now) }
 {
     if line.len() > MAX_LINE {
-        return First::Bad;
+        return None;
     }
     let p = word_end(line, 0);
     if p == line.len() {
-        return First::Bad;
+        return None;
     }
     if !equal(&line[0..p], b"setting") {
-        return First::Bad;
+        return None;
     }
     four_from(line, p + 1)
 }

@@ -1,11 +1,11 @@
 -- Numbers, printed and read, up to any limit: what is printed is read as the same number, and what is read is printed as the same bytes.
 -- A number is read from its first digit on and printed from its last, so both directions go by the digit behind a number.
+use Rattle.std.specs.Prelude.{Some, None, Option}
 use Prim.Native.Nat.{ℕ, zero, suc, ◌+◌, ◌-◌, ◌*◌, ◌/◌, ◌%◌, ◌≤◌, ◌<◌}
 use native.Mathlib.Omega.{arith}
 use mathlib.Core.Path.{◌≡◌, refl, sym, ◌∙◌}
 use mathlib.Core.Bool.{Bool, true, false, ◌&&◌}
 use mathlib.Core.Logic.{⊎_elim}
-use mathlib.Core.Option.{Option, none, some}
 use mathlib.Core.List.{List, [], ◌∷◌, ◌++◌, append_assoc, append-nil}
 use lib.Dec.{eqb, ltb, leb}
 use lib.ListN.{length, get_or, length-append, get_or-append}
@@ -43,23 +43,23 @@ leads (suc w) x h p e =
 
 module _ (limit : ℕ) where
   digits_behind : (x : ℕ) (l : List ℕ) (b : ℕ)
-      → digits_up_to limit x (l ++ (b ∷ [])) ≡ maybe (digits_up_to limit x l) none (λ y. digit_up_to limit y b)
+      → digits_up_to limit x (l ++ (b ∷ [])) ≡ maybe (digits_up_to limit x l) None (λ y. digit_up_to limit y b)
   unfolding digits_up_to
   digits_behind x [] b = last (digit_up_to limit x b)
     where
-      last : (o : Option ℕ) → maybe o none (λ y. some y) ≡ o
-      last none = refl
-      last (some y) = refl
+      last : (o : Option ℕ) → maybe o None (λ y. Some y) ≡ o
+      last None = refl
+      last (Some y) = refl
   digits_behind x (c ∷ l) b = first (digit_up_to limit x c) (λ y. digits_behind y l b)
     where
       first : (o : Option ℕ)
-          → ((y : ℕ) → digits_up_to limit y (l ++ (b ∷ [])) ≡ maybe (digits_up_to limit y l) none (λ z. digit_up_to limit z b))
-          → maybe o none (λ y. digits_up_to limit y (l ++ (b ∷ [])))
-          ≡ maybe (maybe o none (λ y. digits_up_to limit y l)) none (λ z. digit_up_to limit z b)
-      first none h = refl
-      first (some y) h = h y
+          → ((y : ℕ) → digits_up_to limit y (l ++ (b ∷ [])) ≡ maybe (digits_up_to limit y l) None (λ z. digit_up_to limit z b))
+          → maybe o None (λ y. digits_up_to limit y (l ++ (b ∷ [])))
+          ≡ maybe (maybe o None (λ y. digits_up_to limit y l)) None (λ z. digit_up_to limit z b)
+      first None h = refl
+      first (Some y) h = h y
 
-  digit_is : (x d : ℕ) → d < 10 → 10 * x + d ≤ limit → digit_up_to limit x (48 + d) ≡ some (10 * x + d)
+  digit_is : (x d : ℕ) → d < 10 → 10 * x + d ≤ limit → digit_up_to limit x (48 + d) ≡ Some (10 * x + d)
   unfolding digit_up_to
   digit_is x d h l =
       let z : 48 + d - 48 ≡ d = omega arith in
@@ -67,14 +67,14 @@ module _ (limit : ℕ) where
       let b : 48 + d ≤ 57 = omega arith in
       simp (z, le-leb 48 (48 + d) a, le-leb (48 + d) 57 b, le-leb (10 * x + d) limit l)
 
-  one-read : (x : ℕ) → x < 10 → x ≤ limit → digits_up_to limit 0 ((48 + x) ∷ []) ≡ some x
+  one-read : (x : ℕ) → x < 10 → x ≤ limit → digits_up_to limit 0 ((48 + x) ∷ []) ≡ Some x
   unfolding digits_up_to
   one-read x h l =
       let z : 10 * 0 + x ≡ x = omega arith in
       let m : 10 * 0 + x ≤ limit = omega arith in
       rw (digit_is 0 x h m, z)
 
-  digits_last : (w x : ℕ) → x ≤ w → x ≤ limit → digits_up_to limit 0 (last_of (suc w) x) ≡ some x
+  digits_last : (w x : ℕ) → x ≤ w → x ≤ limit → digits_up_to limit 0 (last_of (suc w) x) ≡ Some x
   unfolding last_digits
   digits_last zero x h l = let s : x < 10 = omega arith in rw (lt-ltb x 10 s) (one-read x s l)
   digits_last (suc w) x h l =
@@ -85,15 +85,15 @@ module _ (limit : ℕ) where
       (λ (t : ltb x 10 ≡ true). rw t (one-read x (ltb-true x 10 t) l))
       (λ (t : ltb x 10 ≡ false).
       let ten : 10 ≤ x = ltb-false x 10 t in
-      let ih : digits_up_to limit 0 (last_of (suc w) (x / 10)) ≡ some (x / 10) = digits_last w (x / 10) (omega arith) (omega arith) in
+      let ih : digits_up_to limit 0 (last_of (suc w) (x / 10)) ≡ Some (x / 10) = digits_last w (x / 10) (omega arith) (omega arith) in
       rw t (digits_behind 0 (last_of (suc w) (x / 10)) (48 + x % 10) ∙ rw (ih, digit_is (x / 10) (x % 10) r m, whole)))
       (decided (ltb x 10))
 
-  zero_read : number_up_to limit (decimal 0) ≡ some 0
+  zero_read : number_up_to limit (decimal 0) ≡ Some 0
   unfolding number_up_to
   zero_read = rw (decimal-one 0 (omega arith)) (one-read 0 (omega arith) (omega arith))
 
-  pub decimal_read_up_to : (x : ℕ) → x ≤ limit → number_up_to limit (decimal x) ≡ some x
+  pub decimal_read_up_to : (x : ℕ) → x ≤ limit → number_up_to limit (decimal x) ≡ Some x
   unfolding decimal
   decimal_read_up_to x l =
       ⊎_elim
@@ -105,7 +105,7 @@ module _ (limit : ℕ) where
       number_digits limit (last_of (suc x) x) (λ e. omega (arith, some_digit x x)) (leads x x b p) ∙ digits_last x x b l)
       (decided (eqb x 0))
 
-pub decimal-read : (x : ℕ) → x ≤ largest32 → number (decimal x) ≡ some x
+pub decimal-read : (x : ℕ) → x ≤ largest32 → number (decimal x) ≡ Some x
 decimal-read = decimal_read_up_to largest32
 
 -- a number that is read is printed as it stood --------------------------------------------------------------------------------
@@ -113,12 +113,12 @@ decimal-read = decimal_read_up_to largest32
 -- what `maybe` has gone through
 pub record Through {A B : Type 0} (o : Option A) (f : A → Option B) (x : B) : Type 0 where
   pub value : A
-  pub is : o ≡ some value
-  pub gives : f value ≡ some x
+  pub is : o ≡ Some value
+  pub gives : f value ≡ Some x
 
-pub through : {A B : Type 0} (o : Option A) (f : A → Option B) (x : B) → maybe o none f ≡ some x → Through o f x
-through none f x e = let z : ◌≡◌ {A = ℕ} 0 1 = cc in absurd (omega arith)
-through (some a) f x e = record { value = a; is = refl; gives = e }
+pub through : {A B : Type 0} (o : Option A) (f : A → Option B) (x : B) → maybe o None f ≡ Some x → Through o f x
+through None f x e = let z : ◌≡◌ {A = ℕ} 0 1 = cc in absurd (omega arith)
+through (Some a) f x e = record { value = a; is = refl; gives = e }
 
 -- the digit b was read behind x
 record Read (limit x b y : ℕ) : Type 0 where
@@ -137,13 +137,13 @@ first-printed limit b z r =
     rw same at (decimal-one z small)
 
 module _ (limit : ℕ) where
-  digit_read : (x b y : ℕ) → digit_up_to limit x b ≡ some y → Read limit x b y
+  digit_read : (x b y : ℕ) → digit_up_to limit x b ≡ Some y → Read limit x b y
   unfolding digit_up_to
   digit_read x b y e =
       let test : Bool = is_digit b && leb (10 * x + (b - 48)) limit in
       ⊎_elim
       (λ (t : test ≡ true).
-      let f : some (10 * x + (b - 48)) ≡ some y = rw t at e in
+      let f : Some (10 * x + (b - 48)) ≡ Some y = rw t at e in
       let v : 10 * x + (b - 48) ≡ y = cc in
       let (d, m) = both (is_digit b) (leb (10 * x + (b - 48)) limit) t in
       let (lo, hi) = both (leb 48 b) (leb b 57) d in
@@ -154,24 +154,24 @@ module _ (limit : ℕ) where
         small = rw v at (leb-true (10 * x + (b - 48)) limit m);
       })
       (λ (t : test ≡ false).
-      let f : none ≡ some y = rw t at e in
+      let f : None ≡ Some y = rw t at e in
       let z : ◌≡◌ {A = ℕ} 0 1 = cc in absurd (omega arith))
       (decided test)
 
-  pub digit_low : (x b y : ℕ) → digit_up_to limit x b ≡ some y → 48 ≤ b
+  pub digit_low : (x b y : ℕ) → digit_up_to limit x b ≡ Some y → 48 ≤ b
   digit_low x b y e = (digit_read x b y e).low
 
   -- a number that was read has digits, and its first one is not a leading 0
-  pub number_read : (b : ℕ) (l : List ℕ) (x : ℕ) → number_up_to limit (b ∷ l) ≡ some x
-      → (eqb b 48 && ltb 0 (length l) ≡ false) × (digits_up_to limit 0 (b ∷ l) ≡ some x)
+  pub number_read : (b : ℕ) (l : List ℕ) (x : ℕ) → number_up_to limit (b ∷ l) ≡ Some x
+      → (eqb b 48 && ltb 0 (length l) ≡ false) × (digits_up_to limit 0 (b ∷ l) ≡ Some x)
   unfolding number_up_to
-  number_read b l x e = passed _ (λ (f : none ≡ some x). let z : ◌≡◌ {A = ℕ} 0 1 = cc in omega arith) e
+  number_read b l x e = passed _ (λ (f : None ≡ Some x). let z : ◌≡◌ {A = ℕ} 0 1 = cc in omega arith) e
 
-  pub not_empty : (x : ℕ) → number_up_to limit [] ≡ some x → ⊥
+  pub not_empty : (x : ℕ) → number_up_to limit [] ≡ Some x → ⊥
   unfolding number_up_to
   not_empty x e = let z : ◌≡◌ {A = ℕ} 0 1 = cc in omega arith
 
-  digits_printed : (l : List ℕ) (y x : ℕ) → 0 < y → digits_up_to limit y l ≡ some x → decimal x ≡ decimal y ++ l
+  digits_printed : (l : List ℕ) (y x : ℕ) → 0 < y → digits_up_to limit y l ≡ Some x → decimal x ≡ decimal y ++ l
   unfolding digits_up_to
   digits_printed [] y x p e = let z : y ≡ x = cc in rw z (sym (append-nil (decimal x)))
   digits_printed (b ∷ l) y x p e =
@@ -187,7 +187,7 @@ module _ (limit : ℕ) where
       digits_printed l z x (omega arith) t.gives ∙ rw (decimal-more z ten, front, back, append_assoc)
 
   from_first : (b : ℕ) (l : List ℕ) (x z : ℕ) → eqb b 48 && ltb 0 (length l) ≡ false → Read limit 0 b z
-      → digits_up_to limit z l ≡ some x → decimal x ≡ b ∷ l
+      → digits_up_to limit z l ≡ Some x → decimal x ≡ b ∷ l
   unfolding digits_up_to
   from_first b [] x z n r e = let same : z ≡ x = cc in rw same at (first-printed limit b z r)
   from_first b (c ∷ l) x z n r e =
@@ -199,7 +199,7 @@ module _ (limit : ℕ) where
       let p : 0 < z = omega arith in
       digits_printed (c ∷ l) z x p e ∙ rw (first-printed limit b z r)
 
-  pub number_printed_up_to : (l : List ℕ) (x : ℕ) → number_up_to limit l ≡ some x → decimal x ≡ l
+  pub number_printed_up_to : (l : List ℕ) (x : ℕ) → number_up_to limit l ≡ Some x → decimal x ≡ l
   unfolding digits_up_to
   number_printed_up_to [] x e = absurd (not_empty x e)
   number_printed_up_to (b ∷ l) x e =
@@ -207,19 +207,19 @@ module _ (limit : ℕ) where
       let t = through (digit_up_to limit 0 b) (λ z. digits_up_to limit z l) x d in
       from_first b l x t.value n (digit_read 0 b t.value t.is) t.gives
 
-  digits_small : (l : List ℕ) (y x : ℕ) → y ≤ limit → digits_up_to limit y l ≡ some x → x ≤ limit
+  digits_small : (l : List ℕ) (y x : ℕ) → y ≤ limit → digits_up_to limit y l ≡ Some x → x ≤ limit
   unfolding digits_up_to
   digits_small [] y x h e = let z : y ≡ x = cc in rw z at h
   digits_small (b ∷ l) y x h e =
       let t = through (digit_up_to limit y b) (λ z. digits_up_to limit z l) x e in
       digits_small l t.value x (digit_read y b t.value t.is).small t.gives
 
-  pub number_small_up_to : (l : List ℕ) (x : ℕ) → number_up_to limit l ≡ some x → x ≤ limit
+  pub number_small_up_to : (l : List ℕ) (x : ℕ) → number_up_to limit l ≡ Some x → x ≤ limit
   number_small_up_to [] x e = absurd (not_empty x e)
   number_small_up_to (b ∷ l) x e = digits_small (b ∷ l) 0 x (omega arith) (number_read b l x e).1
 
-pub number-printed : (l : List ℕ) (x : ℕ) → number l ≡ some x → decimal x ≡ l
+pub number-printed : (l : List ℕ) (x : ℕ) → number l ≡ Some x → decimal x ≡ l
 number-printed = number_printed_up_to largest32
 
-pub number_small : (l : List ℕ) (x : ℕ) → number l ≡ some x → x ≤ largest32
+pub number_small : (l : List ℕ) (x : ℕ) → number l ≡ Some x → x ≤ largest32
 number_small = number_small_up_to largest32

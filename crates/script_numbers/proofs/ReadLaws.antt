@@ -1,11 +1,11 @@
 -- Reading a number up to a limit: a loop that has read the digits before place i still has to read those from i on.
+use Rattle.std.specs.Prelude.{Some, None, Option}
 use Prim.Native.Nat.{ℕ, suc, ◌+◌, ◌-◌, ◌*◌, ◌≤◌, ◌<◌}
 use native.Mathlib.Omega.{arith}
 use native.Mathlib.Numerals.{add-one}
 use mathlib.Core.Path.{◌≡◌, refl, ◌∙◌, ap, sym}
 use mathlib.Core.Bool.{true, false}
 use mathlib.Core.Logic.{⊎_elim}
-use mathlib.Core.Option.{Option, none, some}
 use mathlib.Core.List.{List, [], ◌∷◌}
 use lib.Dec.{eqb}
 use lib.ListN.{length, drop, get_or}
@@ -13,35 +13,33 @@ use lib.Seq.{drop-cons, drop-length}
 use borrow.Author.Tests.{le-leb, lt-leb, lt-ltb, eq-eqb, ne_eqb}
 use Rattle.ids.proofs.Choice.{decided}
 use Rattle.script_numbers.specs.Decimals.{digit_up_to, digits_up_to, number_up_to, number}
-use Rattle.script_numbers.specs.Answers.{reading_of, reading_says, number_says}
-use Rattle.script_numbers.specs.declared.Reading.{Reading}
-use Rattle.script_numbers.specs.declared.Reading.TheVariants.{Number, Nothing}
+use Rattle.script_numbers.specs.Answers.{reading_says, number_says}
 
 -- one digit
 module _ (limit x b : ℕ) where
-  pub digit_low : b < 48 → Nothing ≡ reading_of (digit_up_to limit x b)
+  pub digit_low : b < 48 → None ≡ digit_up_to limit x b
   unfolding digit_up_to
   digit_low h = rw (lt-leb 48 b h)
 
-  pub digit_high : 48 ≤ b → 57 < b → Nothing ≡ reading_of (digit_up_to limit x b)
+  pub digit_high : 48 ≤ b → 57 < b → None ≡ digit_up_to limit x b
   unfolding digit_up_to
   digit_high l h = simp (le-leb 48 b l, lt-leb b 57 h)
 
-  pub digit_large : 48 ≤ b → b ≤ 57 → limit < 10 * x + (b - 48) → Nothing ≡ reading_of (digit_up_to limit x b)
+  pub digit_large : 48 ≤ b → b ≤ 57 → limit < 10 * x + (b - 48) → None ≡ digit_up_to limit x b
   unfolding digit_up_to
   digit_large l h g = simp (le-leb 48 b l, le-leb b 57 h, lt-leb (10 * x + (b - 48)) limit g)
 
-  pub digit_fits : 48 ≤ b → b ≤ 57 → 10 * x + (b - 48) ≤ limit → Number (10 * x + (b - 48)) ≡ reading_of (digit_up_to limit x b)
+  pub digit_fits : 48 ≤ b → b ≤ 57 → 10 * x + (b - 48) ≤ limit → Some (10 * x + (b - 48)) ≡ digit_up_to limit x b
   unfolding digit_up_to
   digit_fits l h g = simp (le-leb 48 b l, le-leb b 57 h, le-leb (10 * x + (b - 48)) limit g)
 
-pub read_some : (o : Option ℕ) (y : ℕ) → reading_of o ≡ Number y → o ≡ some y
-read_some none y e = let z : ◌≡◌ {A = ℕ} 0 1 = cc in absurd (omega arith)
-read_some (some x) y e = cc
+pub read_some : (o : Option ℕ) (y : ℕ) → o ≡ Some y → o ≡ Some y
+read_some None y e = let z : ◌≡◌ {A = ℕ} 0 1 = cc in absurd (omega arith)
+read_some (Some x) y e = cc
 
-pub read_none : (o : Option ℕ) → reading_of o ≡ Nothing → o ≡ none
-read_none none e = refl
-read_none (some x) e = let z : ◌≡◌ {A = ℕ} 0 1 = cc in absurd (omega arith)
+pub read_none : (o : Option ℕ) → o ≡ None → o ≡ None
+read_none None e = refl
+read_none (Some x) e = let z : ◌≡◌ {A = ℕ} 0 1 = cc in absurd (omega arith)
 
 -- x is read from the bytes before place i
 pub record Reads (limit : ℕ) (s : List ℕ) (x i : ℕ) : Type 0 where
@@ -52,20 +50,20 @@ module _ (limit : ℕ) (s : List ℕ) where
   pub reads_none : Reads limit s 0 0
   reads_none = record { within = omega arith; left = refl }
 
-  module _ (x i : ℕ) (inv : Reads limit s x i) (h : i < length s) (r : Reading) (told : r ≡ reading_of (digit_up_to limit x (get_or s i 0))) where
-    pub reads_more : (y : ℕ) → r ≡ Number y → Reads limit s y (i + 1)
+  module _ (x i : ℕ) (inv : Reads limit s x i) (h : i < length s) (r : Option ℕ) (told : r ≡ digit_up_to limit x (get_or s i 0)) where
+    pub reads_more : (y : ℕ) → r ≡ Some y → Reads limit s y (i + 1)
     unfolding digits_up_to
     reads_more y e =
-        let d : digit_up_to limit x (get_or s i 0) ≡ some y = read_some _ y (sym told ∙ e) in
+        let d : digit_up_to limit x (get_or s i 0) ≡ Some y = read_some _ y (sym told ∙ e) in
         record { within = omega arith; left = rw add-one (inv.left ∙ rw (drop-cons s i 0 h, d)) }
 
-    pub reads_stop : r ≡ Nothing → Nothing ≡ reading_of (digits_up_to limit 0 s)
+    pub reads_stop : r ≡ None → None ≡ digits_up_to limit 0 s
     unfolding digits_up_to
     reads_stop e =
-        let d : digit_up_to limit x (get_or s i 0) ≡ none = read_none _ (sym told ∙ e) in
+        let d : digit_up_to limit x (get_or s i 0) ≡ None = read_none _ (sym told ∙ e) in
         rw (inv.left, drop-cons s i 0 h, d)
 
-  pub reads_all : (x i : ℕ) → Reads limit s x i → length s ≤ i → Number x ≡ reading_of (digits_up_to limit 0 s)
+  pub reads_all : (x i : ℕ) → Reads limit s x i → length s ≤ i → Some x ≡ digits_up_to limit 0 s
   unfolding digits_up_to
   reads_all x i inv h =
       let w = inv.within in
@@ -73,7 +71,7 @@ module _ (limit : ℕ) (s : List ℕ) where
       rw (inv.left, z, drop-length s)
 
 -- a whole number
-pub number-empty : (limit : ℕ) (s : List ℕ) → length s ≡ 0 → Nothing ≡ reading_of (number_up_to limit s)
+pub number-empty : (limit : ℕ) (s : List ℕ) → length s ≡ 0 → None ≡ number_up_to limit s
 unfolding number_up_to
 number-empty limit [] h = refl
 number-empty limit (b ∷ l) h = absurd (omega arith)
@@ -83,12 +81,12 @@ more_than_one [] h = absurd (h refl)
 more_than_one (b ∷ l) h = omega arith
 
 pub number_led : (limit : ℕ) (s : List ℕ) → (length s ≡ 0 → ⊥) → (length s ≡ 1 → ⊥) → get_or s 0 0 ≡ 48
-    → Nothing ≡ reading_of (number_up_to limit s)
+    → None ≡ number_up_to limit s
 unfolding number_up_to
 number_led limit [] n h e = absurd (n refl)
 number_led limit (b ∷ l) n h e = let more : 0 < length l = more_than_one l h in simp (eq-eqb b 48 e, lt-ltb 0 (length l) more)
 
-pub number_single : (limit : ℕ) (s : List ℕ) (r : Reading) → length s ≡ 1 → r ≡ reading_of (digits_up_to limit 0 s) → r ≡ reading_of (number_up_to limit s)
+pub number_single : (limit : ℕ) (s : List ℕ) (r : Option ℕ) → length s ≡ 1 → r ≡ digits_up_to limit 0 s → r ≡ number_up_to limit s
 unfolding number_up_to
 number_single limit [] r h e = absurd (omega arith)
 number_single limit (b ∷ []) r h e = ⊎_elim (λ (t : eqb b 48 ≡ true). rw t e) (λ (t : eqb b 48 ≡ false). rw t e) (decided (eqb b 48))
@@ -99,14 +97,14 @@ unfolding number_up_to
 number_digits limit [] n h = absurd (n refl)
 number_digits limit (b ∷ l) n h = simp (ne_eqb b 48 h)
 
-pub number-several : (limit : ℕ) (s : List ℕ) (r : Reading) → (length s ≡ 0 → ⊥) → (get_or s 0 0 ≡ 48 → ⊥) → r ≡ reading_of (digits_up_to limit 0 s)
-    → r ≡ reading_of (number_up_to limit s)
+pub number-several : (limit : ℕ) (s : List ℕ) (r : Option ℕ) → (length s ≡ 0 → ⊥) → (get_or s 0 0 ≡ 48 → ⊥) → r ≡ digits_up_to limit 0 s
+    → r ≡ number_up_to limit s
 number-several limit s r n h e = rw (number_digits limit s n h) e
 
 -- the same in document 01's numbers
-reading_row : (o : Option ℕ) → reading_says (reading_of o) ≡ number_says o
-reading_row none = refl
-reading_row (some x) = refl
+reading_row : (o : Option ℕ) → reading_says (o) ≡ number_says o
+reading_row None = refl
+reading_row (Some x) = refl
 
-pub number-said : (s : List ℕ) (r : Reading) → r ≡ reading_of (number s) → (r ≡ reading_of (number s)) × (reading_says r ≡ number_says (number s))
+pub number-said : (s : List ℕ) (r : Option ℕ) → r ≡ number s → (r ≡ number s) × (reading_says r ≡ number_says (number s))
 number-said s r e = (e, ap reading_says e ∙ reading_row (number s))

@@ -5,66 +5,59 @@
 ghost use Rattle.std.specs.Prelude.{◌≡◌, ◌+◌, ◌≤◌, ◌<◌, length};
 ghost use Rattle.std.proofs.lemmas.List.Edits.{sets};
 ghost use Rattle.script_numbers.specs.Decimals.{largest32, digit_up_to, digits_up_to, number, decimal};
-ghost use Rattle.script_numbers.specs.Answers.{reading_of, reading_says, number_says};
+ghost use Rattle.script_numbers.specs.Answers.{reading_says, number_says};
 
 // The largest number, and the most digits that a number has.
 const LARGEST_32: u64 = 4_294_967_295;
 
 pub const DIGITS_32: usize = 10;
 
-// Bytes as a number, if they are one.
-#[derive(Clone, Copy)]
-pub enum Reading {
-    Number(u32),
-    Nothing,
-}
-
 // One more digit behind x.
-fn add_digit(x: u32, b: u8) -> Reading
-    ensures { result ≡ reading_of (digit_up_to largest32 x b) }
+fn add_digit(x: u32, b: u8) -> Option<u32>
+    ensures { result ≡ digit_up_to largest32 x b }
 {
     if b < b'0' {
-        return Reading::Nothing;
+        return None;
     }
     if b > b'9' {
-        return Reading::Nothing;
+        return None;
     }
     let y = 10 * (x as u64) + ((b - b'0') as u64);
     if y > LARGEST_32 {
-        return Reading::Nothing;
+        return None;
     }
-    Reading::Number(y as u32)
+    Some(y as u32)
 }
 
 // The bytes as digits, the first of which may be 0.
-fn read_digits(s: &[u8]) -> Reading
-    ensures { result ≡ reading_of (digits_up_to largest32 0 s.now) }
+fn read_digits(s: &[u8]) -> Option<u32>
+    ensures { result ≡ digits_up_to largest32 0 s.now }
 {
     let mut x: u32 = 0;
     let mut i: usize = 0;
     while i < s.len() {
-        let Reading::Number(y) = add_digit(x, s[i]) else {
-            return Reading::Nothing;
+        let Some(y) = add_digit(x, s[i]) else {
+            return None;
         };
         x = y;
         i += 1;
     }
-    Reading::Number(x)
+    Some(x)
 }
 
 // The bytes as a number: one or more digits without a leading zero, up to 4,294,967,295.
-pub fn read_number(s: &[u8]) -> Reading
-    ensures value { result ≡ reading_of (number s.now) }
+pub fn read_number(s: &[u8]) -> Option<u32>
+    ensures value { result ≡ number s.now }
     ensures numbers { reading_says result ≡ number_says (number s.now) }
 {
     if s.len() == 0 {
-        return Reading::Nothing;
+        return None;
     }
     if s.len() == 1 {
         return read_digits(s);
     }
     if s[0] == b'0' {
-        return Reading::Nothing;
+        return None;
     }
     read_digits(s)
 }

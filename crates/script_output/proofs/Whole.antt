@@ -1,10 +1,10 @@
 -- However a script comes in, what is printed for its bytes and at the end is `output` of the whole: bytes make lines, lines are
 -- answered one by one, and the counts that the run keeps are those of its events.
+use Rattle.std.specs.Prelude.{Some, None, Option}
 use mathlib.Core.Path.{◌≡◌, refl, sym, ap, ◌∙◌}
 use Prim.Native.Nat.{ℕ, zero, suc, ◌-◌, ◌≤◌, ◌<◌}
 use native.Mathlib.Omega.{arith}
 use mathlib.Core.Bool.{true, false}
-use mathlib.Core.Option.{Option, none, some}
 use mathlib.Core.Logic.{inl, inr, ⊎_elim}
 use mathlib.Core.List.{List, [], ◌∷◌, ◌++◌, append_assoc, append-nil}
 use lib.Dec.{eqb, ltb, leb}
@@ -66,15 +66,15 @@ clip_behind (suc n) (a ∷ l) r = ap (λ (x : List ℕ). a ∷ x) (clip_behind n
 clip_long : (l : List ℕ) → leb (length l) max_line ≡ false → leb (length (take max_kept l)) max_line ≡ false
 clip_long l e = lt-leb (length (take max_kept l)) max_line (omega (arith, length-take max_kept l, leb-false (length l) max_line e))
 
-long-event : (l : List ℕ) → leb (length l) max_line ≡ false → event_in l ≡ none
+long-event : (l : List ℕ) → leb (length l) max_line ≡ false → event_in l ≡ None
 unfolding event_in
 long-event l e = rw e
 
-long-setting : (l : List ℕ) → leb (length l) max_line ≡ false → setting_in l ≡ none
+long-setting : (l : List ℕ) → leb (length l) max_line ≡ false → setting_in l ≡ None
 unfolding setting_in
 long-setting l e = rw e
 
-clipped : {A : Type 0} (f : List ℕ → Option A) → ((l : List ℕ) → leb (length l) max_line ≡ false → f l ≡ none) → (l : List ℕ) → f (take max_kept l) ≡ f l
+clipped : {A : Type 0} (f : List ℕ → Option A) → ((l : List ℕ) → leb (length l) max_line ≡ false → f l ≡ None) → (l : List ℕ) → f (take max_kept l) ≡ f l
 clipped f long l =
     ⊎_elim
     (λ (e : leb (length l) max_line ≡ true). ap f (take_all max_kept l (omega (arith, leb-true (length l) max_line e))))
@@ -98,8 +98,8 @@ last-told : (st : Stage) (l : List ℕ) → finished (reader st l) ≡ told st (
 unfolding finished worked_all
 last-told st [] = refl
 last-told st (b ∷ l) =
-    let some : 0 < length (take max_kept (b ∷ l)) = omega (arith, length-take max_kept (b ∷ l)) in
-    rw (ne_eqb (length (take max_kept (b ∷ l))) 0 (λ e. omega (arith, some)), worked_clipped st (b ∷ l))
+    let Some : 0 < length (take max_kept (b ∷ l)) = omega (arith, length-take max_kept (b ∷ l)) in
+    rw (ne_eqb (length (take max_kept (b ∷ l))) 0 (λ e. omega (arith, Some)), worked_clipped st (b ∷ l))
     (sym (ap (λ (x : List ℕ). x ++ ended (worked st (b ∷ l)).now) (append-nil (worked st (b ∷ l)).out)))
 
 rest_cons : (r : Reader) (b : ℕ) (s : List ℕ) → rest r (b ∷ s) ≡ (taken r b).out ++ rest (taken r b).now s
@@ -140,12 +140,12 @@ bytes-told (b ∷ s) st l = rest_cons (reader st l) b s ∙ go (bytes-told s) (d
 -- the run so far, and the events to come
 module _ (s : Setting) where
   -- a line that is read, and what the whole says of it
-  line_bad : (r : Script) (l : List ℕ) → r.answered < max_lines → event_in l ≡ none
+  line_bad : (r : Script) (l : List ℕ) → r.answered < max_lines → event_in l ≡ None
       → line_taken r l ≡ record { now = onward r r.run; out = no_line (suc r.answered) BadLine }
   unfolding line_taken
   line_bad r l lt e = rw (lt-ltb r.answered max_lines lt, e)
 
-  line-event : (r : Script) (l : List ℕ) (e : Event) → r.run.setting ≡ s → r.answered < max_lines → event_in l ≡ some e →
+  line-event : (r : Script) (l : List ℕ) (e : Event) → r.run.setting ≡ s → r.answered < max_lines → event_in l ≡ Some e →
       line_taken r l ≡ record { now = onward r (next r.run e); out = answer_line (suc r.answered) r.run.system (happens s r.run.system e) }
   unfolding line_taken
   line-event r l e q lt x = rw (lt-ltb r.answered max_lines lt, x, q)
@@ -154,20 +154,20 @@ module _ (s : Setting) where
   unfolding line_taken
   line_unread r l h = rw (le-ltb r.answered max_lines h)
 
-  answers_bad : (i : ℕ) (w : System) (l : List ℕ) (ls : List (List ℕ)) → event_in l ≡ none → answers s i w (l ∷ ls) ≡ no_line i BadLine ++ answers s (suc i) w ls
+  answers_bad : (i : ℕ) (w : System) (l : List ℕ) (ls : List (List ℕ)) → event_in l ≡ None → answers s i w (l ∷ ls) ≡ no_line i BadLine ++ answers s (suc i) w ls
   unfolding answers
   answers_bad i w l ls e = rw e
 
-  answers-event : (i : ℕ) (w : System) (l : List ℕ) (ls : List (List ℕ)) (e : Event) → event_in l ≡ some e →
+  answers-event : (i : ℕ) (w : System) (l : List ℕ) (ls : List (List ℕ)) (e : Event) → event_in l ≡ Some e →
       answers s i w (l ∷ ls) ≡ answer_line i w (happens s w e) ++ answers s (suc i) (after w (happens s w e)) ls
   unfolding answers
   answers-event i w l ls e x = rw x
 
-  events_bad : (l : List ℕ) (ls : List (List ℕ)) → event_in l ≡ none → events_in (l ∷ ls) ≡ events_in ls
+  events_bad : (l : List ℕ) (ls : List (List ℕ)) → event_in l ≡ None → events_in (l ∷ ls) ≡ events_in ls
   unfolding events_in
   events_bad l ls e = rw e
 
-  events-event : (l : List ℕ) (ls : List (List ℕ)) (e : Event) → event_in l ≡ some e → events_in (l ∷ ls) ≡ e ∷ events_in ls
+  events-event : (l : List ℕ) (ls : List (List ℕ)) (e : Event) → event_in l ≡ Some e → events_in (l ∷ ls) ≡ e ∷ events_in ls
   unfolding events_in
   events-event l ls e x = rw x
 
@@ -190,13 +190,13 @@ module _ (s : Setting) where
       → told (running r) ls ≡ to_come r (take (max_lines - r.answered) ls))
       (r : Script) (q : r.run.setting ≡ s) (l : List ℕ) where
     -- what the whole says of this line
-    bad_told : (tl : List (List ℕ)) → event_in l ≡ none → no_line (suc r.answered) BadLine ++ to_come (onward r r.run) tl ≡ to_come r (l ∷ tl)
+    bad_told : (tl : List (List ℕ)) → event_in l ≡ None → no_line (suc r.answered) BadLine ++ to_come (onward r r.run) tl ≡ to_come r (l ∷ tl)
     bad_told tl e =
         sym (append_assoc (no_line (suc r.answered) BadLine) (answers s (suc (suc r.answered)) r.run.system tl) _) ∙
         (ap (λ (x : List ℕ). x ++ end_run (plays r.run (events_in tl))) (sym (answers_bad (suc r.answered) r.run.system l tl e)) ∙
         ap (λ (es : List Event). answers s (suc r.answered) r.run.system (l ∷ tl) ++ end_run (plays r.run es)) (sym (events_bad l tl e)))
 
-    event-told : (tl : List (List ℕ)) (x : Event) → event_in l ≡ some x →
+    event-told : (tl : List (List ℕ)) (x : Event) → event_in l ≡ Some x →
         answer_line (suc r.answered) r.run.system (happens s r.run.system x) ++ to_come (onward r (next r.run x)) tl ≡ to_come r (l ∷ tl)
     unfolding plays
     event-told tl x e =
@@ -218,10 +218,10 @@ module _ (s : Setting) where
 
         go : (o : Option Event) → event_in l ≡ o
             → (line_taken r l).out ++ told (running (line_taken r l).now) ls ≡ to_come r (l ∷ take (max_lines - suc r.answered) ls)
-        go none e =
+        go None e =
             ap (λ (p : Printed Script). p.out ++ told (running p.now) ls) (line_bad r l lt e) ∙
             (ap (λ (x : List ℕ). no_line (suc r.answered) BadLine ++ x) (ih (onward r r.run) q lt) ∙ bad_told (take (max_lines - suc r.answered) ls) e)
-        go (some x) e =
+        go (Some x) e =
             ap (λ (p : Printed Script). p.out ++ told (running p.now) ls) (line-event r l x q lt e) ∙
             (ap (λ (y : List ℕ). answer_line (suc r.answered) r.run.system (happens s r.run.system x) ++ y)
             (ih (onward r (next r.run x)) (moved-setting r.run _ ∙ q) lt) ∙
@@ -264,10 +264,10 @@ refused-told x ls = ap (λ (y : List ℕ). x ++ y) (closed-told ls) ∙ append-n
 
 opened-told : (o : Option Setting) (ls : List (List ℕ)) → (opened o).out ++ told (opened o).now ls ≡ maybe o (refused_line BadLine) (λ s. played s ls)
 unfolding opened played
-opened-told none ls = refused-told (refused_line BadLine) ls
-opened-told (some s) ls = go (decided (in_range s))
+opened-told None ls = refused-told (refused_line BadLine) ls
+opened-told (Some s) ls = go (decided (in_range s))
   where
-    go : Test (in_range s) → (opened (some s)).out ++ told (opened (some s)).now ls ≡ played s ls
+    go : Test (in_range s) → (opened (Some s)).out ++ told (opened (Some s)).now ls ≡ played s ls
     go (inl e) = rw e (ap (λ (y : List ℕ). header_line s ++ y) (whole_run s ls))
     go (inr e) = rw e (refused-told (refused_line ParameterOutOfRange) ls)
 

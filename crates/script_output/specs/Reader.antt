@@ -1,7 +1,6 @@
 -- The same byte by byte: what a reader of a script has taken in so far, and what it prints for each byte and at the end.
 -- proofs/Whole shows that it prints `output` of the whole script, however the script comes in.
-use Rattle.std.specs.Prelude.{ℕ, suc, ◌+◌, ◌-◌, List, [], ◌∷◌, ◌++◌, eqb, ltb, length, take, drop, if◌then◌else◌}
-use Rattle.std.proofs.Math.Option.{Option}
+use Rattle.std.specs.Prelude.{ℕ, suc, ◌+◌, ◌-◌, List, [], ◌∷◌, ◌++◌, eqb, ltb, length, take, drop, if◌then◌else◌, Option}
 use Rattle.ids.specs.Choice.{maybe}
 use Rattle.ids.specs.declared.Refusal.TheVariants.{BadLine, ParameterOutOfRange}
 use Rattle.script_lines.specs.Words.{newline}

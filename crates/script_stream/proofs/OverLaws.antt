@@ -5,13 +5,12 @@ use Prim.Native.Nat.{ℕ, suc, ◌≤◌, ◌<◌}
 use native.Mathlib.Omega.{arith}
 use mathlib.Core.Bool.{Bool, true, false, false≢true}
 use mathlib.Core.List.{List, [], ◌∷◌, append-nil}
-use mathlib.Core.Option.{Option, none, some}
 use mathlib.Core.Logic.{inl, inr}
 use lib.Dec.{eqb, leb}
 use lib.ListN.{length, get_or, length-append}
 use borrow.Author.Tests.{le-ltb, lt-ltb, leb-true, leb-false}
 use Rattle.ids.specs.Choice.{maybe}
-use Rattle.std.specs.Prelude.{if◌then◌else◌}
+use Rattle.std.specs.Prelude.{if◌then◌else◌, Some, None, Option}
 use Rattle.ids.specs.Refusals.{code}
 use Rattle.ids.specs.declared.Refusal.{Refusal}
 use Rattle.ids.specs.declared.Refusal.TheVariants.{BadLine, ParameterOutOfRange}
@@ -115,8 +114,8 @@ either_speaks false p q f g = g
 
 opened_speaks : (o : Option Setting) → Speaks (opened o)
 unfolding Speaks opened
-opened_speaks none = refused_some BadLine
-opened_speaks (some s) = either_speaks (in_range s) _ _ (header_some s) (refused_some ParameterOutOfRange)
+opened_speaks None = refused_some BadLine
+opened_speaks (Some s) = either_speaks (in_range s) _ _ (header_some s) (refused_some ParameterOutOfRange)
 
 answer_some : (i : ℕ) (w : System) (o : Result) → answer_line i w o ≡ [] → ⊥
 unfolding answer_line
@@ -132,8 +131,8 @@ line_speaks r l h = rw (lt-ltb r.answered max_lines h) (by_event (event_in l))
           now = onward r (next r.run e);
           out = answer_line (suc r.answered) r.run.system (happens r.run.setting r.run.system e);
         }))
-    by_event none = no_some (suc r.answered) BadLine
-    by_event (some e) = answer_some (suc r.answered) r.run.system (happens r.run.setting r.run.system e)
+    by_event None = no_some (suc r.answered) BadLine
+    by_event (Some e) = answer_some (suc r.answered) r.run.system (happens r.run.setting r.run.system e)
 
 stage_speaks : (t : Stage) (l : List ℕ) → spent t ≡ false → Speaks (worked t l)
 unfolding Speaks worked

@@ -1,4 +1,7 @@
 -- A new script has taken in nothing; the bytes that a call of the script's used are taken in, one part behind the other.
+use Rattle.script.specs.declared.Progress.{Progress}
+use Rattle.ids.specs.declared.Refusal.{Refusal}
+use Rattle.std.specs.Prelude.{Result}
 use mathlib.Core.Path.{◌≡◌, refl, sym, ap, ◌∙◌}
 use Prim.Native.Nat.{ℕ, ◌+◌, ◌-◌, ◌≤◌}
 use native.Mathlib.Omega.{arith}
@@ -11,7 +14,6 @@ use lib.Seq.{take-add, take_all, drop-drop, drop-length}
 use Rattle.script_output.specs.Reader.{Reader, Printed, empty, fed, Fed, fed_within, max_printed}
 use Rattle.script.specs.State.{view, valid, state_size}
 use Rattle.script.specs.Calls.{new_answer, new_words, FeedLeaves, FinishLeaves, max_ending}
-use Rattle.script.specs.declared.Progress.{Progress}
 use Rattle.script.proofs.NewLaws.{new_valid, new_reader}
 use Rattle.script_output.proofs.Whole.{in_parts}
 use Rattle.script_output.proofs.Cuts.{within-fed, used-few}
@@ -22,7 +24,7 @@ use Rattle.script_stream.specs.Ended.{Ended}
 use Rattle.script_stream.specs.Taken.{Taken}
 use Rattle.script_stream.specs.Pieces.{Pieces, no_piece, one_more, joined, Answers}
 
-pub started : (w w' : List ℕ) (p : Progress) → state_size ≡ length w → (p ≡ new_answer w) × (w' ≡ new_words w) → (valid w' ≡ true) × (view w' ≡ empty)
+pub started : (w w' : List ℕ) (p : Result Progress Refusal) → state_size ≡ length w → (p ≡ new_answer w) × (w' ≡ new_words w) → (valid w' ≡ true) × (view w' ≡ empty)
 started w w' p e f = rw f.1 (new_valid w (sym e), new_reader w (sym e))
 
 -- the bytes so far, and some more of what is left

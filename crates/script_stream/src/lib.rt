@@ -41,8 +41,8 @@ fn answer_some(rt: &(impl Print + Eprint), w: &mut [u32], part: &[u8], out: &mut
 {
     let p = script::feed(w, part, out);
     match p {
-        Progress::Refused(_) => 0,
-        Progress::Took(used, wrote) => {
+        Err(_) => 0,
+        Ok(Progress { used, wrote }) => {
             if console::write_out(rt, rt, &out[0..wrote]) {
                 return used;
             }
@@ -74,8 +74,8 @@ pub fn finish(rt: &(impl Print + Eprint), w: &mut [u32], out: &mut [u8])
 {
     let p = script::finish(w, out);
     match p {
-        Progress::Refused(_) => {}
-        Progress::Took(_, wrote) => {
+        Err(_) => {}
+        Ok(Progress { wrote, .. }) => {
             console::write_out(rt, rt, &out[0..wrote]);
         }
     }

@@ -9,7 +9,7 @@ use mathlib.Core.Logic.{⊎_elim}
 use lib.Dec.{eqb}
 use lib.ListN.{length, length-map, length-take, length-replicate}
 use borrow.Author.Tests.{not-false, le-leb}
-use Rattle.std.specs.Prelude.{if◌then◌else◌}
+use Rattle.std.specs.Prelude.{if◌then◌else◌, Some, None, Option}
 use Rattle.ids.specs.Lists.{every}
 use Rattle.ids.specs.Limits.{max_servers, max_timestamp, valid_client, valid_parties_up_to, valid_stamped, valid_stamped_up_to}
 use Rattle.ids.specs.Order.{before}
@@ -18,8 +18,6 @@ use Rattle.ids.specs.declared.ClientId.{ClientId}
 use Rattle.ids.specs.declared.ServerId.{ServerId}
 use Rattle.ids.specs.declared.Timestamp.{Timestamp}
 use Rattle.ids.specs.declared.Request.{Request as Pair}
-use Rattle.ids.specs.declared.Owner.{Owner}
-use Rattle.ids.specs.declared.Owner.TheVariants.{Nobody, Of}
 use Rattle.ids.specs.declared.Refusal.TheVariants.{NumberOutOfRange, InvalidRecord, NotForClient, WrongSection, TimestampsSpent}
 use Rattle.ids.proofs.Choice.{decided, passed}
 use Rattle.wire.specs.Format as format
@@ -45,7 +43,7 @@ one_at_most : (b : Bool) → (if b then 1 else 0) ≤ 1
 one_at_most true = omega arith
 one_at_most false = omega arith
 
-count-few : (l : List Owner) → count (map filled l) ≤ length l
+count-few : (l : List (Option Pair)) → count (map filled l) ≤ length l
 count-few [] = omega arith
 count-few (o ∷ l) = omega (arith, count-few l, one_at_most (filled o))
 
@@ -61,7 +59,7 @@ nothing n = record { few = omega arith; small = omega arith }
 more : {n m : ℕ} {ms : List Message} → n ≤ m → AtMost n ms → AtMost m ms
 more h a = record { few = omega (arith, a.few); small = omega (arith, a.small) }
 
-judge-few : (wins : Quorum) (n : ℕ) (k : ClientId) (c : State) (l : List Owner) → AtMost (length l) (judge wins n k c l).sent
+judge-few : (wins : Quorum) (n : ℕ) (k : ClientId) (c : State) (l : List (Option Pair)) → AtMost (length l) (judge wins n k c l).sent
 unfolding judge
 judge-few wins n k c l =
     let r = request k c in
@@ -75,7 +73,7 @@ judge-few wins n k c l =
     (λ (a : wins (map filled l) ≡ false). rw a (nothing (length l)))
     (decided (wins (map filled l)))
 
-pub responds-few : (wins : Quorum) (n : ℕ) (k : ClientId) (j : ServerId) (o : Owner) (c : State)
+pub responds-few : (wins : Quorum) (n : ℕ) (k : ClientId) (j : ServerId) (o : Option Pair) (c : State)
     → AtMost (length c.responses) (responds wins n k j o c).sent
 unfolding upon_response
 responds-few wins n k j o c =
@@ -107,7 +105,7 @@ exits-few n k c = to_all_lem _ (release_plain k c.timestamp) n
 
 -- and it keeps a response for each server at most
 module _ (n : ℕ) where
-  judge-long : (wins : Quorum) (k : ClientId) (c : State) (l : List Owner) → length l ≤ n → length (judge wins n k c l).state.responses ≤ n
+  judge-long : (wins : Quorum) (k : ClientId) (c : State) (l : List (Option Pair)) → length l ≤ n → length (judge wins n k c l).state.responses ≤ n
   unfolding judge
   judge-long wins k c l g =
       let r = request k c in
@@ -115,12 +113,12 @@ module _ (n : ℕ) where
       (λ (a : wins (map filled l) ≡ true).
       ⊎_elim
       (λ (b : wins (map (is_request r) l) ≡ true). rw (a, b) g)
-      (λ (b : wins (map (is_request r) l) ≡ false). rw (a, b, length-replicate n Nobody) (omega arith))
+      (λ (b : wins (map (is_request r) l) ≡ false). rw (a, b, length-replicate n None) (omega arith))
       (decided (wins (map (is_request r) l))))
       (λ (a : wins (map filled l) ≡ false). rw a g)
       (decided (wins (map filled l)))
 
-  responds-long : (wins : Quorum) (k : ClientId) (j : ServerId) (o : Owner) (c : State) → length c.responses ≤ n
+  responds-long : (wins : Quorum) (k : ClientId) (j : ServerId) (o : Option Pair) (c : State) → length c.responses ≤ n
       → length (responds wins n k j o c).state.responses ≤ n
   unfolding upon_response
   responds-long wins k j o c g =
@@ -189,7 +187,7 @@ module _ (c : Client) (p : Step State) where
       record {
         before = v;
         most = rw (← g) (tries-few c.head.n c.head.id (view c));
-        long = rw (← g, length-replicate c.head.n Nobody) (omega arith);
+        long = rw (← g, length-replicate c.head.n None) (omega arith);
       }
 
   pub exit_accepted : exit_outcome c ≡ stepped p → Accepted
@@ -202,7 +200,7 @@ module _ (c : Client) (p : Step State) where
       record {
         before = v;
         most = rw (← g) (exits-few c.head.n c.head.id (view c));
-        long = rw (← g, length-replicate c.head.n Nobody) (omega arith);
+        long = rw (← g, length-replicate c.head.n None) (omega arith);
       }
 
 -- what passes f: the messages with which request r replies to server j
@@ -226,15 +224,15 @@ module _ (f : Message → Bool) where
   unfolding reply
   reply_passes r j o h = chosen (eqb o.client.0 r.client.0) (before r o) _ _ _ h.0 h.1 h.2
 
-  round_passes : (r : Pair) (n j : ℕ) (l : List Owner) → 1 ≤ j → j + length l ≤ suc n
+  round_passes : (r : Pair) (n j : ℕ) (l : List (Option Pair)) → 1 ≤ j → j + length l ≤ suc n
       → ((i : ℕ) → 1 ≤ i → i ≤ n → Replies f r (record { 0 = i })) → every f (round r j l) ≡ true
   unfolding round
   round_passes r n j [] a b h = refl
-  round_passes r n j (Nobody ∷ l) a b h = round_passes r n (suc j) l (omega arith) (omega arith) h
-  round_passes r n j (Of o ∷ l) a b h =
+  round_passes r n j (None ∷ l) a b h = round_passes r n (suc j) l (omega arith) (omega arith) h
+  round_passes r n j (Some o ∷ l) a b h =
       rw (reply_passes r (record { 0 = j }) o (h j a (omega arith))) (round_passes r n (suc j) l (omega arith) (omega arith) h)
 
-  judge_passes : (wins : Quorum) (n : ℕ) (k : ClientId) (c : State) (l : List Owner) → length l ≤ n
+  judge_passes : (wins : Quorum) (n : ℕ) (k : ClientId) (c : State) (l : List (Option Pair)) → length l ≤ n
       → ((i : ℕ) → 1 ≤ i → i ≤ n → Replies f (request k c) (record { 0 = i })) → every f (judge wins n k c l).sent ≡ true
   unfolding judge
   judge_passes wins n k c l few h =
@@ -258,7 +256,7 @@ module _ (f : Message → Bool) where
   unfolding exits
   exits_passes n k c h = all_pass _ n h
 
-  pub responds_passes : (wins : Quorum) (n : ℕ) (k : ClientId) (j : ServerId) (o : Owner) (c : State) → length c.responses ≤ n
+  pub responds_passes : (wins : Quorum) (n : ℕ) (k : ClientId) (j : ServerId) (o : Option Pair) (c : State) → length c.responses ≤ n
       → (is_trying c.section ≡ true → (i : ℕ) → 1 ≤ i → i ≤ n → Replies f (request k c) (record { 0 = i }))
       → every f (responds wins n k j o c).sent ≡ true
   unfolding upon_response
@@ -305,7 +303,7 @@ module _ (n m : ℕ) (k : ClientId) (s : State) (F : Fits n m k s) where
       let (c, d) = in_critical s.section s.timestamp h F.timestamp in
       exits_passes format.valid n k s (λ j a b. stamped k j s.timestamp F.ranges.client a (omega (arith, F.ranges.few)) c (omega arith))
 
-  pub responds-valid : (wins : Quorum) (j : ServerId) (o : Owner) → every format.valid (responds wins n k j o s).sent ≡ true
+  pub responds-valid : (wins : Quorum) (j : ServerId) (o : Option Pair) → every format.valid (responds wins n k j o s).sent ≡ true
   unfolding format.valid_up_to
   responds-valid wins j o =
       responds_passes format.valid wins n k j o s (omega (arith, F.long)) (λ t i a b.

@@ -7,21 +7,18 @@ use mathlib.Core.Path.{◌≡◌, refl}
 use mathlib.Core.Bool.{Bool, true, false, not}
 use mathlib.Core.List.{List, [], ◌∷◌, ◌++◌}
 use mathlib.Core.Logic.{⊎_elim}
-use mathlib.Core.Option.{Option, none, some}
 use lib.Dec.{eqb, ltb}
 use lib.ListN.{length, length-append}
 use borrow.Author.Tests.{ltb-false, not-false}
 use Rattle.ids.specs.Lists.{every}
 use Rattle.ids.specs.Choice.{maybe}
-use Rattle.std.specs.Prelude.{if◌then◌else◌}
+use Rattle.std.specs.Prelude.{if◌then◌else◌, Some, None, Option}
 use Rattle.ids.specs.Limits.{max_servers, valid_server, valid_request, valid_owner, valid_parties_up_to, valid_stamped_up_to}
 use Rattle.ids.specs.Requests.{same, is_request, is_client, by_owner}
 use Rattle.ids.specs.declared.ClientId.{ClientId}
 use Rattle.ids.specs.declared.ServerId.{ServerId}
 use Rattle.ids.specs.declared.Timestamp.{Timestamp}
 use Rattle.ids.specs.declared.Request.{Request as Pair}
-use Rattle.ids.specs.declared.Owner.{Owner}
-use Rattle.ids.specs.declared.Owner.TheVariants.{Nobody, Of}
 use Rattle.ids.specs.declared.Refusal.{Refusal}
 use Rattle.ids.specs.declared.Refusal.TheVariants.{NumberOutOfRange, InvalidRecord, NotForServer, QueueFull, NoOwner}
 use Rattle.ids.proofs.Choice.{both, decided, passed}
@@ -76,9 +73,9 @@ module _ (j : ServerId) where
   yielded-few true l q = promote-few l
   yielded-few false l q = omega arith
 
-  inquired_few : (o : Owner) (k : ClientId) (q : State) → length (by_owner o (stay q) (λ x. inform j k q)).sent ≤ 1
-  inquired_few Nobody k q = omega arith
-  inquired_few (Of x) k q = inform-few k q
+  inquired_few : (o : Option Pair) (k : ClientId) (q : State) → length (by_owner o (stay q) (λ x. inform j k q)).sent ≤ 1
+  inquired_few None k q = omega arith
+  inquired_few (Some x) k q = inform-few k q
 
   act-few : (tag : Tag) (r : Pair) (q : State) → length (act j tag r q).sent ≤ 2
   unfolding act
@@ -110,8 +107,8 @@ module _ (j : ServerId) where
   compared_few false false tag r p q = omega (arith, act-few tag r q)
 
   received-few : (o : Option Timestamp) (tag : Tag) (r : Pair) (q : State) → length (maybe o (act j tag r q) (compare j tag r q)).sent ≤ 3
-  received-few none tag r q = omega (arith, act-few tag r q)
-  received-few (some t) tag r q = compared_few (ltb r.timestamp.0 t.0) (ltb t.0 r.timestamp.0) tag r
+  received-few None tag r q = omega (arith, act-few tag r q)
+  received-few (Some t) tag r q = compared_few (ltb r.timestamp.0 t.0) (ltb t.0 r.timestamp.0) tag r
       (record { client = r.client; timestamp = t }) q
 
   pub receive-few : (tag : Tag) (r : Pair) (q : State) → length (receive j tag r q).sent ≤ 3
@@ -119,12 +116,12 @@ module _ (j : ServerId) where
   receive-few tag r q = received-few (timestamp_in r.client (candidates q)) tag r q
 
   -- of a good state: the client of the pair that made way does not stand in the queue
-  promoted_twice : (tag : Tag) (r : Pair) (l : List Pair) → timestamp_in r.client l ≡ none
+  promoted_twice : (tag : Tag) (r : Pair) (l : List Pair) → timestamp_in r.client l ≡ None
       → length ((promote j l).sent ++ (act j tag r (promote j l).state).sent) ≤ 2
   unfolding promote same
   promoted_twice tag r [] n = act-few tag r idle
   promoted_twice tag r (h ∷ l) n =
-      omega (arith, act-once tag r (record { owner = Of h; queue = l }) (rw (head-other r.client h l _ refl n).0))
+      omega (arith, act-once tag r (record { owner = Some h; queue = l }) (rw (head-other r.client h l _ refl n).0))
 
   deleted_twice : (tag : Tag) (r : Pair) (t : Timestamp) (q : State) → Good q →
       let old : Pair = record { client = r.client; timestamp = t } in length ((delete j old q).sent ++ (act j tag r (delete j old q).state).sent) ≤ 2
@@ -147,16 +144,16 @@ module _ (j : ServerId) where
       (decided (ltb r.timestamp.0 t.0))
 
   received_twice : (o : Option Timestamp) (tag : Tag) (r : Pair) (q : State) → Good q → length (maybe o (act j tag r q) (compare j tag r q)).sent ≤ 2
-  received_twice none tag r q G = act-few tag r q
-  received_twice (some t) tag r q G = compared_twice tag r q t G
+  received_twice None tag r q G = act-few tag r q
+  received_twice (Some t) tag r q G = compared_twice tag r q t G
 
   pub receive_twice : (tag : Tag) (r : Pair) (q : State) → Good q → length (receive j tag r q).sent ≤ server_messages
   unfolding receive
   receive_twice tag r q G = received_twice (timestamp_in r.client (candidates q)) tag r q G
 
-  suspected_by : (o : Owner) (q : State) → length (by_owner o (stay q) (λ x. delete j x q)).sent ≤ 1
-  suspected_by Nobody q = omega arith
-  suspected_by (Of x) q = delete-few x q
+  suspected_by : (o : Option Pair) (q : State) → length (by_owner o (stay q) (λ x. delete j x q)).sent ≤ 1
+  suspected_by None q = omega arith
+  suspected_by (Some x) q = delete-few x q
 
   pub suspect-once : (q : State) → length (suspect j q).sent ≤ 1
   unfolding suspect
@@ -165,9 +162,9 @@ module _ (j : ServerId) where
   pub suspect-few : (q : State) → length (suspect j q).sent ≤ 3
   suspect-few q = omega (arith, suspect-once q)
 
-  checked_by : (o : Owner) (q : State) → length (by_owner o (stay q) (λ x. tell q (Check x.client j x.timestamp))).sent ≤ 1
-  checked_by Nobody q = omega arith
-  checked_by (Of x) q = omega arith
+  checked_by : (o : Option Pair) (q : State) → length (by_owner o (stay q) (λ x. tell q (Check x.client j x.timestamp))).sent ≤ 1
+  checked_by None q = omega arith
+  checked_by (Some x) q = omega arith
 
   pub check-once : (q : State) → length (check j q).sent ≤ 1
   unfolding check
@@ -185,17 +182,17 @@ entered false n h = absurd (n h)
 
 -- a suspicion and a check make no queue longer
 module _ (j : ServerId) where
-  suspected_shorter : (o : Owner) (q : State) → length (by_owner o (stay q) (λ x. delete j x q)).state.queue ≤ length q.queue
-  suspected_shorter Nobody q = omega arith
-  suspected_shorter (Of x) q = length-deleted j x q
+  suspected_shorter : (o : Option Pair) (q : State) → length (by_owner o (stay q) (λ x. delete j x q)).state.queue ≤ length q.queue
+  suspected_shorter None q = omega arith
+  suspected_shorter (Some x) q = length-deleted j x q
 
   suspect_shorter : (q : State) → length (suspect j q).state.queue ≤ length q.queue
   unfolding suspect
   suspect_shorter q = suspected_shorter q.owner q
 
-  checked-same : (o : Owner) (q : State) → (by_owner o (stay q) (λ x. tell q (Check x.client j x.timestamp))).state ≡ q
-  checked-same Nobody q = refl
-  checked-same (Of x) q = refl
+  checked-same : (o : Option Pair) (q : State) → (by_owner o (stay q) (λ x. tell q (Check x.client j x.timestamp))).state ≡ q
+  checked-same None q = refl
+  checked-same (Some x) q = refl
 
   check-same : (q : State) → (check j q).state ≡ q
   unfolding check
@@ -228,9 +225,9 @@ module _ (s : Server) (p : Step State) where
     received-short (Response k j o) e = absurd (never NotForServer p e)
     received-short (Check k j t) e = absurd (never NotForServer p e)
 
-    suspected-short : (o : Owner) → by_owner {B = Outcome State} o (refused NoOwner) (λ x. stepped (suspect s.head.id (server.view s))) ≡ stepped p → Short p
-    suspected-short Nobody e = absurd (never NoOwner p e)
-    suspected-short (Of x) e =
+    suspected-short : (o : Option Pair) → by_owner {B = Outcome State} o (refused NoOwner) (λ x. stepped (suspect s.head.id (server.view s))) ≡ stepped p → Short p
+    suspected-short None e = absurd (never NoOwner p e)
+    suspected-short (Some x) e =
         let g : suspect s.head.id (server.view s) ≡ p = cc in
         rw (← g) (record {
           few = omega (arith, suspect-once s.head.id (server.view s));
@@ -287,14 +284,14 @@ record Passes (g : Pair → Bool) (f : Message → Bool) (s : Step State) : Type
   left : Knows g s.state
 
 module _ (g : Pair → Bool) (f : Message → Bool) (j : ServerId)
-    (tells : (r : Pair) (o : Owner) → g r ≡ true → by_owner o true g ≡ true → f (Response r.client j o) ≡ true)
+    (tells : (r : Pair) (o : Option Pair) → g r ≡ true → by_owner o true g ≡ true → f (Response r.client j o) ≡ true)
     (asks : (r : Pair) → g r ≡ true → f (Check r.client j r.timestamp) ≡ true) where
   promote_passes : (l : List Pair) → every g l ≡ true → Passes g f (promote j l)
   unfolding promote
   promote_passes [] h = record { sent = refl; left = record { owner = refl; queue = refl } }
   promote_passes (x ∷ l) h =
       let (a, t) = both (g x) (every g l) h in
-      record { sent = rw (tells x (Of x) a a); left = record { owner = a; queue = t } }
+      record { sent = rw (tells x (Some x) a a); left = record { owner = a; queue = t } }
 
   delete_passes : (r : Pair) (q : State) → Knows g q → Passes g f (delete j r q)
   unfolding delete
@@ -313,18 +310,18 @@ module _ (g : Pair → Bool) (f : Message → Bool) (j : ServerId)
       (λ (t : is_client r.client q.owner ≡ false). rw (t, tells r q.owner a k.owner))
       (decided (is_client r.client q.owner))
 
-  admit_passes : (r : Pair) (o : Owner) (l : List Pair) → g r ≡ true → by_owner o true g ≡ true
+  admit_passes : (r : Pair) (o : Option Pair) (l : List Pair) → g r ≡ true → by_owner o true g ≡ true
       → f (Response r.client j (admit r (record { owner = o; queue = l })).owner) ≡ true
-  admit_passes r Nobody l a h = tells r (Of r) a a
-  admit_passes r (Of o) l a h = tells r (Of o) a h
+  admit_passes r None l a h = tells r (Some r) a a
+  admit_passes r (Some o) l a h = tells r (Some o) a h
 
   yield_passes : (b : Bool) (r : Pair) (q : State) → g r ≡ true → Knows g q → Passes g f (if b then promote j (insert r q.queue) else stay q)
   yield_passes true r q a k = promote_passes (insert r q.queue) (every-insert g r q.queue a k.queue)
   yield_passes false r q a k = record { sent = refl; left = k }
 
-  inquiry_passes : (o : Owner) (r : Pair) (q : State) → g r ≡ true → Knows g q → every f (by_owner o (stay q) (λ x. inform j r.client q)).sent ≡ true
-  inquiry_passes Nobody r q a k = refl
-  inquiry_passes (Of o) r q a k = inform_passes r q a k
+  inquiry_passes : (o : Option Pair) (r : Pair) (q : State) → g r ≡ true → Knows g q → every f (by_owner o (stay q) (λ x. inform j r.client q)).sent ≡ true
+  inquiry_passes None r q a k = refl
+  inquiry_passes (Some o) r q a k = inform_passes r q a k
 
   act_passes : (tag : Tag) (r : Pair) (q : State) → g r ≡ true → Knows g q → every f (act j tag r q).sent ≡ true
   unfolding act
@@ -352,47 +349,47 @@ module _ (g : Pair → Bool) (f : Message → Bool) (j : ServerId)
 
   received_passes : (o : Option Timestamp) (tag : Tag) (r : Pair) (q : State) → g r ≡ true → Knows g q
       → every f (maybe o (act j tag r q) (compare j tag r q)).sent ≡ true
-  received_passes none tag r q a k = act_passes tag r q a k
-  received_passes (some t) tag r q a k = compared_passes (ltb r.timestamp.0 t.0) (ltb t.0 r.timestamp.0) tag r
+  received_passes None tag r q a k = act_passes tag r q a k
+  received_passes (Some t) tag r q a k = compared_passes (ltb r.timestamp.0 t.0) (ltb t.0 r.timestamp.0) tag r
       (record { client = r.client; timestamp = t }) q a k
 
   pub receive_passes : (tag : Tag) (r : Pair) (q : State) → g r ≡ true → Knows g q → every f (receive j tag r q).sent ≡ true
   unfolding receive
   receive_passes tag r q a k = received_passes (timestamp_in r.client (candidates q)) tag r q a k
 
-  suspected_passes : (o : Owner) (q : State) → Knows g q → every f (by_owner o (stay q) (λ x. delete j x q)).sent ≡ true
-  suspected_passes Nobody q k = refl
-  suspected_passes (Of x) q k = (delete_passes x q k).sent
+  suspected_passes : (o : Option Pair) (q : State) → Knows g q → every f (by_owner o (stay q) (λ x. delete j x q)).sent ≡ true
+  suspected_passes None q k = refl
+  suspected_passes (Some x) q k = (delete_passes x q k).sent
 
   pub suspect_passes : (q : State) → Knows g q → every f (suspect j q).sent ≡ true
   unfolding suspect
   suspect_passes q k = suspected_passes q.owner q k
 
-  checked_passes : (o : Owner) (q : State) → by_owner o true g ≡ true
+  checked_passes : (o : Option Pair) (q : State) → by_owner o true g ≡ true
       → every f (by_owner o (stay q) (λ x. tell q (Check x.client j x.timestamp))).sent ≡ true
-  checked_passes Nobody q h = refl
-  checked_passes (Of x) q h = rw (asks x h)
+  checked_passes None q h = refl
+  checked_passes (Some x) q h = rw (asks x h)
 
   pub check_passes : (q : State) → Knows g q → every f (check j q).sent ≡ true
   unfolding check
   check_passes q k = checked_passes q.owner q k.owner
 
 -- every number that a good server sends is in its range
-owner-known : (o : Owner) → valid_owner o ≡ true → by_owner o true valid_request ≡ true
+owner-known : (o : Option Pair) → valid_owner o ≡ true → by_owner o true valid_request ≡ true
 unfolding valid_owner
-owner-known Nobody h = refl
-owner-known (Of r) h = h
+owner-known None h = refl
+owner-known (Some r) h = h
 
-known-owner : (o : Owner) → by_owner o true valid_request ≡ true → valid_owner o ≡ true
+known-owner : (o : Option Pair) → by_owner o true valid_request ≡ true → valid_owner o ≡ true
 unfolding valid_owner
-known-owner Nobody h = refl
-known-owner (Of r) h = h
+known-owner None h = refl
+known-owner (Some r) h = h
 
 pub good_knows : (q : State) → Good q → Knows valid_request q
 good_knows q G = record { owner = owner-known q.owner G.owner; queue = G.all }
 
 module _ (j : ServerId) (v : valid_server j ≡ true) where
-  tells-valid : (r : Pair) (o : Owner) → valid_request r ≡ true → by_owner o true valid_request ≡ true → format.valid (Response r.client j o) ≡ true
+  tells-valid : (r : Pair) (o : Option Pair) → valid_request r ≡ true → by_owner o true valid_request ≡ true → format.valid (Response r.client j o) ≡ true
   unfolding format.valid_up_to format.valid_response_up_to valid_parties_up_to
   tells-valid r o a h = rw ((request-range r a).0, v, known-owner o h)
 

@@ -1,4 +1,5 @@
 -- The public calls: each refusal in its order, and then the step.
+use Rattle.std.specs.Prelude.{Ok, Err, Some, None, Option}
 use Prim.Native.Nat.{ℕ}
 use mathlib.Core.Path.{◌≡◌, refl, sym, ap, ◌∙◌}
 use mathlib.Core.Bool.{Bool, true, false}
@@ -13,8 +14,6 @@ use Rattle.ids.specs.declared.ClientId.{ClientId}
 use Rattle.ids.specs.declared.ServerId.{ServerId}
 use Rattle.ids.specs.declared.Timestamp.{Timestamp}
 use Rattle.ids.specs.declared.Request.{Request}
-use Rattle.ids.specs.declared.Owner.{Owner}
-use Rattle.ids.specs.declared.Owner.TheVariants.{Nobody, Of}
 use Rattle.rows.specs.Rows.{Padded}
 use Rattle.rows.proofs.QueueLaws.{holds-still}
 use Rattle.wire.specs.Format as format
@@ -23,7 +22,6 @@ use Rattle.wire.specs.Says.{answer_says, new_says}
 use Rattle.wire.specs.declared.Message.{Message}
 use Rattle.wire.specs.declared.Message.TheVariants.{Check}
 use Rattle.wire.specs.declared.Message.TheVariants as message
-use Rattle.wire.specs.declared.Answer.TheVariants.{Sent, Refused}
 use Rattle.server_votes.specs.declared.Moved.{Moved}
 use Rattle.server_votes.specs.declared.Tag.{Tag}
 use Rattle.server_votes.specs.declared.Tag.TheVariants.{Request as Asks, Yield as Yields, Release as Releases, Inquiry as Inquires}
@@ -32,8 +30,6 @@ use Rattle.server_votes.specs.Figure1.{State, delete, suspect, check}
 use Rattle.server_votes.specs.Places.{MovesOne, still, telling}
 use Rattle.server_votes.proofs.ActLaws.{stays, delete-fits}
 use Rattle.server_votes.proofs.MoveLaws.{moves-telling}
-use Rattle.server.specs.declared.Asked.{Asked}
-use Rattle.server.specs.declared.Asked.TheVariants.{Step, Nothing as NoStep}
 use Rattle.server.specs.declared.Head.{Head}
 use Rattle.server.specs.declared.Server.{Server}
 use Rattle.server.specs.declared.Stepped.{Stepped}
@@ -45,7 +41,7 @@ use Rattle.server.specs.Rows.{Turns}
 use Rattle.server.proofs.TurnLaws.{turns_refused, turns_done}
 
 -- what is received, by what the message asks of a server
-asks-step : (s : Server) (m : Message) (x : Tag) (k : ClientId) (j : ServerId) (t : Timestamp) → asked_by m ≡ Step x k j t → received s m ≡ taken s x k j t
+asks-step : (s : Server) (m : Message) (x : Tag) (k : ClientId) (j : ServerId) (t : Timestamp) → asked_by m ≡ Some (x, k, j, t) → received s m ≡ taken s x k j t
 asks-step s (message.Request k' j' t') x k j t e = cc
 asks-step s (message.Yield k' j' t') x k j t e = cc
 asks-step s (message.Release k' j' t') x k j t e = cc
@@ -53,7 +49,7 @@ asks-step s (message.Inquiry k' j' t') x k j t e = cc
 asks-step s (message.Response k' j' o) x k j t e = let z : ◌≡◌ {A = ℕ} 0 1 = cc in absurd (omega arith)
 asks-step s (message.Check k' j' t') x k j t e = let z : ◌≡◌ {A = ℕ} 0 1 = cc in absurd (omega arith)
 
-asks_nothing : (s : Server) (m : Message) → asked_by m ≡ NoStep → received s m ≡ refused NotForServer
+asks_nothing : (s : Server) (m : Message) → asked_by m ≡ None → received s m ≡ refused NotForServer
 asks_nothing s (message.Request k j t) e = let z : ◌≡◌ {A = ℕ} 0 1 = cc in absurd (omega arith)
 asks_nothing s (message.Yield k j t) e = let z : ◌≡◌ {A = ℕ} 0 1 = cc in absurd (omega arith)
 asks_nothing s (message.Release k j t) e = let z : ◌≡◌ {A = ℕ} 0 1 = cc in absurd (omega arith)
@@ -104,27 +100,27 @@ module _ (h : Head) (row : List ℕ) (r : Turned) (b : Bool) (e : b ≡ valid (s
         its-kind = let z : format.valid m ≡ true = sym f ∙ t in rw (sound n, z)
 
         -- by what the message asks of a server
-        module _ (a : Asked) (d : a ≡ asked_by m) where
-          pub message_not : a ≡ NoStep → r ≡ refusing h NotForServer → Turns h row (message_outcome s m) r row
+        module _ (a : Option (Tag × ClientId × ServerId × Timestamp)) (d : a ≡ asked_by m) where
+          pub message_not : a ≡ None → r ≡ refusing h NotForServer → Turns h row (message_outcome s m) r row
           message_not q p = turns_refused h row (message_outcome s m) r NotForServer (its-kind ∙ asks_nothing s m (sym d ∙ q)) p
 
-          pub message-taken : (x : Tag) (k : ClientId) (j : ServerId) (u : Timestamp) (after : List ℕ) → a ≡ Step x k j u
+          pub message-taken : (x : Tag) (k : ClientId) (j : ServerId) (u : Timestamp) (after : List ℕ) → a ≡ Some (x, k, j, u)
               → Turns h row (taken s x k j u) r after → Turns h row (message_outcome s m) r after
           message-taken x k j u after q p = rw (its-kind, asks-step s m x k j u (sym d ∙ q)) p
 
     -- 15, and then the owner's place goes on
-    pub suspect_nobody : h.votes.owner ≡ Nobody → r ≡ refusing h NoOwner → Turns h row (suspect_outcome s) r row
+    pub suspect_nobody : h.votes.owner ≡ None → r ≡ refusing h NoOwner → Turns h row (suspect_outcome s) r row
     unfolding suspect_outcome
     suspect_nobody q p = turns_refused h row (suspect_outcome s) r NoOwner (rw (sound n, q)) p
 
-    module _ (good : Padded row h.votes.len) (x : Request) (q : h.votes.owner ≡ Of x) (m : Moved) where
+    module _ (good : Padded row h.votes.len) (x : Request) (q : h.votes.owner ≡ Some x) (m : Moved) where
       suspected : suspect h.id (view s) ≡ delete h.id x (view s)
       unfolding suspect
-      suspected = ap (λ (w : Owner). by_owner w (stay (view s)) (λ y. delete h.id y (view s))) q
+      suspected = ap (λ (w : Option Request). by_owner w (stay (view s)) (λ y. delete h.id y (view s))) q
 
       suspect_steps : suspect_outcome s ≡ stepped (suspect h.id (view s))
       unfolding suspect_outcome
-      suspect_steps = rw (sound n) (ap (λ (w : Owner). by_owner {B = Outcome State} w (refused NoOwner) (λ y. stepped (suspect h.id (view s)))) q)
+      suspect_steps = rw (sound n) (ap (λ (w : Option Request). by_owner {B = Outcome State} w (refused NoOwner) (λ y. stepped (suspect h.id (view s)))) q)
 
       pub suspect-done : (after : List ℕ) → MovesOne h.votes row after m (delete h.id x (view s)) → r ≡ doing h m → Turns h row (suspect_outcome s) r after
       suspect-done after one a =
@@ -135,7 +131,7 @@ module _ (h : Head) (row : List ℕ) (r : Turned) (b : Bool) (e : b ≡ valid (s
       unfolding check_outcome check
       check-asks =
           rw (sound n)
-          (ap {B = Outcome State} stepped (ap (λ (w : Owner). by_owner w (stay (view s)) (λ y. tell (view s) (Check y.client h.id y.timestamp))) q))
+          (ap {B = Outcome State} stepped (ap (λ (w : Option Request). by_owner w (stay (view s)) (λ y. tell (view s) (Check y.client h.id y.timestamp))) q))
 
       pub check-asked : m ≡ telling h.votes (Check x.client h.id x.timestamp) → r ≡ doing h m → Turns h row (check_outcome s) r row
       check-asked p a =
@@ -143,14 +139,14 @@ module _ (h : Head) (row : List ℕ) (r : Turned) (b : Bool) (e : b ≡ valid (s
           (holds-still row h.votes.len good) refl _ p refl in
           turns_done h row (check_outcome s) r row m _ check-asks one.moves (ap (λ (y : Moved). y.full) p) a
 
-    pub check-idle : Padded row h.votes.len → (m : Moved) → h.votes.owner ≡ Nobody → m ≡ still h.votes → r ≡ doing h m
+    pub check-idle : Padded row h.votes.len → (m : Moved) → h.votes.owner ≡ None → m ≡ still h.votes → r ≡ doing h m
         → Turns h row (check_outcome s) r row
     unfolding check_outcome check
     check-idle good m q p a =
         let one = stays h.votes row good m p in
         let w : check_outcome s ≡ stepped (stay (view s)) =
         rw (sound n) (ap {B = Outcome State} stepped
-        (ap (λ (w : Owner). by_owner w (stay (view s)) (λ y. tell (view s) (Check y.client h.id y.timestamp))) q)) in
+        (ap (λ (w : Option Request). by_owner w (stay (view s)) (λ y. tell (view s) (Check y.client h.id y.timestamp))) q)) in
         turns_done h row (check_outcome s) r row m _ w one.moves (ap (λ (y : Moved). y.full) p) a
 
 -- a new server
@@ -162,19 +158,19 @@ module _ (n : ℕ) (j : ServerId) (r : Stepped) (a : Bool) (p : a ≡ within n m
   said_new : r ≡ new_result n j → NewGives n j r
   said_new e = (e, ap (λ (s : Stepped). answer_says s.answer) e ∙ new_row)
 
-  pub new_few : a ≡ false → r ≡ record { server = blank; answer = Refused ParameterOutOfRange } → NewGives n j r
+  pub new_few : a ≡ false → r ≡ record { server = blank; answer = Err ParameterOutOfRange } → NewGives n j r
   unfolding new_result
   new_few t q = let z : within n max_servers ≡ false = sym p ∙ t in said_new (rw (z, q))
 
   module _ (t : a ≡ true) (b : Bool) (q : b ≡ within j.0 n) where
-    pub new_other : b ≡ false → r ≡ record { server = blank; answer = Refused ParameterOutOfRange } → NewGives n j r
+    pub new_other : b ≡ false → r ≡ record { server = blank; answer = Err ParameterOutOfRange } → NewGives n j r
     unfolding new_result
     new_other u d =
         let z : within n max_servers ≡ true = sym p ∙ t in
         let y : within j.0 n ≡ false = sym q ∙ u in
         said_new (rw (z, y, d))
 
-    pub new_made : (s : Server) → b ≡ true → s ≡ empty_server n j → r ≡ record { server = s; answer = Sent 0 0 } → NewGives n j r
+    pub new_made : (s : Server) → b ≡ true → s ≡ empty_server n j → r ≡ record { server = s; answer = Ok (record { messages = 0; bytes = 0 }) } → NewGives n j r
     unfolding new_result
     new_made s u e d =
         let z : within n max_servers ≡ true = sym p ∙ t in

@@ -4,13 +4,12 @@ use native.Mathlib.Omega.{arith}
 use mathlib.Core.Path.{◌≡◌, refl, sym, ap, subst}
 use mathlib.Core.Bool.{Bool, true, false, ◌&&◌}
 use mathlib.Core.List.{List, [], ◌∷◌}
-use mathlib.Core.Option.{Option, none, some}
-use mathlib.Core.Logic.{⊎_elim}
+use mathlib.Core.Logic.{⊎_elim, tt}
 use lib.Dec.{eqb, leb, ltb}
 use lib.ListN.{length, replicate, length-replicate}
 use borrow.Author.Tests.{ltb-false, eqb-true, eqb-false, eq-eqb, ne_eqb}
 use Rattle.ids.specs.Choice.{maybe}
-use Rattle.std.specs.Prelude.{if◌then◌else◌}
+use Rattle.std.specs.Prelude.{if◌then◌else◌, Some, None, Option}
 use Rattle.ids.specs.Order.{before}
 use Rattle.ids.specs.Limits.{max_servers, valid_request, valid_owner, valid_stamped_up_to, valid_client, valid_timestamp}
 use Rattle.ids.specs.declared.Refusal.{Refusal}
@@ -20,8 +19,6 @@ use Rattle.ids.specs.declared.ClientId.{ClientId}
 use Rattle.ids.specs.declared.ServerId.{ServerId}
 use Rattle.ids.specs.declared.Request.{Request as Pair}
 use Rattle.ids.specs.declared.Timestamp.{Timestamp}
-use Rattle.ids.specs.declared.Owner.{Owner}
-use Rattle.ids.specs.declared.Owner.TheVariants.{Nobody, Of}
 use Rattle.server_votes.proofs.EveryLaws.{every-insert, every-without}
 use Rattle.ids.proofs.Choice.{clash, both, decided}
 use Rattle.ids.proofs.OrderLaws.{before_order}
@@ -60,7 +57,7 @@ Sorted (x ∷ l) = Above x l × Sorted l
 
 abbrev pub Single : List Pair → Type 0
 Single [] = Unit {0}
-Single (x ∷ l) = (timestamp_in x.client l ≡ none) × Single l
+Single (x ∷ l) = (timestamp_in x.client l ≡ None) × Single l
 
 ordered-sorted : (l : List Pair) → ordered l ≡ true → Sorted l
 unfolding ordered
@@ -76,9 +73,9 @@ sorted-ordered [] s = refl
 sorted-ordered (x ∷ []) s = refl
 sorted-ordered (x ∷ (y ∷ l)) s = rw s.0 (sorted-ordered (y ∷ l) s.1)
 
-alone : (o : Option Timestamp) (b : Bool) → maybe o b (λ t. false) ≡ true → (o ≡ none) × (b ≡ true)
-alone none b e = (refl, e)
-alone (some t) b e = clash false e refl
+alone : (o : Option Timestamp) (b : Bool) → maybe o b (λ t. false) ≡ true → (o ≡ None) × (b ≡ true)
+alone None b e = (refl, e)
+alone (Some t) b e = clash false e refl
 
 once_single : (l : List Pair) → once l ≡ true → Single l
 unfolding once
@@ -93,13 +90,13 @@ single_once [] s = refl
 single_once (x ∷ l) s = rw s.0 (single_once l s.1)
 
 -- a client that is not in a list is not its head's, nor in its tail
-pub head-other : (k : ClientId) (x : Pair) (l : List Pair) (b : Bool) → eqb x.client.0 k.0 ≡ b → timestamp_in k (x ∷ l) ≡ none
-    → (eqb x.client.0 k.0 ≡ false) × (timestamp_in k l ≡ none)
+pub head-other : (k : ClientId) (x : Pair) (l : List Pair) (b : Bool) → eqb x.client.0 k.0 ≡ b → timestamp_in k (x ∷ l) ≡ None
+    → (eqb x.client.0 k.0 ≡ false) × (timestamp_in k l ≡ None)
 unfolding timestamp_in
-head-other k x l true e n = let z : ◌≡◌ {A = Option Timestamp} (some x.timestamp) none = rw e at n in let y : ◌≡◌ {A = ℕ} 0 1 = cc in absurd (omega arith)
+head-other k x l true e n = let z : ◌≡◌ {A = Option Timestamp} (Some x.timestamp) None = rw e at n in let y : ◌≡◌ {A = ℕ} 0 1 = cc in absurd (omega arith)
 head-other k x l false e n = (e, rw e at n)
 
-absent_cons : (k : ClientId) (x : Pair) (l : List Pair) → eqb x.client.0 k.0 ≡ false → timestamp_in k l ≡ none → timestamp_in k (x ∷ l) ≡ none
+absent_cons : (k : ClientId) (x : Pair) (l : List Pair) → eqb x.client.0 k.0 ≡ false → timestamp_in k l ≡ None → timestamp_in k (x ∷ l) ≡ None
 unfolding timestamp_in
 absent_cons k x l e n = rw e n
 
@@ -115,7 +112,7 @@ module _ (r : Pair) where
   insert-above x [] a h = h
   insert-above x (y ∷ l) a h = ⊎_elim (λ (t : before r y ≡ true). rw t h) (λ (t : before r y ≡ false). rw t a) (decided (before r y))
 
-  pub insert-sorted : (l : List Pair) → Sorted l → timestamp_in r.client l ≡ none → Sorted (insert r l)
+  pub insert-sorted : (l : List Pair) → Sorted l → timestamp_in r.client l ≡ None → Sorted (insert r l)
   unfolding insert
   insert-sorted [] s n = (tt, tt)
   insert-sorted (x ∷ l) s n =
@@ -124,7 +121,7 @@ module _ (r : Pair) where
       ⊎_elim (λ (t : before r x ≡ true). rw t (t, s)) (λ (t : before r x ≡ false). rw t (insert-above x l s.0 (later x o.0 t), rest))
       (decided (before r x))
 
-  absent_insert : (k : ClientId) (l : List Pair) → eqb r.client.0 k.0 ≡ false → timestamp_in k l ≡ none → timestamp_in k (insert r l) ≡ none
+  absent_insert : (k : ClientId) (l : List Pair) → eqb r.client.0 k.0 ≡ false → timestamp_in k l ≡ None → timestamp_in k (insert r l) ≡ None
   unfolding insert
   absent_insert k [] e n = absent_cons k r [] e n
   absent_insert k (x ∷ l) e n =
@@ -136,7 +133,7 @@ module _ (r : Pair) where
   flip : (a b : ℕ) → eqb a b ≡ false → eqb b a ≡ false
   flip a b e = ne_eqb b a (λ h. eqb-false a b e (sym h))
 
-  pub insert_single : (l : List Pair) → Single l → timestamp_in r.client l ≡ none → Single (insert r l)
+  pub insert_single : (l : List Pair) → Single l → timestamp_in r.client l ≡ None → Single (insert r l)
   unfolding insert
   insert_single [] s n = (n, tt)
   insert_single (x ∷ l) s n =
@@ -163,7 +160,7 @@ module _ (r : Pair) where
       let rest = without-sorted l s.1 in
       ⊎_elim (λ (t : same x r ≡ true). rw t s.1) (λ (t : same x r ≡ false). rw t (without-above x l s.0 s.1, rest)) (decided (same x r))
 
-  pub absent_without : (k : ClientId) (l : List Pair) → timestamp_in k l ≡ none → timestamp_in k (without r l) ≡ none
+  pub absent_without : (k : ClientId) (l : List Pair) → timestamp_in k l ≡ None → timestamp_in k (without r l) ≡ None
   unfolding without
   absent_without k [] n = n
   absent_without k (x ∷ l) n =
@@ -200,15 +197,15 @@ unfolding valid_state
 good-valid q g = rw (g.owner, g.all, g.behind, sorted-ordered q.queue g.sorted) (single_once (candidates q) g.single)
 
 -- the queue's clients are apart, whoever owns
-queue_single : (o : Owner) (l : List Pair) → Single (candidates (record { owner = o; queue = l })) → Single l
-queue_single Nobody l s = s
-queue_single (Of r) l s = s.1
+queue_single : (o : Option Pair) (l : List Pair) → Single (candidates (record { owner = o; queue = l })) → Single l
+queue_single None l s = s
+queue_single (Some r) l s = s.1
 
 -- the owner's client does not wait
-pub owner-apart : (r : Pair) (o : Owner) (l : List Pair) → is_request r o ≡ true → Single (candidates (record { owner = o; queue = l }))
-    → timestamp_in r.client l ≡ none
-owner-apart r Nobody l e s = clash false e refl
-owner-apart r (Of o) l e s = rw (same_true o r e) at s.0
+pub owner-apart : (r : Pair) (o : Option Pair) (l : List Pair) → is_request r o ≡ true → Single (candidates (record { owner = o; queue = l }))
+    → timestamp_in r.client l ≡ None
+owner-apart r None l e s = clash false e refl
+owner-apart r (Some o) l e s = rw (same_true o r e) at s.0
 
 module _ (j : ServerId) where
   pub promote-good : (l : List Pair) → every valid_request l ≡ true → Sorted l → Single l → Good (promote j l).state
@@ -218,18 +215,18 @@ module _ (j : ServerId) where
       let (a, b) = both (valid_request h) (every valid_request l) e in
       record { owner = a; all = b; behind = refl; sorted = s.1; single = u }
 
-  keep_behind : (o : Owner) (l m : List Pair) → length m ≤ length l → behind_owner (record { owner = o; queue = l }) ≡ true
+  keep_behind : (o : Option Pair) (l m : List Pair) → length m ≤ length l → behind_owner (record { owner = o; queue = l }) ≡ true
       → behind_owner (record { owner = o; queue = m }) ≡ true
-  keep_behind Nobody l m h e =
+  keep_behind None l m h e =
       let z : length l ≡ 0 = eqb-true _ _ e in
       let y : length m ≡ 0 = omega arith in
       eq-eqb _ _ y
-  keep_behind (Of r) l m h e = refl
+  keep_behind (Some r) l m h e = refl
 
-  keep_single : (o : Owner) (l : List Pair) (r : Pair) → Single (candidates (record { owner = o; queue = l }))
+  keep_single : (o : Option Pair) (l : List Pair) (r : Pair) → Single (candidates (record { owner = o; queue = l }))
       → Single (candidates (record { owner = o; queue = without r l }))
-  keep_single Nobody l r s = without_single r l s
-  keep_single (Of x) l r s = (absent_without r x.client l s.0, without_single r l s.1)
+  keep_single None l r s = without_single r l s
+  keep_single (Some x) l r s = (absent_without r x.client l s.0, without_single r l s.1)
 
   pub delete-good : (r : Pair) (q : State) → Good q → Good (delete j r q).state
   unfolding delete
@@ -256,8 +253,8 @@ module _ (j : ServerId) where
 
   enqueue-good : (r o : Pair) (l : List Pair) (t : Option Timestamp) → timestamp_in r.client l ≡ t → valid_request r ≡ true
       → eqb o.client.0 r.client.0 ≡ false
-      → Good (record { owner = Of o; queue = l }) → Good (record { owner = Of o; queue = maybe t (insert r l) (λ u. l) })
-  enqueue-good r o l none e v n g =
+      → Good (record { owner = Some o; queue = l }) → Good (record { owner = Some o; queue = maybe t (insert r l) (λ u. l) })
+  enqueue-good r o l None e v n g =
       record {
         owner = g.owner;
         all = every-insert valid_request r l v g.all;
@@ -265,35 +262,35 @@ module _ (j : ServerId) where
         sorted = insert-sorted r l g.sorted e;
         single = (absent_insert r o.client l (flip r o.client.0 r.client.0 n) g.single.0, insert_single r l g.single.1 e);
       }
-  enqueue-good r o l (some t) e v n g = g
+  enqueue-good r o l (Some t) e v n g = g
 
-  pub request-good : (r : Pair) (o : Owner) (l : List Pair) → valid_request r ≡ true → Good (record { owner = o; queue = l })
+  pub request-good : (r : Pair) (o : Option Pair) (l : List Pair) → valid_request r ≡ true → Good (record { owner = o; queue = l })
       → Good (act j REQUEST r (record { owner = o; queue = l })).state
   unfolding act enqueue valid_owner timestamp_in
-  request-good r Nobody l v g =
+  request-good r None l v g =
       let z : l ≡ [] = empty-queue l g.behind in
       rw z record { owner = v; all = refl; behind = refl; sorted = tt; single = (refl, tt) }
-  request-good r (Of o) l v g =
+  request-good r (Some o) l v g =
       ⊎_elim
       (λ (t : eqb o.client.0 r.client.0 ≡ true). rw t g)
       (λ (t : eqb o.client.0 r.client.0 ≡ false). rw t (enqueue-good r o l _ refl v t g))
       (decided (eqb o.client.0 r.client.0))
 
   -- YIELD: the owner joins its queue
-  yield_good : (r : Pair) (o : Owner) (l : List Pair) → valid_request r ≡ true → Good (record { owner = o; queue = l })
+  yield_good : (r : Pair) (o : Option Pair) (l : List Pair) → valid_request r ≡ true → Good (record { owner = o; queue = l })
       → Good (if is_request r o then promote j (insert r l) else stay (record { owner = o; queue = l })).state
-  yield_good r Nobody l v g = g
-  yield_good r (Of o) l v g =
+  yield_good r None l v g = g
+  yield_good r (Some o) l v g =
       ⊎_elim
       (λ (t : same o r ≡ true).
-      let n : timestamp_in r.client l ≡ none = owner-apart r (Of o) l t g.single in
+      let n : timestamp_in r.client l ≡ None = owner-apart r (Some o) l t g.single in
       rw t (promote-good (insert r l) (every-insert valid_request r l v g.all) (insert-sorted r l g.sorted n) (insert_single r l g.single.1 n)))
       (λ (t : same o r ≡ false). rw t g)
       (decided (same o r))
 
-  inquiry_good : (o : Owner) (r : Pair) (q : State) → Good q → Good (by_owner o (stay q) (λ x. inform j r.client q)).state
-  inquiry_good Nobody r q g = g
-  inquiry_good (Of o) r q g = inform-good r.client q g
+  inquiry_good : (o : Option Pair) (r : Pair) (q : State) → Good q → Good (by_owner o (stay q) (λ x. inform j r.client q)).state
+  inquiry_good None r q g = g
+  inquiry_good (Some o) r q g = inform-good r.client q g
 
   pub act-good : (tag : Tag) (r : Pair) (q : State) → valid_request r ≡ true → Good q → Good (act j tag r q).state
   unfolding act
@@ -315,32 +312,32 @@ module _ (j : ServerId) where
 
   by_standing : (o : Option Timestamp) (tag : Tag) (r : Pair) (q : State) → valid_request r ≡ true → Good q
       → Good (maybe o (act j tag r q) (compare j tag r q)).state
-  by_standing none tag r q v g = act-good tag r q v g
-  by_standing (some t) tag r q v g = compare-good tag r q t v g
+  by_standing None tag r q v g = act-good tag r q v g
+  by_standing (Some t) tag r q v g = compare-good tag r q t v g
 
   pub receive-good : (tag : Tag) (r : Pair) (q : State) → valid_request r ≡ true → Good q → Good (receive j tag r q).state
   unfolding receive
   receive-good tag r q v g = by_standing (timestamp_in r.client (candidates q)) tag r q v g
 
-  by_owner_lem : (o : Owner) (q : State) → Good q → Good (by_owner o (stay q) (λ x. delete j x q)).state
-  by_owner_lem Nobody q g = g
-  by_owner_lem (Of o) q g = delete-good o q g
+  by_owner_lem : (o : Option Pair) (q : State) → Good q → Good (by_owner o (stay q) (λ x. delete j x q)).state
+  by_owner_lem None q g = g
+  by_owner_lem (Some o) q g = delete-good o q g
 
   pub suspect-good : (q : State) → Good q → Good (suspect j q).state
   unfolding suspect
   suspect-good q g = by_owner_lem q.owner q g
 
-  check-kept : (o : Owner) (q : State) → (by_owner o (stay q) (λ x. tell q (Check x.client j x.timestamp))).state ≡ q
-  check-kept Nobody q = refl
-  check-kept (Of o) q = refl
+  check-kept : (o : Option Pair) (q : State) → (by_owner o (stay q) (λ x. tell q (Check x.client j x.timestamp))).state ≡ q
+  check-kept None q = refl
+  check-kept (Some o) q = refl
 
   pub check-good : (q : State) → Good q → Good (check j q).state
   unfolding check
   check-good q g = subst (λ (x : State). Good x) (sym (check-kept q.owner q)) g
 
-  owner_shortens : (o : Owner) (q : State) → length (by_owner o (stay q) (λ x. delete j x q)).state.queue ≤ length q.queue
-  owner_shortens Nobody q = omega arith
-  owner_shortens (Of o) q = length-deleted j o q
+  owner_shortens : (o : Option Pair) (q : State) → length (by_owner o (stay q) (λ x. delete j x q)).state.queue ≤ length q.queue
+  owner_shortens None q = omega arith
+  owner_shortens (Some o) q = length-deleted j o q
 
   suspect_shortens : (q : State) → length (suspect j q).state.queue ≤ length q.queue
   unfolding suspect
@@ -452,11 +449,11 @@ module _ (s : Server) (v : valid s ≡ true) where
   pub message_keeps_valid : (m : Message) (p : Step State) → message_outcome s m ≡ stepped p → valid (server_after s (stepped p)) ≡ true
   message_keeps_valid m p e = message-keeps max_servers s v m p e
 
-  suspected : (o : Owner) (p : Step State)
+  suspected : (o : Option Pair) (p : Step State)
       → by_owner {B = Outcome State} o (refused NoOwner) (λ x. stepped (suspect s.head.id (view s))) ≡ stepped p
       → suspect s.head.id (view s) ≡ p
-  suspected Nobody p e = not_stepped NoOwner p e
-  suspected (Of x) p e = cc
+  suspected None p e = not_stepped NoOwner p e
+  suspected (Some x) p e = cc
 
   pub suspect_keeps_valid : (p : Step State) → suspect_outcome s ≡ stepped p → valid (server_after s (stepped p)) ≡ true
   unfolding suspect_outcome

@@ -5,19 +5,16 @@ use Prim.Native.Nat.{ℕ, ◌+◌}
 use native.Mathlib.Omega.{arith}
 use mathlib.Core.Bool.{Bool, true, false, ◌&&◌, ◌||◌, not, and-false}
 use mathlib.Core.List.{List, [], ◌∷◌, ◌++◌}
-use mathlib.Core.Option.{Option, none, some}
 use mathlib.Core.Logic.{◌⊎◌, inl, inr}
 use lib.Dec.{eqb, ltb}
 use borrow.Author.Tests.{eqb-true, eq-eqb, ltb-true, le-ltb}
 use Rattle.ids.specs.Choice.{maybe}
-use Rattle.std.specs.Prelude.{if◌then◌else◌}
+use Rattle.std.specs.Prelude.{if◌then◌else◌, Some, None, Option}
 use Rattle.ids.specs.Requests.{same, is_request, is_client, by_owner}
 use Rattle.ids.specs.declared.ClientId.{ClientId}
 use Rattle.ids.specs.declared.ServerId.{ServerId}
 use Rattle.ids.specs.declared.Timestamp.{Timestamp}
 use Rattle.ids.specs.declared.Request.{Request as Pair}
-use Rattle.ids.specs.declared.Owner.{Owner}
-use Rattle.ids.specs.declared.Owner.TheVariants.{Nobody, Of}
 use Rattle.ids.proofs.Choice.{clash, both, decided}
 use Rattle.ids.proofs.RequestLaws.{same_true, same_refl}
 use Rattle.wire.specs.Step.{Step, stay, tell, ◌then◌}
@@ -35,7 +32,7 @@ abbrev bit : Bool → ℕ
 bit b = if b then 1 else 0
 
 -- p's own RESPONSEs in a step from owner `before`: as many as it becomes owner
-abbrev Tells : Pair → Owner → Step State → Type 0
+abbrev Tells : Pair → Option Pair → Step State → Type 0
 Tells p before s = own p s.sent ≡ bit (is_request p s.state.owner && not (is_request p before))
 
 own-append : (p : Pair) (a b : List Message) → own p (a ++ b) ≡ own p a + own p b
@@ -58,9 +55,9 @@ told-self h p = go (decided (same h p))
     go (inr e) = rw (e, and-false (eqb h.client.0 p.client.0))
 
 -- a RESPONSE to a client that is not the owner is no own one
-aside : (p : Pair) (k : ClientId) (o : Owner) → is_client k o ≡ false → eqb k.0 p.client.0 && is_request p o ≡ false
-aside p k Nobody e = and-false (eqb k.0 p.client.0)
-aside p k (Of x) e = go (decided (same x p)) (decided (eqb k.0 p.client.0))
+aside : (p : Pair) (k : ClientId) (o : Option Pair) → is_client k o ≡ false → eqb k.0 p.client.0 && is_request p o ≡ false
+aside p k None e = and-false (eqb k.0 p.client.0)
+aside p k (Some x) e = go (decided (same x p)) (decided (eqb k.0 p.client.0))
   where
     go : (same x p ≡ true) ⊎ (same x p ≡ false) → (eqb k.0 p.client.0 ≡ true) ⊎ (eqb k.0 p.client.0 ≡ false)
         → eqb k.0 p.client.0 && same x p ≡ false
@@ -71,12 +68,12 @@ aside p k (Of x) e = go (decided (same x p)) (decided (eqb k.0 p.client.0))
         clash (eqb x.client.0 k.0) (eq-eqb x.client.0 k.0 same-client) e
 
 -- the client of p is not in the list, so p is not its head
-not_head : (p h : Pair) (l : List Pair) → timestamp_in p.client (h ∷ l) ≡ none → same h p ≡ false
+not_head : (p h : Pair) (l : List Pair) → timestamp_in p.client (h ∷ l) ≡ None → same h p ≡ false
 unfolding timestamp_in
 not_head p h l n = go (decided (same h p))
   where
     go : (same h p ≡ true) ⊎ (same h p ≡ false) → same h p ≡ false
-    go (inl e) = let z : ◌≡◌ {A = Option Timestamp} (some h.timestamp) none = rw (client_of_lem h p e) at n in let y : ◌≡◌ {A = ℕ} 0 1 =
+    go (inl e) = let z : ◌≡◌ {A = Option Timestamp} (Some h.timestamp) None = rw (client_of_lem h p e) at n in let y : ◌≡◌ {A = ℕ} 0 1 =
         cc in absurd (omega arith)
     go (inr e) = e
 
@@ -87,7 +84,7 @@ module _ (j : ServerId) (p : Pair) where
   promoted [] = refl
   promoted (h ∷ l) = rw (told-self h p) (omega arith)
 
-  promote-tells : (l : List Pair) (before : Owner) → is_request p before ≡ false → Tells p before (promote j l)
+  promote-tells : (l : List Pair) (before : Option Pair) → is_request p before ≡ false → Tells p before (promote j l)
   promote-tells l before e = promoted l ∙ go (is_request p (promote j l).state.owner)
     where
       go : (b : Bool) → bit b ≡ bit (b && not (is_request p before))
@@ -95,7 +92,7 @@ module _ (j : ServerId) (p : Pair) where
       go false = refl
 
   -- the owner's own request goes: it does not come back
-  promote-other : (l : List Pair) (before : Owner) → timestamp_in p.client l ≡ none → Tells p before (promote j l)
+  promote-other : (l : List Pair) (before : Option Pair) → timestamp_in p.client l ≡ None → Tells p before (promote j l)
   unfolding promote
   promote-other [] before n = refl
   promote-other (h ∷ l) before n = rw (not_head p h l n, and-false (eqb h.client.0 p.client.0))
@@ -115,36 +112,36 @@ module _ (j : ServerId) (p : Pair) where
   unfolding delete
   delete-tells r q s = go q.owner refl (decided (is_request r q.owner))
     where
-      go : (o : Owner) → q.owner ≡ o → (is_request r q.owner ≡ true) ⊎ (is_request r q.owner ≡ false) → Tells p q.owner (delete j r q)
+      go : (o : Option Pair) → q.owner ≡ o → (is_request r q.owner ≡ true) ⊎ (is_request r q.owner ≡ false) → Tells p q.owner (delete j r q)
       go o e (inr t) = rw t (sym (not_both (is_request p q.owner)))
-      go Nobody e (inl t) = clash false (rw e at t) refl
-      go (Of x) e (inl t) = here (decided (is_request p q.owner))
+      go None e (inl t) = clash false (rw e at t) refl
+      go (Some x) e (inl t) = here (decided (is_request p q.owner))
         where
           here : (is_request p q.owner ≡ true) ⊎ (is_request p q.owner ≡ false) → Tells p q.owner (delete j r q)
           here (inr u) = rw t (promote-tells q.queue q.owner u)
           here (inl u) =
               let own-it : same x p ≡ true = rw e at u in
-              let alone : timestamp_in x.client q.queue ≡ none = (rw e at s).0 in
-              let gone : timestamp_in p.client q.queue ≡ none = rw (same_true x p own-it) at alone in
+              let alone : timestamp_in x.client q.queue ≡ None = (rw e at s).0 in
+              let gone : timestamp_in p.client q.queue ≡ None = rw (same_true x p own-it) at alone in
               rw t (promote-other q.queue q.owner gone)
 
   -- a REQUEST: a request that is admitted is told so, another client's is told who is owner
-  request-tells : (r : Pair) (o : Owner) (l : List Pair) → Tells p o (act j REQUEST r (record { owner = o; queue = l }))
+  request-tells : (r : Pair) (o : Option Pair) (l : List Pair) → Tells p o (act j REQUEST r (record { owner = o; queue = l }))
   unfolding act
-  request-tells r Nobody l = rw (told-self r p) (go (same r p))
+  request-tells r None l = rw (told-self r p) (go (same r p))
     where
       go : (b : Bool) → bit b + 0 ≡ bit (b && true)
       go true = refl
       go false = refl
-  request-tells r (Of o) l = go (decided (eqb o.client.0 r.client.0))
+  request-tells r (Some o) l = go (decided (eqb o.client.0 r.client.0))
     where
       go : (eqb o.client.0 r.client.0 ≡ true) ⊎ (eqb o.client.0 r.client.0 ≡ false)
-          → Tells p (Of o) (act j REQUEST r (record { owner = Of o; queue = l }))
+          → Tells p (Some o) (act j REQUEST r (record { owner = Some o; queue = l }))
       go (inl e) = rw e (sym (not_both (same o p)))
-      go (inr e) = rw (e, aside p r.client (Of o) e) (sym (not_both (same o p)))
+      go (inr e) = rw (e, aside p r.client (Some o) e) (sym (not_both (same o p)))
 
   -- what `inform` adds changes nothing
-  then_inform : (k : ClientId) (before : Owner) (s : Step State) → Tells p before s → Tells p before (s then inform j k)
+  then_inform : (k : ClientId) (before : Option Pair) (s : Step State) → Tells p before s → Tells p before (s then inform j k)
   then_inform k before s t =
       let i = inform-silent k s.state in
       own-append p s.sent (inform j k s.state).sent ∙ rw (i.0, i.1) (let z : own p s.sent + 0 ≡ own p s.sent = omega arith in z ∙ t)
@@ -154,11 +151,11 @@ module _ (j : ServerId) (p : Pair) where
   yield_tells r q g = then_inform r.client q.owner (if is_request r q.owner then promote j (insert r q.queue) else stay q)
       (go (decided (is_request r q.owner)) q.owner refl)
     where
-      go : (is_request r q.owner ≡ true) ⊎ (is_request r q.owner ≡ false) → (o : Owner) → q.owner ≡ o →
+      go : (is_request r q.owner ≡ true) ⊎ (is_request r q.owner ≡ false) → (o : Option Pair) → q.owner ≡ o →
           Tells p q.owner (if is_request r q.owner then promote j (insert r q.queue) else stay q)
       go (inr t) o e = rw t (stay-tells q)
-      go (inl t) Nobody e = clash false (rw e at t) refl
-      go (inl t) (Of x) e = here (decided (is_request p q.owner))
+      go (inl t) None e = clash false (rw e at t) refl
+      go (inl t) (Some x) e = here (decided (is_request p q.owner))
         where
           here : (is_request p q.owner ≡ true) ⊎ (is_request p q.owner ≡ false)
               → Tells p q.owner (if is_request r q.owner then promote j (insert r q.queue) else stay q)
@@ -169,11 +166,11 @@ module _ (j : ServerId) (p : Pair) where
               let c : same r p ≡ true = rw (sym a ∙ b) (same_refl p) in
               clash true refl (rw (c, u) at g)
 
-  inquiry_tells : (r : Pair) (o : Owner) (l : List Pair) → Tells p o (act j INQUIRY r (record { owner = o; queue = l }))
+  inquiry_tells : (r : Pair) (o : Option Pair) (l : List Pair) → Tells p o (act j INQUIRY r (record { owner = o; queue = l }))
   unfolding act
-  inquiry_tells r Nobody l = refl
-  inquiry_tells r (Of o) l =
-      let i = inform-silent r.client (record { owner = Of o; queue = l }) in
+  inquiry_tells r None l = refl
+  inquiry_tells r (Some o) l =
+      let i = inform-silent r.client (record { owner = Some o; queue = l }) in
       i.0 ∙ rw i.1 (sym (not_both (same o p)))
 
   act-tells : (tag : Tag) (r : Pair) (q : State) → Single (candidates q) → gives_back tag r p q.owner ≡ false → Tells p q.owner (act j tag r q)
@@ -182,49 +179,49 @@ module _ (j : ServerId) (p : Pair) where
   act-tells RELEASE r q s g = unfold act in delete-tells r q s
   act-tells INQUIRY r q s g = inquiry_tells r q.owner q.queue
 
-  not_request : (r : Pair) (o : Owner) → is_client r.client o ≡ false → is_request r o ≡ false
-  not_request r Nobody e = refl
-  not_request r (Of x) e = go (decided (same x r))
+  not_request : (r : Pair) (o : Option Pair) → is_client r.client o ≡ false → is_request r o ≡ false
+  not_request r None e = refl
+  not_request r (Some x) e = go (decided (same x r))
     where
       go : (same x r ≡ true) ⊎ (same x r ≡ false) → same x r ≡ false
       go (inl s) = clash (eqb x.client.0 r.client.0) (client_of_lem x r s) e
       go (inr s) = s
 
   -- a client that is not the owner leaves the owner alone, and becomes it only where there is none
-  Leaves : Pair → Owner → Owner → Type 0
-  Leaves r o after = (after ≡ o) ⊎ ((o ≡ Nobody) × (after ≡ Of r))
+  Leaves : Pair → Option Pair → Option Pair → Type 0
+  Leaves r o after = (after ≡ o) ⊎ ((o ≡ None) × (after ≡ Some r))
 
-  act-owner : (tag : Tag) (r : Pair) (o : Owner) (l : List Pair) → is_client r.client o ≡ false
+  act-owner : (tag : Tag) (r : Pair) (o : Option Pair) (l : List Pair) → is_client r.client o ≡ false
       → Leaves r o (act j tag r (record { owner = o; queue = l })).state.owner
   unfolding act Leaves
-  act-owner REQUEST r Nobody l e = inr (refl, refl)
-  act-owner REQUEST r (Of x) l e = inl (rw e)
+  act-owner REQUEST r None l e = inr (refl, refl)
+  act-owner REQUEST r (Some x) l e = inl (rw e)
   act-owner YIELD r o l e = inl (ap (λ (q : State). q.owner) (inform-silent r.client _).1 ∙ rw (not_request r o e))
   act-owner RELEASE r o l e = inl (unfold delete in rw (not_request r o e))
-  act-owner INQUIRY r Nobody l e = inl refl
-  act-owner INQUIRY r (Of x) l e = inl (ap (λ (q : State). q.owner) (inform-silent r.client (record { owner = Of x; queue = l })).1)
+  act-owner INQUIRY r None l e = inl refl
+  act-owner INQUIRY r (Some x) l e = inl (ap (λ (q : State). q.owner) (inform-silent r.client (record { owner = Some x; queue = l })).1)
 
   -- the old pair of r's client is gone: the client does not own
-  head_apart : (k : ClientId) (l : List Pair) → timestamp_in k l ≡ none → is_client k (promote j l).state.owner ≡ false
+  head_apart : (k : ClientId) (l : List Pair) → timestamp_in k l ≡ None → is_client k (promote j l).state.owner ≡ false
   unfolding promote timestamp_in
   head_apart k [] n = refl
   head_apart k (h ∷ l) n = go (decided (eqb h.client.0 k.0))
     where
       go : (eqb h.client.0 k.0 ≡ true) ⊎ (eqb h.client.0 k.0 ≡ false) → eqb h.client.0 k.0 ≡ false
-      go (inl e) = let z : ◌≡◌ {A = Option Timestamp} (some h.timestamp) none = rw e at n in let y : ◌≡◌ {A = ℕ} 0 1 = cc in absurd (omega arith)
+      go (inl e) = let z : ◌≡◌ {A = Option Timestamp} (Some h.timestamp) None = rw e at n in let y : ◌≡◌ {A = ℕ} 0 1 = cc in absurd (omega arith)
       go (inr e) = e
 
-  removed : (k : ClientId) (t : Timestamp) (o : Owner) (l : List Pair) → Single (candidates (record { owner = o; queue = l })) →
-      timestamp_in k (candidates (record { owner = o; queue = l })) ≡ some t →
+  removed : (k : ClientId) (t : Timestamp) (o : Option Pair) (l : List Pair) → Single (candidates (record { owner = o; queue = l })) →
+      timestamp_in k (candidates (record { owner = o; queue = l })) ≡ Some t →
       is_client k (delete j (record { client = k; timestamp = t }) (record { owner = o; queue = l })).state.owner ≡ false
   unfolding delete timestamp_in
-  removed k t Nobody l s e = refl
-  removed k t (Of x) l s e = go (decided (eqb x.client.0 k.0))
+  removed k t None l s e = refl
+  removed k t (Some x) l s e = go (decided (eqb x.client.0 k.0))
     where
       go : (eqb x.client.0 k.0 ≡ true) ⊎ (eqb x.client.0 k.0 ≡ false) →
-          is_client k (delete j (record { client = k; timestamp = t }) (record { owner = Of x; queue = l })).state.owner ≡ false
+          is_client k (delete j (record { client = k; timestamp = t }) (record { owner = Some x; queue = l })).state.owner ≡ false
       go (inl c) =
-          let at : x.timestamp ≡ t = let z : ◌≡◌ {A = Option Timestamp} (some x.timestamp) (some t) = rw c at e in cc in
+          let at : x.timestamp ≡ t = let z : ◌≡◌ {A = Option Timestamp} (Some x.timestamp) (Some t) = rw c at e in cc in
           let k' : x.client ≡ k = let z = eqb-true x.client.0 k.0 c in λ i. record { 0 = z i } in
           let it : same x (record { client = k; timestamp = t }) ≡ true = rw (← at, ← k') (same_refl x) in
           rw it (head_apart k l (rw k' at s.0))
@@ -253,15 +250,15 @@ module _ (j : ServerId) (p : Pair) where
   unfolding delete
   was_old old q b a = go q.owner refl (decided (is_request old q.owner))
     where
-      go : (o : Owner) → q.owner ≡ o → (is_request old q.owner ≡ true) ⊎ (is_request old q.owner ≡ false) → same old p ≡ true
+      go : (o : Option Pair) → q.owner ≡ o → (is_request old q.owner ≡ true) ⊎ (is_request old q.owner ≡ false) → same old p ≡ true
       go o e (inr u) = clash (is_request p q.owner) b (rw u at a)
-      go Nobody e (inl u) = clash false (rw e at u) refl
-      go (Of x) e (inl u) =
+      go None e (inl u) = clash false (rw e at u) refl
+      go (Some x) e (inl u) =
           let x-old : x ≡ old = same_true x old (rw e at u) in
           let x-p : same x p ≡ true = rw e at b in
           rw x-old at x-p
 
-  both-tell : (tag : Tag) (r : Pair) (t : Timestamp) (q : State) → Good q → timestamp_in r.client (candidates q) ≡ some t
+  both-tell : (tag : Tag) (r : Pair) (t : Timestamp) (q : State) → Good q → timestamp_in r.client (candidates q) ≡ Some t
       → ltb t.0 r.timestamp.0 ≡ true →
       Tells p q.owner (delete j (older_pair r t) q then act j tag r)
   unfolding older_pair Leaves
@@ -277,18 +274,18 @@ module _ (j : ServerId) (p : Pair) where
       (λ mid. by_leaving (act-owner tag r d.state.owner d.state.queue apart) mid)
       (λ b m. after-old (act-owner tag r d.state.owner d.state.queue apart) m (differs r t lt (was_old old q b m)))
     where
-      no_back : (tag : Tag) (r : Pair) (o : Owner) → is_client r.client o ≡ false → gives_back tag r p o ≡ false
+      no_back : (tag : Tag) (r : Pair) (o : Option Pair) → is_client r.client o ≡ false → gives_back tag r p o ≡ false
       no_back tag r o a = here (decided (same r p))
         where
           here : (same r p ≡ true) ⊎ (same r p ≡ false) → gives_back tag r p o ≡ false
           here (inr s) = rw s (and-false (is_yield tag))
           here (inl s) = let z : is_request p o ≡ false = rw (same_true r p s) at (not_request r o a) in rw (s, z) (and-false (is_yield tag))
 
-      by_leaving : {r : Pair} {o after : Owner} → (after ≡ o) ⊎ ((o ≡ Nobody) × (after ≡ Of r)) → is_request p o ≡ true → is_request p after ≡ true
+      by_leaving : {r : Pair} {o after : Option Pair} → (after ≡ o) ⊎ ((o ≡ None) × (after ≡ Some r)) → is_request p o ≡ true → is_request p after ≡ true
       by_leaving (inl x) m = rw x m
       by_leaving (inr x) m = clash false (rw x.0 at m) refl
 
-      after-old : {r : Pair} {o after : Owner} → (after ≡ o) ⊎ ((o ≡ Nobody) × (after ≡ Of r)) → is_request p o ≡ false → same r p ≡ false
+      after-old : {r : Pair} {o after : Option Pair} → (after ≡ o) ⊎ ((o ≡ None) × (after ≡ Some r)) → is_request p o ≡ false → same r p ≡ false
           → is_request p after ≡ false
       after-old (inl x) m s = rw x m
       after-old (inr x) m s = rw x.1 s
@@ -299,7 +296,7 @@ module _ (j : ServerId) (p : Pair) where
       add_up true false a u v f h = rw (u, v, h refl refl)
       add_up false false a u v f h = rw (u, v) (omega arith)
 
-  compare-tells : (tag : Tag) (r : Pair) (q : State) (t : Timestamp) → Good q → timestamp_in r.client (candidates q) ≡ some t
+  compare-tells : (tag : Tag) (r : Pair) (q : State) (t : Timestamp) → Good q → timestamp_in r.client (candidates q) ≡ Some t
       → gives_back tag r p q.owner ≡ false →
       Tells p q.owner (compare j tag r q t)
   unfolding older_pair
@@ -317,12 +314,12 @@ module _ (j : ServerId) (p : Pair) where
   receive-tells tag r q g n = go (timestamp_in r.client (candidates q)) refl
     where
       go : (o : Option Timestamp) → timestamp_in r.client (candidates q) ≡ o → Tells p q.owner (maybe o (act j tag r q) (compare j tag r q))
-      go none e = act-tells tag r q g.single n
-      go (some t) e = compare-tells tag r q t g e n
+      go None e = act-tells tag r q g.single n
+      go (Some t) e = compare-tells tag r q t g e n
 
   -- the owner gives its vote back: it is told if it is the first again
-  yields-back : (l : List Pair) → own p (receive j YIELD p (record { owner = Of p; queue = l })).sent ≡ bit
-      (is_request p (receive j YIELD p (record { owner = Of p; queue = l })).state.owner)
+  yields-back : (l : List Pair) → own p (receive j YIELD p (record { owner = Some p; queue = l })).sent ≡ bit
+      (is_request p (receive j YIELD p (record { owner = Some p; queue = l })).state.owner)
   unfolding receive timestamp_in act
   yields-back l =
       let first : Step State = promote j (insert p l) in
@@ -353,11 +350,11 @@ own-response j tag r q v p = go (decided (gives_back tag r p q.owner))
     back RELEASE e = clash false e refl
     back INQUIRY e = clash false e refl
 
-    yielded : (o : Owner) (l : List Pair) → same r p && is_request p o ≡ true → own p
+    yielded : (o : Option Pair) (l : List Pair) → same r p && is_request p o ≡ true → own p
         (receive j YIELD r (record { owner = o; queue = l })).sent ≡ bit
         (is_request p (receive j YIELD r (record { owner = o; queue = l })).state.owner)
-    yielded Nobody l e = clash false (both (same r p) false e).1 refl
-    yielded (Of x) l e = let b = both (same r p) (same x p) e in rw (same_true r p b.0, same_true x p b.1) (yields-back j p l)
+    yielded None l e = clash false (both (same r p) false e).1 refl
+    yielded (Some x) l e = let b = both (same r p) (same x p) e in rw (same_true r p b.0, same_true x p b.1) (yields-back j p l)
 
     go : (gives_back tag r p q.owner ≡ true) ⊎ (gives_back tag r p q.owner ≡ false) →
         own p (receive j tag r q).sent ≡ bit (becomes p q.owner (gives_back tag r p q.owner) (receive j tag r q).state.owner)
@@ -373,18 +370,18 @@ pub own_response_suspect : (j : ServerId) (q : State) → valid_state q ≡ true
 unfolding suspect
 own_response_suspect j q v p = rw (or_false j p (not (is_request p q.owner))) (go q.owner refl)
   where
-    go : (o : Owner) → q.owner ≡ o → own p (by_owner q.owner (stay q) (λ x. delete j x q)).sent ≡ bit
+    go : (o : Option Pair) → q.owner ≡ o → own p (by_owner q.owner (stay q) (λ x. delete j x q)).sent ≡ bit
         (is_request p (by_owner q.owner (stay q) (λ x. delete j x q)).state.owner && not (is_request p q.owner))
-    go Nobody e = rw e refl
-    go (Of x) e = rw e (rw e at (delete-tells j p x q (valid-good q v).single))
+    go None e = rw e refl
+    go (Some x) e = rw e (rw e at (delete-tells j p x q (valid-good q v).single))
 
-abbrev asked : ServerId → Owner → List Pair → Step State
+abbrev asked : ServerId → Option Pair → List Pair → Step State
 asked j o l = by_owner o (stay (record { owner = o; queue = l })) (λ x. tell (record { owner = o; queue = l }) (Check x.client j x.timestamp))
 
 pub own_response_check : (j : ServerId) (q : State) (p : Pair) → own p (check j q).sent ≡ bit (becomes p q.owner false (check j q).state.owner)
 unfolding check
 own_response_check j q p = rw (or_false j p (not (is_request p q.owner))) (go q.owner q.queue)
   where
-    go : (o : Owner) (l : List Pair) → Tells p o (asked j o l)
-    go Nobody l = refl
-    go (Of x) l = sym (not_both (same x p))
+    go : (o : Option Pair) (l : List Pair) → Tells p o (asked j o l)
+    go None l = refl
+    go (Some x) l = sym (not_both (same x p))

@@ -5,18 +5,15 @@ use native.Mathlib.Omega.{arith}
 use mathlib.Core.Path.{◌≡◌}
 use mathlib.Core.Bool.{Bool, true, false}
 use mathlib.Core.List.{List, [], ◌∷◌}
-use mathlib.Core.Logic.{⊎_elim}
-use mathlib.Core.Option.{none}
+use mathlib.Core.Logic.{⊎_elim, tt}
 use lib.Dec.{eqb, leb}
 use lib.ListN.{length}
 use borrow.Author.Tests.{eqb-true, eqb-false, leb-true, leb-false}
-use Rattle.std.specs.Prelude.{if◌then◌else◌}
+use Rattle.std.specs.Prelude.{if◌then◌else◌, Some, None, Option}
 use Rattle.ids.specs.Lists.{every}
 use Rattle.ids.specs.Limits.{valid_request, valid_owner}
 use Rattle.ids.specs.declared.ClientId.{ClientId}
 use Rattle.ids.specs.declared.Request.{Request}
-use Rattle.ids.specs.declared.Owner.{Owner}
-use Rattle.ids.specs.declared.Owner.TheVariants.{Nobody, Of}
 use Rattle.ids.proofs.Choice.{both, decided}
 use Rattle.ids.proofs.LimitsLaws.{request-range, client-range}
 use Rattle.rows.specs.Queue.{timestamp_in}
@@ -42,7 +39,7 @@ one_less k (x ∷ l) =
     (decided (eqb x.client.0 k))
 
 -- a client that does not stand in a list
-absent_cons : (i : ClientId) (x : Request) (l : List Request) → timestamp_in i (x ∷ l) ≡ none → (eqb x.client.0 i.0 ≡ false) × (timestamp_in i l ≡ none)
+absent_cons : (i : ClientId) (x : Request) (l : List Request) → timestamp_in i (x ∷ l) ≡ None → (eqb x.client.0 i.0 ≡ false) × (timestamp_in i l ≡ None)
 unfolding timestamp_in
 absent_cons i x l h =
     ⊎_elim
@@ -50,11 +47,11 @@ absent_cons i x l h =
     (λ (t : eqb x.client.0 i.0 ≡ false). (t, rw t at h))
     (decided (eqb x.client.0 i.0))
 
-absent_more : (i : ClientId) (x : Request) (l : List Request) → eqb x.client.0 i.0 ≡ false → timestamp_in i l ≡ none → timestamp_in i (x ∷ l) ≡ none
+absent_more : (i : ClientId) (x : Request) (l : List Request) → eqb x.client.0 i.0 ≡ false → timestamp_in i l ≡ None → timestamp_in i (x ∷ l) ≡ None
 unfolding timestamp_in
 absent_more i x l t h = rw t h
 
-absent_others : (k : ℕ) (i : ClientId) (l : List Request) → timestamp_in i l ≡ none → timestamp_in i (others k l) ≡ none
+absent_others : (k : ℕ) (i : ClientId) (l : List Request) → timestamp_in i l ≡ None → timestamp_in i (others k l) ≡ None
 absent_others k i [] h = h
 absent_others k i (x ∷ l) h =
     let (e, g) = absent_cons i x l h in
@@ -72,7 +69,7 @@ single_others k (x ∷ l) s =
     (decided (eqb x.client.0 k))
 
 -- a list that client c + 1 does not stand in is numbered from 1 to c
-lower : (c : ℕ) (i : ClientId) (l : List Request) → i.0 ≡ suc c → timestamp_in i l ≡ none → Within (suc c) l → Within c l
+lower : (c : ℕ) (i : ClientId) (l : List Request) → i.0 ≡ suc c → timestamp_in i l ≡ None → Within (suc c) l → Within c l
 lower c i [] e h w = tt
 lower c i (x ∷ l) e h w =
     let (d, g) = absent_cons i x l h in
@@ -112,15 +109,15 @@ within_all c (x ∷ l) v h =
     let (b, h') = both (up_to c x) (every (up_to c) l) h in
     ((client-range x.client (request-range x a).0).0, leb-true x.client.0 c b, within_all c l v' h')
 
-candidates-valid : (o : Owner) (l : List Request) → valid_owner o ≡ true → every valid_request l ≡ true
+candidates-valid : (o : Option Request) (l : List Request) → valid_owner o ≡ true → every valid_request l ≡ true
     → every valid_request (candidates (record { owner = o; queue = l })) ≡ true
 unfolding valid_owner
-candidates-valid Nobody l v h = h
-candidates-valid (Of r) l v h = rw v h
+candidates-valid None l v h = h
+candidates-valid (Some r) l v h = rw v h
 
-longer : (o : Owner) (l : List Request) → length l ≤ length (candidates (record { owner = o; queue = l }))
-longer Nobody l = omega arith
-longer (Of r) l = omega arith
+longer : (o : Option Request) (l : List Request) → length l ≤ length (candidates (record { owner = o; queue = l }))
+longer None l = omega arith
+longer (Some r) l = omega arith
 
 pub queue-fits : (c : ℕ) (q : State) → Good q → every (up_to c) (candidates q) ≡ true → length q.queue ≤ c
 queue-fits c q g h =

@@ -1,10 +1,10 @@
 -- Refusal 14 is a REQUEST's alone: every other message leaves the queue at most as long as it was. A valid record refuses it exactly if,
 -- the older pair gone, the client would have to join and every place is taken.
+use Rattle.std.specs.Prelude.{Some, None, Option}
 use mathlib.Core.Path.{◌≡◌, refl, sym, ◌∙◌}
 use Prim.Native.Nat.{ℕ, ◌*◌, ◌≤◌, ◌<◌}
 use native.Mathlib.Omega.{arith}
 use mathlib.Core.Bool.{true, false}
-use mathlib.Core.Option.{Option, none, some}
 use mathlib.Core.Logic.{inl, inr, ⊎_elim, ◌↔◌}
 use mathlib.Core.List.{List}
 use lib.Dec.{ltb}
@@ -17,8 +17,6 @@ use Rattle.ids.specs.declared.ClientId.{ClientId}
 use Rattle.ids.specs.declared.ServerId.{ServerId}
 use Rattle.ids.specs.declared.Timestamp.{Timestamp}
 use Rattle.ids.specs.declared.Request.{Request as Pair}
-use Rattle.ids.specs.declared.Owner.{Owner}
-use Rattle.ids.specs.declared.Owner.TheVariants.{Nobody, Of}
 use Rattle.ids.specs.declared.Refusal.TheVariants.{QueueFull}
 use Rattle.ids.proofs.Choice.{decided, Test, clash}
 use Rattle.wire.specs.Format as format
@@ -59,52 +57,52 @@ module _ (j : ServerId) where
       compared t (inr a) (inr b) = rw (a, b) (act_shorter tag r q n)
 
       go : (o : Option Timestamp) → length (maybe o (act j tag r q) (compare j tag r q)).state.queue ≤ length q.queue
-      go none = act_shorter tag r q n
-      go (some t) = compared t (decided (ltb r.timestamp.0 t.0)) (decided (ltb t.0 r.timestamp.0))
+      go None = act_shorter tag r q n
+      go (Some t) = compared t (decided (ltb r.timestamp.0 t.0)) (decided (ltb t.0 r.timestamp.0))
 
   -- no message but a REQUEST is refused 14
   pub full_by_request : (words : ℕ) (tag : Tag) (r : Pair) (q : State) → (tag ≡ REQUEST → ⊥) → 2 * length q.queue ≤ words
       → held words (receive j tag r q) ≡ stepped (receive j tag r q)
   full_by_request words tag r q n h = rw (le-ltb words (2 * length (receive j tag r q).state.queue) (omega (arith, receive_shorter tag r q n)))
 
-none_some : {A B : Type 0} {u : A} → ◌≡◌ {A = Option A} none (some u) → B
+none_some : {A B : Type 0} {u : A} → ◌≡◌ {A = Option A} None (Some u) → B
 none_some e = let z : ◌≡◌ {A = ℕ} 0 1 = cc in absurd (omega arith)
 
 -- a client that neither owns nor waits stands nowhere
-standing_none : (k : ClientId) (o : Owner) (l : List Pair) → is_client k o ≡ false → timestamp_in k l ≡ none
-    → timestamp_in k (candidates (record { owner = o; queue = l })) ≡ none
+standing_none : (k : ClientId) (o : Option Pair) (l : List Pair) → is_client k o ≡ false → timestamp_in k l ≡ None
+    → timestamp_in k (candidates (record { owner = o; queue = l })) ≡ None
 unfolding timestamp_in
-standing_none k Nobody l out e = e
-standing_none k (Of o) l out e = rw out e
+standing_none k None l out e = e
+standing_none k (Some o) l out e = rw out e
 
 -- a REQUEST makes the queue longer than its places exactly if it finds none
 module _ (j : ServerId) (r : Pair) (places words : ℕ) (even : words ≡ 2 * places) (some-place : 0 < words) where
   abbrev Longer : Step State → State → Type 0
   Longer x q = (words < 2 * length x.state.queue) ↔ NoPlace words r.client q
 
-  joins : (o : Pair) (l : List Pair) (t : Option Timestamp) → timestamp_in r.client l ≡ t → is_client r.client (Of o) ≡ false → 2 * length l ≤ words
-      → (words < 2 * length (maybe t (insert r l) (λ u. l))) ↔ NoPlace words r.client (record { owner = Of o; queue = l })
-  joins o l none e out h =
+  joins : (o : Pair) (l : List Pair) (t : Option Timestamp) → timestamp_in r.client l ≡ t → is_client r.client (Some o) ≡ false → 2 * length l ≤ words
+      → (words < 2 * length (maybe t (insert r l) (λ u. l))) ↔ NoPlace words r.client (record { owner = Some o; queue = l })
+  joins o l None e out h =
       (λ lt. record { not_owner = out; not_waiting = e; all_taken = omega (arith, length-insert r l) }, λ f. omega (arith, length-insert r l, f.all_taken))
-  joins o l (some u) e out h = (λ lt. absurd (omega arith), λ f. none_some (sym f.not_waiting ∙ e))
+  joins o l (Some u) e out h = (λ lt. absurd (omega arith), λ f. none_some (sym f.not_waiting ∙ e))
 
-  act-longer : (o : Owner) (l : List Pair) → 2 * length l ≤ words → behind_owner (record { owner = o; queue = l }) ≡ true
+  act-longer : (o : Option Pair) (l : List Pair) → 2 * length l ≤ words → behind_owner (record { owner = o; queue = l }) ≡ true
       → Longer (act j REQUEST r (record { owner = o; queue = l })) (record { owner = o; queue = l })
   unfolding act enqueue
-  act-longer Nobody l h b =
+  act-longer None l h b =
       let z : length l ≡ 0 = eqb-true (length l) 0 b in
       (λ lt. absurd (omega arith), λ f. absurd (omega (arith, f.all_taken)))
-  act-longer (Of o) l h b =
+  act-longer (Some o) l h b =
       ⊎_elim
-      (λ (e : is_client r.client (Of o) ≡ true). rw e (λ lt. absurd (omega arith), λ f. clash _ e f.not_owner))
-      (λ (e : is_client r.client (Of o) ≡ false). rw e (joins o l (timestamp_in r.client l) refl e h))
-      (decided (is_client r.client (Of o)))
+      (λ (e : is_client r.client (Some o) ≡ true). rw e (λ lt. absurd (omega arith), λ f. clash _ e f.not_owner))
+      (λ (e : is_client r.client (Some o) ≡ false). rw e (joins o l (timestamp_in r.client l) refl e h))
+      (decided (is_client r.client (Some o)))
 
   module _ (q : State) (g : Good q) (h : 2 * length q.queue ≤ words) where
     kept-longer : Longer (act j REQUEST r q) q
     kept-longer = act-longer q.owner q.queue h g.behind
 
-    compare-longer : (t : Timestamp) → timestamp_in r.client (candidates q) ≡ some t → Longer (compare j REQUEST r q t) (without_pair j r q t)
+    compare-longer : (t : Timestamp) → timestamp_in r.client (candidates q) ≡ Some t → Longer (compare j REQUEST r q t) (without_pair j r q t)
     compare-longer t e = go (decided (ltb r.timestamp.0 t.0)) (decided (ltb t.0 r.timestamp.0))
       where
         go : Test (ltb r.timestamp.0 t.0) → Test (ltb t.0 r.timestamp.0) → Longer (compare j REQUEST r q t) (without_pair j r q t)
@@ -123,8 +121,8 @@ module _ (j : ServerId) (r : Pair) (places words : ℕ) (even : words ≡ 2 * pl
       where
         go : (o : Option Timestamp) → timestamp_in r.client (candidates q) ≡ o
             → Longer (maybe o (act j REQUEST r q) (compare j REQUEST r q)) (maybe o q (without_pair j r q))
-        go none e = kept-longer
-        go (some t) e = compare-longer t e
+        go None e = kept-longer
+        go (Some t) e = compare-longer t e
 
 held-full : (words : ℕ) (x : Step State) → (held words x ≡ refused QueueFull) ↔ (words < 2 * length x.state.queue)
 held-full words x = (from, λ lt. rw (lt-ltb words (2 * length x.state.queue) lt))

@@ -1,4 +1,5 @@
 -- A valid record from its tests, and what a valid record is good for; a record and the state it holds are one another.
+use Rattle.std.specs.Prelude.{Some, None, Option}
 use Prim.Native.Nat.{ℕ, ◌*◌, ◌<◌, ◌≤◌}
 use native.Mathlib.Omega.{arith}
 use mathlib.Core.Path.{◌≡◌, refl, sym, ap, ◌∙◌}
@@ -13,8 +14,6 @@ use Rattle.ids.specs.Lists.{every}
 use Rattle.ids.specs.Requests.{by_owner}
 use Rattle.ids.specs.declared.Request.{Request}
 use Rattle.ids.specs.declared.ServerId.{ServerId}
-use Rattle.ids.specs.declared.Owner.{Owner}
-use Rattle.ids.specs.declared.Owner.TheVariants.{Nobody, Of}
 use Rattle.ids.proofs.Choice.{both, decided}
 use Rattle.rows.specs.Rows.{queue_of, row_of, Padded}
 use Rattle.rows.specs.Good.{good_row}
@@ -39,16 +38,16 @@ and_false true = refl
 and_false false = refl
 
 -- the owner's tests, gathered
-owner_tests : (o : Owner) (l : List Request) (a d : Bool)
+owner_tests : (o : Option Request) (l : List Request) (a d : Bool)
     → a && by_owner o (eqb (length l) 0) (λ r. true) && d && once (candidates (record { owner = o; queue = l })) ≡ a && fits_owner o l && d && once l
-owner_tests Nobody l a d = refl
-owner_tests (Of r) l a d =
+owner_tests None l a d = refl
+owner_tests (Some r) l a d =
     ⊎_elim
     (λ (t : repeats (r ∷ l) ≡ true). rw (once_cons r l true t, t, and_false, and_false))
     (λ (t : repeats (r ∷ l) ≡ false). rw (once_cons r l false t, t))
     (decided (repeats (r ∷ l)))
 
-pub state_tests : (o : Owner) (l : List Request)
+pub state_tests : (o : Option Request) (l : List Request)
     → valid_state (record { owner = o; queue = l }) ≡ valid_owner o && every valid_request l && fits_owner o l && ordered l && once l
 unfolding valid_state
 state_tests o l = owner_tests o l (valid_owner o && every valid_request l) (ordered l)
@@ -71,11 +70,11 @@ module _ (a b c d e : Bool) where
   passes_4 p q r s = rw (p, q, r, s)
 
 -- the owner's test, by its client's place in the row
-module _ (row : List ℕ) (len : ℕ) (good : Padded row len) (o : Owner) where
-  pub fits_nobody : o ≡ Nobody → eqb len 0 ≡ fits_owner o (queue_of row len)
+module _ (row : List ℕ) (len : ℕ) (good : Padded row len) (o : Option Request) where
+  pub fits_nobody : o ≡ None → eqb len 0 ≡ fits_owner o (queue_of row len)
   fits_nobody e = rw (e, length-queue row len good)
 
-  pub fits-owner : (r : Request) (at : ℕ) → o ≡ Of r → at ≡ first (is_client r.client) (queue_of row len) → eqb at len ≡ fits_owner o (queue_of row len)
+  pub fits-owner : (r : Request) (at : ℕ) → o ≡ Some r → at ≡ first (is_client r.client) (queue_of row len) → eqb at len ≡ fits_owner o (queue_of row len)
   fits-owner r at e p =
       let n = length-queue row len good in
       let f : ℕ = first (is_client r.client) (queue_of row len) in

@@ -1,9 +1,11 @@
 -- A call's outcome from its parts: what was done is the definition's step, or the refusal left everything as it was; and the same call by value.
+use Rattle.wire.specs.declared.Sent.{Sent}
+use Rattle.std.specs.Prelude.{Ok, Err, Result}
 use Prim.Native.Nat.{ℕ}
 use mathlib.Core.Path.{◌≡◌, refl, sym, ap, ◌∙◌}
 use mathlib.Core.Bool.{true, false}
 use mathlib.Core.List.{List}
-use mathlib.Core.Logic.{⊎_elim}
+use mathlib.Core.Logic.{⊎_elim, tt}
 use lib.Dec.{ltb}
 use lib.ListN.{length}
 use borrow.Author.Tests.{eq-eqb, ne_eqb}
@@ -18,8 +20,6 @@ use Rattle.rows.proofs.QueueLaws.{holds-length, holds_row}
 use Rattle.wire.specs.Format.{size_of_all}
 use Rattle.wire.specs.Step.{Step, Outcome, refused, stepped, with_room, sent_into}
 use Rattle.wire.proofs.SaysLaws.{answer-said}
-use Rattle.wire.specs.declared.Answer.{Answer}
-use Rattle.wire.specs.declared.Answer.TheVariants.{Sent, Refused}
 use Rattle.server_votes.specs.declared.Moved.{Moved}
 use Rattle.server_votes.specs.declared.Tag.{Tag}
 use Rattle.server_votes.specs.Figure1.{State, receive}
@@ -29,7 +29,6 @@ use Rattle.server.specs.declared.Head.{Head}
 use Rattle.server.specs.declared.Server.{Server}
 use Rattle.server.specs.declared.Stepped.{Stepped}
 use Rattle.server.specs.declared.Turned.{Turned}
-use Rattle.server.specs.declared.Ruling.TheVariants.{Done, Refused as Ruled}
 use Rattle.server.specs.Record.{server_of}
 use Rattle.server.specs.Parts.{three_mails, sent_answer, sent_buffer}
 use Rattle.server.specs.Inner.{refusing, doing, answers_by, buffers_by, answering, buffering, keeping}
@@ -73,19 +72,19 @@ module _ (h : Head) (row : List ℕ) (tag : Tag) (k : ClientId) (j : ServerId) (
     takes f p = turns_done h row (taken (server_of h row) tag k j t) r after m _ (rw (eq-eqb _ _ same, ← M.full, f)) M f p
 
 -- the record is kept or not, by the answer
-module _ (s : Server) (h : Head) (row : List ℕ) (a x : Answer) (e : a ≡ x) where
-  pub keeps-sent : (k n : ℕ) → a ≡ Sent k n → ◌≡◌ {A = Stepped} (record { server = record { head = h; row = row }; answer = a }) (keeping s h row x)
-  keeps-sent k n p = let q : x ≡ Sent k n = cc in rw (q, p)
+module _ (s : Server) (h : Head) (row : List ℕ) (a x : Result Sent Refusal) (e : a ≡ x) where
+  pub keeps-sent : (k n : ℕ) → a ≡ Ok (record { messages = k; bytes = n }) → ◌≡◌ {A = Stepped} (record { server = record { head = h; row = row }; answer = a }) (keeping s h row x)
+  keeps-sent k n p = let q : x ≡ Ok (record { messages = k; bytes = n }) = cc in rw (q, p)
 
-  pub keeps-old : (y : Refusal) → a ≡ Refused y → ◌≡◌ {A = Stepped} (record { server = s; answer = a }) (keeping s h row x)
-  keeps-old y p = let q : x ≡ Refused y = cc in rw (q, p)
+  pub keeps-old : (y : Refusal) → a ≡ Err y → ◌≡◌ {A = Stepped} (record { server = s; answer = a }) (keeping s h row x)
+  keeps-old y p = let q : x ≡ Err y = cc in rw (q, p)
 
 -- the answer of a call by value, by its ruling
 module _ (t : Turned) (out : List ℕ) where
-  pub answers-refused : (e : Refusal) → t.ruling ≡ Ruled e → (Refused e ≡ answering t (length out)) × (out ≡ buffering t out)
+  pub answers-refused : (e : Refusal) → t.ruling ≡ Err e → (Err e ≡ answering t (length out)) × (out ≡ buffering t out)
   answers-refused e p = (rw p, rw p)
 
-  pub answers-done : (a : Answer) (l : List ℕ) → t.ruling ≡ Done
+  pub answers-done : (a : Result Sent Refusal) (l : List ℕ) → t.ruling ≡ Ok tt
       → (a ≡ sent_answer (three_mails t.first t.second t.third) (length out)) × (l ≡ sent_buffer (three_mails t.first t.second t.third) out)
       → (a ≡ answering t (length out)) × (l ≡ buffering t out)
   answers-done a l p q = rw p q

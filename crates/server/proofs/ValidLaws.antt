@@ -5,7 +5,6 @@ use native.Mathlib.Numerals.{add-one}
 use mathlib.Core.Path.{◌≡◌, refl, sym, ap, ◌∙◌}
 use mathlib.Core.Bool.{Bool, true, false}
 use mathlib.Core.List.{List, [], ◌∷◌}
-use mathlib.Core.Option.{Option, none, some}
 use lib.Dec.{eqb, ltb}
 use lib.ListN.{length, get_or, take, drop, drop_of_length-le, length-drop}
 use lib.Seq.{drop-cons, get_or-take, length-take-le}
@@ -13,7 +12,7 @@ use borrow.Author.Tests.{lt-ltb, le-ltb, ltb-true, ltb-false}
 use mathlib.Core.Logic.{⊎_elim}
 use Rattle.ids.proofs.Choice.{decided}
 use Rattle.ids.specs.Choice.{maybe}
-use Rattle.std.specs.Prelude.{if◌then◌else◌}
+use Rattle.std.specs.Prelude.{if◌then◌else◌, Some, None, Option}
 use Rattle.ids.specs.Order.{before}
 use Rattle.ids.specs.Requests.{no_request}
 use Rattle.ids.specs.declared.Request.{Request}
@@ -71,10 +70,10 @@ ordered-ends : (l : List Request) (i : ℕ) → length l ≤ suc i → ordered (
 ordered-ends l i h = short-ordered (drop i l) (simp length-drop (omega arith))
 
 once-head : (o : Option Timestamp) (b c : Bool) → maybe o false (λ t. true) ≡ b → maybe o c (λ t. false) ≡ (if b then false else c)
-once-head none true c e = let z : true ≡ false = sym e in cc
-once-head none false c e = refl
-once-head (some t) true c e = refl
-once-head (some t) false c e = let z : true ≡ false = e in cc
+once-head None true c e = let z : true ≡ false = sym e in cc
+once-head None false c e = refl
+once-head (Some t) true c e = refl
+once-head (Some t) false c e = let z : true ≡ false = e in cc
 
 pub once_cons : (x : Request) (l : List Request) (b : Bool) → repeats (x ∷ l) ≡ b → once (x ∷ l) ≡ (if b then false else once l)
 unfolding once

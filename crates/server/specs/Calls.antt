@@ -1,17 +1,15 @@
 -- The server's calls: the row 'keeper' of document 01's table, each number in its order, and what is left in record and buffer.
-use Rattle.std.specs.Prelude.{ℕ, ◌*◌, ◌≡◌, not, List, eqb, ltb, length, replicate, if◌then◌else◌}
+use Rattle.std.specs.Prelude.{ℕ, ◌*◌, ◌≡◌, not, List, eqb, ltb, length, replicate, if◌then◌else◌, Ok, Err, None}
 use Rattle.ids.specs.Limits.{max_servers}
 use Rattle.ids.specs.Requests.{by_owner}
 use Rattle.ids.specs.declared.ClientId.{ClientId}
 use Rattle.ids.specs.declared.ServerId.{ServerId}
 use Rattle.ids.specs.declared.Timestamp.{Timestamp}
-use Rattle.ids.specs.declared.Owner.TheVariants.{Nobody}
 use Rattle.ids.specs.declared.Refusal.TheVariants.{ParameterOutOfRange, NotForServer, QueueFull, NoOwner, NumberOutOfRange, InvalidRecord}
 use Rattle.rows.specs.Rows.{row_of}
 use Rattle.wire.specs.Format as format
 use Rattle.wire.specs.Step.{Step, Outcome, refused, stepped, answer_of, sent_into}
 use Rattle.wire.specs.Says.{answer_says, outcome_says, new_says}
-use Rattle.wire.specs.declared.Answer.TheVariants.{Sent, Refused}
 use Rattle.wire.specs.declared.Message.{Message}
 use Rattle.wire.specs.declared.Message.TheVariants.{Request, Yield, Release, Inquiry, Response, Check}
 use Rattle.server.specs.declared.Head.{Head}
@@ -24,7 +22,7 @@ use Rattle.server.specs.Record.{row_words, valid_up_to, valid, valid_sizes, view
 
 -- server j of n with no owner and nobody waiting: its head, its record with a row of so many words, and that by value
 abbrev pub empty_head : ℕ → ServerId → Head
-empty_head n j = record { n = n; id = j; votes = record { owner = Nobody; len = 0 } }
+empty_head n j = record { n = n; id = j; votes = record { owner = None; len = 0 } }
 
 abbrev pub empty_server_in : ℕ → ℕ → ServerId → Server
 empty_server_in words n j = record { head = empty_head n j; row = replicate words 0 }
@@ -39,8 +37,8 @@ blank = empty_server 0 (record { 0 = 0 })
 -- a new server, number j of n
 unfoldable pub new_result : ℕ → ServerId → Stepped
 new_result n j =
-    if valid_sizes n j then record { server = empty_server n j; answer = Sent 0 0 }
-    else record { server = blank; answer = Refused ParameterOutOfRange }
+    if valid_sizes n j then record { server = empty_server n j; answer = Ok (record { messages = 0; bytes = 0 }) }
+    else record { server = blank; answer = Err ParameterOutOfRange }
 
 -- answer and record, and the answer in document 01's numbers
 abbrev pub NewGives : ℕ → ServerId → Stepped → Type 0

@@ -1,6 +1,5 @@
 -- When a REQUEST finds no place: refusal 14, document 01's line full, older pair gone.
-use Rattle.std.specs.Prelude.{◌≡◌, ℕ, ◌*◌, false, ltb, length, if◌then◌else◌}
-use Rattle.std.proofs.Math.Option.{none}
+use Rattle.std.specs.Prelude.{◌≡◌, ℕ, ◌*◌, false, ltb, length, if◌then◌else◌, None}
 use Rattle.ids.specs.Choice.{maybe}
 use Rattle.ids.specs.Requests.{is_client}
 use Rattle.ids.specs.declared.ClientId.{ClientId}
@@ -23,7 +22,7 @@ without_older j r q = maybe (timestamp_in r.client (candidates q)) q (without_pa
 -- client k would have to join a queue whose places, two words each, are all taken
 pub record NoPlace (words : ℕ) (k : ClientId) (q : State) : Type 0 where
   pub not_owner : is_client k q.owner ≡ false
-  pub not_waiting : timestamp_in k q.queue ≡ none
+  pub not_waiting : timestamp_in k q.queue ≡ None
   pub all_taken : 2 * length q.queue ≡ words
 
 -- server s has no place for r

@@ -1,8 +1,7 @@
 -- An own RESPONSE tells a client that its own request is the owner; and when a request becomes owner.
-use Rattle.std.specs.Prelude.{ℕ, ◌+◌, Bool, true, false, ◌&&◌, ◌||◌, not, List, [], ◌∷◌, eqb, if◌then◌else◌}
+use Rattle.std.specs.Prelude.{ℕ, ◌+◌, Bool, true, false, ◌&&◌, ◌||◌, not, List, [], ◌∷◌, eqb, if◌then◌else◌, Option}
 use Rattle.ids.specs.Requests.{same, is_request}
 use Rattle.ids.specs.declared.Request.{Request as Pair}
-use Rattle.ids.specs.declared.Owner.{Owner}
 use Rattle.wire.specs.declared.Message.{Message}
 use Rattle.wire.specs.declared.Message.TheVariants.{Request, Yield, Release, Inquiry, Response, Check}
 use Rattle.server_votes.specs.declared.Tag.{Tag}
@@ -28,9 +27,9 @@ is_yield RELEASE = false
 is_yield INQUIRY = false
 
 -- the message is the YIELD by which the owner p gives its vote back
-abbrev pub gives_back : Tag → Pair → Pair → Owner → Bool
+abbrev pub gives_back : Tag → Pair → Pair → Option Pair → Bool
 gives_back tag r p owner = is_yield tag && (same r p && is_request p owner)
 
 -- p becomes owner: it is afterwards, and it was not before or gave its vote back
-abbrev pub becomes : Pair → Owner → Bool → Owner → Bool
+abbrev pub becomes : Pair → Option Pair → Bool → Option Pair → Bool
 becomes p before back after = is_request p after && (not (is_request p before) || back)

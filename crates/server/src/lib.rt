@@ -3,7 +3,7 @@
 
 #![tactic(auto)]
 
-ghost use Rattle.std.specs.Prelude.{◌≡◌, ◌+◌, ◌<◌, ◌≤◌, length, drop};
+ghost use Rattle.std.specs.Prelude.{◌≡◌, Err, ◌+◌, ◌<◌, ◌≤◌, length, drop};
 ghost use Rattle.std.proofs.lemmas.List.Edits.{sets};
 ghost use Rattle.ids.specs.Limits.{valid_request};
 ghost use Rattle.ids.specs.Lists.{every};
@@ -18,10 +18,10 @@ ghost use Rattle.server.specs.Inner.{refusing, doing, answering, buffering, keep
 ghost use Rattle.server.specs.Calls.{Gives, NewGives, taken, empty_head, empty_server, blank, message_outcome, suspect_outcome, check_outcome};
 ghost use Rattle.server.specs.Rows.{Turns};
 
-use ids::{ClientId, Owner, Refusal, Request, ServerId, Timestamp};
+use ids::{ClientId, Refusal, Request, ServerId, Timestamp};
 use rows::Wanted;
-use server_votes::{Mail, Moved, Tag, Votes};
-use wire::{Answer, Message};
+use server_votes::{Moved, Tag, Votes};
+use wire::{Message, Sent};
 
 // The places of a waiting line, in a record by value.
 pub const QUEUE_PLACES: usize = 32;
@@ -46,74 +46,66 @@ pub struct Server {
 #[derive(Clone, Copy)]
 pub struct Stepped {
     pub server: Server,
-    pub answer: Answer,
-}
-
-// What a message asks of a server: a step by its tag, or nothing, where it goes to a client.
-#[derive(Clone, Copy)]
-pub enum Asked {
-    Step(Tag, ClientId, ServerId, Timestamp),
-    Nothing,
-}
-
-#[derive(Clone, Copy)]
-pub enum Ruling {
-    Done,
-    Refused(Refusal),
+    pub answer: Result<Sent, Refusal>,
 }
 
 // What a call on a lent row leaves beside the row: the head, and the messages to send, in order.
 #[derive(Clone, Copy)]
 pub struct Turned {
     pub head: Head,
-    pub ruling: Ruling,
-    pub first: Mail,
-    pub second: Mail,
-    pub third: Mail,
+    pub ruling: Result<(), Refusal>,
+    pub first: Option<Message>,
+    pub second: Option<Message>,
+    pub third: Option<Message>,
 }
 
-fn mail_size(m: Mail) -> usize
+fn mail_size(m: Option<Message>) -> usize
     ensures { result ≡ size_of_all (mails m) }
 {
     match m {
-        Mail::Nothing => 0,
-        Mail::One(x) => wire::size_of(x),
+        None => 0,
+        Some(x) => wire::size_of(x),
     }
 }
 
-fn mail_count(m: Mail) -> usize
+fn mail_count(m: Option<Message>) -> usize
     ensures { result ≡ length (mails m) }
 {
     match m {
-        Mail::Nothing => 0,
-        Mail::One(_) => 1,
+        None => 0,
+        Some(_) => 1,
     }
 }
 
-fn put_mail(out: &mut [u8], at: usize, m: Mail) -> usize
+fn put_mail(out: &mut [u8], at: usize, m: Option<Message>) -> usize
     requires { at + size_of_all (mails m) ≤ length out.old }
     ensures { (result ≡ at + size_of_all (mails m)) × (out.new ≡ sets out.old at (bytes_of_all (mails m))) }
 {
     match m {
-        Mail::Nothing => at,
-        Mail::One(x) => wire::put(out, at, x),
+        None => at,
+        Some(x) => wire::put(out, at, x),
     }
 }
 
-fn sizes(first: Mail, second: Mail, third: Mail) -> usize
+fn sizes(first: Option<Message>, second: Option<Message>, third: Option<Message>) -> usize
     ensures { result ≡ size_of_all (three_mails first second third) }
 {
     mail_size(first) + mail_size(second) + mail_size(third)
 }
 
 // How many messages a step sends.
-pub fn counts(first: Mail, second: Mail, third: Mail) -> usize
+pub fn counts(first: Option<Message>, second: Option<Message>, third: Option<Message>) -> usize
     ensures { result ≡ length (three_mails first second third) }
 {
     mail_count(first) + mail_count(second) + mail_count(third)
 }
 
-fn put_three(out: &mut [u8], first: Mail, second: Mail, third: Mail)
+fn put_three(
+    out: &mut [u8],
+    first: Option<Message>,
+    second: Option<Message>,
+    third: Option<Message>,
+)
     requires { size_of_all (three_mails first second third) ≤ length out.old }
     ensures { out.new ≡ sets out.old 0 (bytes_of_all (three_mails first second third)) }
 {
@@ -123,27 +115,35 @@ fn put_three(out: &mut [u8], first: Mail, second: Mail, third: Mail)
 }
 
 // The messages of a step written one after another, if there is room for all of them.
-pub fn send(first: Mail, second: Mail, third: Mail, out: &mut [u8]) -> Answer
+pub fn send(
+    first: Option<Message>,
+    second: Option<Message>,
+    third: Option<Message>,
+    out: &mut [u8],
+) -> Result<Sent, Refusal>
     ensures { (result ≡ sent_answer (three_mails first second third) (length out.old)) × (out.new ≡ sent_buffer (three_mails first second third) out.old) }
 {
     let size = sizes(first, second, third);
     if out.len() < size {
-        return Answer::Refused(Refusal::RoomShort);
+        return Err(Refusal::RoomShort);
     }
     put_three(out, first, second, third);
-    Answer::Sent(counts(first, second, third), size)
+    Ok(Sent {
+        messages: counts(first, second, third),
+        bytes: size,
+    })
 }
 
 fn refuse(head: Head, e: Refusal) -> Turned
     ensures { result ≡ refusing head e }
 {
-    let ruling = Ruling::Refused(e);
+    let ruling = Err(e);
     Turned {
         head,
         ruling,
-        first: Mail::Nothing,
-        second: Mail::Nothing,
-        third: Mail::Nothing,
+        first: None,
+        second: None,
+        third: None,
     }
 }
 
@@ -159,7 +159,7 @@ fn done(h: Head, m: Moved) -> Turned
     let third = m.third;
     Turned {
         head: Head { n, id, votes },
-        ruling: Ruling::Done,
+        ruling: Ok(()),
         first,
         second,
         third,
@@ -246,13 +246,13 @@ fn repeated(row: &[u32], len: usize, i: usize) -> bool
 }
 
 // Whether a queue stands only behind an owner, who does not wait in it.
-fn owner_fits(o: Owner, row: &[u32], len: usize) -> bool
+fn owner_fits(o: Option<Request>, row: &[u32], len: usize) -> bool
     requires { Padded row.now len }
     ensures { result ≡ fits_owner o (queue_of row.now len) }
 {
     match o {
-        Owner::Nobody => len == 0,
-        Owner::Of(r) => rows::search(row, len, r.client) == len,
+        None => len == 0,
+        Some(r) => rows::search(row, len, r.client) == len,
     }
 }
 
@@ -303,17 +303,17 @@ pub fn valid_row(h: Head, row: &[u32]) -> bool
     valid_row_up_to(ids::MAX_SERVERS, h, row)
 }
 
-// What the message asks of a server.
-fn asks(m: Message) -> Asked
+// What a message asks of a server: a step by its tag, or nothing, where it goes to a client.
+fn asks(m: Message) -> Option<(Tag, ClientId, ServerId, Timestamp)>
     ensures { result ≡ asked_by m }
 {
     match m {
-        Message::Request(k, j, t) => Asked::Step(Tag::Request, k, j, t),
-        Message::Yield(k, j, t) => Asked::Step(Tag::Yield, k, j, t),
-        Message::Release(k, j, t) => Asked::Step(Tag::Release, k, j, t),
-        Message::Inquiry(k, j, t) => Asked::Step(Tag::Inquiry, k, j, t),
-        Message::Response(_, _, _) => Asked::Nothing,
-        Message::Check(_, _, _) => Asked::Nothing,
+        Message::Request(k, j, t) => Some((Tag::Request, k, j, t)),
+        Message::Yield(k, j, t) => Some((Tag::Yield, k, j, t)),
+        Message::Release(k, j, t) => Some((Tag::Release, k, j, t)),
+        Message::Inquiry(k, j, t) => Some((Tag::Inquiry, k, j, t)),
+        Message::Response(_, _, _) => None,
+        Message::Check(_, _, _) => None,
     }
 }
 
@@ -327,10 +327,9 @@ pub fn message_row(h: Head, row: &mut [u32], m: Message) -> Turned
     if !wire::valid_message(m) {
         return refuse(h, Refusal::NumberOutOfRange);
     }
-    let a = asks(m);
-    match a {
-        Asked::Step(tag, k, j, t) => take_row(h, row, tag, k, j, t),
-        Asked::Nothing => refuse(h, Refusal::NotForServer),
+    match asks(m) {
+        Some((tag, k, j, t)) => take_row(h, row, tag, k, j, t),
+        None => refuse(h, Refusal::NotForServer),
     }
 }
 
@@ -345,8 +344,8 @@ pub fn suspect_row(h: Head, row: &mut [u32]) -> Turned
     let v = h.votes;
     let owner = v.owner;
     match owner {
-        Owner::Nobody => refuse(h, Refusal::NoOwner),
-        Owner::Of(o) => {
+        None => refuse(h, Refusal::NoOwner),
+        Some(o) => {
             let m = server_votes::delete(id, o, v, row);
             done(h, m)
         }
@@ -364,8 +363,8 @@ pub fn check_row(h: Head, row: &[u32]) -> Turned
     let v = h.votes;
     let owner = v.owner;
     match owner {
-        Owner::Nobody => done(h, server_votes::still(v)),
-        Owner::Of(o) => {
+        None => done(h, server_votes::still(v)),
+        Some(o) => {
             let client = o.client;
             let timestamp = o.timestamp;
             let message = Message::Check(client, id, timestamp);
@@ -375,17 +374,15 @@ pub fn check_row(h: Head, row: &[u32]) -> Turned
 }
 
 // What a call by value answers: the refusal, or what sending the step's messages answers.
-fn answered(t: Turned, out: &mut [u8]) -> Answer
+fn answered(t: Turned, out: &mut [u8]) -> Result<Sent, Refusal>
     ensures { (result ≡ answering t (length out.old)) × (out.new ≡ buffering t out.old) }
 {
     let ruling = t.ruling;
     let first = t.first;
     let second = t.second;
     let third = t.third;
-    match ruling {
-        Ruling::Done => send(first, second, third, out),
-        Ruling::Refused(e) => Answer::Refused(e),
-    }
+    ruling?;
+    send(first, second, third, out)
 }
 
 // The step's messages are sent and its record kept, or, for want of room, neither.
@@ -394,12 +391,12 @@ fn finish(s: Server, t: Turned, row: [u32; ROW_WORDS], out: &mut [u8]) -> Steppe
 {
     let answer = answered(t, out);
     match answer {
-        Answer::Sent(_, _) => {
+        Ok(_) => {
             let head = t.head;
             let server = Server { head, row };
             Stepped { server, answer }
         }
-        Answer::Refused(_) => Stepped { server: s, answer },
+        Err(_) => Stepped { server: s, answer },
     }
 }
 
@@ -415,7 +412,7 @@ pub fn valid_server(s: Server) -> bool
 pub fn empty_head(n: u16, id: ServerId) -> Head
     ensures { result ≡ empty_head n id }
 {
-    let owner = Owner::Nobody;
+    let owner = None;
     let votes = Votes { owner, len: 0 };
     Head { n, id, votes }
 }
@@ -430,11 +427,11 @@ fn empty_server(n: u16, id: ServerId) -> Server
 
 // What a refused `new` hands back: a record that no call accepts.
 fn unmade(e: Refusal) -> Stepped
-    ensures { result ≡ record { server = blank; answer = Answer.Refused e } }
+    ensures { result ≡ record { server = blank; answer = Err e } }
 {
     let id = ServerId(0);
     let server = empty_server(0, id);
-    let answer = Answer::Refused(e);
+    let answer = Err(e);
     Stepped { server, answer }
 }
 
@@ -449,7 +446,10 @@ pub fn new(n: u16, id: ServerId) -> Stepped
         return unmade(Refusal::ParameterOutOfRange);
     }
     let server = empty_server(n, id);
-    let answer = Answer::Sent(0, 0);
+    let answer = Ok(Sent {
+        messages: 0,
+        bytes: 0,
+    });
     Stepped { server, answer }
 }
 

@@ -1,10 +1,10 @@
 -- Lines 26 to 45 from their parts: each test of the code is one of the figure's.
+use Rattle.std.specs.Prelude.{Some, None, Option}
 use Prim.Native.Nat.{ℕ, ◌*◌, ◌<◌, ◌≤◌}
 use native.Mathlib.Omega.{arith}
 use mathlib.Core.Path.{◌≡◌, refl, sym, ap, ◌∙◌, subst}
 use mathlib.Core.Bool.{Bool, true, false, false≢true}
 use mathlib.Core.List.{List, [], ◌∷◌, ◌++◌, append_assoc, append-nil}
-use mathlib.Core.Option.{Option, none, some}
 use mathlib.Core.Logic.{⊎_elim}
 use lib.ListN.{length}
 use borrow.Author.Tests.{le-ltb, lt-ltb}
@@ -14,8 +14,6 @@ use Rattle.ids.specs.declared.ClientId.{ClientId}
 use Rattle.ids.specs.declared.ServerId.{ServerId}
 use Rattle.ids.specs.declared.Request.{Request}
 use Rattle.ids.specs.declared.Timestamp.{Timestamp}
-use Rattle.ids.specs.declared.Owner.{Owner}
-use Rattle.ids.specs.declared.Owner.TheVariants.{Nobody, Of}
 use Rattle.rows.specs.Rows.{queue_of, Padded}
 use Rattle.rows.specs.Queue.{timestamp_in, insert}
 use Rattle.rows.specs.Queues.{Holds}
@@ -24,29 +22,25 @@ use Rattle.rows.proofs.ListLaws.{length-insert}
 use Rattle.wire.specs.Step.{Step, stay, tell, ◌then◌}
 use Rattle.wire.specs.declared.Message.{Message}
 use Rattle.wire.specs.declared.Message.TheVariants.{Response}
-use Rattle.server_votes.specs.declared.Mail.{Mail}
-use Rattle.server_votes.specs.declared.Mail.TheVariants.{Nothing, One}
 use Rattle.server_votes.specs.declared.Votes.{Votes}
 use Rattle.server_votes.specs.declared.Moved.{Moved}
-use Rattle.server_votes.specs.declared.Standing.{Standing}
-use Rattle.server_votes.specs.declared.Standing.TheVariants.{Absent, With}
 use Rattle.server_votes.specs.declared.Tag.{Tag}
 use Rattle.server_votes.specs.declared.Tag.TheVariants.{Request as REQUEST, Yield as YIELD, Release as RELEASE, Inquiry as INQUIRY}
 use Rattle.server_votes.specs.Figure1.{State, candidates, promote, delete, inform, act, compare, receive}
 use Rattle.server_votes.specs.Queues.{view}
 use Rattle.server_votes.specs.Places.{Moves, MovesOne, still, mails}
-use Rattle.server_votes.specs.Inner.{MovesAny, MovesTwo, leading, informed, joining, Informs, Followed, joined, joined_by, standing_of}
+use Rattle.server_votes.specs.Inner.{MovesAny, MovesTwo, leading, informed, joining, Informs, Followed, joined, joined_by}
 use Rattle.server_votes.proofs.MoveLaws.{sends, moves-still, moves-telling}
 use Rattle.server_votes.proofs.RoomLaws.{informed-state, length_promoted, length-deleted, renewed_fits}
 
 -- what a standing says of the timestamp looked for
-pub stood : (x : Option Timestamp) (w : Standing) (t : Timestamp) → w ≡ standing_of x → w ≡ With t → x ≡ some t
-stood none w t e a = let z : ◌≡◌ {A = ℕ} 0 1 = cc in absurd (omega arith)
-stood (some u) w t e a = let h : u ≡ t = cc in cc
+pub stood : (x : Option Timestamp) (w : Option Timestamp) (t : Timestamp) → w ≡ x → w ≡ Some t → x ≡ Some t
+stood None w t e a = let z : ◌≡◌ {A = ℕ} 0 1 = cc in absurd (omega arith)
+stood (Some u) w t e a = let h : u ≡ t = cc in cc
 
-absent : (x : Option Timestamp) (w : Standing) → w ≡ standing_of x → w ≡ Absent → x ≡ none
-absent none w e a = refl
-absent (some u) w e a = let z : ◌≡◌ {A = ℕ} 0 1 = cc in absurd (omega arith)
+absent : (x : Option Timestamp) (w : Option Timestamp) → w ≡ x → w ≡ None → x ≡ None
+absent None w e a = refl
+absent (Some u) w e a = let z : ◌≡◌ {A = ℕ} 0 1 = cc in absurd (omega arith)
 
 module _ (v : Votes) (row : List ℕ) (good : Padded row v.len) where
   pub fits : 2 * length (queue_of row v.len) ≤ length row
@@ -65,21 +59,21 @@ module _ (v : Votes) (row : List ℕ) (good : Padded row v.len) where
       unfolding act
       requests-again m t p = let c : is_client r.client v.owner ≡ true = cc in rw c (stays m p)
 
-      pub requests-first : (m : Moved) → v.owner ≡ Nobody → m ≡ leading j r v.len → MovesOne v row row m (act j REQUEST r (view v row))
+      pub requests-first : (m : Moved) → v.owner ≡ None → m ≡ leading j r v.len → MovesOne v row row m (act j REQUEST r (view v row))
       unfolding act
       requests-first m o p =
           rw o
-          (moves-telling row row m (record { owner = Of r; len = v.len })
-          (tell (record { owner = Of r; queue = queue_of row v.len }) (Response r.client j (Of r))) (holds-still row v.len good)
+          (moves-telling row row m (record { owner = Some r; len = v.len })
+          (tell (record { owner = Some r; queue = queue_of row v.len }) (Response r.client j (Some r))) (holds-still row v.len good)
           refl _ p refl)
 
-      pub requests : (after : List ℕ) (m : Moved) (o : Request) → b ≡ false → v.owner ≡ Of o
+      pub requests : (after : List ℕ) (m : Moved) (o : Request) → b ≡ false → v.owner ≡ Some o
           → MovesOne v row after m (joining j r (view v row)) → MovesOne v row after m (act j REQUEST r (view v row))
       unfolding act
       requests after m o f a p = let c : is_client r.client v.owner ≡ false = cc in rw c (rw a (rw a at p))
 
     -- INQUIRY
-    pub inquires_nobody : (m : Moved) → v.owner ≡ Nobody → m ≡ still v → MovesTwo v row row m (act j INQUIRY r (view v row))
+    pub inquires_nobody : (m : Moved) → v.owner ≡ None → m ≡ still v → MovesTwo v row row m (act j INQUIRY r (view v row))
     unfolding act
     inquires_nobody m o p = let s = stays m p in rw o record { moves = rw o at s.moves; third = s.third }
 
@@ -109,7 +103,7 @@ at_most_two row after m s one = record { moves = one.moves; third = one.third }
 module _ (j : ServerId) (k : ClientId) (v : Votes) (row : List ℕ) (good : Padded row v.len) (m : Moved) (f : Informs j k v m) where
   pub informs : MovesOne v row row m (inform j k (view v row))
   informs =
-      let whole : m ≡ record { votes = v; full = false; first = m.first; second = Nothing; third = Nothing } =
+      let whole : m ≡ record { votes = v; full = false; first = m.first; second = None; third = None } =
       (let a = f.votes in let b = f.full in let c = f.second in let d = f.third in
       λ i. record { votes = a i; full = b i; first = m.first; second = c i; third = d i }) in
       sends row row m v (inform j k (view v row)) (rw (informed-state j k (view v row)) (holds-still row v.len good))
@@ -118,7 +112,7 @@ module _ (j : ServerId) (k : ClientId) (v : Votes) (row : List ℕ) (good : Padd
 
 -- `inform` behind a part that sent one message
 module _ (j : ServerId) (k : ClientId) {v : Votes} (row after : List ℕ) (p : Moved) (s : Step State) (one : MovesOne v row after p s)
-    (fits : 2 * length s.state.queue ≤ length row) (told : p.first ≡ Nothing → ⊥) (m : Moved) (f : Followed j k p m) where
+    (fits : 2 * length s.state.queue ≤ length row) (told : p.first ≡ None → ⊥) (m : Moved) (f : Followed j k p m) where
   pub follows : MovesTwo v row after m (s then inform j k)
   follows =
       let g = goes row after p s one.moves fits in
@@ -156,7 +150,7 @@ module _ (j : ServerId) (r : Request) (v : Votes) (row : List ℕ) (good : Padde
         let q : List Request = insert r (queue_of row v.len) in
         let n = length_promoted j q in
         let l = length-insert r (queue_of row v.len) in
-        let told : p.first ≡ Nothing → ⊥ = λ z. told-head j q (omega (arith, l)) (sym (only row after p (promote j q) one) ∙ ap mails z) in
+        let told : p.first ≡ None → ⊥ = λ z. told-head j q (omega (arith, l)) (sym (only row after p (promote j q) one) ∙ ap mails z) in
         rw c (follows j r.client row after p (promote j q) one (omega (arith, fits v row good)) told m f)
 
     pub yields_not : (m : Moved) → b ≡ false → Informs j r.client v m → MovesTwo v row row m (act j YIELD r (view v row))
@@ -167,11 +161,11 @@ module _ (j : ServerId) (r : Request) (v : Votes) (row : List ℕ) (good : Padde
         rw c (at_most_two row row m (inform j r.client (view v row)) one)
 
   -- INQUIRY at a server with an owner
-  pub inquires : (m : Moved) (o : Request) → v.owner ≡ Of o → Informs j r.client v m → MovesTwo v row row m (act j INQUIRY r (view v row))
+  pub inquires : (m : Moved) (o : Request) → v.owner ≡ Some o → Informs j r.client v m → MovesTwo v row row m (act j INQUIRY r (view v row))
   unfolding act
   inquires m o a f =
       let e : inform j r.client (view v row) ≡ by_owner v.owner (stay (view v row)) (λ (o' : Request). inform j r.client (view v row)) =
-      sym (ap (λ (w : Owner). by_owner w (stay (view v row)) (λ (o' : Request). inform j r.client (view v row))) a) in
+      sym (ap (λ (w : Option Request). by_owner w (stay (view v row)) (λ (o' : Request). inform j r.client (view v row))) a) in
       subst (λ (t : Step State). MovesTwo v row row m t) e
       (at_most_two row row m (inform j r.client (view v row)) (informs j r.client v row good m f))
 
@@ -188,11 +182,11 @@ module _ (j : ServerId) (tag : Tag) (r : Request) (q : State) {v : Votes} (row a
   releases e one = rw e (at_most_two row after m (delete j r q) one)
 
 -- one part after another, by whether the first tells anybody
-pub joins_none : (d a : Moved) → d.first ≡ Nothing → a ≡ joined d a
-joins_none d a e = ap (λ (x : Mail). joined_by x d a) (sym e)
+pub joins_none : (d a : Moved) → d.first ≡ None → a ≡ joined d a
+joins_none d a e = ap (λ (x : Option Message). joined_by x d a) (sym e)
 
-pub joins_one : (d a : Moved) (x : Message) → d.first ≡ One x → joined_by (One x) d a ≡ joined d a
-joins_one d a x e = ap (λ (y : Mail). joined_by y d a) (sym e)
+pub joins_one : (d a : Moved) (x : Message) → d.first ≡ Some x → joined_by (Some x) d a ≡ joined d a
+joins_one d a x e = ap (λ (y : Option Message). joined_by y d a) (sym e)
 
 -- a part with at most two messages after one with at most one, where both have room
 module _ (v : Votes) (row mid end : List ℕ) (d a m : Moved) (s : Step State) (g : State → Step State) (one : MovesOne v row mid d s)
@@ -208,7 +202,7 @@ module _ (v : Votes) (row mid end : List ℕ) (d a m : Moved) (s : Step State) (
   fine = goes mid end a (g s.state) two.moves (rw size fits)
 
   -- nobody was told before: the second part's messages are all
-  after_none : d.first ≡ Nothing → m ≡ a → Moves v row end m (s then g)
+  after_none : d.first ≡ None → m ≡ a → Moves v row end m (s then g)
   after_none z e =
       let nobody : [] ≡ s.sent = ap mails (sym z) ∙ only row mid d s one in
       record {
@@ -221,7 +215,7 @@ module _ (v : Votes) (row mid end : List ℕ) (d a m : Moved) (s : Step State) (
         two_first = λ n. rw e two.third;
       }
 
-  after_one : (x : Message) → d.first ≡ One x → m ≡ joined_by (One x) d a → Moves v row end m (s then g)
+  after_one : (x : Message) → d.first ≡ Some x → m ≡ joined_by (Some x) d a → Moves v row end m (s then g)
   after_one x z e =
       record {
         full = rw e (fine ∙ sym (le-ltb _ _ fits));
@@ -229,16 +223,16 @@ module _ (v : Votes) (row mid end : List ℕ) (d a m : Moved) (s : Step State) (
         owner = λ n. rw e (two.moves.owner fine);
         queue = λ n. rw e (holds-again row mid end _ _ size (two.moves.queue fine));
         sent = rw (e, append_assoc, only row mid d s one, behind);
-        one_first = λ n. let q : One x ≡ Nothing = sym z ∙ rw e at n in let y : ◌≡◌ {A = ℕ} 0 1 = cc in absurd (omega arith);
+        one_first = λ n. let q : Some x ≡ None = sym z ∙ rw e at n in let y : ◌≡◌ {A = ℕ} 0 1 = cc in absurd (omega arith);
         two_first = λ n. rw e (two.moves.one_first (rw e at n));
       }
 
   after : m ≡ joined d a → Moves v row end m (s then g)
   after e = go d.first refl e
     where
-      go : (x : Mail) → d.first ≡ x → m ≡ joined_by x d a → Moves v row end m (s then g)
-      go Nothing z e = after_none z e
-      go (One x) z e = after_one x z e
+      go : (x : Option Message) → d.first ≡ x → m ≡ joined_by x d a → Moves v row end m (s then g)
+      go None z e = after_none z e
+      go (Some x) z e = after_one x z e
 
 -- lines 28 and 29
 module _ (j : ServerId) (tag : Tag) (r : Request) (v : Votes) (row : List ℕ) (good : Padded row v.len) (t : Timestamp) where
@@ -252,7 +246,7 @@ module _ (j : ServerId) (tag : Tag) (r : Request) (v : Votes) (row : List ℕ) (
     pub deleted-padded : Padded mid d.votes.len
     deleted-padded = (holds row mid d _ one.moves (delete-fits v row good j old)).good
 
-    pub compares_newer : (end : List ℕ) (a m : Moved) → timestamp_in r.client (candidates (view v row)) ≡ some t → t.0 < r.timestamp.0
+    pub compares_newer : (end : List ℕ) (a m : Moved) → timestamp_in r.client (candidates (view v row)) ≡ Some t → t.0 < r.timestamp.0
         → MovesTwo d.votes mid end a (act j tag r (view d.votes mid)) → m ≡ joined d a
         → Moves v row end m (compare j tag r (view v row) t)
     compares_newer end a m st h two e =
@@ -271,12 +265,12 @@ module _ (j : ServerId) (tag : Tag) (r : Request) (v : Votes) (row : List ℕ) (
   compares_same end m h g two = rw (le-ltb _ _ h, le-ltb _ _ g) two.moves
 
 -- lines 26 to 45, by where the sender stands
-module _ (j : ServerId) (tag : Tag) (r : Request) (q : State) {v : Votes} (row after : List ℕ) (m : Moved) (w : Standing)
-    (e : w ≡ standing_of (timestamp_in r.client (candidates q))) where
-  pub receives_new : w ≡ Absent → MovesTwo v row after m (act j tag r q) → Moves v row after m (receive j tag r q)
+module _ (j : ServerId) (tag : Tag) (r : Request) (q : State) {v : Votes} (row after : List ℕ) (m : Moved) (w : Option Timestamp)
+    (e : w ≡ timestamp_in r.client (candidates q)) where
+  pub receives_new : w ≡ None → MovesTwo v row after m (act j tag r q) → Moves v row after m (receive j tag r q)
   unfolding receive
   receives_new a two = rw (absent (timestamp_in r.client (candidates q)) w e a) two.moves
 
-  pub receives_known : (t : Timestamp) → w ≡ With t → Moves v row after m (compare j tag r q t) → Moves v row after m (receive j tag r q)
+  pub receives_known : (t : Timestamp) → w ≡ Some t → Moves v row after m (compare j tag r q t) → Moves v row after m (receive j tag r q)
   unfolding receive
   receives_known t a p = rw (stood (timestamp_in r.client (candidates q)) w t e a) p

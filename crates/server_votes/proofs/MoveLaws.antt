@@ -4,18 +4,15 @@ use native.Mathlib.Omega.{arith}
 use mathlib.Core.Path.{◌≡◌, refl, sym, ap, subst, ◌∙◌}
 use mathlib.Core.Bool.{Bool, true, false, false≢true}
 use mathlib.Core.List.{List, [], ◌∷◌, ◌++◌}
-use mathlib.Core.Option.{none}
 use lib.ListN.{length, get_or, drop}
 use lib.Seq.{drop-cons, get_or-take}
 use borrow.Author.Tests.{le-ltb, lt-ltb}
-use Rattle.std.specs.Prelude.{if◌then◌else◌}
+use Rattle.std.specs.Prelude.{if◌then◌else◌, Some, None, Option}
 use Rattle.ids.specs.Order.{before}
 use Rattle.ids.specs.Requests.{is_request, is_client, no_request}
 use Rattle.ids.specs.declared.ClientId.{ClientId}
 use Rattle.ids.specs.declared.ServerId.{ServerId}
 use Rattle.ids.specs.declared.Request.{Request}
-use Rattle.ids.specs.declared.Owner.{Owner}
-use Rattle.ids.specs.declared.Owner.TheVariants.{Nobody, Of}
 use Rattle.rows.specs.Rows.{requests_in, queue_of, Padded}
 use Rattle.rows.specs.Queue.{timestamp_in, insert, without}
 use Rattle.rows.specs.Queues.{is_client as at-client, first, Holds}
@@ -25,8 +22,6 @@ use Rattle.wire.specs.Step.{Step, stay, tell}
 use Rattle.wire.specs.declared.Message.{Message}
 use Rattle.wire.specs.declared.Message.TheVariants.{Response}
 use Rattle.server_votes.specs.declared.Votes.{Votes}
-use Rattle.server_votes.specs.declared.Mail.{Mail}
-use Rattle.server_votes.specs.declared.Mail.TheVariants.{Nothing, One}
 use Rattle.server_votes.specs.declared.Moved.{Moved}
 use Rattle.server_votes.specs.Figure1.{State, idle, enqueue, promote, delete}
 use Rattle.server_votes.specs.Queues.{view}
@@ -36,7 +31,7 @@ use Rattle.server_votes.proofs.ListLaws.{timestamp-first, timestamp-none}
 
 -- nothing sent, and one message sent
 module _ {u : Votes} (row after : List ℕ) (m : Moved) (v : Votes) (s : Step State) (H : Holds row after v.len s.state.queue) (o : v.owner ≡ s.state.owner) where
-  pub sends : (x : Mail) → m ≡ record { votes = v; full = false; first = x; second = Nothing; third = Nothing } → mails x ++ [] ++ [] ≡ s.sent
+  pub sends : (x : Option Message) → m ≡ record { votes = v; full = false; first = x; second = None; third = None } → mails x ++ [] ++ [] ≡ s.sent
       → MovesOne u row after m s
   sends x e p =
       record {
@@ -54,10 +49,10 @@ module _ {u : Votes} (row after : List ℕ) (m : Moved) (v : Votes) (s : Step St
       }
 
   pub moves-still : m ≡ still v → [] ≡ s.sent → MovesOne u row after m s
-  moves-still e p = sends Nothing e p
+  moves-still e p = sends None e p
 
   pub moves-telling : (x : Message) → m ≡ telling v x → x ∷ [] ≡ s.sent → MovesOne u row after m s
-  moves-telling x e p = sends (One x) e p
+  moves-telling x e p = sends (Some x) e p
 
 -- the row is too short, and stays
 pub moves-overflowing : (row : List ℕ) (m : Moved) (v : Votes) (s : Step State) (x : Message) → length row < 2 * length s.state.queue
@@ -75,7 +70,7 @@ pub moves-leading : (row after : List ℕ) (j : ServerId) (h : Request) (l : Lis
 unfolding promote
 moves-leading row after j h l m n H e =
     record {
-      from = λ u. moves-telling row after m (record { owner = Of h; len = n }) (promote j (h ∷ l)) H refl (Response h.client j (Of h)) e refl;
+      from = λ u. moves-telling row after m (record { owner = Some h; len = n }) (promote j (h ∷ l)) H refl (Response h.client j (Some h)) e refl;
     }
 
 module _ (row : List ℕ) (len : ℕ) (good : Padded row len) where
@@ -90,9 +85,9 @@ module _ (row : List ℕ) (len : ℕ) (good : Padded row len) where
       drop-cons (queue_of row len) 0 no_request z ∙ rw (get_or-take len (requests_in row) 0 no_request o)
 
   module _ (j : ServerId) (m : Moved) where
-    pub promoted_none : len ≡ 0 → m ≡ still (record { owner = Nobody; len = 0 }) → MovesAny row row m (promote j (queue_of row len))
+    pub promoted_none : len ≡ 0 → m ≡ still (record { owner = None; len = 0 }) → MovesAny row row m (promote j (queue_of row len))
     unfolding promote
-    promoted_none e p = rw e (record { from = λ u. moves-still row row m (record { owner = Nobody; len = 0 }) (stay idle) (empty e) refl p refl })
+    promoted_none e p = rw e (record { from = λ u. moves-still row row m (record { owner = None; len = 0 }) (stay idle) (empty e) refl p refl })
 
     -- r joins an empty queue, and leads
     pub rotated_alone : (r : Request) → len ≡ 0 → m ≡ leading j r 0 → MovesAny row row m (promote j (insert r (queue_of row len)))
@@ -148,7 +143,7 @@ module _ (j : ServerId) (r : Request) (v : Votes) (row : List ℕ) (good : Padde
       (moves-telling row row m v (tell (view v row) (Response r.client j v.owner)) (holds-still row v.len good) refl _ p refl)
 
   module _ (g : v.len ≤ at) where
-    new : timestamp_in r.client (queue_of row v.len) ≡ none
+    new : timestamp_in r.client (queue_of row v.len) ≡ None
     new = let n = length-queue row v.len good in timestamp-none r.client (queue_of row v.len) (omega arith)
 
     pub joined-full : length row < 2 * v.len + 2 → m ≡ overflowing v (Response r.client j v.owner) → MovesOne v row row m (joining j r (view v row))
@@ -171,7 +166,7 @@ module _ (j : ServerId) (r : Request) (v : Votes) (row : List ℕ) (good : Padde
         refl)
 
 -- RESPONSE to a client that is not the owner
-module _ (j : ServerId) (k : ClientId) (o : Owner) (b : Bool) (e : b ≡ is_client k o) where
+module _ (j : ServerId) (k : ClientId) (o : Option Request) (b : Bool) (e : b ≡ is_client k o) where
   pub informs_not : b ≡ true → [] ≡ informed j k o
   informs_not t = let c : is_client k o ≡ true = cc in rw c
 

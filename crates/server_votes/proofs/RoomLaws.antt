@@ -4,17 +4,14 @@ use native.Mathlib.Omega.{arith}
 use mathlib.Core.Path.{◌≡◌, refl, sym, ap, ◌∙◌}
 use mathlib.Core.Bool.{Bool, true, false}
 use mathlib.Core.List.{List, [], ◌∷◌}
-use mathlib.Core.Option.{Option, none, some}
 use lib.ListN.{length}
 use Rattle.ids.specs.Choice.{maybe}
-use Rattle.std.specs.Prelude.{if◌then◌else◌}
+use Rattle.std.specs.Prelude.{if◌then◌else◌, Some, None, Option}
 use Rattle.ids.specs.Requests.{is_request, is_client}
 use Rattle.ids.specs.declared.ClientId.{ClientId}
 use Rattle.ids.specs.declared.ServerId.{ServerId}
 use Rattle.ids.specs.declared.Request.{Request}
 use Rattle.ids.specs.declared.Timestamp.{Timestamp}
-use Rattle.ids.specs.declared.Owner.{Owner}
-use Rattle.ids.specs.declared.Owner.TheVariants.{Nobody, Of}
 use Rattle.rows.specs.Queue.{timestamp_in, insert, without}
 use Rattle.rows.specs.Queues.{is_client as at-client}
 use Rattle.rows.proofs.ListLaws.{length-insert, length_without}
@@ -51,31 +48,31 @@ length-deleted j r q = deleted-head (is_request r q.owner) j r q
 -- a message adds one request at most, and none where there is no owner
 module _ (j : ServerId) (r : Request) where
   enqueued_head : (x : Option Timestamp) (l : List Request) → length (maybe x (insert r l) (λ (t : Timestamp). l)) ≤ suc (length l)
-  enqueued_head none l = omega (arith, length-insert r l)
-  enqueued_head (some t) l = omega arith
+  enqueued_head None l = omega (arith, length-insert r l)
+  enqueued_head (Some t) l = omega arith
 
   length_enqueued : (l : List Request) → length (enqueue r l) ≤ suc (length l)
   unfolding enqueue
   length_enqueued l = enqueued_head (timestamp_in r.client l) l
 
   module _ (l : List Request) where
-    requested-head : (b : Bool) (o : Owner) → length (if b then stay (record { owner = o; queue = l }) else tell
+    requested-head : (b : Bool) (o : Option Request) → length (if b then stay (record { owner = o; queue = l }) else tell
         (admit r (record { owner = o; queue = l }))
         (Response r.client j (admit r (record { owner = o; queue = l })).owner)).state.queue ≤ suc (length l)
     requested-head true o = omega arith
-    requested-head false Nobody = omega arith
-    requested-head false (Of o) = length_enqueued l
+    requested-head false None = omega arith
+    requested-head false (Some o) = length_enqueued l
 
-    yielded-head : (b : Bool) (o : Owner) → length (if b then promote j (insert r l) else stay (record { owner = o; queue = l })).state.queue ≤ length l
+    yielded-head : (b : Bool) (o : Option Request) → length (if b then promote j (insert r l) else stay (record { owner = o; queue = l })).state.queue ≤ length l
     yielded-head true o = omega (arith, length_promoted j (insert r l), length-insert r l)
     yielded-head false o = omega arith
 
-    pub length_inquired : (o : Owner) → length (act j INQUIRY r (record { owner = o; queue = l })).state.queue ≤ length l
+    pub length_inquired : (o : Option Request) → length (act j INQUIRY r (record { owner = o; queue = l })).state.queue ≤ length l
     unfolding act
-    length_inquired Nobody = omega arith
-    length_inquired (Of o) = omega (arith, ap (λ (x : State). length x.queue) (informed-state j r.client (record { owner = Of o; queue = l })))
+    length_inquired None = omega arith
+    length_inquired (Some o) = omega (arith, ap (λ (x : State). length x.queue) (informed-state j r.client (record { owner = Some o; queue = l })))
 
-    pub length-yielded : (o : Owner) → length (act j YIELD r (record { owner = o; queue = l })).state.queue ≤ length l
+    pub length-yielded : (o : Option Request) → length (act j YIELD r (record { owner = o; queue = l })).state.queue ≤ length l
     unfolding act
     length-yielded o =
         let x = (if is_request r o then promote j (insert r l) else stay (record { owner = o; queue = l })).state in
@@ -88,17 +85,17 @@ module _ (j : ServerId) (r : Request) where
   length_acted RELEASE q = omega (arith, length-deleted j r q)
   length_acted INQUIRY q = omega (arith, length_inquired q.queue q.owner)
 
-  acted_alone : (tag : Tag) (l : List Request) → length (act j tag r (record { owner = Nobody; queue = l })).state.queue ≤ length l
+  acted_alone : (tag : Tag) (l : List Request) → length (act j tag r (record { owner = None; queue = l })).state.queue ≤ length l
   unfolding act
   acted_alone REQUEST l = omega arith
-  acted_alone YIELD l = length-yielded l Nobody
-  acted_alone RELEASE l = length-deleted j r (record { owner = Nobody; queue = l })
-  acted_alone INQUIRY l = length_inquired l Nobody
+  acted_alone YIELD l = length-yielded l None
+  acted_alone RELEASE l = length-deleted j r (record { owner = None; queue = l })
+  acted_alone INQUIRY l = length_inquired l None
 
   promoted_acted : (tag : Tag) (l : List Request) → length (act j tag r (promote j l).state).state.queue ≤ length l
   unfolding promote
   promoted_acted tag [] = acted_alone tag []
-  promoted_acted tag (h ∷ l) = length_acted tag (record { owner = Of h; queue = l })
+  promoted_acted tag (h ∷ l) = length_acted tag (record { owner = Some h; queue = l })
 
   -- the older pair of the sender stands
   module _ (tag : Tag) (t : Timestamp) where
@@ -114,18 +111,18 @@ module _ (j : ServerId) (r : Request) where
 
     -- if the pair is not the owner's, it waits
     waiting_head : (b : Bool) (o : Request) (l : List Request) → at-client r.client o ≡ b
-        → (if b then some o.timestamp else timestamp_in r.client l) ≡ some t → is_request old (Of o) ≡ false
-        → timestamp_in r.client l ≡ some t
+        → (if b then Some o.timestamp else timestamp_in r.client l) ≡ Some t → is_request old (Some o) ≡ false
+        → timestamp_in r.client l ≡ Some t
     waiting_head true o l a e f = let z : true ≡ false = sym (its-pair r.client t o true a refl cc) ∙ f in cc
     waiting_head false o l a e f = e
 
-    waiting : (o : Owner) (l : List Request) → timestamp_in r.client (candidates (record { owner = o; queue = l })) ≡ some t
-        → is_request old o ≡ false → timestamp_in r.client l ≡ some t
+    waiting : (o : Option Request) (l : List Request) → timestamp_in r.client (candidates (record { owner = o; queue = l })) ≡ Some t
+        → is_request old o ≡ false → timestamp_in r.client l ≡ Some t
     unfolding timestamp_in
-    waiting Nobody l e f = e
-    waiting (Of o) l e f = waiting_head (at-client r.client o) o l refl e f
+    waiting None l e f = e
+    waiting (Some o) l e f = waiting_head (at-client r.client o) o l refl e f
 
-    pub renewed_fits : (q : State) → timestamp_in r.client (candidates q) ≡ some t
+    pub renewed_fits : (q : State) → timestamp_in r.client (candidates q) ≡ Some t
         → length (act j tag r (delete j old q).state).state.queue ≤ length q.queue
     unfolding delete
     renewed_fits q e = renewed_head (is_request old q.owner) q (λ f. without_standing r.client t q.queue (waiting q.owner q.queue e f))

@@ -1,14 +1,12 @@
 -- The server: Figure 1 of the report, lines 26 to 56, on an owner and a request queue.
 -- Document 01 says keeper for server, line for queue, missing for suspected.
-use Rattle.std.specs.Prelude.{List, [], ◌∷◌, ltb, if◌then◌else◌}
+use Rattle.std.specs.Prelude.{List, [], ◌∷◌, ltb, if◌then◌else◌, Some, None, Option}
 use Rattle.ids.specs.Choice.{maybe}
 use Rattle.ids.specs.Requests.{is_request, is_client, by_owner}
 use Rattle.ids.specs.declared.ClientId.{ClientId}
 use Rattle.ids.specs.declared.ServerId.{ServerId}
 use Rattle.ids.specs.declared.Timestamp.{Timestamp}
 use Rattle.ids.specs.declared.Request.{Request}
-use Rattle.ids.specs.declared.Owner.{Owner}
-use Rattle.ids.specs.declared.Owner.TheVariants.{Nobody, Of}
 use Rattle.rows.specs.Queue.{timestamp_in, insert, without}
 use Rattle.wire.specs.Step.{Step, stay, tell, ◌then◌}
 use Rattle.wire.specs.declared.Message.TheVariants.{Response as RESPONSE, Check as CHECK}
@@ -17,12 +15,12 @@ use Rattle.server_votes.specs.declared.Tag.TheVariants.{Request as REQUEST, Yiel
 
 pub record State : Type 0 where
   -- (c_owner, t_owner), nobody for (nil, nil)
-  pub owner : Owner
+  pub owner : Option Request
   -- ReqQ
   pub queue : List Request
 
 abbrev pub idle : State
-idle = record { owner = Nobody; queue = [] }
+idle = record { owner = None; queue = [] }
 
 -- line 27: all that the server knows of, its owner first
 abbrev pub candidates : State → List Request
@@ -35,7 +33,7 @@ enqueue r l = maybe (timestamp_in r.client l) (insert r l) (λ t. l)
 -- lines 39 and 40, 52 to 55: server j's owner is the head of the queue, and is told so; with an empty queue there is none
 unfoldable pub promote : ServerId → List Request → Step State
 promote j [] = stay idle
-promote j (h ∷ l) = tell (record { owner = Of h; queue = l }) (RESPONSE h.client j (Of h))
+promote j (h ∷ l) = tell (record { owner = Some h; queue = l }) (RESPONSE h.client j (Some h))
 
 -- lines 50 to 56: Delete
 unfoldable pub delete : ServerId → Request → State → Step State
@@ -50,7 +48,7 @@ inform j k q = if is_client k q.owner then stay q else tell q (RESPONSE k j q.ow
 -- lines 32 to 34: r becomes owner if there is none, else it waits
 abbrev pub admit : Request → State → State
 admit r q =
-    by_owner q.owner (record { owner = Of r; queue = q.queue }) (λ o. record { owner = Of o; queue = enqueue r q.queue })
+    by_owner q.owner (record { owner = Some r; queue = q.queue }) (λ o. record { owner = Some o; queue = enqueue r q.queue })
 
 -- lines 30 to 45, for server j and the request r of the message's sender
 unfoldable pub act : ServerId → Tag → Request → State → Step State

@@ -1,22 +1,15 @@
 -- Definitions that only the contracts of private functions cite: no promise rests on them.
-use Rattle.std.specs.Prelude.{ℕ, ◌≡◌, true, false, List, [], ◌∷◌, if◌then◌else◌}
-use Rattle.std.proofs.Math.Option.{Option, none, some}
+use Rattle.std.specs.Prelude.{ℕ, ◌≡◌, true, false, List, [], ◌∷◌, if◌then◌else◌, Some, None, Option}
 use Rattle.ids.specs.Requests.{is_client}
 use Rattle.ids.specs.declared.ClientId.{ClientId}
 use Rattle.ids.specs.declared.ServerId.{ServerId}
-use Rattle.ids.specs.declared.Owner.{Owner}
-use Rattle.ids.specs.declared.Owner.TheVariants.{Of}
 use Rattle.ids.specs.declared.Request.{Request}
 use Rattle.ids.specs.declared.Timestamp.{Timestamp}
 use Rattle.wire.specs.Step.{Step, tell}
 use Rattle.wire.specs.declared.Message.{Message}
 use Rattle.wire.specs.declared.Message.TheVariants.{Response}
-use Rattle.server_votes.specs.declared.Mail.{Mail}
-use Rattle.server_votes.specs.declared.Mail.TheVariants.{Nothing, One}
 use Rattle.server_votes.specs.declared.Moved.{Moved}
 use Rattle.server_votes.specs.declared.Votes.{Votes}
-use Rattle.server_votes.specs.declared.Standing.{Standing}
-use Rattle.server_votes.specs.declared.Standing.TheVariants.{Absent, With}
 use Rattle.server_votes.specs.Figure1.{State, enqueue}
 use Rattle.server_votes.specs.Places.{mails, Moves, MovesOne, telling}
 
@@ -27,23 +20,19 @@ pub record MovesAny (row after : List ℕ) (m : Moved) (s : Step State) : Type 0
 -- the same, with at most two messages
 pub record MovesTwo (v : Votes) (row after : List ℕ) (m : Moved) (s : Step State) : Type 0 where
   pub moves : Moves v row after m s
-  pub third : m.third ≡ Nothing
-
-abbrev pub standing_of : Option Timestamp → Standing
-standing_of none = Absent
-standing_of (some t) = With t
+  pub third : m.third ≡ None
 
 -- the messages of `inform`, which go by the owner alone
-abbrev pub informed : ServerId → ClientId → Owner → List Message
+abbrev pub informed : ServerId → ClientId → Option Request → List Message
 informed j k o = if is_client k o then [] else Response k j o ∷ []
 
 -- h as owner before a queue of n, and told so
 abbrev pub leading : ServerId → Request → ℕ → Moved
-leading j h n = telling (record { owner = Of h; len = n }) (Response h.client j (Of h))
+leading j h n = telling (record { owner = Some h; len = n }) (Response h.client j (Some h))
 
 -- the row is too short
 abbrev pub overflowing : Votes → Message → Moved
-overflowing v m = record { votes = v; full = true; first = One m; second = Nothing; third = Nothing }
+overflowing v m = record { votes = v; full = true; first = Some m; second = None; third = None }
 
 -- lines 33 to 35 behind an owner
 abbrev pub joining : ServerId → Request → State → Step State
@@ -54,8 +43,8 @@ pub record Informs (j : ServerId) (k : ClientId) (v : Votes) (m : Moved) : Type 
   pub votes : m.votes ≡ v
   pub full : m.full ≡ false
   pub first : mails m.first ≡ informed j k v.owner
-  pub second : m.second ≡ Nothing
-  pub third : m.third ≡ Nothing
+  pub second : m.second ≡ None
+  pub third : m.third ≡ None
 
 -- m is p, and then `inform` by p's owner
 pub record Followed (j : ServerId) (k : ClientId) (p m : Moved) : Type 0 where
@@ -63,12 +52,12 @@ pub record Followed (j : ServerId) (k : ClientId) (p m : Moved) : Type 0 where
   pub full : m.full ≡ p.full
   pub first : m.first ≡ p.first
   pub second : mails m.second ≡ informed j k p.votes.owner
-  pub third : m.third ≡ Nothing
+  pub third : m.third ≡ None
 
 -- one part after another, the first with at most one message and the second with at most two
-abbrev pub joined_by : Mail → Moved → Moved → Moved
-joined_by Nothing p m = m
-joined_by (One x) p m = record { votes = m.votes; full = m.full; first = p.first; second = m.first; third = m.second }
+abbrev pub joined_by : Option Message → Moved → Moved → Moved
+joined_by None p m = m
+joined_by (Some x) p m = record { votes = m.votes; full = m.full; first = p.first; second = m.first; third = m.second }
 
 abbrev pub joined : Moved → Moved → Moved
 joined p m = joined_by p.first p m

@@ -3,17 +3,16 @@
 
 #![tactic(auto)]
 
-ghost use Rattle.std.specs.Prelude.{◌≡◌};
-ghost use Rattle.std.proofs.Math.Option.{some};
+ghost use Rattle.std.specs.Prelude.{◌≡◌, Some};
 ghost use Rattle.ids.specs.Requests.{is_request, is_client};
 ghost use Rattle.rows.specs.Rows.{queue_of, Padded};
 ghost use Rattle.rows.specs.Queue.{timestamp_in, insert};
 ghost use Rattle.server_votes.specs.Figure1.{candidates, promote as promote_of, delete as delete_of, act as act_of, compare as compare_of, receive as receive_of};
 ghost use Rattle.server_votes.specs.Queues.{view};
 ghost use Rattle.server_votes.specs.Places.{Moves, MovesOne, still as still_of, telling as telling_of, mails};
-ghost use Rattle.server_votes.specs.Inner.{MovesAny, MovesTwo, standing_of, informed, leading, overflowing as overflowing_of, joining, Informs, Followed, joined as joined_of};
+ghost use Rattle.server_votes.specs.Inner.{MovesAny, MovesTwo, informed, leading, overflowing as overflowing_of, joining, Informs, Followed, joined as joined_of};
 
-use ids::{ClientId, Owner, Request, ServerId, Timestamp};
+use ids::{ClientId, Request, ServerId, Timestamp};
 use wire::Message;
 
 #[derive(Clone, Copy)]
@@ -27,15 +26,8 @@ pub enum Tag {
 // A server's owner, and how many wait behind it: the first `len` places of its row.
 #[derive(Clone, Copy)]
 pub struct Votes {
-    pub owner: Owner,
+    pub owner: Option<Request>,
     pub len: usize,
-}
-
-// A message to send, or none.
-#[derive(Clone, Copy)]
-pub enum Mail {
-    Nothing,
-    One(Message),
 }
 
 // What a part of a step leaves beside the row: the votes, unless the row is too short for them, and the messages to send, in order.
@@ -43,65 +35,58 @@ pub enum Mail {
 pub struct Moved {
     pub votes: Votes,
     pub full: bool,
-    pub first: Mail,
-    pub second: Mail,
-    pub third: Mail,
-}
-
-// Whether a client is owner or waits, and with which timestamp.
-#[derive(Clone, Copy)]
-pub enum Standing {
-    Absent,
-    With(Timestamp),
+    pub first: Option<Message>,
+    pub second: Option<Message>,
+    pub third: Option<Message>,
 }
 
 // Whether client `k` waits in the queue, and with which timestamp.
-fn waiting(k: ClientId, row: &[u32], len: usize) -> Standing
+fn waiting(k: ClientId, row: &[u32], len: usize) -> Option<Timestamp>
     requires { Padded row.now len }
-    ensures { result ≡ standing_of (timestamp_in k (queue_of row.now len)) }
+    ensures { result ≡ timestamp_in k (queue_of row.now len) }
 {
     let at = rows::search(row, len, k);
     if at < len {
         let x = rows::request_at(row, at);
         let t = x.timestamp;
-        return Standing::With(t);
+        return Some(t);
     }
-    Standing::Absent
+    None
 }
 
 // Line 27: whether client `k` is owner or waits, and with which timestamp.
-fn standing_of(k: ClientId, v: Votes, row: &[u32]) -> Standing
+fn standing_of(k: ClientId, v: Votes, row: &[u32]) -> Option<Timestamp>
     requires { Padded row.now v.len }
-    ensures { result ≡ standing_of (timestamp_in k (candidates (view v row.now))) }
+    ensures { result ≡ timestamp_in k (candidates (view v row.now)) }
 {
     let o = v.owner;
     match o {
-        Owner::Nobody => waiting(k, row, v.len),
-        Owner::Of(q) => {
+        None => waiting(k, row, v.len),
+        Some(q) => {
             if q.client.0 == k.0 {
                 let t = q.timestamp;
-                return Standing::With(t);
+                return Some(t);
             }
             waiting(k, row, v.len)
         }
     }
 }
 
-fn owns(o: Owner, r: Request) -> bool
+fn owns(o: Option<Request>, r: Request) -> bool
     ensures { result ≡ is_request r o }
 {
     match o {
-        Owner::Nobody => false,
-        Owner::Of(q) => ids::same_request(q, r),
+        None => false,
+        Some(q) => ids::same_request(q, r),
     }
 }
 
-fn names(o: Owner, k: ClientId) -> bool
+fn names(o: Option<Request>, k: ClientId) -> bool
     ensures { result ≡ is_client k o }
 {
     match o {
-        Owner::Nobody => false,
-        Owner::Of(q) => q.client.0 == k.0,
+        None => false,
+        Some(q) => q.client.0 == k.0,
     }
 }
 
@@ -111,22 +96,22 @@ pub fn still(votes: Votes) -> Moved
     Moved {
         votes,
         full: false,
-        first: Mail::Nothing,
-        second: Mail::Nothing,
-        third: Mail::Nothing,
+        first: None,
+        second: None,
+        third: None,
     }
 }
 
 pub fn telling(votes: Votes, message: Message) -> Moved
     ensures { result ≡ telling_of votes message }
 {
-    let one = Mail::One(message);
+    let one = Some(message);
     Moved {
         votes,
         full: false,
         first: one,
-        second: Mail::Nothing,
-        third: Mail::Nothing,
+        second: None,
+        third: None,
     }
 }
 
@@ -135,7 +120,7 @@ fn lead(j: ServerId, h: Request, len: usize) -> Moved
     ensures { result ≡ leading j h len }
 {
     let client = h.client;
-    let owner = Owner::Of(h);
+    let owner = Some(h);
     let message = Message::Response(client, j, owner);
     telling(Votes { owner, len }, message)
 }
@@ -146,7 +131,7 @@ fn promote(j: ServerId, row: &mut [u32], len: usize) -> Moved
     ensures { MovesAny row.old row.new result (promote_of j (queue_of row.old len)) }
 {
     if len == 0 {
-        let owner = Owner::Nobody;
+        let owner = None;
         return still(Votes { owner, len: 0 });
     }
     let head = rows::request_at(row, 0);
@@ -186,26 +171,26 @@ pub fn delete(j: ServerId, r: Request, v: Votes, row: &mut [u32]) -> Moved
 }
 
 // Lines 35, 41 and 45: RESPONSE with the owner to client `k`, unless `k` is the owner.
-fn inform(j: ServerId, k: ClientId, o: Owner) -> Mail
+fn inform(j: ServerId, k: ClientId, o: Option<Request>) -> Option<Message>
     ensures { mails result ≡ informed j k o }
 {
     if names(o, k) {
-        return Mail::Nothing;
+        return None;
     }
     let message = Message::Response(k, j, o);
-    Mail::One(message)
+    Some(message)
 }
 
 fn overflowing(votes: Votes, message: Message) -> Moved
     ensures { result ≡ overflowing_of votes message }
 {
-    let one = Mail::One(message);
+    let one = Some(message);
     Moved {
         votes,
         full: true,
         first: one,
-        second: Mail::Nothing,
-        third: Mail::Nothing,
+        second: None,
+        third: None,
     }
 }
 
@@ -240,8 +225,8 @@ fn act_request(j: ServerId, r: Request, v: Votes, row: &mut [u32]) -> Moved
         return still(v);
     }
     match owner {
-        Owner::Nobody => lead(j, r, v.len),
-        Owner::Of(_) => join(j, r, v, row),
+        None => lead(j, r, v.len),
+        Some(_) => join(j, r, v, row),
     }
 }
 
@@ -255,8 +240,8 @@ fn informing(j: ServerId, k: ClientId, votes: Votes) -> Moved
         votes,
         full: false,
         first,
-        second: Mail::Nothing,
-        third: Mail::Nothing,
+        second: None,
+        third: None,
     }
 }
 
@@ -273,7 +258,7 @@ fn followed(j: ServerId, k: ClientId, before: Moved) -> Moved
         full: before.full,
         first,
         second,
-        third: Mail::Nothing,
+        third: None,
     }
 }
 
@@ -299,8 +284,8 @@ fn act_inquiry(j: ServerId, r: Request, v: Votes, row: &[u32]) -> Moved
     let owner = v.owner;
     let client = r.client;
     match owner {
-        Owner::Nobody => still(v),
-        Owner::Of(_) => informing(j, client, v),
+        None => still(v),
+        Some(_) => informing(j, client, v),
     }
 }
 
@@ -323,8 +308,8 @@ fn joined(before: Moved, after: Moved) -> Moved
 {
     let first = before.first;
     match first {
-        Mail::Nothing => after,
-        Mail::One(_) => {
+        None => after,
+        Some(_) => {
             let votes = after.votes;
             let second = after.first;
             let third = after.second;
@@ -341,7 +326,7 @@ fn joined(before: Moved, after: Moved) -> Moved
 
 // Lines 28 to 45, where the sender stands with timestamp `t`.
 fn compare(j: ServerId, tag: Tag, r: Request, v: Votes, row: &mut [u32], t: Timestamp) -> Moved
-    requires { Padded row.old v.len × (timestamp_in r.client (candidates (view v row.old)) ≡ some t) }
+    requires { Padded row.old v.len × (timestamp_in r.client (candidates (view v row.old)) ≡ Some t) }
     ensures { Moves v row.old row.new result (compare_of j tag r (view v row.old) t) }
 {
     let now = r.timestamp;
@@ -369,7 +354,7 @@ pub fn receive(j: ServerId, tag: Tag, r: Request, v: Votes, row: &mut [u32]) -> 
     let client = r.client;
     let s = standing_of(client, v, row);
     match s {
-        Standing::Absent => act(j, tag, r, v, row),
-        Standing::With(t) => compare(j, tag, r, v, row, t),
+        None => act(j, tag, r, v, row),
+        Some(t) => compare(j, tag, r, v, row, t),
     }
 }

@@ -1,4 +1,5 @@
 -- The tests with which an event begins: a party that is not there, or has fallen, or is down, refuses it; else it is there.
+use Rattle.std.specs.Prelude.{Err}
 use mathlib.Core.Path.{◌≡◌, sym, ◌∙◌}
 use Prim.Native.Nat.{ℕ}
 use mathlib.Core.Bool.{Bool, true, false}
@@ -18,7 +19,6 @@ use Rattle.system.specs.Events.{event}
 use Rattle.sim_blocks.specs.Blocks.{client_place, server_place}
 use Rattle.sim_layout.specs.Layout.{setting_of, view, valid}
 use Rattle.sim_layout.specs.Parts.{client_block_of, server_block_of}
-use Rattle.sim_changes.specs.declared.Moved.TheVariants.{Refused}
 use Rattle.sim_changes.specs.Happens.{happens, Leaves, moved_of}
 use Rattle.sim_changes.specs.Changes.{HasClient, HasServer}
 use Rattle.sim_changes.proofs.Answers.{fallen_falls, ups_twice}
@@ -31,7 +31,7 @@ use Rattle.sim_changes.proofs.ServerEvents.{server_there_in}
 module _ (w : List ℕ) (k : ClientId) {a : Bool} (ok : valid w ≡ true) (e : a ≡ within k.0 (setting_of w).clients) where
   pub client_missing : (v : Event)
       → (has (view w).clients k.0 ≡ false → event (setting_of w).n (enough (setting_of w).m) (view w) v ≡ refused NoSuchParty)
-      → a ≡ false → Leaves w v w × (Refused NoSuchParty ≡ moved_of (happens w v))
+      → a ≡ false → Leaves w v w × (Err NoSuchParty ≡ moved_of (happens w v))
   client_missing v f t = leaves_refused w v NoSuchParty ok (f (parties.client_missing w ok k.0 a e t))
 
   pub client-here : a ≡ true → HasClient w k
@@ -45,7 +45,7 @@ module _ (w : List ℕ) (k : ClientId) (H : HasClient w k) {b : Bool} (f : b ≡
   pub client-lives : b ≡ true → (client_at (view w) k).living ≡ true
   client-lives u = holds b _ living-here u
 
-  pub fall_twice : b ≡ false → Leaves w (Fall k) w × (Refused PartyDown ≡ moved_of (happens w (Fall k)))
+  pub fall_twice : b ≡ false → Leaves w (Fall k) w × (Err PartyDown ≡ moved_of (happens w (Fall k)))
   fall_twice u =
       leaves_refused w (Fall k) PartyDown H.valid
       (fallen_falls (setting_of w).n (enough (setting_of w).m) (view w) k (client_there_in w k H) (fails b _ living-here u))
@@ -54,7 +54,7 @@ module _ (w : List ℕ) (k : ClientId) (H : HasClient w k) {b : Bool} (f : b ≡
 module _ (w : List ℕ) (j : ServerId) {a : Bool} (ok : valid w ≡ true) (e : a ≡ within j.0 (setting_of w).n) where
   pub server_missing : (v : Event)
       → (has (view w).servers j.0 ≡ false → event (setting_of w).n (enough (setting_of w).m) (view w) v ≡ refused NoSuchParty)
-      → a ≡ false → Leaves w v w × (Refused NoSuchParty ≡ moved_of (happens w v))
+      → a ≡ false → Leaves w v w × (Err NoSuchParty ≡ moved_of (happens w v))
   server_missing v f t = leaves_refused w v NoSuchParty ok (f (parties.server_missing w ok j.0 a e t))
 
   pub server-here : a ≡ true → HasServer w j
@@ -71,10 +71,10 @@ module _ (w : List ℕ) (j : ServerId) (H : HasServer w j) {b : Bool} (f : b ≡
   pub server-down : (v : Event)
       → (has (view w).servers j.0 ≡ true → (server_at (view w) j).up ≡ false
       → event (setting_of w).n (enough (setting_of w).m) (view w) v ≡ refused PartyDown)
-      → b ≡ false → Leaves w v w × (Refused PartyDown ≡ moved_of (happens w v))
+      → b ≡ false → Leaves w v w × (Err PartyDown ≡ moved_of (happens w v))
   server-down v g u = leaves_refused w v PartyDown H.valid (g (server_there_in w j H) (fails b _ up-here u))
 
-  pub up_twice : b ≡ true → Leaves w (Up j) w × (Refused PartyDown ≡ moved_of (happens w (Up j)))
+  pub up_twice : b ≡ true → Leaves w (Up j) w × (Err PartyDown ≡ moved_of (happens w (Up j)))
   up_twice u =
       leaves_refused w (Up j) PartyDown H.valid
       (ups_twice (setting_of w).n (enough (setting_of w).m) (view w) j (server_there_in w j H) (sym up-here ∙ u))

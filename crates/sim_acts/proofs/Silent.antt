@@ -1,4 +1,5 @@
 -- The events that send nothing: what their stores leave is the system's event.
+use Rattle.std.specs.Prelude.{Ok, Err}
 use mathlib.Core.Path.{◌≡◌, refl, sym, ap, ◌∙◌}
 use mathlib.Core.Logic.{⊎_elim}
 use Prim.Native.Nat.{ℕ, zero-le, ◌+◌, ◌*◌, ◌-◌, ◌≤◌, ◌<◌}
@@ -37,7 +38,6 @@ use Rattle.sim_transit.proofs.FindLaws.{finds_present}
 use Rattle.sim_layout.specs.Layout.{setting_of, length_of, transit_words, view, valid, clients_from, servers_from}
 use Rattle.sim_layout.specs.Parts.{client_block_of, server_block_of, ServerIn}
 use Rattle.sim_layout.proofs.PlaceLaws.{client-place, server-place}
-use Rattle.sim_changes.specs.declared.Moved.TheVariants.{Sent, Refused}
 use Rattle.sim_changes.specs.Happens.{happens, Leaves, moved_of}
 use Rattle.sim_changes.specs.Changes.{Becomes, HasClient, HasServer, with_transit, with_clients}
 use Rattle.sim_changes.specs.Inner.{with_client, with_server}
@@ -66,7 +66,7 @@ module _ (w : List ℕ) (k : ℕ) (H : HasClient w (client_no k)) where
 
 module _ (w : List ℕ) (k : ClientId) (H : HasClient w k) {b : Bool} (f : b ≡ (client_place (client_block_of w k)).living) (u : b ≡ true) where
   pub fall_leaves : {w' : List ℕ} → w' ≡ sets w (clients_from + client_block * (k.0 - 1)) (cleared (set (client_block_of w k) 0 0))
-      → Leaves w (Fall k) w' × (Sent 0 ≡ moved_of (happens w (Fall k)))
+      → Leaves w (Fall k) w' × (Ok 0 ≡ moved_of (happens w (Fall k)))
   fall_leaves g =
       rw g
       (leaves_quiet w (Fall k) (fallen (view w) k) refl
@@ -96,7 +96,7 @@ module _ (w : List ℕ) (j : ℕ) (H : HasServer w (server_no j)) where
 module _ (w : List ℕ) (j : ServerId) (H : HasServer w j) where
   module _ {b : Bool} (f : b ≡ (server_place (server_block_of w j)).up) (u : b ≡ false) where
     pub up_leaves : {w' : List ℕ} → w' ≡ sets w (servers_from + server_block * (j.0 - 1)) (set (server_block_of w j) 0 1)
-        → Leaves w (Up j) w' × (Sent 0 ≡ moved_of (happens w (Up j)))
+        → Leaves w (Up j) w' × (Ok 0 ≡ moved_of (happens w (Up j)))
     up_leaves g =
         rw g
         (leaves_quiet w (Up j) (came_up (view w) j) refl
@@ -131,7 +131,7 @@ module _ (w : List ℕ) (j : ServerId) (H : HasServer w j) where
             (R.system ∙ ap (λ (u : System). with_transit u (map (again j) u.transit)) sunk.system)
 
         pub down_leaves : {b : Bool} → b ≡ (server_place (server_block_of w j)).up → b ≡ true
-            → Leaves w (Down j) w₃ × (Sent 0 ≡ moved_of (happens w (Down j)))
+            → Leaves w (Down j) w₃ × (Ok 0 ≡ moved_of (happens w (Down j)))
         down_leaves f u =
             leaves_silent w (Down j) (went_down (view w) j) refl
             (downs (setting_of w).n (enough (setting_of w).m) (view w) j (server_there_in w j H) (server-runs w j H f u))
@@ -147,7 +147,7 @@ module _ (w : List ℕ) (i : MessageNumber) {r s : ℕ} (ok : valid w ≡ true) 
   unfolding view
   F = finds_present i.0 (length_of w) (table (transit_words w)) r at
 
-  pub drop_missing : r ≡ s → Leaves w (Drop i) w × (Refused NoSuchParty ≡ moved_of (happens w (Drop i)))
+  pub drop_missing : r ≡ s → Leaves w (Drop i) w × (Err NoSuchParty ≡ moved_of (happens w (Drop i)))
   unfolding view
   drop_missing e =
       leaves_refused w (Drop i) NoSuchParty ok
@@ -162,7 +162,7 @@ module _ (w : List ℕ) (i : MessageNumber) {r s : ℕ} (ok : valid w ≡ true) 
     numbered_is = F.numbered used
 
     pub drop_leaves : {w' : List ℕ} → Becomes w w' (with_transit (view w) (replaced (slot_in (transit_words w) r).number gone (view w).transit))
-        → Leaves w (Drop i) w' × (Sent 0 ≡ moved_of (happens w (Drop i)))
+        → Leaves w (Drop i) w' × (Ok 0 ≡ moved_of (happens w (Drop i)))
     unfolding view
     drop_leaves {w'} B =
         leaves_quiet w (Drop i) (dropped (view w) i.0) refl

@@ -7,127 +7,123 @@ ghost use Rattle.system.specs.declared.Event.TheVariants.{Try, Exit, Fall, Down,
 ghost use Rattle.sim_layout.specs.Layout.{valid};
 ghost use Rattle.sim_changes.specs.Happens.{happens, Leaves, moved_of};
 
-use ids::{ClientId, Owner, Refusal, ServerId};
-use sim_changes::{ClientAct, Moved, ServerAct};
+use ids::{ClientId, Refusal, ServerId};
+use sim_changes::{ClientAct, ServerAct};
 use system::MessageNumber;
 
 // The events that send nothing.
 
 // The client falls.
-pub fn fall(w: &mut [u32], k: ClientId) -> Moved
+pub fn fall(w: &mut [u32], k: ClientId) -> Result<u32, Refusal>
     requires { valid w.old ≡ true }
     ensures { Leaves w.old (Fall k) w.new × (result ≡ moved_of (happens w.old (Fall k))) }
 {
     if !sim_layout::has_client(w, k) {
-        return Moved::Refused(Refusal::NoSuchParty);
+        return Err(Refusal::NoSuchParty);
     }
     if !sim_layout::is_living(w, k) {
-        return Moved::Refused(Refusal::PartyDown);
+        return Err(Refusal::PartyDown);
     }
     sim_layout::fall_client(w, k);
-    Moved::Sent(0)
+    Ok(0)
 }
 
 // The server comes up.
-pub fn up(w: &mut [u32], j: ServerId) -> Moved
+pub fn up(w: &mut [u32], j: ServerId) -> Result<u32, Refusal>
     requires { valid w.old ≡ true }
     ensures { Leaves w.old (Up j) w.new × (result ≡ moved_of (happens w.old (Up j))) }
 {
     if !sim_layout::has_server(w, j) {
-        return Moved::Refused(Refusal::NoSuchParty);
+        return Err(Refusal::NoSuchParty);
     }
     if sim_layout::is_up(w, j) {
-        return Moved::Refused(Refusal::PartyDown);
+        return Err(Refusal::PartyDown);
     }
     sim_layout::rise_server(w, j);
-    Moved::Sent(0)
+    Ok(0)
 }
 
 // The message is gone, wherever it stands.
-pub fn drop(w: &mut [u32], number: MessageNumber) -> Moved
+pub fn drop(w: &mut [u32], number: MessageNumber) -> Result<u32, Refusal>
     requires { valid w.old ≡ true }
     ensures { Leaves w.old (Drop number) w.new × (result ≡ moved_of (happens w.old (Drop number))) }
 {
     let i = sim_layout::find_present(w, number);
     if i == sim_layout::in_transit(w) {
-        return Moved::Refused(Refusal::NoSuchParty);
+        return Err(Refusal::NoSuchParty);
     }
     sim_changes::remove_message(w, i);
-    Moved::Sent(0)
+    Ok(0)
 }
 
 // The server goes down, and forgets everything.
-pub fn down(w: &mut [u32], j: ServerId) -> Moved
+pub fn down(w: &mut [u32], j: ServerId) -> Result<u32, Refusal>
     requires { valid w.old ≡ true }
     ensures { Leaves w.old (Down j) w.new × (result ≡ moved_of (happens w.old (Down j))) }
 {
     if !sim_layout::has_server(w, j) {
-        return Moved::Refused(Refusal::NoSuchParty);
+        return Err(Refusal::NoSuchParty);
     }
     if !sim_layout::is_up(w, j) {
-        return Moved::Refused(Refusal::PartyDown);
+        return Err(Refusal::PartyDown);
     }
     sim_layout::sink_server(w, j);
     sim_changes::restart_messages(w, j);
     sim_changes::note_down(w, j);
-    Moved::Sent(0)
+    Ok(0)
 }
 
 // The events that send.
 
 // A client begins its step: document 01's try.
-pub fn try_enter(w: &mut [u32], k: ClientId) -> Moved
+pub fn try_enter(w: &mut [u32], k: ClientId) -> Result<u32, Refusal>
     requires { valid w.old ≡ true }
     ensures { Leaves w.old (Try k) w.new × (result ≡ moved_of (happens w.old (Try k))) }
 {
     if !sim_layout::has_client(w, k) {
-        return Moved::Refused(Refusal::NoSuchParty);
+        return Err(Refusal::NoSuchParty);
     }
     sim_changes::client_acts(w, k, ClientAct::Try)
 }
 
 // A client leaves the critical section.
-pub fn exit(w: &mut [u32], k: ClientId) -> Moved
+pub fn exit(w: &mut [u32], k: ClientId) -> Result<u32, Refusal>
     requires { valid w.old ≡ true }
     ensures { Leaves w.old (Exit k) w.new × (result ≡ moved_of (happens w.old (Exit k))) }
 {
     if !sim_layout::has_client(w, k) {
-        return Moved::Refused(Refusal::NoSuchParty);
+        return Err(Refusal::NoSuchParty);
     }
     sim_changes::client_acts(w, k, ClientAct::Exit)
 }
 
 // A server's owner has fallen: document 01's missing owner.
-pub fn miss(w: &mut [u32], j: ServerId) -> Moved
+pub fn miss(w: &mut [u32], j: ServerId) -> Result<u32, Refusal>
     requires { valid w.old ≡ true }
     ensures { Leaves w.old (Miss j) w.new × (result ≡ moved_of (happens w.old (Miss j))) }
 {
     if !sim_layout::has_server(w, j) {
-        return Moved::Refused(Refusal::NoSuchParty);
+        return Err(Refusal::NoSuchParty);
     }
     if !sim_layout::is_up(w, j) {
-        return Moved::Refused(Refusal::PartyDown);
+        return Err(Refusal::PartyDown);
     }
-    let owner = sim_changes::owner_of(w, j);
-    match owner {
-        Owner::Nobody => Moved::Refused(Refusal::NoOwner),
-        Owner::Of(o) => {
-            let k = o.client;
-            if sim_layout::is_living(w, k) {
-                return Moved::Refused(Refusal::OwnerLives);
-            }
-            sim_changes::server_steps(w, j, ServerAct::Suspect)
-        }
+    let Some(owner) = sim_changes::owner_of(w, j) else {
+        return Err(Refusal::NoOwner);
+    };
+    if sim_layout::is_living(w, owner.client) {
+        return Err(Refusal::OwnerLives);
     }
+    sim_changes::server_steps(w, j, ServerAct::Suspect)
 }
 
 // A server asks its owner.
-pub fn check(w: &mut [u32], j: ServerId) -> Moved
+pub fn check(w: &mut [u32], j: ServerId) -> Result<u32, Refusal>
     requires { valid w.old ≡ true }
     ensures { Leaves w.old (Check j) w.new × (result ≡ moved_of (happens w.old (Check j))) }
 {
     if !sim_layout::has_server(w, j) {
-        return Moved::Refused(Refusal::NoSuchParty);
+        return Err(Refusal::NoSuchParty);
     }
     sim_changes::server_acts(w, j, ServerAct::Check)
 }

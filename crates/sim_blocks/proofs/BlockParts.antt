@@ -4,13 +4,12 @@ use native.Mathlib.Omega.{arith}
 use mathlib.Core.Path.{◌≡◌, refl, sym, ap, ◌∙◌}
 use mathlib.Core.Bool.{Bool, true, false}
 use mathlib.Core.List.{List, [], ◌∷◌, ◌++◌, append-nil, append_assoc}
-use mathlib.Core.Option.{none, some}
 use lib.Dec.{leb}
 use lib.ListN.{length, get_or, take, drop, set, length-drop, length-take, replicate, take-append-drop}
 use lib.Seq.{sets, get_or-set_other, length-sets, sets-eq, drop-length, drop-drop, get_or-drop, take-length, take_all, length-take-le, drop-append-le}
 use borrow.Author.Tests.{le-leb, lt-leb}
 use Rattle.ids.specs.Requests.{no_request}
-use Rattle.std.specs.Prelude.{if◌then◌else◌}
+use Rattle.std.specs.Prelude.{if◌then◌else◌, Some, None}
 use Rattle.ids.specs.declared.Request.{Request}
 use Rattle.server.specs.Record as server
 use Rattle.server.specs.declared.Server.{Server}
@@ -94,7 +93,7 @@ module _ (ws : List ℕ) (head count clients : ℕ) where
     naming_all h = passing-all (named_pair clients) no_request requests count i S.passing h
 
 -- the words of a record are read back as that record
-pub read_in : {A : Type 0} (x : Bool) (y z : A) → (if x then some y else none) ≡ some z → (x ≡ true) × (y ≡ z)
+pub read_in : {A : Type 0} (x : Bool) (y z : A) → (if x then Some y else None) ≡ Some z → (x ≡ true) × (y ≡ z)
 read_in true y z e = (refl, (cc))
 read_in false y z e = let w : ◌≡◌ {A = ℕ} 0 1 = cc in absurd (omega arith)
 

@@ -6,7 +6,7 @@ use mathlib.Core.List.{List, map}
 use lib.ListN.{replicate, length}
 use lib.Seq.{sets}
 use borrow.Author.Tests.{leb-true, le-leb, eq-eqb}
-use Rattle.std.specs.Prelude.{if◌then◌else◌}
+use Rattle.std.specs.Prelude.{if◌then◌else◌, None, Option}
 use Rattle.ids.specs.Lists.{every}
 use Rattle.ids.specs.Limits.{valid_owner}
 use Rattle.ids.specs.Requests.{is_request}
@@ -14,8 +14,6 @@ use Rattle.ids.specs.declared.ClientId.{ClientId}
 use Rattle.ids.specs.declared.ServerId.{ServerId}
 use Rattle.ids.specs.declared.Timestamp.{Timestamp}
 use Rattle.ids.specs.declared.Request.{Request}
-use Rattle.ids.specs.declared.Owner.{Owner}
-use Rattle.ids.specs.declared.Owner.TheVariants.{Nobody}
 use Rattle.wire.specs.Step.{Step, stepped}
 use Rattle.wire.specs.Format as format
 use Rattle.wire.specs.declared.Message.TheVariants.{Response, Check}
@@ -36,12 +34,12 @@ use Rattle.sim_blocks.proofs.ClientLaws.{Frame, stored_frame, ClientIs, remainde
 use Rattle.system.specs.Numbered.{client_no}
 
 -- no response names nobody
-named_none : (clients n : ℕ) → every (named clients) (replicate n Nobody) ≡ true
+named_none : (clients n : ℕ) → every (named clients) (replicate n None) ≡ true
 named_none clients zero = refl
 named_none clients (suc n) = named_none clients n
 
 -- a RESPONSE that names one of the clients leaves responses that do, and a section that is the remainder only if it was
-module _ (wins : Quorum) (n clients : ℕ) (k : ClientId) (j : ServerId) (o : Owner) (v : named clients o ≡ true) where
+module _ (wins : Quorum) (n clients : ℕ) (k : ClientId) (j : ServerId) (o : Option Request) (v : named clients o ≡ true) where
   judged : (a b : Bool) (x y z : Step State) → every (named clients) x.state.responses ≡ true
       → every (named clients) y.state.responses ≡ true → every (named clients) z.state.responses ≡ true
       → every (named clients) (if a then (if b then x else y) else z).state.responses ≡ true
@@ -49,15 +47,15 @@ module _ (wins : Quorum) (n clients : ℕ) (k : ClientId) (j : ServerId) (o : Ow
   judged true false x y z f g h = g
   judged false b x y z f g h = h
 
-  trying : (c : State) (l : List Owner) → every (named clients) l ≡ true → every (named clients) (judge wins n k c l).state.responses ≡ true
+  trying : (c : State) (l : List (Option Request)) → every (named clients) l ≡ true → every (named clients) (judge wins n k c l).state.responses ≡ true
   unfolding judge
   trying c l h =
       judged (wins (map filled l)) (wins (map (is_request (record { client = k; timestamp = c.timestamp })) l)) _ _ _ h (named_none clients n) h
 
-  abbrev with : Section → Timestamp → Timestamp → List Owner → State
+  abbrev with : Section → Timestamp → Timestamp → List (Option Request) → State
   with a t seen l = record { section = a; timestamp = t; seen = seen; responses = l }
 
-  by_section : (a : Section) (t seen : Timestamp) (l : List Owner) → every (named clients) l ≡ true
+  by_section : (a : Section) (t seen : Timestamp) (l : List (Option Request)) → every (named clients) l ≡ true
       → every (named clients) (upon_response wins n k j o (with a t seen l)).state.responses ≡ true
   unfolding upon_response
   by_section Remainder t seen l h = h
@@ -76,7 +74,7 @@ module _ (wins : Quorum) (n clients : ℕ) (k : ClientId) (j : ServerId) (o : Ow
   never_left true false x y z f g h = g
   never_left false b x y z f g h = h
 
-  left_by : (a : Section) (t seen : Timestamp) (l : List Owner)
+  left_by : (a : Section) (t seen : Timestamp) (l : List (Option Request))
       → is_remainder (upon_response wins n k j o (with a t seen l)).state.section ≡ is_remainder a
   unfolding upon_response judge
   left_by Remainder t seen l = refl
@@ -141,7 +139,7 @@ module _ (n m clients k : ℕ) (b : List ℕ) (ok : valid_client_block n m clien
   for_me : (j : ServerId) → j.0 ≤ n → for_client its.head (record { 0 = k }) j ≡ true
   for_me j h = rw (B.number, B.servers, eq-eqb k k refl, le-leb j.0 n h)
 
-  pub response-outcome : (j : ServerId) (o : Owner) → format.valid (Response (record { 0 = k }) j o) ≡ true → j.0 ≤ n
+  pub response-outcome : (j : ServerId) (o : Option Request) → format.valid (Response (record { 0 = k }) j o) ≡ true → j.0 ≤ n
       → message_outcome (client_from (client_record b)) (Response (record { 0 = k }) j o) ≡ stepped
       (responds (enough m) n (record { 0 = k }) j o (client_place b).state)
   unfolding message_outcome_up_to
@@ -174,7 +172,7 @@ module _ (n m clients k : ℕ) (b : List ℕ) (ok : valid_client_block n m clien
   exits-block z =
       stored-client n m clients k b ok (exits n me at.state).state (exits-fits n m me at.state fits.ranges) (named_none clients n) (λ e. z)
 
-  pub responds-block : (j : ServerId) (o : Owner) → valid_owner o ≡ true → named clients o ≡ true
+  pub responds-block : (j : ServerId) (o : Option Request) → valid_owner o ≡ true → named clients o ≡ true
       → ClientIs n m clients k (written n m k b (responds (enough m) n (record { 0 = k }) j o (client_place b).state).state)
       (placed b (responds (enough m) n (record { 0 = k }) j o (client_place b).state).state)
   responds-block j o v w =

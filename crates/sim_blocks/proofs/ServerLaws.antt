@@ -1,4 +1,6 @@
 -- What a server's block becomes where a record is written in it: the same place with the record's state, and valid again.
+use mathlib.Core.Logic.{tt}
+use Rattle.std.specs.Prelude.{None}
 use Prim.Native.Nat.{ℕ, ◌≤◌}
 use native.Mathlib.Omega.{arith}
 use mathlib.Core.Path.{◌≡◌, refl, ap, ◌∙◌, sym}
@@ -25,7 +27,6 @@ use Rattle.sim_blocks.proofs.BlockParts.{read_in, covered, server-long, first-ke
 use Rattle.sim_blocks.proofs.Facts.{ServerBlock, server-facts, server-block, server_sizes}
 use Rattle.system.specs.Numbered.{server_no}
 use Rattle.server.specs.Calls.{empty_server_in}
-use Rattle.ids.specs.declared.Owner.TheVariants.{Nobody}
 
 -- these words are a valid block, which is place p
 pub record ServerIs (n clients j : ℕ) (b : List ℕ) (p : ServerPlace) : Type 0 where
@@ -42,7 +43,7 @@ server-written n j b q = sets b 1 (server_words (server_of n j q))
 -- the record of a new server, and of one that forgot
 pub empty-row : (n j : ℕ) → empty_server_in queue_words n (server_no j) ≡ server_of n j idle
 empty-row n j = let e = row_of-none queue_words 0 (omega arith) in λ i. server.server_of
-    (record { n = n; id = server_no j; votes = record { owner = Nobody; len = 0 } }) (sym e i)
+    (record { n = n; id = server_no j; votes = record { owner = None; len = 0 } }) (sym e i)
 
 module _ (n clients j : ℕ) (b : List ℕ) (size : length b ≡ server_block) (bit : get_or b 0 0 ≤ 1) (sizes : server.valid_sizes n (record { 0 = j }) ≡ true) where
   module _ (q : State) (g : Good q) (names : every (named_pair clients) (candidates q) ≡ true) (short : length q.queue ≤ system_clients) where

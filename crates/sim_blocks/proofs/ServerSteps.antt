@@ -1,4 +1,5 @@
 -- The three steps of a server, on a valid block: what its call does, what it sends, and what the block is with the step's record.
+use Rattle.std.specs.Prelude.{Some}
 use Prim.Native.Nat.{ℕ, ◌*◌, ◌≤◌}
 use native.Mathlib.Omega.{arith}
 use mathlib.Core.Path.{◌≡◌, refl, ap, ◌∙◌}
@@ -13,7 +14,6 @@ use Rattle.ids.specs.declared.ClientId.{ClientId}
 use Rattle.ids.specs.declared.ServerId.{ServerId}
 use Rattle.ids.specs.declared.Timestamp.{Timestamp}
 use Rattle.ids.specs.declared.Request.{Request}
-use Rattle.ids.specs.declared.Owner.TheVariants.{Of}
 use Rattle.wire.specs.Step.{Step, stepped}
 use Rattle.wire.specs.Format as format
 use Rattle.server_votes.specs.declared.Tag.{Tag}
@@ -135,11 +135,11 @@ module _ (n clients j : ℕ) (b : List ℕ) (ok : valid_server_block n clients (
       (2 * length (receive me tag r at).state.queue) (omega (arith, row-long)) in
       rw (B.valid, w, received_as its tag k me t, shows, B.number, eq-eqb j j refl, f)
 
-  pub suspect-outcome : (o : Request) → (server_place b).state.owner ≡ Of o
+  pub suspect-outcome : (o : Request) → (server_place b).state.owner ≡ Some o
       → suspect_outcome (server_from (server_record b)) ≡ stepped (suspect (record { 0 = j }) (server_place b).state)
   unfolding suspect_outcome
   suspect-outcome o e =
-      let f : its.head.votes.owner ≡ Of o = ap (λ (q : State). q.owner) shows ∙ e in
+      let f : its.head.votes.owner ≡ Some o = ap (λ (q : State). q.owner) shows ∙ e in
       rw (B.valid, shows, f, B.number)
 
   pub check-outcome : check_outcome (server_from (server_record b)) ≡ stepped (check (record { 0 = j }) (server_place b).state)

@@ -1,13 +1,12 @@
 -- A client and a server of a simulation as words: a block each. 0 is none.
 -- Client: living (1) or fallen (0), its record, and a flag for each server that a simulation can have, 1 if it was down in the epoch.
 -- Server: up (1) or down (0), and its record.
-use Rattle.std.specs.Prelude.{ℕ, suc, ◌+◌, ◌*◌, Bool, true, ◌&&◌, ◌||◌, List, [], ◌∷◌, eqb, leb, length, get_or, take, drop, replicate, if◌then◌else◌}
+use Rattle.std.specs.Prelude.{ℕ, suc, ◌+◌, ◌*◌, Bool, true, ◌&&◌, ◌||◌, List, [], ◌∷◌, eqb, leb, length, get_or, take, drop, replicate, if◌then◌else◌, Option}
 use Rattle.std.proofs.lemmas.List.Edits.{sets}
 use Rattle.ids.specs.Lists.{every}
 use Rattle.ids.specs.Requests.{by_owner}
 use Rattle.ids.specs.declared.ClientId.{ClientId}
 use Rattle.ids.specs.declared.ServerId.{ServerId}
-use Rattle.ids.specs.declared.Owner.{Owner}
 use Rattle.ids.specs.declared.Request.{Request}
 use Rattle.server_votes.specs.Figure1.{candidates}
 use Rattle.server.specs.Record as server
@@ -83,7 +82,7 @@ abbrev pub zero_word : ℕ → Bool
 zero_word x = eqb x 0
 
 -- an owner or a waiting request names one of so many clients
-abbrev pub named : ℕ → Owner → Bool
+abbrev pub named : ℕ → Option Request → Bool
 named clients o = by_owner o true (λ r. leb r.client.0 clients)
 
 abbrev pub named_pair : ℕ → Request → Bool

@@ -1,12 +1,11 @@
 -- Which refusal an event gives, or what it leaves, test by test in the row's order.
+use Rattle.std.specs.Prelude.{Some, None}
 use mathlib.Core.Path.{◌≡◌}
 use Prim.Native.Nat.{ℕ}
 use mathlib.Core.Bool.{true, false}
-use mathlib.Core.Option.{none, some}
 use Rattle.ids.specs.declared.ClientId.{ClientId}
 use Rattle.ids.specs.declared.ServerId.{ServerId}
 use Rattle.ids.specs.declared.Request.{Request}
-use Rattle.ids.specs.declared.Owner.TheVariants.{Nobody, Of}
 use Rattle.ids.specs.declared.Refusal.TheVariants.{NoSuchParty, PartyDown, NoOwner, OwnerLives, WrongSection, TimestampsSpent}
 use Rattle.wire.specs.Step.{refused, stepped}
 use Rattle.wire.specs.declared.Message.{Message}
@@ -118,26 +117,26 @@ module _ (n : ℕ) (wins : Quorum) (u : System) where
         unfolding event
         checks = rw (there, up)
 
-        pub misses_nobody : (server_at u j).state.owner ≡ Nobody → event n wins u (Miss j) ≡ refused NoOwner
+        pub misses_nobody : (server_at u j).state.owner ≡ None → event n wins u (Miss j) ≡ refused NoOwner
         unfolding event
         misses_nobody h = rw (there, up, h)
 
-        pub misses-living : (o : Request) → (server_at u j).state.owner ≡ Of o → (client_at u o.client).living ≡ true
+        pub misses-living : (o : Request) → (server_at u j).state.owner ≡ Some o → (client_at u o.client).living ≡ true
             → event n wins u (Miss j) ≡ refused OwnerLives
         unfolding event
         misses-living o h l = rw (there, up, h, l)
 
-        pub misses : (o : Request) → (server_at u j).state.owner ≡ Of o → (client_at u o.client).living ≡ false
+        pub misses : (o : Request) → (server_at u j).state.owner ≡ Some o → (client_at u o.client).living ≡ false
             → event n wins u (Miss j) ≡ stepped (suspected u j)
         unfolding event
         misses o h l = rw (there, up, h, l)
 
   module _ (i : MessageNumber) where
-    pub takes-nothing : pending i.0 u.transit ≡ none → event n wins u (Take i) ≡ refused NoSuchParty
+    pub takes-nothing : pending i.0 u.transit ≡ None → event n wins u (Take i) ≡ refused NoSuchParty
     unfolding event
     takes-nothing h = rw h
 
-    pub takes : (m : Message) → pending i.0 u.transit ≡ some m → event n wins u (Take i) ≡ deliver n wins u i.0 m
+    pub takes : (m : Message) → pending i.0 u.transit ≡ Some m → event n wins u (Take i) ≡ deliver n wins u i.0 m
     unfolding event
     takes m h = rw h
 

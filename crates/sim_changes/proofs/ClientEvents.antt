@@ -1,4 +1,7 @@
 -- The events in which a client makes a step: its call's outcome is the event's, and what is stored and sent is what the event leaves.
+use Rattle.ids.specs.declared.Request.{Request}
+use Rattle.wire.specs.declared.Sent.{Sent}
+use Rattle.std.specs.Prelude.{Ok, Err, Result, Some, None, Option}
 use mathlib.Core.Path.{◌≡◌, refl, sym, ap, subst, ◌∙◌}
 use Prim.Native.Nat.{ℕ, zero, suc, zero-le, ◌+◌, ◌*◌, ◌-◌, ◌≤◌, max}
 use native.Mathlib.Omega.{arith}
@@ -12,15 +15,11 @@ use Rattle.ids.specs.Limits.{max_servers}
 use Rattle.ids.specs.declared.ClientId.{ClientId}
 use Rattle.ids.specs.declared.ServerId.{ServerId}
 use Rattle.ids.specs.declared.Timestamp.{Timestamp}
-use Rattle.ids.specs.declared.Owner.{Owner}
-use Rattle.ids.specs.declared.Owner.TheVariants.{Nobody, Of}
 use Rattle.ids.specs.declared.Refusal.{Refusal}
 use Rattle.ids.specs.declared.Refusal.TheVariants.{WrongSection, TimestampsSpent, PartyDown, SystemFull}
 use Rattle.ids.proofs.Choice.{decided, holds, fails}
 use Rattle.wire.specs.Format.{owner_client}
 use Rattle.wire.specs.Step.{Step, Outcome, refused, stepped, with_room, answer_of, sent_into}
-use Rattle.wire.specs.declared.Answer.{Answer}
-use Rattle.wire.specs.declared.Answer.TheVariants as answer
 use Rattle.wire.specs.declared.Message.TheVariants.{Response, Check}
 use Rattle.client_responses.specs.Figure1 as client
 use Rattle.client_responses.specs.Figure1.{enough, is_remainder, is_critical, may_try}
@@ -50,7 +49,6 @@ use Rattle.sim_layout.specs.Parts.{client_block_of, ClientIn}
 use Rattle.sim_layout.proofs.PlaceLaws.{client-there}
 use Rattle.sim_changes.specs.declared.ClientAct.{ClientAct}
 use Rattle.sim_changes.specs.declared.ClientAct.TheVariants as act
-use Rattle.sim_changes.specs.declared.Moved.TheVariants.{Sent, Refused}
 use Rattle.sim_changes.specs.Happens.{happens, Leaves, moved_of}
 use Rattle.sim_changes.specs.Changes.{Becomes, HasClient, HasSlot, Pends, with_clients, with_transit, number_at}
 use Rattle.sim_changes.specs.Inner.{Sendable, has_room, with_client, sending, out_bytes, ClientAsks, client_outcome, client_step, client_rest, client_gone, client_downs, ClientStores, client_stored}
@@ -162,7 +160,7 @@ module _ (w : List ℕ) (k : ClientId) where
     living-here : b ≡ (client_at (view w) k).living
     living-here = sym (living-is w k.0 (act-client a M) b f)
 
-    pub client-fallen : b ≡ false → Leaves w (client_event w k a) w × (Refused PartyDown ≡ moved_of (happens w (client_event w k a)))
+    pub client-fallen : b ≡ false → Leaves w (client_event w k a) w × (Err PartyDown ≡ moved_of (happens w (client_event w k a)))
     client-fallen u = leaves_refused w (client_event w k a) PartyDown (act-client a M).valid (act-fallen a M (fails b _ living-here u))
 
     pub client-lives : b ≡ true → (client_at (view w) k).living ≡ true
@@ -236,7 +234,7 @@ module _ (w : List ℕ) (k : ClientId) where
         denied WrongSection (exit_outside w k H h) (exits-outside n (enough m) (view w) k (client_there_in w k H) lives h))
         (decided (is_critical (client_at (view w) k).state.section))
 
-    heard_as : (H : HasClient w k) (j : ServerId) (o : Owner)
+    heard_as : (H : HasClient w k) (j : ServerId) (o : Option Request)
         → client.responds (enough (its w k H).head.m) (its w k H).head.n (its w k H).head.id j o (shown (its w k H))
         ≡ client.responds (enough m) n k j o (client_at (view w) k).state
     heard_as H j o = let B = its-facts w k H in rw (its-state w k H, B.threshold, B.servers, B.number)
@@ -268,18 +266,18 @@ turned_record : (h : Head) (row : List ℕ) (x : Outcome client.State) (o : List
 turned_record h row x o t left l A = let p = A.0 in let q = A.1 in λ i. record { client = client_of (p i).head (q i); answer = (p i).answer }
 
 -- what a refused call answers
-answer-refused : {A : Type 0} (room : ℕ) (o : Outcome A) (y x : Refusal) → o ≡ refused y → (a : Answer) → a ≡ answer_of (with_room room o)
-    → a ≡ answer.Refused x → x ≡ y
+answer-refused : {A : Type 0} (room : ℕ) (o : Outcome A) (y x : Refusal) → o ≡ refused y → (a : Result Sent Refusal) → a ≡ answer_of (with_room room o)
+    → a ≡ Err x → x ≡ y
 unfolding with_room
 answer-refused room o y x e a f g =
-    let z : a ≡ answer.Refused y = rw e at f in
+    let z : a ≡ Err y = rw e at f in
     cc
 
-answer_never : {A : Type 0} {P : Type 0} (room : ℕ) (o : Outcome A) (y : Refusal) → o ≡ refused y → (a : Answer) → a ≡ answer_of (with_room room o)
-    → (count size : ℕ) → a ≡ answer.Sent count size → P
+answer_never : {A : Type 0} {P : Type 0} (room : ℕ) (o : Outcome A) (y : Refusal) → o ≡ refused y → (a : Result Sent Refusal) → a ≡ answer_of (with_room room o)
+    → (count size : ℕ) → a ≡ Ok (record { messages = count; bytes = size }) → P
 unfolding with_room
 answer_never room o y e a f count size g =
-    let z : a ≡ answer.Refused y = rw e at f in
+    let z : a ≡ Err y = rw e at f in
     let q : ◌≡◌ {A = ℕ} 0 1 = cc in
     absurd (omega arith)
 
@@ -338,39 +336,39 @@ module _ (w : List ℕ) (k : ClientId) (a : ClientAct) (M : ClientMay w k a) (li
         all = rest-long w k a M;
       }
 
-  refused_by : Verdict w k a → (x : Refusal) → r.answer ≡ answer.Refused x
-      → Leaves w (client_event w k a) w × (Refused x ≡ moved_of (happens w (client_event w k a)))
+  refused_by : Verdict w k a → (x : Refusal) → r.answer ≡ Err x
+      → Leaves w (client_event w k a) w × (Err x ≡ moved_of (happens w (client_event w k a)))
   refused_by (denied y out is) x f =
       let e : x ≡ y = answer-refused _ (client_outcome a mine) y x out r.answer answers f in
       rw e (leaves_refused w (client_event w k a) y (act-client w k a M).valid is)
   refused_by (allowed out is S) x f = call_refused (accepted_by_lem out is S).call x f
 
-  pub client-refused : (x : Refusal) → r.answer ≡ answer.Refused x
-      → Leaves w (client_event w k a) w × (Refused x ≡ moved_of (happens w (client_event w k a)))
+  pub client-refused : (x : Refusal) → r.answer ≡ Err x
+      → Leaves w (client_event w k a) w × (Err x ≡ moved_of (happens w (client_event w k a)))
   client-refused x f = refused_by (verdict w k lives a M) x f
 
-  called_by : Verdict w k a → (count size : ℕ) → r.answer ≡ answer.Sent count size → ClientCalled w k a r row' bytes'
+  called_by : Verdict w k a → (count size : ℕ) → r.answer ≡ Ok (record { messages = count; bytes = size }) → ClientCalled w k a r row' bytes'
   called_by (denied y out is) count size f = answer_never _ (client_outcome a mine) y out r.answer answers count size f
   called_by (allowed out is S) count size f = accepted_by_lem out is S
 
-  pub client-called : (count size : ℕ) → r.answer ≡ answer.Sent count size → ClientCalled w k a r row' bytes'
+  pub client-called : (count size : ℕ) → r.answer ≡ Ok (record { messages = count; bytes = size }) → ClientCalled w k a r row' bytes'
   client-called count size f = called_by (verdict w k lives a M) count size f
 
 -- Its answer counts so many messages, and b says whether there is room for them.
 pub record ClientTested (w : List ℕ) (k : ClientId) (a : ClientAct) (r : Turned) (row bytes : List ℕ) (count : ℕ) (b : Bool) : Type 0 where
   pub called : ClientCalled w k a r row bytes
   pub size : ℕ
-  pub answered : r.answer ≡ answer.Sent count size
+  pub answered : r.answer ≡ Ok (record { messages = count; bytes = size })
   pub room : b ≡ has_room w (client_gone a) count
 
 pub client-few : {w : List ℕ} {k : ClientId} {a : ClientAct} {r : Turned} {row bytes : List ℕ} → ClientCalled w k a r row bytes
-    → (count size : ℕ) → r.answer ≡ answer.Sent count size → count ≤ system_servers
+    → (count size : ℕ) → r.answer ≡ Ok (record { messages = count; bytes = size }) → count ≤ system_servers
 client-few C count size f = call_few C.call count size f
 
 -- the laws of each way out: words w₁ have the client's record, and words w₂ its messages
 module _ {w : List ℕ} {k : ClientId} {a : ClientAct} {r : Turned} {row bytes : List ℕ} {count : ℕ} {b : Bool}
     (T : ClientTested w k a r row bytes count b) where
-  pub client-full : b ≡ false → Leaves w (client_event w k a) w × (Refused SystemFull ≡ moved_of (happens w (client_event w k a)))
+  pub client-full : b ≡ false → Leaves w (client_event w k a) w × (Err SystemFull ≡ moved_of (happens w (client_event w k a)))
   client-full t = call_full T.called.call count T.size T.answered b T.room t
 
   module _ (t : b ≡ true) (w₁ : List ℕ) (B : Becomes w w₁ (client_stored w k a)) where
@@ -378,7 +376,7 @@ module _ {w : List ℕ} {k : ClientId} {a : ClientAct} {r : Turned} {row bytes :
     client_sendable = call_sendable T.called.call count T.size T.answered b T.room t w₁ _ B T.called.all refl
 
     pub client-sent : (w₂ : List ℕ) → Becomes w₁ w₂ (sending (view w₁) (messages_in count bytes))
-        → Leaves w (client_event w k a) w₂ × (Sent count ≡ moved_of (happens w (client_event w k a)))
+        → Leaves w (client_event w k a) w₂ × (Ok count ≡ moved_of (happens w (client_event w k a)))
     unfolding after
     client-sent w₂ D = call_noted T.called.call count T.size T.answered b T.room t w₁ w₂ _ B D refl
 
@@ -390,9 +388,9 @@ noted {w} {w'} u B =
     let z : u ≡ with_clients u u.clients = λ i. record { clients = u.clients; servers = u.servers; transit = u.transit; sent = u.sent; most = e i } in
     record { system = B.system ∙ z; setting = B.setting; again = B.again }
 
-named-owner : (number : ℕ) (o : Owner) → owner_client o ≤ number → named number o ≡ true
-named-owner number Nobody h = refl
-named-owner number (Of r) h = le-leb r.client.0 number h
+named-owner : (number : ℕ) (o : Option Request) → owner_client o ≤ number → named number o ≡ true
+named-owner number None h = refl
+named-owner number (Some r) h = le-leb r.client.0 number h
 
 module _ (w : List ℕ) (k : ClientId) (c : Client) where
   -- client k's block with its record
@@ -438,7 +436,7 @@ module _ (w : List ℕ) (k : ClientId) (c : Client) where
       let E = and_then (λ u. with_client u k (g (client_at u k))) B (rw B.setting at D) in
       noted _ (rw (at-put w k H (view w) p (client_there_in w k H), put-put, S.lives) at E)
 
-  response_stores : (i : ℕ) (j : ServerId) (o : Owner) → ClientStores w k (act.Response i j o) c → (w₁ : List ℕ)
+  response_stores : (i : ℕ) (j : ServerId) (o : Option Request) → ClientStores w k (act.Response i j o) c → (w₁ : List ℕ)
       → Becomes w w₁ (with_transit (view w) (client_rest w (act.Response i j o)))
       → (w₂ : List ℕ) → puts w₁ w₂ → Becomes w w₂ (client_stored w k (act.Response i j o))
   response_stores i j o S w₁ B w₂ z =
@@ -503,13 +501,13 @@ module _ {w : List ℕ} {k : ClientId} {c : Client} {a : ClientAct} (S : ClientS
     exit_stored e B = rw e (exit_stores w k c (rw e at S) w₁ B w₂ z)
 
     module _ (i : ℕ) (B : Becomes w w₁ (with_transit (view w) (replaced (slot_in (transit_words w) i).number gone (view w).transit))) where
-      pub response-stored : (j : ServerId) (o : Owner) → a ≡ act.Response i j o → Becomes w w₂ (client_stored w k a)
+      pub response-stored : (j : ServerId) (o : Option Request) → a ≡ act.Response i j o → Becomes w w₂ (client_stored w k a)
       response-stored j o e = rw e (response_stores w k c i j o (rw e at S) w₁ B w₂ z)
 
       pub check-stored : (j : ServerId) (t : Timestamp) → a ≡ act.Check i j t → Becomes w w₂ (client_stored w k a)
       check-stored j t e = rw e (check_stores w k c i j t (rw e at S) w₁ B w₂ z)
 
-  pub response-slot : (i : ℕ) (j : ServerId) (o : Owner) → a ≡ act.Response i j o → HasSlot w i
+  pub response-slot : (i : ℕ) (j : ServerId) (o : Option Request) → a ≡ act.Response i j o → HasSlot w i
   response-slot i j o e = let T = rw e at S in T.may.slot
 
   pub check-slot : (i : ℕ) (j : ServerId) (t : Timestamp) → a ≡ act.Check i j t → HasSlot w i

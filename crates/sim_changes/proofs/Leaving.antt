@@ -1,4 +1,5 @@
 -- From what the system's event gives to what the words are afterwards and what the call answers: a refused event, and one that sends nothing.
+use Rattle.std.specs.Prelude.{Ok, Err}
 use mathlib.Core.Path.{◌≡◌, refl, ◌∙◌}
 use Prim.Native.Nat.{ℕ, ◌≤◌, max}
 use native.Mathlib.Omega.{arith}
@@ -14,7 +15,6 @@ use Rattle.system.specs.Events.{event, with_places}
 use Rattle.system.specs.Runs.{after}
 use Rattle.sim_layout.specs.Layout.{setting_of, view, valid}
 use Rattle.sim_layout.proofs.ValidLaws.{facts}
-use Rattle.sim_changes.specs.declared.Moved.TheVariants.{Sent, Refused}
 use Rattle.sim_changes.specs.Happens.{happens, Leaves, moved_of}
 use Rattle.sim_changes.specs.Changes.{Becomes}
 
@@ -32,7 +32,7 @@ after_is w s same w' B =
 
 module _ (w : List ℕ) (e : Event) where
   pub leaves_refused : (x : Refusal) → valid w ≡ true → event (setting_of w).n (enough (setting_of w).m) (view w) e ≡ refused x
-      → Leaves w e w × (Refused x ≡ moved_of (happens w e))
+      → Leaves w e w × (Err x ≡ moved_of (happens w e))
   unfolding with_places after
   leaves_refused x ok h = (record { system = rw h; setting = refl; again = ok; kept = λ z. refl }, rw h)
 
@@ -41,9 +41,9 @@ module _ (w : List ℕ) (e : Event) where
     unfolding with_places
     silent = rw (h, none)
 
-    pub leaves_silent : (w' : List ℕ) → Becomes w w' (after (view w) (stepped s)) → Leaves w e w' × (Sent 0 ≡ moved_of (happens w e))
+    pub leaves_silent : (w' : List ℕ) → Becomes w w' (after (view w) (stepped s)) → Leaves w e w' × (Ok 0 ≡ moved_of (happens w e))
     leaves_silent w' B =
         (record { system = rw silent B.system; setting = B.setting; again = B.again; kept = λ z. clash true refl (rw silent at z) }, rw (silent, none))
 
-    pub leaves_quiet : s.state.most ≡ (view w).most → (w' : List ℕ) → Becomes w w' s.state → Leaves w e w' × (Sent 0 ≡ moved_of (happens w e))
+    pub leaves_quiet : s.state.most ≡ (view w).most → (w' : List ℕ) → Becomes w w' s.state → Leaves w e w' × (Ok 0 ≡ moved_of (happens w e))
     leaves_quiet same w' B = leaves_silent w' (record { system = B.system ∙ after_is w s same w' B; setting = B.setting; again = B.again })

@@ -1,4 +1,5 @@
 -- Messages are sent: whether there is room for them, and what the words become when they are posted.
+use Rattle.std.specs.Prelude.{Some, None, Option}
 use mathlib.Core.Path.{◌≡◌, refl, sym, ap, ◌∙◌}
 use Prim.Native.Nat.{ℕ, suc, ◌+◌, ◌-◌, ◌≤◌, ◌<◌}
 use native.Mathlib.Omega.{arith}
@@ -16,8 +17,6 @@ use Rattle.ids.proofs.ListLaws.{every-parts}
 use Rattle.wire.specs.Format as format
 use Rattle.wire.specs.declared.Message.{Message}
 use Rattle.server_votes.specs.Places.{mails}
-use Rattle.server_votes.specs.declared.Mail.{Mail}
-use Rattle.server_votes.specs.declared.Mail.TheVariants.{Nothing, One}
 use Rattle.server.specs.Parts.{three_mails}
 use Rattle.system.specs.Places.{System}
 use Rattle.system.specs.Transit.{numbered}
@@ -221,18 +220,18 @@ module _ (w : List ℕ) (a b : List Message) (C : CanSend w (a ++ b)) where
         }
 
 -- one mail, or none
-module _ (w : List ℕ) (m : Mail) (C : CanSend w (mails m)) where
-  pub mail_asked : (x : Message) → m ≡ One x → CanSend w (x ∷ [])
+module _ (w : List ℕ) (m : Option Message) (C : CanSend w (mails m)) where
+  pub mail_asked : (x : Message) → m ≡ Some x → CanSend w (x ∷ [])
   mail_asked x e = rw e at C
 
-  pub mail_sent : (x : Message) → m ≡ One x → (w₁ : List ℕ) → Becomes w w₁ (sending (view w) (x ∷ [])) → Becomes w w₁ (sending (view w) (mails m))
+  pub mail_sent : (x : Message) → m ≡ Some x → (w₁ : List ℕ) → Becomes w w₁ (sending (view w) (x ∷ [])) → Becomes w w₁ (sending (view w) (mails m))
   mail_sent x e w₁ B = rw e B
 
-  pub mail_none : m ≡ Nothing → Becomes w w (sending (view w) (mails m))
+  pub mail_none : m ≡ None → Becomes w w (sending (view w) (mails m))
   mail_none e = rw e (sending-none w C.valid)
 
 -- three mails, one after another
-module _ (w : List ℕ) (a b c : Mail) (C : CanSend w (three_mails a b c)) where
+module _ (w : List ℕ) (a b c : Option Message) (C : CanSend w (three_mails a b c)) where
   all_three : CanSend w (mails a ++ (mails b ++ mails c))
   unfolding three_mails
   all_three = rw (append_assoc (mails a) (mails b) (mails c)) at C

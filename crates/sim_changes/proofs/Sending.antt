@@ -1,4 +1,6 @@
 -- Events that send: an accepted step whose messages have room is what the words become, one whose messages have none is refused 19.
+use mathlib.Core.Logic.{tt}
+use Rattle.wire.specs.declared.Sent.{Sent}
 use mathlib.Core.Path.{◌≡◌, refl, sym, ap, ◌∙◌}
 use Prim.Native.Nat.{ℕ, ◌+◌, ◌-◌, ◌≤◌}
 use native.Mathlib.Omega.{arith}
@@ -8,14 +10,12 @@ use lib.Dec.{eqb, leb}
 use lib.ListN.{length, length-append}
 use lib.Seq.{sets}
 use borrow.Author.Tests.{ne_eqb, le-ltb}
-use Rattle.std.specs.Prelude.{if◌then◌else◌}
+use Rattle.std.specs.Prelude.{if◌then◌else◌, Ok, Err, ⊤}
 use Rattle.ids.specs.declared.Refusal.{Refusal}
 use Rattle.ids.specs.declared.Refusal.TheVariants.{SystemFull}
 use Rattle.ids.proofs.Choice.{clash}
 use Rattle.wire.specs.Format.{bytes_of_all, size_of_all}
 use Rattle.wire.specs.Step.{Step, Outcome, refused, stepped, with_room, answer_of, sent_into}
-use Rattle.wire.specs.declared.Answer.{Answer}
-use Rattle.wire.specs.declared.Answer.TheVariants as answer
 use Rattle.wire.specs.declared.Message.{Message}
 use Rattle.client_responses.specs.Figure1.{enough}
 use Rattle.system.specs.Limits.{last_number, system_messages, system_servers}
@@ -27,15 +27,12 @@ use Rattle.system.specs.Runs.{after}
 use Rattle.sim_transit.specs.Slots.{messages_in}
 use Rattle.sim_transit.proofs.PostLaws.{messages_read_buffer}
 use Rattle.sim_layout.specs.Layout.{setting_of, length_of, sent_of, view, valid}
-use Rattle.sim_changes.specs.declared.Moved.TheVariants.{Sent, Refused}
 use Rattle.sim_changes.specs.Happens.{happens, Leaves, moved_of}
 use Rattle.sim_changes.specs.Changes.{Becomes}
 use Rattle.sim_changes.specs.Inner.{Sendable, has_room, sending, out_bytes, CanSend}
 use Rattle.sim_changes.proofs.Leaving.{after_is}
 use Rattle.sim_changes.proofs.SentLaws.{Sends}
 use Rattle.sim_changes.proofs.Posting.{view-long, view-sent, length-numbered}
-use Rattle.server.specs.declared.Ruling.{Ruling}
-use Rattle.server.specs.declared.Ruling.TheVariants.{Done, Refused as NotDone}
 
 -- an event's step s, accepted but for the room, sends l where `gone` messages are gone
 pub record Steps (w : List ℕ) (e : Event) (gone : ℕ) (l : List Message) (s : Step System) : Type 0 where
@@ -64,7 +61,7 @@ module _ (w : List ℕ) (e : Event) (gone : ℕ) (l : List Message) (s : Step Sy
       (by_list s.sent (leb (length s.state.transit) system_messages && leb s.state.sent last_number) (stepped s) (refused SystemFull) ∙
       ap (λ (b : Bool). if b then stepped s else refused SystemFull) its-room)
 
-  pub leaves_full : valid w ≡ true → has_room w gone (length l) ≡ false → Leaves w e w × (Refused SystemFull ≡ moved_of (happens w e))
+  pub leaves_full : valid w ≡ true → has_room w gone (length l) ≡ false → Leaves w e w × (Err SystemFull ≡ moved_of (happens w e))
   unfolding after
   leaves_full ok h =
       let r : happens w e ≡ refused SystemFull = rw h at tested in
@@ -74,13 +71,13 @@ module _ (w : List ℕ) (e : Event) (gone : ℕ) (l : List Message) (s : Step Sy
     stepped-is : happens w e ≡ stepped s
     stepped-is = rw h at tested
 
-    pub leaves_sent : (w' : List ℕ) → Becomes w w' (after (view w) (stepped s)) → Leaves w e w' × (Sent (length l) ≡ moved_of (happens w e))
+    pub leaves_sent : (w' : List ℕ) → Becomes w w' (after (view w) (stepped s)) → Leaves w e w' × (Ok (length l) ≡ moved_of (happens w e))
     leaves_sent w' B = (
       record { system = rw stepped-is B.system; setting = B.setting; again = B.again; kept = λ z. clash true refl (rw stepped-is at z) },
       rw (stepped-is, S.sent),
     )
 
-    pub leaves_stepped : s.state.most ≡ (view w).most → (w' : List ℕ) → Becomes w w' s.state → Leaves w e w' × (Sent (length l) ≡ moved_of (happens w e))
+    pub leaves_stepped : s.state.most ≡ (view w).most → (w' : List ℕ) → Becomes w w' s.state → Leaves w e w' × (Ok (length l) ≡ moved_of (happens w e))
     leaves_stepped same w' B = leaves_sent w' (record { system = B.system ∙ after_is w s same w' B; setting = B.setting; again = B.again })
 
     -- before its messages are sent, in words w₂
@@ -117,20 +114,20 @@ module _ {A : Type 0} (n clients : ℕ) (o : Outcome A) (p : Step A) (is : o ≡
       rw g (messages_read_buffer p.sent bytes S.range (omega (arith, S.small)))
 
 -- A call of a party was accepted: its answer counts the messages l of the event's step s, and its bytes hold them.
-pub record Call (w : List ℕ) (e : Event) (gone : ℕ) (l : List Message) (s : Step System) (a : Answer) (bytes : List ℕ) : Type 0 where
+pub record Call (w : List ℕ) (e : Event) (gone : ℕ) (l : List Message) (s : Step System) (a : Result Sent Refusal) (bytes : List ℕ) : Type 0 where
   pub ok : valid w ≡ true
   pub steps : Steps w e gone l s
-  pub answered : a ≡ answer.Sent (length l) (size_of_all l)
+  pub answered : a ≡ Ok (record { messages = length l; bytes = size_of_all l })
   pub written : messages_in (length l) bytes ≡ l
 
-module _ {w : List ℕ} {e : Event} {gone : ℕ} {l : List Message} {s : Step System} {a : Answer} {bytes : List ℕ} (C : Call w e gone l s a bytes) where
-  pub call_refused : {P : Type 0} (x : Refusal) → a ≡ answer.Refused x → P
+module _ {w : List ℕ} {e : Event} {gone : ℕ} {l : List Message} {s : Step System} {a : Result Sent Refusal} {bytes : List ℕ} (C : Call w e gone l s a bytes) where
+  pub call_refused : {P : Type 0} (x : Refusal) → a ≡ Err x → P
   call_refused x f =
       let g = C.answered in
       let z : ◌≡◌ {A = ℕ} 0 1 = cc in
       absurd (omega arith)
 
-  module _ (count size : ℕ) (f : a ≡ answer.Sent count size) where
+  module _ (count size : ℕ) (f : a ≡ Ok (record { messages = count; bytes = size })) where
     pub call_count : count ≡ length l
     call_count = let g = C.answered in cc
 
@@ -138,7 +135,7 @@ module _ {w : List ℕ} {e : Event} {gone : ℕ} {l : List Message} {s : Step Sy
     call_few = omega (arith, call_count, C.steps.sends.few)
 
     module _ (r : Bool) (h : r ≡ has_room w gone count) where
-      pub call_full : r ≡ false → Leaves w e w × (Refused SystemFull ≡ moved_of (happens w e))
+      pub call_full : r ≡ false → Leaves w e w × (Err SystemFull ≡ moved_of (happens w e))
       call_full t =
           let g : has_room w gone (length l) ≡ false = rw call_count at (sym h ∙ t) in
           leaves_full w e gone l s C.steps C.ok g
@@ -157,14 +154,14 @@ module _ {w : List ℕ} {e : Event} {gone : ℕ} {l : List Message} {s : Step Sy
         -- the step's system is u with the messages sent
         pub call_sent : (w₁ w₂ : List ℕ) (u : System) → Becomes w w₁ u → Becomes w₁ w₂ (sending (view w₁) (messages_in count bytes)) → s.state ≡ sending u l
             → u.most ≡ (view w).most
-            → Leaves w e w₂ × (Sent count ≡ moved_of (happens w e))
+            → Leaves w e w₂ × (Ok count ≡ moved_of (happens w e))
         call_sent w₁ w₂ u B D q m =
             rw call_count (leaves_stepped w e gone l s C.steps has_room_lem (ap (λ (x : System). x.most) q ∙ m) w₂ (rw (← q) at (sent-after w₁ w₂ u B D)))
 
         -- the same where the most is noted with it
         pub call_noted : (w₁ w₂ : List ℕ) (u : System) → Becomes w w₁ u → Becomes w₁ w₂ (sending (view w₁) (messages_in count bytes))
             → after (view w) (stepped s) ≡ sending u l
-            → Leaves w e w₂ × (Sent count ≡ moved_of (happens w e))
+            → Leaves w e w₂ × (Ok count ≡ moved_of (happens w e))
         call_noted w₁ w₂ u B D q = rw call_count (leaves_sent w e gone l s C.steps has_room_lem w₂ (rw (← q) at (sent-after w₁ w₂ u B D)))
 
 -- a step of a party whose messages join T
@@ -184,7 +181,7 @@ steps_by w e gone T l s h t a b c S =
 -- a call's outcome is step p
 pub called : {A : Type 0} (w : List ℕ) (e : Event) (gone : ℕ) (o : Outcome A) (p : Step A) (s : Step System) → valid w ≡ true → Steps w e gone p.sent s
     → o ≡ stepped p
-    → (a : Answer) (bytes bytes' : List ℕ) → length bytes ≡ out_bytes → a ≡ answer_of (with_room (length bytes) o)
+    → (a : Result Sent Refusal) (bytes bytes' : List ℕ) → length bytes ≡ out_bytes → a ≡ answer_of (with_room (length bytes) o)
     → bytes' ≡ sent_into bytes (with_room (length bytes) o) → Call w e gone p.sent s a bytes'
 called w e gone o p s ok S is a bytes bytes' long f g =
     record {
@@ -195,14 +192,14 @@ called w e gone o p s ok S is a bytes bytes' long f g =
     }
 
 -- A server's call on a row was accepted: it is done, and its messages ms are those of the event's step s.
-pub record Ruled (w : List ℕ) (e : Event) (l : List Message) (s : Step System) (x : Ruling) (ms : List Message) : Type 0 where
+pub record Ruled (w : List ℕ) (e : Event) (l : List Message) (s : Step System) (x : Result ⊤ Refusal) (ms : List Message) : Type 0 where
   pub ok : valid w ≡ true
   pub steps : Steps w e 0 l s
-  pub done : x ≡ Done
+  pub done : x ≡ Ok tt
   pub told : ms ≡ l
 
-module _ {w : List ℕ} {e : Event} {l : List Message} {s : Step System} {x : Ruling} {ms : List Message} (C : Ruled w e l s x ms) where
-  pub ruled-refused : {P : Type 0} (y : Refusal) → x ≡ NotDone y → P
+module _ {w : List ℕ} {e : Event} {l : List Message} {s : Step System} {x : Result ⊤ Refusal} {ms : List Message} (C : Ruled w e l s x ms) where
+  pub ruled-refused : {P : Type 0} (y : Refusal) → x ≡ Err y → P
   ruled-refused y f =
       let g = C.done in
       let z : ◌≡◌ {A = ℕ} 0 1 = cc in
@@ -216,7 +213,7 @@ module _ {w : List ℕ} {e : Event} {l : List Message} {s : Step System} {x : Ru
     ruled-few = omega (arith, ruled-count, C.steps.sends.few)
 
     module _ (r : Bool) (h : r ≡ has_room w 0 count) where
-      pub ruled-full : r ≡ false → Leaves w e w × (Refused SystemFull ≡ moved_of (happens w e))
+      pub ruled-full : r ≡ false → Leaves w e w × (Err SystemFull ≡ moved_of (happens w e))
       ruled-full t =
           let g : has_room w 0 (length l) ≡ false = rw ruled-count at (sym h ∙ t) in
           leaves_full w e 0 l s C.steps C.ok g
@@ -230,7 +227,7 @@ module _ {w : List ℕ} {e : Event} {l : List Message} {s : Step System} {x : Ru
 
         -- the step's system is u with the messages sent
         pub ruled-sent : (w₁ w₂ : List ℕ) (u : System) → Becomes w w₁ u → Becomes w₁ w₂ (sending (view w₁) ms) → s.state ≡ sending u l → u.most ≡ (view w).most
-            → Leaves w e w₂ × (Sent count ≡ moved_of (happens w e))
+            → Leaves w e w₂ × (Ok count ≡ moved_of (happens w e))
         ruled-sent w₁ w₂ u B D q m =
             let E : Becomes w w₂ (sending u l) = and_then (λ y. sending y l) B (rw C.told at D) in
             rw ruled-count (leaves_stepped w e 0 l s C.steps roomy_for (ap (λ (y : System). y.most) q ∙ m) w₂ (rw (← q) at E))

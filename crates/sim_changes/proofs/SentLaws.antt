@@ -1,4 +1,5 @@
 -- What a step of a valid block sends: messages in range that name parties which are there, few enough for a buffer of 512 bytes.
+use Rattle.std.specs.Prelude.{Some, None, Option}
 use Prim.Native.Nat.{ℕ, ◌≤◌}
 use native.Mathlib.Omega.{arith}
 use mathlib.Core.Path.{◌≡◌}
@@ -14,8 +15,6 @@ use Rattle.ids.specs.declared.ClientId.{ClientId}
 use Rattle.ids.specs.declared.ServerId.{ServerId}
 use Rattle.ids.specs.declared.Timestamp.{Timestamp}
 use Rattle.ids.specs.declared.Request.{Request as Pair}
-use Rattle.ids.specs.declared.Owner.{Owner}
-use Rattle.ids.specs.declared.Owner.TheVariants.{Nobody, Of}
 use Rattle.ids.proofs.Choice.{both}
 use Rattle.ids.proofs.ListLaws.{every-both}
 use Rattle.ids.proofs.LimitsLaws.{within-range, request-range, client-range}
@@ -80,7 +79,7 @@ module _ (n m clients k : ℕ) (b : List ℕ) (ok : valid_client_block n m clien
       few-sends n clients _ few (of_client.exits-valid n m me at fits h)
       (of_client.exits_passes (names n clients) n me at (λ j p q. stamped_names n clients k j first last p q)) (of_client.exits-few n me at)
 
-  pub responds-sends : (j : ServerId) (o : Owner) → Sends n clients (client.responds (client.enough m) n (record { 0 = k }) j o (client_place b).state).sent
+  pub responds-sends : (j : ServerId) (o : Option Pair) → Sends n clients (client.responds (client.enough m) n (record { 0 = k }) j o (client_place b).state).sent
   unfolding names fields_of
   responds-sends j o =
       let a = of_client.responds-few (client.enough m) n me j o at in
@@ -106,20 +105,20 @@ abbrev known-request : ℕ → Pair → Bool
 known-request clients r = valid_request r && leb r.client.0 clients
 
 module _ (clients : ℕ) where
-  state-known : (o : Owner) (l : List Pair) → Knows valid_request (record { owner = o; queue = l })
+  state-known : (o : Option Pair) (l : List Pair) → Knows valid_request (record { owner = o; queue = l })
       → every (named_pair clients) (votes.candidates (record { owner = o; queue = l })) ≡ true
       → Knows (known-request clients) (record { owner = o; queue = l })
-  state-known Nobody l k h = record { owner = k.owner; queue = every-both valid_request (named_pair clients) l k.queue h }
-  state-known (Of r) l k h =
+  state-known None l k h = record { owner = k.owner; queue = every-both valid_request (named_pair clients) l k.queue h }
+  state-known (Some r) l k h =
       let (b, d) = both (leb r.client.0 clients) (every (named_pair clients) l) h in
       record { owner = rw (k.owner, b); queue = every-both valid_request (named_pair clients) l k.queue d }
 
-  owner-there : (o : Owner) → by_owner o true (known-request clients) ≡ true → owner_client o ≤ clients
-  owner-there Nobody h = omega arith
-  owner-there (Of r) h = leb-true r.client.0 clients (both (valid_request r) (leb r.client.0 clients) h).1
+  owner-there : (o : Option Pair) → by_owner o true (known-request clients) ≡ true → owner_client o ≤ clients
+  owner-there None h = omega arith
+  owner-there (Some r) h = leb-true r.client.0 clients (both (valid_request r) (leb r.client.0 clients) h).1
 
 module _ (n clients j : ℕ) (first : 1 ≤ j) (last : j ≤ n) where
-  tells-names : (r : Pair) (o : Owner) → known-request clients r ≡ true → by_owner o true (known-request clients) ≡ true
+  tells-names : (r : Pair) (o : Option Pair) → known-request clients r ≡ true → by_owner o true (known-request clients) ≡ true
       → names n clients (Response r.client (record { 0 = j }) o) ≡ true
   unfolding names fields_of
   tells-names r o a h =

@@ -1,4 +1,5 @@
 -- The events in which a server makes a step: its call makes the event's step, and what is stored and sent is what the event leaves.
+use Rattle.std.specs.Prelude.{Ok, Err, Some, None, Option}
 use mathlib.Core.Path.{◌≡◌, refl, sym, ap, subst, ◌∙◌}
 use Prim.Native.Nat.{ℕ, ◌+◌, ◌*◌, ◌-◌, ◌≤◌}
 use native.Mathlib.Omega.{arith}
@@ -14,8 +15,6 @@ use Rattle.ids.specs.declared.ClientId.{ClientId}
 use Rattle.ids.specs.declared.ServerId.{ServerId}
 use Rattle.ids.specs.declared.Timestamp.{Timestamp}
 use Rattle.ids.specs.declared.Request.{Request}
-use Rattle.ids.specs.declared.Owner.{Owner}
-use Rattle.ids.specs.declared.Owner.TheVariants.{Nobody, Of}
 use Rattle.ids.specs.declared.Refusal.TheVariants.{NoOwner, OwnerLives, PartyDown}
 use Rattle.ids.proofs.Choice.{both, holds, fails}
 use Rattle.ids.proofs.LimitsLaws.{client-range, request-range}
@@ -53,7 +52,6 @@ use Rattle.sim_layout.specs.Parts.{client_block_of, server_block_of, ServerIn}
 use Rattle.sim_layout.proofs.PlaceLaws.{server-there}
 use Rattle.sim_changes.specs.declared.ServerAct.{ServerAct}
 use Rattle.sim_changes.specs.declared.ServerAct.TheVariants as act
-use Rattle.sim_changes.specs.declared.Moved.TheVariants.{Sent, Refused}
 use Rattle.sim_changes.specs.Happens.{happens, Leaves, moved_of}
 use Rattle.sim_changes.specs.Changes.{Becomes, HasClient, HasServer, HasSlot, Missing, Pends, with_transit}
 use Rattle.sim_changes.specs.Inner.{CanSend, has_room, with_server, sending, server_outcome, server_step, server_rest, ServerStores, server_stored}
@@ -93,13 +91,13 @@ module _ (w : List ℕ) (j : ServerId) (H : HasServer w j) where
   server-padded h row q = valid-padded max_servers (server_of h row) (rw q its-facts.valid)
 
   -- the owner of a server that is up
-  module _ (up : (server_at (view w) j).up ≡ true) (x : Owner) (e : x ≡ (server_at (view w) j).state.owner) where
-    pub miss_nobody : x ≡ Nobody → Leaves w (Miss j) w × (Refused NoOwner ≡ moved_of (happens w (Miss j)))
+  module _ (up : (server_at (view w) j).up ≡ true) (x : Option Request) (e : x ≡ (server_at (view w) j).state.owner) where
+    pub miss_nobody : x ≡ None → Leaves w (Miss j) w × (Err NoOwner ≡ moved_of (happens w (Miss j)))
     miss_nobody f = leaves_refused w (Miss j) NoOwner H.valid
         (misses_nobody (setting_of w).n (enough (setting_of w).m) (view w) j server_there_in up (sym e ∙ f))
 
-    module _ (o : Request) (f : x ≡ Of o) where
-      its-owner : (server_place (server_block_of w j)).state.owner ≡ Of o
+    module _ (o : Request) (f : x ≡ Some o) where
+      its-owner : (server_place (server_block_of w j)).state.owner ≡ Some o
       its-owner = ap (λ (p : ServerPlace). p.state.owner) (sym (server-is w j.0 H)) ∙ (sym e ∙ f)
 
       owner_in_range : (1 ≤ o.client.0) × (o.client.0 ≤ (setting_of w).clients)
@@ -119,7 +117,7 @@ module _ (w : List ℕ) (j : ServerId) (H : HasServer w j) where
       owner-client = record { valid = H.valid; first = owner_in_range.0; last = owner_in_range.1 }
 
       module _ (r : Bool) (g : r ≡ (client_place (client_block_of w o.client)).living) where
-        pub miss-living : r ≡ true → Leaves w (Miss j) w × (Refused OwnerLives ≡ moved_of (happens w (Miss j)))
+        pub miss-living : r ≡ true → Leaves w (Miss j) w × (Err OwnerLives ≡ moved_of (happens w (Miss j)))
         miss-living t =
             leaves_refused w (Miss j) OwnerLives H.valid
             (misses-living (setting_of w).n (enough (setting_of w).m) (view w) j server_there_in up o (sym e ∙ f)
@@ -172,7 +170,7 @@ module _ (w : List ℕ) (j : ServerId) where
     up-here : b ≡ (server_at (view w) j).up
     up-here = sym (up_is w j.0 (act-server a M) b f)
 
-    pub server-down : b ≡ false → Leaves w (server_event w j a) w × (Refused PartyDown ≡ moved_of (happens w (server_event w j a)))
+    pub server-down : b ≡ false → Leaves w (server_event w j a) w × (Err PartyDown ≡ moved_of (happens w (server_event w j a)))
     server-down u = leaves_refused w (server_event w j a) PartyDown (act-server a M).valid (act-down a M (fails b _ up-here u))
 
     pub server-runs : b ≡ true → (server_at (view w) j).up ≡ true
@@ -284,7 +282,7 @@ module _ {w : List ℕ} {j : ServerId} {a : ServerAct} {r : Turned} {row : List 
   server_sendable = ruled_sendable C.ruled count f b h t w₁ _ B C.all refl
 
   pub server-sent : (w₂ : List ℕ) → Becomes w₁ w₂ (sending (view w₁) (three_mails r.first r.second r.third))
-      → Leaves w (server_event w j a) w₂ × (Sent count ≡ moved_of (happens w (server_event w j a)))
+      → Leaves w (server_event w j a) w₂ × (Ok count ≡ moved_of (happens w (server_event w j a)))
   server-sent w₂ D = ruled-sent C.ruled count f b h t w₁ w₂ _ B D refl refl
 
 -- The record is stored, with the message that was taken delivered: the act is known by an equation, as in the arms of a match.

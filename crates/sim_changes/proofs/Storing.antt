@@ -1,4 +1,5 @@
 -- The record that a step gives back is stored in its party's block: the simulation differs in that party's state alone.
+use Rattle.std.specs.Prelude.{Option}
 use mathlib.Core.Path.{◌≡◌, refl}
 use Prim.Native.Nat.{ℕ, suc, ◌+◌, ◌*◌, ◌-◌, ◌≤◌}
 use native.Mathlib.Omega.{arith}
@@ -14,7 +15,6 @@ use Rattle.ids.specs.declared.ClientId.{ClientId}
 use Rattle.ids.specs.declared.ServerId.{ServerId}
 use Rattle.ids.specs.declared.Timestamp.{Timestamp}
 use Rattle.ids.specs.declared.Request.{Request}
-use Rattle.ids.specs.declared.Owner.{Owner}
 use Rattle.ids.proofs.Choice.{decided}
 use Rattle.server_votes.specs.declared.Tag.{Tag}
 use Rattle.server_votes.specs.Figure1 as votes
@@ -171,7 +171,7 @@ module _ (w : List ℕ) (k : ℕ) (H : HasClient w (client_no k)) where
         client_stores (client.exits (setting_of w).n self (client_at (view w) (client_no k)).state).state
         (rw client-is (exits-block (setting_of w).n (setting_of w).m (setting_of w).clients k part client-block (place_clear part (rw client-is at h)))) e
 
-    pub responds-stored : (j : ServerId) (o : Owner) → valid_owner o ≡ true → named (setting_of w).clients o ≡ true
+    pub responds-stored : (j : ServerId) (o : Option Request) → valid_owner o ≡ true → named (setting_of w).clients o ≡ true
         → c ≡ store_in system_servers (setting_of w).n (setting_of w).m (record { 0 = k })
         (client.responds (client.enough (setting_of w).m) (setting_of w).n (record { 0 = k }) j o (client_at (view w) (client_no k)).state).state
         → Becomes w w' (with_client (view w) (client_no k)

@@ -1,4 +1,6 @@
 -- The message in a slot is taken: it stays, delivered, or is gone; and what is known of a pending message and its receiver.
+use Rattle.ids.specs.declared.Request.{Request}
+use Rattle.std.specs.Prelude.{Option}
 use mathlib.Core.Path.{◌≡◌, refl, ap, ◌∙◌}
 use Prim.Native.Nat.{ℕ, suc, ◌+◌, ◌-◌, ◌*◌, ◌≤◌}
 use native.Mathlib.Omega.{arith}
@@ -8,7 +10,6 @@ use lib.ListN.{length, drop, length-append}
 use Rattle.ids.specs.declared.ClientId.{ClientId}
 use Rattle.ids.specs.declared.ServerId.{ServerId}
 use Rattle.ids.specs.declared.Timestamp.{Timestamp}
-use Rattle.ids.specs.declared.Owner.{Owner}
 use Rattle.ids.specs.declared.Refusal.TheVariants.{PartyDown}
 use Rattle.wire.specs.Format as format
 use Rattle.wire.specs.Format.{fields_of}
@@ -87,7 +88,7 @@ pub unmet : (b : Bool) (x : Step System) → b ≡ false → need b PartyDown (s
 unmet b x e = rw e
 
 -- a message to a client
-module _ (w : List ℕ) (i : ℕ) (k : ClientId) (j : ServerId) (o : Owner) (P : Pends w i (Response k j o)) where
+module _ (w : List ℕ) (i : ℕ) (k : ClientId) (j : ServerId) (o : Option Request) (P : Pends w i (Response k j o)) where
   pub answered : Named (setting_of w).n (setting_of w).clients (format.answer k j o)
   unfolding fields_of
   answered = of_parties w i (Response k j o) P

@@ -1,11 +1,9 @@
 -- One part of a simulation changed: the words are a simulation of the same setting again, and its system differs in that part alone.
-use Rattle.std.specs.Prelude.{◌≡◌, ℕ, ◌≤◌, ◌<◌, max, true, false, List}
-use Rattle.std.proofs.Math.Option.{some}
+use Rattle.std.specs.Prelude.{◌≡◌, ℕ, ◌≤◌, ◌<◌, max, true, false, List, Some}
 use Rattle.ids.specs.declared.ClientId.{ClientId}
 use Rattle.ids.specs.declared.ServerId.{ServerId}
 use Rattle.ids.specs.declared.Timestamp.{Timestamp}
 use Rattle.ids.specs.declared.Request.{Request as Pair}
-use Rattle.ids.specs.declared.Owner.TheVariants.{Of}
 use Rattle.wire.specs.declared.Message.{Message}
 use Rattle.wire.specs.declared.Message.TheVariants.{Request, Yield, Release, Inquiry}
 use Rattle.server_votes.specs.declared.Tag.{Tag}
@@ -42,7 +40,7 @@ pub record Missing (w : List ℕ) (j : ServerId) : Type 0 where
   pub there : HasServer w j
   pub up : (server_at (view w) j).up ≡ true
   pub owner : Pair
-  pub owns : (server_at (view w) j).state.owner ≡ Of owner
+  pub owns : (server_at (view w) j).state.owner ≡ Some owner
   pub fallen : (client_at (view w) owner.client).living ≡ false
 
 -- the number of the message in slot i
@@ -53,7 +51,7 @@ number_at w i = record { 0 = (slot_in (transit_words w) i).number }
 pub record Pends (w : List ℕ) (i : ℕ) (m : Message) : Type 0 where
   pub slot : HasSlot w i
   pub holds : (slot_in (transit_words w) i).message ≡ m
-  pub waits : pending (slot_in (transit_words w) i).number (view w).transit ≡ some m
+  pub waits : pending (slot_in (transit_words w) i).number (view w).transit ≡ Some m
 
 -- the message of client k to server j with this tag
 abbrev pub tagged : Tag → ClientId → ServerId → Timestamp → Message

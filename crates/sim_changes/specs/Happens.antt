@@ -1,5 +1,7 @@
 -- What an event does to a simulation: the system's event with refusal 19, seen through `view`.
-use Rattle.std.specs.Prelude.{◌≡◌, ℕ, true, false, List, [], ◌∷◌, length, if◌then◌else◌}
+use Rattle.sim_changes.specs.declared.Effect.{Effect}
+use Rattle.ids.specs.declared.Refusal.{Refusal}
+use Rattle.std.specs.Prelude.{◌≡◌, ℕ, true, false, List, [], ◌∷◌, length, if◌then◌else◌, Ok, Err}
 use Rattle.ids.specs.Refusals.{code, Says, accepts, refuses}
 use Rattle.ids.specs.declared.Refusal.TheVariants.{InvalidRecord}
 use Rattle.wire.specs.Step.{refused, stepped}
@@ -10,10 +12,6 @@ use Rattle.system.specs.Places.{System, holders}
 use Rattle.system.specs.Events.{Result, event, with_places}
 use Rattle.system.specs.Runs.{after, is_stepped}
 use Rattle.sim_layout.specs.Layout.{setting_of, view, valid}
-use Rattle.sim_changes.specs.declared.Moved.{Moved}
-use Rattle.sim_changes.specs.declared.Moved.TheVariants as moved
-use Rattle.sim_changes.specs.declared.Reply.{Reply}
-use Rattle.sim_changes.specs.declared.Reply.TheVariants as reply
 
 -- an event with n servers and threshold m
 abbrev pub bounded : ℕ → ℕ → System → Event → Result
@@ -31,27 +29,27 @@ pub record Leaves (w : List ℕ) (e : Event) (w' : List ℕ) : Type 0 where
   pub kept : is_stepped (happens w e) ≡ false → w' ≡ w
 
 -- how many messages the event sent, or its refusal
-abbrev pub moved_of : Result → Moved
-moved_of (refused x) = moved.Refused x
-moved_of (stepped s) = moved.Sent (length s.sent)
+abbrev pub moved_of : Result → Result ℕ Refusal
+moved_of (refused x) = Err x
+moved_of (stepped s) = Ok (length s.sent)
 
 -- the same with the living holders afterwards
-unfoldable pub reply_of : System → Result → Reply
-reply_of u (refused x) = reply.Refused x
-reply_of u (stepped s) = reply.Accepted (length s.sent) (holders (after u (stepped s)))
+unfoldable pub reply_of : System → Result → Result Effect Refusal
+reply_of u (refused x) = Err x
+reply_of u (stepped s) = Ok (record { sent = length s.sent; holders = holders (after u (stepped s)) })
 
 -- `event` of any words: 21, or what the event does
-unfoldable pub event_reply : List ℕ → Event → Reply
-event_reply w e = if valid w then reply_of (view w) (happens w e) else reply.Refused InvalidRecord
+unfoldable pub event_reply : List ℕ → Event → Result Effect Refusal
+event_reply w e = if valid w then reply_of (view w) (happens w e) else Err InvalidRecord
 
 -- the answers in document 01's numbers: the messages sent; and with them the living holders
-abbrev pub moved_says : Moved → Says ℕ
-moved_says (moved.Refused x) = refuses (code x)
-moved_says (moved.Sent count) = accepts (count ∷ [])
+abbrev pub moved_says : Result ℕ Refusal → Says ℕ
+moved_says (Err x) = refuses (code x)
+moved_says (Ok count) = accepts (count ∷ [])
 
-abbrev pub reply_says : Reply → Says ℕ
-reply_says (reply.Refused x) = refuses (code x)
-reply_says (reply.Accepted sent inside) = accepts (sent ∷ inside ∷ [])
+abbrev pub reply_says : Result Effect Refusal → Says ℕ
+reply_says (Err x) = refuses (code x)
+reply_says (Ok s) = accepts (s.sent ∷ s.holders ∷ [])
 
 abbrev pub result_says : System → Result → Says ℕ
 result_says u (refused x) = refuses (code x)

@@ -28,29 +28,21 @@ ghost use Rattle.sim_changes.specs.Opening.{Starts};
 ghost use Rattle.sim_changes.specs.Changes.{Becomes, HasClient, HasServer, HasSlot, with_transit, with_clients};
 ghost use Rattle.system.specs.Limits.{system_messages, system_clients, system_servers};
 
-use ids::{ClientId, Owner, Refusal, ServerId, Timestamp};
-use server::Ruling;
-use server_votes::{Mail, Tag};
+use ids::{ClientId, Refusal, Request, ServerId, Timestamp};
+use server_votes::Tag;
 use sim_blocks::CLIENT_BLOCK;
 use sim_layout::{
     CLIENTS, CLIENTS_FROM, FAULTS, LENGTH, MOST, SENT, SERVERS, SIMULATION_WORDS, THRESHOLD,
     TRANSIT_FROM,
 };
 use system::Setting;
-use wire::{Answer, Message};
+use wire::Message;
 
-// What an event did: the messages it sent, or its refusal.
+// What an accepted event did: the messages it sent, and the living holders afterwards.
 #[derive(Clone, Copy)]
-pub enum Moved {
-    Sent(u32),
-    Refused(Refusal),
-}
-
-// The same with the living holders afterwards.
-#[derive(Clone, Copy)]
-pub enum Reply {
-    Accepted(u32, u32),
-    Refused(Refusal),
+pub struct Effect {
+    pub sent: u32,
+    pub holders: u32,
 }
 
 // The bytes into which an event's step writes what it sends.
@@ -61,7 +53,7 @@ const OUT_BYTES: usize = 512;
 pub enum ClientAct {
     Try,
     Exit,
-    Response(usize, ServerId, Owner),
+    Response(usize, ServerId, Option<Request>),
     Check(usize, ServerId, Timestamp),
 }
 
@@ -135,13 +127,13 @@ fn send(w: &mut [u32], bytes: &[u8], count: usize)
 }
 
 // The message is sent, if there is one.
-fn send_mail(w: &mut [u32], m: Mail)
+fn send_mail(w: &mut [u32], m: Option<Message>)
     requires { CanSend w.old (mails m) }
     ensures { Becomes w.old w.new (sending (view w.old) (mails m)) }
 {
     match m {
-        Mail::Nothing => {}
-        Mail::One(x) => send_message(w, x),
+        None => {}
+        Some(x) => send_message(w, x),
     }
 }
 
@@ -157,7 +149,12 @@ fn send_message(w: &mut [u32], m: Message)
 }
 
 // The messages of a server's step are sent, in order: each goes to its slot as it is.
-fn send_mails(w: &mut [u32], first: Mail, second: Mail, third: Mail)
+fn send_mails(
+    w: &mut [u32],
+    first: Option<Message>,
+    second: Option<Message>,
+    third: Option<Message>,
+)
     requires { CanSend w.old (three_mails first second third) }
     ensures { Becomes w.old w.new (sending (view w.old) (three_mails first second third)) }
 {
@@ -226,7 +223,7 @@ fn end_epoch(w: &mut [u32], k: ClientId)
 }
 
 // The owner in server `j`'s record.
-pub fn owner_of(w: &[u32], j: ServerId) -> Owner
+pub fn owner_of(w: &[u32], j: ServerId) -> Option<Request>
     requires { HasServer w.now j }
     ensures { result ≡ (server_at (view w.now) j).state.owner }
 {
@@ -289,29 +286,24 @@ fn store_client(w: &mut [u32], k: ClientId, act: ClientAct, h: client::Head, row
 }
 
 // Client `k` does what an event says: its record is loaded, stepped and stored, and what it sends is sent.
-pub fn client_acts(w: &mut [u32], k: ClientId, act: ClientAct) -> Moved
+pub fn client_acts(w: &mut [u32], k: ClientId, act: ClientAct) -> Result<u32, Refusal>
     requires { ClientMay w.old k act }
     ensures { Leaves w.old (client_event w.old k act) w.new × (result ≡ moved_of (happens w.old (client_event w.old k act))) }
 {
     if !sim_layout::is_living(w, k) {
-        return Moved::Refused(Refusal::PartyDown);
+        return Err(Refusal::PartyDown);
     }
     let mut bytes = [0u8; OUT_BYTES];
     let mut row = [0u32; sim_blocks::RESPONSE_WORDS];
     sim_layout::client_row(w, k, &mut row);
     let s = call_client(sim_layout::client_head(w, k), &mut row, act, &mut bytes);
-    let answer = s.answer;
-    match answer {
-        Answer::Refused(x) => Moved::Refused(x),
-        Answer::Sent(count, _) => {
-            if !has_room(w, messages_gone(act), count) {
-                return Moved::Refused(Refusal::SystemFull);
-            }
-            store_client(w, k, act, s.head, &row);
-            send(w, &bytes, count);
-            Moved::Sent(count as u32)
-        }
+    let count = s.answer?.messages;
+    if !has_room(w, messages_gone(act), count) {
+        return Err(Refusal::SystemFull);
     }
+    store_client(w, k, act, s.head, &row);
+    send(w, &bytes, count);
+    Ok(count as u32)
 }
 
 // The call of the act on the record of server `j`.
@@ -342,38 +334,30 @@ fn store_server(w: &mut [u32], j: ServerId, act: ServerAct, h: server::Head, row
 }
 
 // Server `j`, which is up, does what an event says.
-pub fn server_steps(w: &mut [u32], j: ServerId, act: ServerAct) -> Moved
+pub fn server_steps(w: &mut [u32], j: ServerId, act: ServerAct) -> Result<u32, Refusal>
     requires { ServerMay w.old j act × ((server_at (view w.old) j).up ≡ true) }
     ensures { Leaves w.old (server_event w.old j act) w.new × (result ≡ moved_of (happens w.old (server_event w.old j act))) }
 {
     let mut row = [0u32; sim_blocks::QUEUE_WORDS];
     sim_layout::server_row(w, j, &mut row);
     let t = call_server(sim_layout::server_head(w, j), &mut row, j, act);
-    let ruling = t.ruling;
-    match ruling {
-        Ruling::Refused(x) => Moved::Refused(x),
-        Ruling::Done => {
-            let first = t.first;
-            let second = t.second;
-            let third = t.third;
-            let count = server::counts(first, second, third);
-            if !has_room(w, 0, count) {
-                return Moved::Refused(Refusal::SystemFull);
-            }
-            store_server(w, j, act, t.head, &row);
-            send_mails(w, first, second, third);
-            Moved::Sent(count as u32)
-        }
+    t.ruling?;
+    let count = server::counts(t.first, t.second, t.third);
+    if !has_room(w, 0, count) {
+        return Err(Refusal::SystemFull);
     }
+    store_server(w, j, act, t.head, &row);
+    send_mails(w, t.first, t.second, t.third);
+    Ok(count as u32)
 }
 
 // The same of a server that may be down.
-pub fn server_acts(w: &mut [u32], j: ServerId, act: ServerAct) -> Moved
+pub fn server_acts(w: &mut [u32], j: ServerId, act: ServerAct) -> Result<u32, Refusal>
     requires { ServerMay w.old j act }
     ensures { Leaves w.old (server_event w.old j act) w.new × (result ≡ moved_of (happens w.old (server_event w.old j act))) }
 {
     if !sim_layout::is_up(w, j) {
-        return Moved::Refused(Refusal::PartyDown);
+        return Err(Refusal::PartyDown);
     }
     server_steps(w, j, act)
 }

@@ -1,6 +1,7 @@
 -- The messages in transit with their index, as words (document 02, L2): the table of slots, and behind it the index by receiver. The words are
 -- valid if the slots are and the index is the one made afresh from them.
-use Rattle.std.specs.Prelude.{ℕ, zero, suc, ◌+◌, ◌-◌, Bool, ◌&&◌, List, [], ◌∷◌, map, eqb, length, take, drop, if◌then◌else◌}
+use Rattle.system.specs.declared.MessageNumber.{MessageNumber}
+use Rattle.std.specs.Prelude.{ℕ, zero, suc, ◌+◌, ◌-◌, Bool, ◌&&◌, List, [], ◌∷◌, map, eqb, length, take, drop, if◌then◌else◌, Some, None, Option}
 use Rattle.system.specs.Limits.{system_servers}
 use Rattle.system.specs.Transit.{InTransit}
 use Rattle.system.specs.Index.{receiver_of, Entry, entry_of}
@@ -10,8 +11,6 @@ use Rattle.sim_transit.specs.Slots.{transit_size, slots, slot_at, valid_slots}
 use Rattle.sim_index.specs.Index.{index_size, index_words}
 use Rattle.sim_index.specs.Calls.{same}
 use Rattle.sim_index.specs.declared.Card.{Card}
-use Rattle.sim_indexed.specs.declared.Listed.{Listed}
-use Rattle.sim_indexed.specs.declared.Listed.TheVariants.{Nothing, Entry as At}
 
 abbrev pub indexed_size : ℕ
 indexed_size = transit_size + index_size
@@ -54,7 +53,7 @@ unfoldable pub entries_at : ℕ → List InTransit → List Entry
 entries_at p [] = []
 entries_at p (x ∷ l) = if eqb (card_of x).place p then entry_of x ∷ entries_at p l else entries_at p l
 
-unfoldable pub listed_at : List Entry → ℕ → Listed
-listed_at [] i = Nothing
-listed_at (e ∷ l) zero = At (record { 0 = e.number }) e.delivered
+unfoldable pub listed_at : List Entry → ℕ → Option (MessageNumber × Bool)
+listed_at [] i = None
+listed_at (e ∷ l) zero = Some (record { 0 = e.number }, e.delivered)
 listed_at (e ∷ l) (suc i) = listed_at l i

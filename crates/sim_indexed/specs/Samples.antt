@@ -1,9 +1,8 @@
 -- An index worked out by hand, from the README's tour (document 01's example of an unsafe setting): client 1 has asked three servers, messages 1 to 3;
 -- servers 1 and 2 took theirs and answered, messages 4 and 5. Then server 1 goes down.
-use Rattle.std.specs.Prelude.{ℕ, Bool, true, false, List, [], ◌∷◌, ◌++◌, map, replicate}
+use Rattle.std.specs.Prelude.{ℕ, Bool, true, false, List, [], ◌∷◌, ◌++◌, map, replicate, Some}
 use Rattle.ids.specs.declared.ClientId.{ClientId}
 use Rattle.ids.specs.declared.ServerId.{ServerId}
-use Rattle.ids.specs.declared.Owner.TheVariants.{Of}
 use Rattle.wire.specs.declared.Message.{Message}
 use Rattle.wire.specs.declared.Message.TheVariants.{Request, Response}
 use Rattle.system.specs.Transit.{InTransit, again}
@@ -21,7 +20,7 @@ abbrev asks : ℕ → Message
 asks j = Request (client 1) (server j) (record { 0 = 1 })
 
 abbrev answers : ℕ → Message
-answers j = Response (client 1) (server j) (Of (record { client = client 1; timestamp = record { 0 = 1 } }))
+answers j = Response (client 1) (server j) (Some (record { client = client 1; timestamp = record { 0 = 1 } }))
 
 abbrev message : ℕ → Bool → Message → InTransit
 message i d m = record { number = i; delivered = d; message = m }

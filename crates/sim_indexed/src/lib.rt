@@ -79,28 +79,21 @@ pub fn valid(t: &[u32], len: usize, sent: u32, n: u32, clients: u32) -> bool
     sim_index::same(&t[TABLE..INDEXED_WORDS], &made)
 }
 
-// An entry of the index: a message's number, and whether it is delivered; or none.
-#[derive(Clone, Copy)]
-pub enum Listed {
-    Nothing,
-    Entry(MessageNumber, bool),
-}
-
-// Entry `i`, counted from 0, of the receiver at place `p`.
-pub fn read_entry(t: &[u32], len: usize, p: usize, i: usize) -> Listed
+// Entry `i`, counted from 0, of the receiver at place `p`: a message's number, and whether it is delivered.
+pub fn read_entry(t: &[u32], len: usize, p: usize, i: usize) -> Option<(MessageNumber, bool)>
     requires { Held len t.now × (p < receivers) }
     ensures { result ≡ listed_at (entries_at p (in_transit len t.now)) i }
 {
     let from = sim_index::start(&t[TABLE..INDEXED_WORDS], p);
     let end = sim_index::start(&t[TABLE..INDEXED_WORDS], p + 1);
     if end - from <= i {
-        return Listed::Nothing;
+        return None;
     }
     let at = from + i;
     let number = sim_index::number_at(&t[TABLE..INDEXED_WORDS], at);
     let mark = sim_index::mark_at(&t[TABLE..INDEXED_WORDS], at);
     let delivered = mark == 1;
-    Listed::Entry(MessageNumber(number), delivered)
+    Some((MessageNumber(number), delivered))
 }
 
 // One message changed.

@@ -1,4 +1,6 @@
 -- The entries of a receiver in a valid simulation: those at its place in the index are its own, and a receiver that the setting lacks has none.
+use Rattle.system.specs.declared.MessageNumber.{MessageNumber}
+use Rattle.std.specs.Prelude.{None, Option}
 use Prim.Native.Nat.{ℕ, ◌+◌, ◌-◌, ◌<◌, ◌≤◌}
 use native.Mathlib.Omega.{arith}
 use mathlib.Core.Path.{◌≡◌, refl, ap, ◌∙◌}
@@ -19,15 +21,13 @@ use Rattle.sim_transit.proofs.Kept.{Kept, valid-kept}
 use Rattle.sim_index.specs.Index.{receivers}
 use Rattle.sim_indexed.specs.Indexed.{indexed_size, table, in_transit, entries_at, listed_at}
 use Rattle.sim_indexed.specs.Calls.{Few, Valid, Held}
-use Rattle.sim_indexed.specs.declared.Listed.{Listed}
-use Rattle.sim_indexed.specs.declared.Listed.TheVariants.{Nothing}
 use Rattle.sim_indexed.proofs.IndexedLaws.{parts}
 use Rattle.sim_indexed.proofs.ReceiverLaws.{entries_to, none_to}
 use Rattle.sim_layout.specs.Layout.{transit_from, setting_of, length_of, sent_of, transit_words, view, valid}
 use Rattle.sim_layout.proofs.ValidLaws.{facts}
 use Rattle.sim_layout.proofs.ReadLaws.{few_servers, few_clients}
 
-listed-none : (i : ℕ) → Nothing ≡ listed_at [] i
+listed-none : (i : ℕ) → None ≡ listed_at [] i
 unfolding listed_at
 listed-none i = refl
 
@@ -46,7 +46,7 @@ module _ (w : List ℕ) (ok : valid w ≡ true) where
   pub held-lent : Held (length_of w) (take indexed_size (drop transit_from w))
   held-lent = record { n = (setting_of w).n; clients = (setting_of w).clients; sent = sent_of w; few = few; valid = lent-valid; size = lent-size }
 
-  pub entries_lent : (p i : ℕ) (e : Listed) → e ≡ listed_at (entries_at p (in_transit (length_of w) (take indexed_size (drop transit_from w)))) i
+  pub entries_lent : (p i : ℕ) (e : Option (MessageNumber × Bool)) → e ≡ listed_at (entries_at p (in_transit (length_of w) (take indexed_size (drop transit_from w)))) i
       → e ≡ listed_at (entries_at p (view w).transit) i
   unfolding view transit_words
   entries_lent p i e h = h
@@ -58,7 +58,7 @@ module _ (w : List ℕ) (ok : valid w ≡ true) where
 
   -- a client
   module _ (r : Receiver) (i : ℕ) (k : ClientId) (is : r ≡ Client k) (b : Bool) (e : b ≡ within k.0 (setting_of w).clients) where
-    pub client_lacking : b ≡ false → Nothing ≡ listed_at (index_of r (view w).transit) i
+    pub client_lacking : b ≡ false → None ≡ listed_at (index_of r (view w).transit) i
     client_lacking h =
         let none = none_to (setting_of w).n (setting_of w).clients (Client k) (fails b (within k.0 (setting_of w).clients) e h) kept in
         rw (is, none) (listed-none i)
@@ -68,7 +68,7 @@ module _ (w : List ℕ) (ok : valid w ≡ true) where
         let a = within-range k.0 (setting_of w).clients (holds b (within k.0 (setting_of w).clients) e h) in
         (a.0, omega (arith, a, few.few_clients))
 
-    pub client-entry : b ≡ true → (x : Listed) → x ≡ listed_at (entries_at (system_servers + (k.0 - 1)) (view w).transit) i
+    pub client-entry : b ≡ true → (x : Option (MessageNumber × Bool)) → x ≡ listed_at (entries_at (system_servers + (k.0 - 1)) (view w).transit) i
         → x ≡ listed_at (index_of r (view w).transit) i
     client-entry h x f =
         let own = entries_to (setting_of w).n (setting_of w).clients few (Client k) (client-there h).0 kept in
@@ -76,7 +76,7 @@ module _ (w : List ℕ) (ok : valid w ≡ true) where
 
   -- a server
   module _ (r : Receiver) (i : ℕ) (j : ServerId) (is : r ≡ Server j) (b : Bool) (e : b ≡ within j.0 (setting_of w).n) where
-    pub server_lacking : b ≡ false → Nothing ≡ listed_at (index_of r (view w).transit) i
+    pub server_lacking : b ≡ false → None ≡ listed_at (index_of r (view w).transit) i
     server_lacking h =
         let none = none_to (setting_of w).n (setting_of w).clients (Server j) (fails b (within j.0 (setting_of w).n) e h) kept in
         rw (is, none) (listed-none i)
@@ -86,7 +86,7 @@ module _ (w : List ℕ) (ok : valid w ≡ true) where
         let a = within-range j.0 (setting_of w).n (holds b (within j.0 (setting_of w).n) e h) in
         (a.0, omega (arith, a, few.few_servers))
 
-    pub server-entry : b ≡ true → (x : Listed) → x ≡ listed_at (entries_at (j.0 - 1) (view w).transit) i → x ≡ listed_at (index_of r (view w).transit) i
+    pub server-entry : b ≡ true → (x : Option (MessageNumber × Bool)) → x ≡ listed_at (entries_at (j.0 - 1) (view w).transit) i → x ≡ listed_at (index_of r (view w).transit) i
     server-entry h x f =
         let a = within-range j.0 (setting_of w).n (holds b (within j.0 (setting_of w).n) e h) in
         let own = entries_to (setting_of w).n (setting_of w).clients few (Server j) (a.0, omega (arith, a, few.few_servers)) kept in

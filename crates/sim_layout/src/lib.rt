@@ -25,7 +25,6 @@ ghost use Rattle.system.specs.Numbered.{client_no, server_no};
 
 use ids::{ClientId, ServerId};
 use sim_blocks::{CLIENT_BLOCK, SERVER_BLOCK};
-use sim_indexed::Listed;
 use system::{MessageNumber, Receiver};
 use wire::Message;
 
@@ -486,7 +485,7 @@ pub fn is_delivered(w: &[u32], i: usize) -> bool
 }
 
 // The i-th entry of the receiver at a place in the index.
-fn entry_at(w: &[u32], p: usize, i: usize) -> Listed
+fn entry_at(w: &[u32], p: usize, i: usize) -> Option<(MessageNumber, bool)>
     requires { (is_valid w.now ≡ true) × (p < receivers) }
     ensures { result ≡ listed_at (entries_at p (view w.now).transit) i }
 {
@@ -496,20 +495,20 @@ fn entry_at(w: &[u32], p: usize, i: usize) -> Listed
 
 // The i-th of the messages in transit to a receiver, counted from 0, pending or delivered. Nothing past the last of them, and of a receiver that the
 // setting lacks. Only the receiver's own entries are looked at.
-pub fn entry_of(w: &[u32], r: Receiver, i: usize) -> Listed
+pub fn entry_of(w: &[u32], r: Receiver, i: usize) -> Option<(MessageNumber, bool)>
     requires { is_valid w.now ≡ true }
     ensures { result ≡ listed_at (index_of r (view w.now).transit) i }
 {
     match r {
         Receiver::Client(k) => {
             if !has_client(w, k) {
-                return Listed::Nothing;
+                return None;
             }
             entry_at(w, system::MAX_SERVERS as usize + (k.0 as usize - 1), i)
         }
         Receiver::Server(j) => {
             if !has_server(w, j) {
-                return Listed::Nothing;
+                return None;
             }
             entry_at(w, j.0 as usize - 1, i)
         }

@@ -1,4 +1,6 @@
 -- An event of a run: the simulation's reply says which case of the run's step it is, and the counts follow the reply.
+use Rattle.sim_changes.specs.declared.Effect.{Effect}
+use Rattle.std.specs.Prelude.{Ok, Err}
 use mathlib.Core.Path.{◌≡◌, sym, ap, ◌∙◌}
 use Prim.Native.Nat.{ℕ, ◌+◌, max}
 use mathlib.Core.List.{List}
@@ -15,18 +17,16 @@ use Rattle.sim_layout.specs.Layout.{setting_of, view, valid}
 use Rattle.sim_layout.proofs.ValidLaws as layout_laws
 use Rattle.sim_changes.specs.Happens.{Leaves, happens, reply_of, reply_says}
 use Rattle.simulation.proofs.Replies.{result_row}
-use Rattle.sim_changes.specs.declared.Reply.{Reply}
-use Rattle.sim_changes.specs.declared.Reply.TheVariants.{Accepted, Refused}
 use Rattle.sim_run.specs.declared.Counts.{Counts}
 use Rattle.sim_run.specs.Run.{Run, moved}
 use Rattle.sim_run.specs.Calls.{run_in, Goes}
 use Rattle.sim_run.specs.Inner.{counted}
 
-pub counted-refused : (c : Counts) (r : Reply) (x : Refusal) → r ≡ Refused x → c ≡ counted c r
+pub counted-refused : (c : Counts) (r : Result Effect Refusal) (x : Refusal) → r ≡ Err x → c ≡ counted c r
 unfolding counted
 counted-refused c r x e = rw e
 
-pub counted-accepted : (c : Counts) (r : Reply) (sent holders k : ℕ) → r ≡ Accepted sent holders → k ≡ max c.holding holders
+pub counted-accepted : (c : Counts) (r : Result Effect Refusal) (sent holders k : ℕ) → r ≡ Ok (record { sent = sent; holders = holders }) → k ≡ max c.holding holders
     → record { accepted = c.accepted + 1; holding = k } ≡ counted c r
 unfolding counted
 counted-accepted c r sent holders k e q = rw (e, q)
@@ -39,7 +39,7 @@ unfolding moved counted reply_of after
 outcome s u v (refused x) p c d q = rw (p, q)
 outcome s u v (stepped t) p c d q = rw (p, q)
 
-module _ (c : Counts) (w : List ℕ) (e : Event) (w' : List ℕ) (reply : Reply) (h : Leaves w e w' × (reply ≡ reply_of (view w) (happens w e))) where
+module _ (c : Counts) (w : List ℕ) (e : Event) (w' : List ℕ) (reply : Result Effect Refusal) (h : Leaves w e w' × (reply ≡ reply_of (view w) (happens w e))) where
   pub goes : (d : Counts) → d ≡ counted c reply → Goes c w e w' (record { counts = d; reply = reply })
   goes d q =
       let t : ◌≡◌ {A = Run} (run_in d w') (record { setting = setting_of w; system = view w'; accepted = d.accepted; holding = d.holding }) =

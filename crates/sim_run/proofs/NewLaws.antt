@@ -1,4 +1,6 @@
 -- A new run: a simulation opens as its setting is in range, and nobody is in the critical section at the start.
+use Rattle.sim_run.specs.declared.Counts.{Counts}
+use Rattle.std.specs.Prelude.{Ok, Err, Result}
 use mathlib.Core.Path.{◌≡◌, refl, sym, ap, ◌∙◌}
 use Prim.Native.Nat.{ℕ, zero, suc}
 use native.Mathlib.Omega.{arith}
@@ -16,11 +18,7 @@ use Rattle.system.specs.Places.{is_inside, holders}
 use Rattle.system.specs.Runs.{start}
 use Rattle.sim_layout.specs.Layout.{simulation_size}
 use Rattle.sim_layout.proofs.ValidLaws as layout_laws
-use Rattle.sim_changes.specs.declared.Moved.{Moved}
-use Rattle.sim_changes.specs.declared.Moved.TheVariants as made
 use Rattle.simulation.specs.Opens as simulation
-use Rattle.sim_run.specs.declared.Begun.{Begun}
-use Rattle.sim_run.specs.declared.Begun.TheVariants.{Run as Runs, Refused}
 use Rattle.sim_run.specs.Run.{fresh}
 use Rattle.sim_run.specs.Calls.{new_answer, begun_says, start_says, NewLeaves}
 
@@ -33,12 +31,12 @@ unfolding start
 no_holders s = none_inside s.n s.clients
 
 -- what `simulation::new` answered, turned round
-made_refused : (b : Bool) (x : Refusal) → made.Refused x ≡ simulation.new_reply b → (b ≡ false) × (x ≡ ParameterOutOfRange)
+made_refused : (b : Bool) (x : Refusal) → Err x ≡ simulation.new_reply b → (b ≡ false) × (x ≡ ParameterOutOfRange)
 unfolding simulation.new_reply
 made_refused true x e = let z : ◌≡◌ {A = ℕ} 0 1 = cc in absurd (omega arith)
 made_refused false x e = (refl, (cc))
 
-made_new : (b : Bool) (i : ℕ) → made.Sent i ≡ simulation.new_reply b → b ≡ true
+made_new : (b : Bool) (i : ℕ) → Ok i ≡ simulation.new_reply b → b ≡ true
 unfolding simulation.new_reply
 made_new true i e = refl
 made_new false i e = let z : ◌≡◌ {A = ℕ} 0 1 = cc in absurd (omega arith)
@@ -47,7 +45,7 @@ opens-long : (s : Setting) (l : ℕ) → simulation.opens l s ≡ true → l ≡
 unfolding simulation.opens
 opens-long s l e = eqb-true l simulation_size (both (eqb l simulation_size) (simulation.in_range s) e).0
 
-module _ (s : Setting) (w w' : List ℕ) (r : Moved) (h : simulation.NewLeaves s w w' × (r ≡ simulation.new_reply (simulation.opens (length w) s))) where
+module _ (s : Setting) (w w' : List ℕ) (r : Result ℕ Refusal) (h : simulation.NewLeaves s w w' × (r ≡ simulation.new_reply (simulation.opens (length w) s))) where
   abbrev Opens : Bool
   Opens = simulation.opens (length w) s
 
@@ -59,16 +57,16 @@ module _ (s : Setting) (w w' : List ℕ) (r : Moved) (h : simulation.NewLeaves s
         kept = h.0.kept;
       }
 
-  module _ (x : Refusal) (e : r ≡ made.Refused x) where
-    pub new_refused : NewLeaves s w w' × (Refused x ≡ new_answer (simulation.opens (length w) s) s)
+  module _ (x : Refusal) (e : r ≡ Err x) where
+    pub new_refused : NewLeaves s w w' × (Err x ≡ new_answer (simulation.opens (length w) s) s)
     unfolding new_answer
     new_refused = let q = made_refused Opens x (sym e ∙ h.1) in (leaves, rw (q.0, q.1))
 
     pub refused-same : length w' ≡ length w
     refused-same = ap length (h.0.kept (made_refused Opens x (sym e ∙ h.1)).0)
 
-  module _ (i : ℕ) (e : r ≡ made.Sent i) where
-    pub new_run : NewLeaves s w w' × (Runs (record { accepted = 0; holding = 0 }) ≡ new_answer (simulation.opens (length w) s) s)
+  module _ (i : ℕ) (e : r ≡ Ok i) where
+    pub new_run : NewLeaves s w w' × (Ok (record { accepted = 0; holding = 0 }) ≡ new_answer (simulation.opens (length w) s) s)
     unfolding new_answer
     new_run = (leaves, rw (made_new Opens i (sym e ∙ h.1), no_holders s))
 
@@ -81,6 +79,6 @@ unfolding new_answer start_says
 start-row true s = refl
 start-row false s = refl
 
-pub new_said : (s : Setting) (w w' : List ℕ) (r : Begun) → NewLeaves s w w' × (r ≡ new_answer (simulation.opens (length w) s) s)
+pub new_said : (s : Setting) (w w' : List ℕ) (r : Result Counts Refusal) → NewLeaves s w w' × (r ≡ new_answer (simulation.opens (length w) s) s)
     → (NewLeaves s w w' × (r ≡ new_answer (simulation.opens (length w) s) s)) × (begun_says r ≡ start_says (simulation.opens (length w) s) s)
 new_said s w w' r h = (h, ap begun_says h.1 ∙ start-row (simulation.opens (length w) s) s)

@@ -1,5 +1,6 @@
 -- What the calls on a run give and leave: counts and a simulation's words are a run.
-use Rattle.std.specs.Prelude.{◌≡◌, ℕ, Bool, true, false, List, [], ◌∷◌, length, if◌then◌else◌}
+use Rattle.ids.specs.declared.Refusal.{Refusal}
+use Rattle.std.specs.Prelude.{◌≡◌, ℕ, Bool, true, false, List, [], ◌∷◌, length, if◌then◌else◌, Ok, Err, Result}
 use Rattle.ids.specs.Refusals.{code, Says, accepts, refuses}
 use Rattle.ids.specs.declared.Refusal.TheVariants.{ParameterOutOfRange}
 use Rattle.system.specs.declared.Setting.{Setting}
@@ -7,11 +8,8 @@ use Rattle.system.specs.declared.Event.{Event}
 use Rattle.system.specs.Runs.{is_stepped}
 use Rattle.sim_layout.specs.Layout.{setting_of, view, valid}
 use Rattle.sim_changes.specs.Happens as bounded
-use Rattle.sim_changes.specs.declared.Reply.TheVariants.{Refused}
 use Rattle.simulation.specs.Opens.{opens}
 use Rattle.sim_run.specs.declared.Counts.{Counts}
-use Rattle.sim_run.specs.declared.Begun.{Begun}
-use Rattle.sim_run.specs.declared.Begun.TheVariants as begun
 use Rattle.sim_run.specs.declared.Went.{Went}
 use Rattle.sim_run.specs.Run.{Run, started, next}
 
@@ -27,13 +25,13 @@ abbrev pub counts_of : Run → Counts
 counts_of r = record { accepted = r.accepted; holding = r.holding }
 
 -- a new run: 7 if it does not open
-unfoldable pub new_answer : Bool → Setting → Begun
-new_answer b s = if b then begun.Run (counts_of (started s)) else begun.Refused ParameterOutOfRange
+unfoldable pub new_answer : Bool → Setting → Result Counts Refusal
+new_answer b s = if b then Ok (counts_of (started s)) else Err ParameterOutOfRange
 
 -- the answer in document 01's numbers: the counts of a new run
-abbrev pub begun_says : Begun → Says ℕ
-begun_says (begun.Refused x) = refuses (code x)
-begun_says (begun.Run c) = accepts (c.accepted ∷ c.holding ∷ [])
+abbrev pub begun_says : Result Counts Refusal → Says ℕ
+begun_says (Err x) = refuses (code x)
+begun_says (Ok c) = accepts (c.accepted ∷ c.holding ∷ [])
 
 unfoldable pub start_says : Bool → Setting → Says ℕ
 start_says b s = if b then accepts ((started s).accepted ∷ (started s).holding ∷ []) else refuses 7

@@ -10,8 +10,7 @@ ghost use Rattle.sim_run.specs.Calls.{max_accepted, new_answer, begun_says, star
 ghost use Rattle.sim_run.specs.Inner.{counted as counted_by};
 
 use ids::Refusal;
-pub use sim_changes::Reply;
-use simulation::Moved;
+use sim_changes::Effect;
 use system::{Event, Setting};
 
 // The events accepted, and the most living clients in the critical section at once.
@@ -21,28 +20,21 @@ pub struct Counts {
     pub holding: u32,
 }
 
-// The counts of a new run, or its refusal.
-#[derive(Clone, Copy)]
-pub enum Begun {
-    Run(Counts),
-    Refused(Refusal),
-}
-
 // The counts after an event, and what the event did.
 #[derive(Clone, Copy)]
 pub struct Went {
     pub counts: Counts,
-    pub reply: Reply,
+    pub reply: Result<Effect, Refusal>,
 }
 
 // The counts after a reply.
-fn counted(c: Counts, reply: Reply) -> Counts
+fn counted(c: Counts, reply: Result<Effect, Refusal>) -> Counts
     requires { c.accepted < max_accepted }
     ensures { result ≡ counted_by c reply }
 {
     match reply {
-        Reply::Refused(_) => c,
-        Reply::Accepted(_, holders) => {
+        Err(_) => c,
+        Ok(Effect { holders, .. }) => {
             let accepted = c.accepted + 1;
             let holding = sim_layout::larger(c.holding, holders);
             Counts { accepted, holding }
@@ -51,21 +43,15 @@ fn counted(c: Counts, reply: Reply) -> Counts
 }
 
 // A new run of a setting. Refused 7, and then the words stay.
-pub fn new(w: &mut [u32], s: Setting) -> Begun
+pub fn new(w: &mut [u32], s: Setting) -> Result<Counts, Refusal>
     ensures new_leaves { NewLeaves s w.old w.new × (result ≡ new_answer (opens (length w.old) s) s) }
     ensures numbers { begun_says result ≡ start_says (opens (length w.old) s) s }
 {
-    let made = simulation::new(w, s);
-    match made {
-        Moved::Refused(x) => Begun::Refused(x),
-        Moved::Sent(_) => {
-            let counts = Counts {
-                accepted: 0,
-                holding: 0,
-            };
-            Begun::Run(counts)
-        }
-    }
+    simulation::new(w, s)?;
+    Ok(Counts {
+        accepted: 0,
+        holding: 0,
+    })
 }
 
 // An event of a run whose words are known to be valid.

@@ -10,12 +10,12 @@ ghost use Rattle.sim_changes.specs.Happens.{happens, Leaves, moved_of};
 
 use ids::Refusal;
 use server_votes::Tag;
-use sim_changes::{ClientAct, Moved, ServerAct, client_acts, server_acts};
+use sim_changes::{ClientAct, ServerAct, client_acts, server_acts};
 use system::MessageNumber;
 use wire::Message;
 
 // The message in slot `i`, which is pending: its kind says who takes it.
-fn deliver(w: &mut [u32], i: usize, m: Message) -> Moved
+fn deliver(w: &mut [u32], i: usize, m: Message) -> Result<u32, Refusal>
     requires { Pends w.old i m }
     ensures { Leaves w.old (Take (number_at w.old i)) w.new × (result ≡ moved_of (happens w.old (Take (number_at w.old i)))) }
 {
@@ -30,13 +30,13 @@ fn deliver(w: &mut [u32], i: usize, m: Message) -> Moved
 }
 
 // The receiver takes the message.
-pub fn take(w: &mut [u32], number: MessageNumber) -> Moved
+pub fn take(w: &mut [u32], number: MessageNumber) -> Result<u32, Refusal>
     requires { valid w.old ≡ true }
     ensures { Leaves w.old (Take number) w.new × (result ≡ moved_of (happens w.old (Take number))) }
 {
     let i = sim_layout::find_pending(w, number);
     if i == sim_layout::in_transit(w) {
-        return Moved::Refused(Refusal::NoSuchParty);
+        return Err(Refusal::NoSuchParty);
     }
     let m = sim_layout::message_at(w, i);
     deliver(w, i, m)

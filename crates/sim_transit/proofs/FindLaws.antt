@@ -1,12 +1,12 @@
 -- Looking a number up. The numbers ascend, so that those before the middle are below it and those behind it above: each look halves what is left.
 -- The slot found is the first that passes; and that is where the system's own definitions find the message.
+use Rattle.std.specs.Prelude.{Some, None}
 use Prim.Native.Nat.{ℕ, zero, suc, ◌+◌, ◌-◌, ◌*◌, ◌<◌, ◌≤◌}
 use native.Mathlib.Omega.{arith}
 use mathlib.Core.Path.{◌≡◌, refl, sym, ap, ◌∙◌}
 use mathlib.Core.Bool.{Bool, true, false, not}
 use mathlib.Core.List.{List, [], ◌∷◌, ◌++◌, append-nil}
 use mathlib.Core.Logic.{⊎_elim, inl, inr}
-use mathlib.Core.Option.{none, some}
 use lib.Dec.{eqb, ltb}
 use lib.ListN.{length, get_or, take, drop}
 use lib.Seq.{get_or-drop, drop-drop}
@@ -235,26 +235,26 @@ module _ (f : InTransit → Bool) where
 
 module _ (number : ℕ) where
   pending-at : (d : InTransit) (l : List InTransit) → first_slot (is_pending number) l < length l
-      → pending number l ≡ some (get_or l (first_slot (is_pending number) l) d).message
+      → pending number l ≡ Some (get_or l (first_slot (is_pending number) l) d).message
   unfolding pending first_slot
   pending-at d [] h = absurd (omega arith)
   pending-at d (x ∷ l) h = by_test (decided (is_pending number x)) (pending-at d l) h
     where
       by_test : Test (is_pending number x)
-          → (first_slot (is_pending number) l < length l → pending number l ≡ some (get_or l (first_slot (is_pending number) l) d).message)
+          → (first_slot (is_pending number) l < length l → pending number l ≡ Some (get_or l (first_slot (is_pending number) l) d).message)
           → first_slot (is_pending number) (x ∷ l) < suc (length l)
-          → pending number (x ∷ l) ≡ some (get_or (x ∷ l) (first_slot (is_pending number) (x ∷ l)) d).message
+          → pending number (x ∷ l) ≡ Some (get_or (x ∷ l) (first_slot (is_pending number) (x ∷ l)) d).message
       by_test (inl e) more h = rw e
       by_test (inr e) more h =
           rw e (more (let g : suc (first_slot (is_pending number) l) < suc (length l) = rw e at h in omega (arith, g)))
 
-  pending-none : (l : List InTransit) → first_slot (is_pending number) l ≡ length l → pending number l ≡ none
+  pending-none : (l : List InTransit) → first_slot (is_pending number) l ≡ length l → pending number l ≡ None
   unfolding pending first_slot
   pending-none [] h = refl
   pending-none (x ∷ l) h = by_test (decided (is_pending number x)) (pending-none l) h
     where
-      by_test : Test (is_pending number x) → (first_slot (is_pending number) l ≡ length l → pending number l ≡ none)
-          → first_slot (is_pending number) (x ∷ l) ≡ suc (length l) → pending number (x ∷ l) ≡ none
+      by_test : Test (is_pending number x) → (first_slot (is_pending number) l ≡ length l → pending number l ≡ None)
+          → first_slot (is_pending number) (x ∷ l) ≡ suc (length l) → pending number (x ∷ l) ≡ None
       by_test (inl e) more h = absurd (let g : ◌≡◌ {A = ℕ} 0 (suc (length l)) = rw e at h in omega (arith, g))
       by_test (inr e) more h = rw e (more (let g : suc (first_slot (is_pending number) l) ≡ suc (length l) = rw e at h in omega (arith, g)))
 
@@ -301,7 +301,7 @@ module _ (number len : ℕ) (t : List ℕ) (r : ℕ) where
         numbered = λ h. let p = first_passes (is_pending number) d (slots len t) (omega (arith, e, n, h)) in
             let q : is_pending number (slot_at t r) ≡ true = rw (at h) at p in
             eqb-true (slot_at t r).number number (both (eqb (slot_at t r).number number) (not (slot_at t r).delivered) q).0;
-        found = λ h. pending-at number d (slots len t) (omega (arith, e, n, h)) ∙ ap (λ (x : InTransit). some x.message) (at h);
+        found = λ h. pending-at number d (slots len t) (omega (arith, e, n, h)) ∙ ap (λ (x : InTransit). Some x.message) (at h);
         missing = λ h. pending-none number (slots len t) (omega (arith, e, n, h));
       }
 

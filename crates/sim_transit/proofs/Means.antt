@@ -1,9 +1,9 @@
 -- What the calls' equations mean on the words of a system: each is one of the system's definitions, and leaves the words of a system.
+use Rattle.std.specs.Prelude.{Some, None}
 use Prim.Native.Nat.{ℕ, ◌+◌, ◌-◌, ◌<◌, ◌≤◌}
 use mathlib.Core.Path.{◌≡◌}
 use mathlib.Core.Bool.{true, false}
 use mathlib.Core.List.{List, ◌++◌}
-use mathlib.Core.Option.{none, some}
 use lib.ListN.{length}
 use Rattle.wire.specs.declared.Message.{Message}
 use Rattle.ids.specs.Lists.{every}
@@ -15,8 +15,8 @@ use Rattle.sim_transit.specs.Calls.{Valid, marked_as}
 pub record FindsPending (number len : ℕ) (t : List ℕ) (r : ℕ) : Type 0 where
   pub within : r ≤ len
   pub numbered : r < len → (slot_at t r).number ≡ number
-  pub found : r < len → pending number (slots len t) ≡ some (slot_at t r).message
-  pub missing : r ≡ len → pending number (slots len t) ≡ none
+  pub found : r < len → pending number (slots len t) ≡ Some (slot_at t r).message
+  pub missing : r ≡ len → pending number (slots len t) ≡ None
 
 -- r is the slot of the message with this number, pending or delivered, or len where there is none
 pub record FindsPresent (number len : ℕ) (t : List ℕ) (r : ℕ) : Type 0 where

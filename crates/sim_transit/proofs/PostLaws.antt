@@ -1,4 +1,5 @@
 -- Messages posted: each stands in the next slot under the next number. What is decoded from the bytes that messages were written to are these messages.
+use Rattle.std.specs.Prelude.{Ok, Err, Result}
 use Prim.Native.Nat.{ℕ, zero, suc, ◌+◌, ◌-◌, ◌*◌, ◌<◌, ◌≤◌}
 use native.Mathlib.Numerals.{add-one}
 use native.Mathlib.Omega.{arith}
@@ -15,10 +16,6 @@ use Rattle.wire.specs.Format.{words, fields_of, bytes_of, bytes_of_all, size_of,
 use Rattle.wire.specs.Calls.{read_of, numbers_of}
 use Rattle.wire.specs.declared.Fields.{Fields}
 use Rattle.wire.specs.declared.Message.{Message}
-use Rattle.wire.specs.declared.Numbers.{Numbers}
-use Rattle.wire.specs.declared.Numbers.TheVariants.{Fitting, Refused as NoNumbers}
-use Rattle.wire.specs.declared.Parsed.{Parsed}
-use Rattle.wire.specs.declared.Parsed.TheVariants.{Accepted, Refused as NotRead}
 use Rattle.ids.specs.declared.Refusal.{Refusal}
 use Rattle.wire.proofs.BytesLaws.{stored_on}
 use Rattle.wire.proofs.FormatLaws.{length-bytes_of}
@@ -61,43 +58,43 @@ messages_read_buffer l buffer v h =
 pub record Next (count : ℕ) (s : List ℕ) : Type 0 where
   pub message : Message
   pub used : ℕ
-  pub read : read_of s ≡ Accepted message used
+  pub read : read_of s ≡ Ok (message, used)
   pub others : messages_in (suc count) s ≡ message ∷ messages_in count (drop used s)
 
 pub next : (count : ℕ) (s : List ℕ) → length (messages_in (suc count) s) ≡ suc count → Next count s
 unfolding messages_in
 next count s h = go (read_of s) refl h
   where
-    go : (p : Parsed) → read_of s ≡ p → length (and_then s p (messages_in count)) ≡ suc count → Next count s
-    go (NotRead e) q l = absurd (omega arith)
-    go (Accepted m used) q l = record { message = m; used = used; read = q; others = rw q }
+    go : (p : Result (Message × ℕ) Refusal) → read_of s ≡ p → length (and_then s p (messages_in count)) ≡ suc count → Next count s
+    go (Err e) q l = absurd (omega arith)
+    go (Ok (m, used)) q l = record { message = m; used = used; read = q; others = rw q }
 
 -- the bytes from a place on, as the code lends them
-pub read-rest : (bytes : List ℕ) (from : ℕ) (p : Numbers) → p ≡ numbers_of (read_of (take (length bytes - from) (drop from bytes)))
+pub read-rest : (bytes : List ℕ) (from : ℕ) (p : Result (Fields × ℕ) Refusal) → p ≡ numbers_of (read_of (take (length bytes - from) (drop from bytes)))
     → p ≡ numbers_of (read_of (drop from bytes))
 read-rest bytes from p e = rw (take_all (length bytes - from) (drop from bytes) (omega (arith, length-drop from bytes))) at e
 
 -- one message stored, from the numbers that were read
-module _ (at number from : ℕ) (bytes t : List ℕ) (p : Numbers) (e : p ≡ numbers_of (read_of (drop from bytes))) (inside : from ≤ length bytes) where
+module _ (at number from : ℕ) (bytes t : List ℕ) (p : Result (Fields × ℕ) Refusal) (e : p ≡ numbers_of (read_of (drop from bytes))) (inside : from ≤ length bytes) where
   pub record Took (f : Fields) (used : ℕ) : Type 0 where
     pub message : Message
-    pub read : read_of (drop from bytes) ≡ Accepted message used
+    pub read : read_of (drop from bytes) ≡ Ok (message, used)
     pub same : fields_of message ≡ f
 
-  pub fitting_took : (f : Fields) (used : ℕ) → p ≡ Fitting f used → Took f used
+  pub fitting_took : (f : Fields) (used : ℕ) → p ≡ Ok (f, used) → Took f used
   fitting_took f used q = go (read_of (drop from bytes)) refl (sym e ∙ q)
     where
-      go : (r : Parsed) → read_of (drop from bytes) ≡ r → numbers_of r ≡ Fitting f used → Took f used
-      go (NotRead x) i h = absurd (let z : ◌≡◌ {A = ℕ} 0 1 = cc in omega arith)
-      go (Accepted m u) i h = let y : u ≡ used = cc in record { message = m; read = rw y at i; same = cc }
+      go : (r : Result (Message × ℕ) Refusal) → read_of (drop from bytes) ≡ r → numbers_of r ≡ Ok (f, used) → Took f used
+      go (Err x) i h = absurd (let z : ◌≡◌ {A = ℕ} 0 1 = cc in omega arith)
+      go (Ok (m, u)) i h = let y : u ≡ used = cc in record { message = m; read = rw y at i; same = cc }
 
-  pub fitting_inside : (f : Fields) (used : ℕ) → p ≡ Fitting f used → from + used ≤ length bytes
+  pub fitting_inside : (f : Fields) (used : ℕ) → p ≡ Ok (f, used) → from + used ≤ length bytes
   fitting_inside f used q =
       let T = fitting_took f used q in
       let k = took max_servers (drop from bytes) T.message used T.read in
       omega (arith, k.whole, k.used, length-drop from bytes)
 
-  pub one-posted : (f : Fields) (used : ℕ) (t' : List ℕ) → p ≡ Fitting f used → t' ≡ sets t at (number ∷ (0 ∷ words f))
+  pub one-posted : (f : Fields) (used : ℕ) (t' : List ℕ) → p ≡ Ok (f, used) → t' ≡ sets t at (number ∷ (0 ∷ words f))
       → PostsOne at number from bytes t t' (from + used)
   unfolding slot_words
   one-posted f used t' q s =
@@ -109,7 +106,7 @@ module _ (at number from : ℕ) (bytes t : List ℕ) (p : Numbers) (e : p ≡ nu
         put = λ m u r. let y : fields_of m ≡ f = cc in rw y s;
       }
 
-  pub none-posted : (x : Refusal) → p ≡ NoNumbers x → PostsOne at number from bytes t t from
+  pub none-posted : (x : Refusal) → p ≡ Err x → PostsOne at number from bytes t t from
   none-posted x q =
       record {
         inside = inside;
@@ -250,9 +247,9 @@ unfolding messages_in
 messages-valid zero s = refl
 messages-valid (suc count) s = go (read_of s) refl (messages-valid count)
   where
-    go : (p : Parsed) → read_of s ≡ p → ((r : List ℕ) → every valid (messages_in count r) ≡ true) → every valid (and_then s p (messages_in count)) ≡ true
-    go (NotRead e) q more = refl
-    go (Accepted m used) q more = rw ((took max_servers s m used q).range, more (drop used s))
+    go : (p : Result (Message × ℕ) Refusal) → read_of s ≡ p → ((r : List ℕ) → every valid (messages_in count r) ≡ true) → every valid (and_then s p (messages_in count)) ≡ true
+    go (Err e) q more = refl
+    go (Ok (m, used)) q more = rw ((took max_servers s m used q).range, more (drop used s))
 
 pub posts_read : (len sent count : ℕ) (bytes t t' : List ℕ) → Sized (len + count) t → length (messages_in count bytes) ≡ count
     → t' ≡ posted_words len sent (messages_in count bytes) t → Posts len sent (messages_in count bytes) t t'
@@ -304,7 +301,7 @@ module _ (len sent count : ℕ) (bytes o : List ℕ) where
       its-next : Next (count - suc i) (drop from bytes)
       its-next = next (count - suc i) (drop from bytes) (sym (ap length left) ∙ omega (arith, length-drop i (messages_in count bytes), P.whole))
 
-      module _ (m : Message) (used : ℕ) (read : read_of (drop from bytes) ≡ Accepted m used)
+      module _ (m : Message) (used : ℕ) (read : read_of (drop from bytes) ≡ Ok (m, used))
           (split : drop i (messages_in count bytes) ≡ m ∷ messages_in (count - suc i) (drop used (drop from bytes))) where
         abbrev posted : InTransit
         posted = record { number = number + 1; delivered = false; message = m }

@@ -5,13 +5,12 @@ use mathlib.Core.Path.{◌≡◌, refl, sym, ap, ◌∙◌}
 use mathlib.Core.Bool.{Bool, true, false, false≢true, ◌&&◌}
 use mathlib.Core.List.{List, [], ◌∷◌}
 use mathlib.Core.Logic.{◌⊎◌, inl, inr}
-use mathlib.Core.Option.{none, some}
 use lib.Dec.{eqb, leb}
 use lib.ListN.{length, get_or, set, take, drop, length-drop}
 use lib.Seq.{take-add, drop_at, length-take-le, get_or-take, get_or-drop, drop-drop}
 use borrow.Author.Tests.{le-leb, lt-leb, leb-true}
 use Rattle.ids.specs.Choice.{maybe}
-use Rattle.std.specs.Prelude.{if◌then◌else◌}
+use Rattle.std.specs.Prelude.{if◌then◌else◌, Some, None, Option}
 use Rattle.ids.specs.Limits.{within, max_servers, max_short}
 use Rattle.ids.proofs.Choice.{both, decided}
 use Rattle.ids.proofs.LimitsLaws.{within-range}
@@ -21,8 +20,6 @@ use Rattle.wire.specs.declared.Fields.{Fields}
 use Rattle.wire.specs.declared.Message.{Message}
 use Rattle.wire.proofs.NumbersLaws.{valid_sound, message_fields, valid-message, fields_again}
 use Rattle.words.specs.Messages.{fits, fields_from, crossing, as_message, message_in, message_or}
-use Rattle.words.specs.declared.Crossed.{Crossed}
-use Rattle.words.specs.declared.Crossed.TheVariants.{Numbers, TooLarge}
 use Rattle.system.specs.Transit.{InTransit}
 use Rattle.sim_transit.specs.Slots.{slot_of, slot_at, names, valid_slot, slot_size, transit_size}
 use Rattle.sim_transit.specs.Inner.{named_fields}
@@ -47,16 +44,16 @@ sevens (a ∷ (b ∷ (c ∷ (d ∷ (e ∷ (f ∷ (g ∷ (x ∷ ws)))))))) h = ab
 -- what the test says of a slot's words
 pub record Fitting (n clients : ℕ) (ws : List ℕ) : Type 0 where
   pub flag : get_or ws 1 0 ≤ 1
-  pub crosses : crossing (drop 2 ws) ≡ Numbers (fields_from (drop 2 ws))
+  pub crosses : crossing (drop 2 ws) ≡ Some (fields_from (drop 2 ws))
   pub range : valid_fields (fields_from (drop 2 ws)) ≡ true
   pub named : names n clients (message_of (fields_from (drop 2 ws))) ≡ true
 
 module _ (g : Message → Bool) where
-  chosen : (v : Bool) (m : Message) → maybe (if v then some m else none) false g ≡ true → (v ≡ true) × (g m ≡ true)
+  chosen : (v : Bool) (m : Message) → maybe (if v then Some m else None) false g ≡ true → (v ≡ true) × (g m ≡ true)
   chosen true m e = (refl, e)
   chosen false m e = absurd (false≢true e)
 
-  crossed : (b : Bool) (f : Fields) → maybe (as_message (if b then Numbers f else TooLarge)) false g ≡ true
+  crossed : (b : Bool) (f : Fields) → maybe (as_message (if b then Some f else None)) false g ≡ true
       → (b ≡ true) × ((valid_fields f ≡ true) × (g (message_of f) ≡ true))
   crossed true f e = (refl, chosen (valid_fields f) (message_of f) e)
   crossed false f e = absurd (false≢true e)
@@ -98,7 +95,7 @@ module _ (n clients : ℕ) (x : InTransit) (v : valid x.message ≡ true) where
       let s = valid_sound x.message v in
       rw (s.kind, valid-message (fields_of x.message) max_servers s.kind s.alone, message_fields max_servers x.message v) v
 
-  crossing-words : crossing (words (fields_of x.message)) ≡ Numbers (fields_of x.message)
+  crossing-words : crossing (words (fields_of x.message)) ≡ Some (fields_of x.message)
   unfolding crossing fits
   crossing-words =
       let s = valid_sound x.message v in
@@ -191,19 +188,19 @@ module _ (n clients : ℕ) (ws : List ℕ) where
   unfolding valid_slot
   slot_flag h = rw (lt-leb (get_or ws 1 0) 1 h)
 
-  module _ (h : get_or ws 1 0 ≤ 1) (g : Crossed) (e : g ≡ crossing (drop 2 ws)) where
-    pub slot_large : g ≡ TooLarge → false ≡ valid_slot n clients ws
+  module _ (h : get_or ws 1 0 ≤ 1) (g : Option Fields) (e : g ≡ crossing (drop 2 ws)) where
+    pub slot_large : g ≡ None → false ≡ valid_slot n clients ws
     unfolding valid_slot
-    slot_large p = let q : crossing (drop 2 ws) ≡ TooLarge = cc in rw (le-leb (get_or ws 1 0) 1 h, q)
+    slot_large p = let q : crossing (drop 2 ws) ≡ None = cc in rw (le-leb (get_or ws 1 0) 1 h, q)
 
-    pub slot-numbers : (f : Fields) (r : Bool) → g ≡ Numbers f → r ≡ named_fields n clients f → r ≡ valid_slot n clients ws
+    pub slot-numbers : (f : Fields) (r : Bool) → g ≡ Some f → r ≡ named_fields n clients f → r ≡ valid_slot n clients ws
     unfolding valid_slot named_fields
     slot-numbers f r p x =
-        let q : crossing (drop 2 ws) ≡ Numbers f = cc in
+        let q : crossing (drop 2 ws) ≡ Some f = cc in
         rw (le-leb (get_or ws 1 0) 1 h, q, x) (go (decided (valid_fields f)))
       where
         go : ((valid_fields f ≡ true) ⊎ (valid_fields f ≡ false))
-            → named_fields n clients f ≡ maybe (if valid_fields f then some (message_of f) else none) false (names n clients)
+            → named_fields n clients f ≡ maybe (if valid_fields f then Some (message_of f) else None) false (names n clients)
         go (inl v) = named-names n clients f v ∙ rw v
         go (inr v) = rw v
 
@@ -215,15 +212,15 @@ module _ (n clients : ℕ) (t : List ℕ) (i : ℕ) (size : length t ≡ transit
   pub flag_found : 1 < get_or t (slot_size * i + 1) 0 → false ≡ valid_slot n clients (take slot_size (drop (slot_size * i) t))
   flag_found h = slot_flag n clients (take slot_size (drop (slot_size * i) t)) (rw flag_at h)
 
-  module _ (h : get_or t (slot_size * i + 1) 0 ≤ 1) (g : Crossed)
+  module _ (h : get_or t (slot_size * i + 1) 0 ≤ 1) (g : Option Fields)
       (e : g ≡ crossing (take (slot_size * i + slot_size - (slot_size * i + 2)) (drop (slot_size * i + 2) t))) where
     from_row : g ≡ crossing (drop 2 (take slot_size (drop (slot_size * i) t)))
     from_row = e ∙ ap crossing (sym (message-words t i size used))
 
-    pub large_found : g ≡ TooLarge → false ≡ valid_slot n clients (take slot_size (drop (slot_size * i) t))
+    pub large_found : g ≡ None → false ≡ valid_slot n clients (take slot_size (drop (slot_size * i) t))
     large_found q = slot_large n clients (take slot_size (drop (slot_size * i) t)) (rw flag_at h) g from_row q
 
-    pub numbers-found : (f : Fields) (r : Bool) → g ≡ Numbers f → r ≡ named_fields n clients f → r ≡ valid_slot n clients (take slot_size (drop (slot_size * i) t))
+    pub numbers-found : (f : Fields) (r : Bool) → g ≡ Some f → r ≡ named_fields n clients f → r ≡ valid_slot n clients (take slot_size (drop (slot_size * i) t))
     numbers-found f r q x = slot-numbers n clients (take slot_size (drop (slot_size * i) t)) (rw flag_at h) g from_row f r q x
 
 pub known-kind : (f : Fields) → valid_fields f ≡ true → known f.kind ≡ true

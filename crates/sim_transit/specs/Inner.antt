@@ -1,12 +1,11 @@
 -- Definitions that only the contracts of private functions cite: no promise rests on them.
-use Rattle.std.specs.Prelude.{ℕ, ◌+◌, ◌*◌, ◌<◌, ◌≤◌, ◌≡◌, Bool, false, ◌&&◌, List, leb, length, get_or, drop}
+use Rattle.std.specs.Prelude.{ℕ, ◌+◌, ◌*◌, ◌<◌, ◌≤◌, ◌≡◌, Bool, false, ◌&&◌, List, leb, length, get_or, drop, Ok}
 use Rattle.std.proofs.lemmas.List.Edits.{sets}
 use Rattle.ids.specs.Limits.{within}
 use Rattle.wire.specs.Calls.{read_of}
 use Rattle.wire.specs.Format.{valid_fields}
 use Rattle.wire.specs.declared.Fields.{Fields}
 use Rattle.wire.specs.declared.Message.{Message}
-use Rattle.wire.specs.declared.Parsed.TheVariants.{Accepted}
 use Rattle.sim_transit.specs.Slots.{slot_size}
 use Rattle.sim_transit.specs.Calls.{Ordered, slot_words}
 
@@ -24,5 +23,5 @@ pub record Bound (number len : ℕ) (t : List ℕ) (r : ℕ) : Type 0 where
 pub record PostsOne (at number from : ℕ) (bytes t t' : List ℕ) (r : ℕ) : Type 0 where
   pub inside : r ≤ length bytes
   pub same : length t' ≡ length t
-  pub behind : (m : Message) (used : ℕ) → read_of (drop from bytes) ≡ Accepted m used → r ≡ from + used
-  pub put : (m : Message) (used : ℕ) → read_of (drop from bytes) ≡ Accepted m used → t' ≡ sets t at (slot_words (record { number = number; delivered = false; message = m }))
+  pub behind : (m : Message) (used : ℕ) → read_of (drop from bytes) ≡ Ok (m, used) → r ≡ from + used
+  pub put : (m : Message) (used : ℕ) → read_of (drop from bytes) ≡ Ok (m, used) → t' ≡ sets t at (slot_words (record { number = number; delivered = false; message = m }))

@@ -1,13 +1,12 @@
 -- Messages in transit as words: a slot of seven words for each. A slot is the message's number, 1 if it is delivered and 0 if it is
 -- pending, and the message's five words. The used slots stand first, and every word behind them is 0.
-use Rattle.std.specs.Prelude.{ℕ, zero, suc, ◌*◌, Bool, true, false, ◌&&◌, List, [], ◌∷◌, map, eqb, ltb, leb, length, get_or, take, drop}
+use Rattle.ids.specs.declared.Refusal.{Refusal}
+use Rattle.std.specs.Prelude.{ℕ, zero, suc, ◌*◌, Bool, true, false, ◌&&◌, List, [], ◌∷◌, map, eqb, ltb, leb, length, get_or, take, drop, Ok, Err, Result}
 use Rattle.ids.specs.Choice.{maybe}
 use Rattle.ids.specs.Limits.{within}
 use Rattle.wire.specs.Format.{fields_of, message_of}
 use Rattle.wire.specs.Calls.{read_of}
 use Rattle.wire.specs.declared.Message.{Message}
-use Rattle.wire.specs.declared.Parsed.{Parsed}
-use Rattle.wire.specs.declared.Parsed.TheVariants.{Accepted, Refused}
 use Rattle.ids.specs.Lists.{every}
 use Rattle.words.specs.Messages.{fields_from, message_in}
 use Rattle.system.specs.Limits.{system_messages}
@@ -60,9 +59,9 @@ valid_slots n clients sent len t =
     && every (eqb 0) (drop (slot_size * len) t))))
 
 -- the messages that bytes begin with, so many if there are as many
-abbrev pub and_then : List ℕ → Parsed → (List ℕ → List Message) → List Message
-and_then s (Refused e) f = []
-and_then s (Accepted m used) f = m ∷ f (drop used s)
+abbrev pub and_then : List ℕ → Result (Message × ℕ) Refusal → (List ℕ → List Message) → List Message
+and_then s (Err e) f = []
+and_then s (Ok (m, used)) f = m ∷ f (drop used s)
 
 unfoldable pub messages_in : ℕ → List ℕ → List Message
 messages_in zero s = []

@@ -13,8 +13,7 @@ ghost use Rattle.sim_transit.specs.Inner.{named_fields, Bound, PostsOne};
 ghost use Rattle.system.specs.Limits.{system_messages, last_number};
 
 use system::MessageNumber;
-use wire::{Fields, Message, Numbers};
-use words::Crossed;
+use wire::{Fields, Message};
 
 // The words of a slot, how many slots there are, and the words of all.
 pub const SLOT: usize = 7;
@@ -48,10 +47,9 @@ fn slot_valid(t: &[u32], i: usize, n: u32, clients: u32) -> bool
     }
     let from = at + 2;
     let end = at + SLOT;
-    let g = words::cross(&t[from..end]);
-    match g {
-        Crossed::Numbers(f) => named(f, n, clients),
-        Crossed::TooLarge => false,
+    match words::cross(&t[from..end]) {
+        Some(f) => named(f, n, clients),
+        None => false,
     }
 }
 
@@ -263,11 +261,11 @@ fn post_one(t: &mut [u32], at: usize, number: u32, bytes: &[u8], from: usize) ->
 {
     let p = wire::read_fields(&bytes[from..]);
     match p {
-        Numbers::Fitting(f, used) => {
+        Ok((f, used)) => {
             put_slot(t, at, number, f);
             from + used
         }
-        Numbers::Refused(_) => from,
+        Err(_) => from,
     }
 }
 

@@ -1,21 +1,19 @@
 -- No event of a simulation is refused because a server's queue is full (14): the definition has no such refusal, and the server's own call, which
 -- has it, never gives it (`sim_blocks/proofs` `ServerSteps.receive-outcome`), since at most 16 clients, each once, fill a queue of 16 places.
+use Rattle.ids.specs.declared.Request.{Request as Pair}
 use mathlib.Core.Path.{◌≡◌}
 use Prim.Native.Nat.{ℕ}
 use native.Mathlib.Omega.{arith}
 use mathlib.Core.Bool.{Bool, true, false, not, ◌&&◌}
-use mathlib.Core.Option.{Option, none, some}
 use mathlib.Core.List.{List}
 use lib.Dec.{leb}
 use lib.ListN.{length}
 use Rattle.ids.specs.Choice.{maybe}
-use Rattle.std.specs.Prelude.{if◌then◌else◌}
+use Rattle.std.specs.Prelude.{if◌then◌else◌, Some, None, Option}
 use Rattle.ids.specs.Requests.{by_owner}
 use Rattle.ids.specs.declared.Refusal.{Refusal}
 use Rattle.ids.specs.declared.Refusal.TheVariants.{QueueFull, NoSuchParty, PartyDown, NoOwner, OwnerLives, WrongSection, TimestampsSpent, SystemFull}
 use Rattle.ids.specs.declared.ServerId.{ServerId}
-use Rattle.ids.specs.declared.Owner.{Owner}
-use Rattle.ids.specs.declared.Owner.TheVariants.{Nobody, Of}
 use Rattle.wire.specs.Step.{Step, refused, stepped}
 use Rattle.wire.specs.declared.Message.{Message}
 use Rattle.wire.specs.declared.Message.TheVariants.{Request, Yield, Release, Inquiry, Response, Check as CHECK}
@@ -81,13 +79,13 @@ module _ (n : ℕ) (wins : Quorum) (u : System) where
   deliver_never i (CHECK k j t) = up_step (client_at u k).living (check_took u i k j t)
 
   taken_never : (i : ℕ) (o : Option Message) → Never (maybe o (refused NoSuchParty) (λ m. deliver n wins u i m))
-  taken_never i none = party_never
-  taken_never i (some m) = deliver_never i m
+  taken_never i None = party_never
+  taken_never i (Some m) = deliver_never i m
 
-  missed_never : (j : ServerId) (o : Owner)
+  missed_never : (j : ServerId) (o : Option Pair)
       → Never (by_owner o (refused NoOwner) (λ r. need (not (client_at u r.client).living) OwnerLives (stepped (suspected u j))))
-  missed_never j Nobody = nobody_never
-  missed_never j (Of r) = need_never (not (client_at u r.client).living) OwnerLives (stepped (suspected u j)) lives_never (step_never (suspected u j))
+  missed_never j None = nobody_never
+  missed_never j (Some r) = need_never (not (client_at u r.client).living) OwnerLives (stepped (suspected u j)) lives_never (step_never (suspected u j))
 
   pub event_never : (e : Event) → Never (event n wins u e)
   unfolding event

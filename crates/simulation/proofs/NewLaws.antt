@@ -1,4 +1,6 @@
 -- A new simulation is refused or made, test by test.
+use Rattle.ids.specs.declared.Refusal.{Refusal}
+use Rattle.std.specs.Prelude.{Ok, Err, Result}
 use mathlib.Core.Path.{◌≡◌, refl, ap, ◌∙◌}
 use Prim.Native.Nat.{ℕ}
 use mathlib.Core.Bool.{Bool, true, false}
@@ -11,15 +13,13 @@ use Rattle.quorum.specs.Check.{in_range_up_to}
 use Rattle.sim_changes.specs.Opening.{Starts}
 use Rattle.simulation.specs.Opens.{opens, new_reply, open_says, NewLeaves}
 use Rattle.sim_changes.specs.Happens.{moved_says}
-use Rattle.sim_changes.specs.declared.Moved.{Moved}
-use Rattle.sim_changes.specs.declared.Moved.TheVariants as moved
 use Rattle.ids.specs.declared.Refusal.TheVariants.{ParameterOutOfRange}
 use Rattle.system.specs.declared.Setting.{Setting}
 use Rattle.sim_layout.specs.Layout.{simulation_size}
 use Rattle.system.specs.Limits.{system_clients, system_servers}
 
 module _ (s : Setting) (w : List ℕ) where
-  refuses : opens (length w) s ≡ false → NewLeaves s w w × (moved.Refused ParameterOutOfRange ≡ new_reply (opens (length w) s))
+  refuses : opens (length w) s ≡ false → NewLeaves s w w × (Err ParameterOutOfRange ≡ new_reply (opens (length w) s))
   unfolding new_reply
   refuses h = (record { starts = λ y. clash (opens (length w) s) y h; kept = λ y. refl }, rw h)
 
@@ -27,7 +27,7 @@ module _ (s : Setting) (w : List ℕ) where
   unfolding opens
   wrong_size ne = rw (ne_eqb (length w) simulation_size ne)
 
-  pub new_size : (length w ≡ simulation_size → ⊥) → NewLeaves s w w × (moved.Refused ParameterOutOfRange ≡ new_reply (opens (length w) s))
+  pub new_size : (length w ≡ simulation_size → ⊥) → NewLeaves s w w × (Err ParameterOutOfRange ≡ new_reply (opens (length w) s))
   new_size ne = refuses (wrong_size ne)
 
   module _ (l : length w ≡ simulation_size) (a : Bool) (p : a ≡ in_range_up_to system_servers s.n s.m s.f) where
@@ -35,7 +35,7 @@ module _ (s : Setting) (w : List ℕ) where
     unfolding opens
     wrong-range t = rw (eq-eqb (length w) simulation_size l, fails a (in_range_up_to system_servers s.n s.m s.f) p t)
 
-    pub new_range : a ≡ false → NewLeaves s w w × (moved.Refused ParameterOutOfRange ≡ new_reply (opens (length w) s))
+    pub new_range : a ≡ false → NewLeaves s w w × (Err ParameterOutOfRange ≡ new_reply (opens (length w) s))
     new_range t = refuses (wrong-range t)
 
     module _ (t : a ≡ true) (b : Bool) (q : b ≡ within s.clients system_clients) where
@@ -47,7 +47,7 @@ module _ (s : Setting) (w : List ℕ) where
         fails b (within s.clients system_clients) q u,
       )
 
-      pub new_clients : b ≡ false → NewLeaves s w w × (moved.Refused ParameterOutOfRange ≡ new_reply (opens (length w) s))
+      pub new_clients : b ≡ false → NewLeaves s w w × (Err ParameterOutOfRange ≡ new_reply (opens (length w) s))
       new_clients u = refuses (wrong-clients u)
 
       pub new_asks : b ≡ true
@@ -62,7 +62,7 @@ module _ (s : Setting) (w : List ℕ) where
         holds b (within s.clients system_clients) q u,
       )
 
-      pub new_starts : b ≡ true → (w' : List ℕ) → Starts s w' → NewLeaves s w w' × (moved.Sent 0 ≡ new_reply (opens (length w) s))
+      pub new_starts : b ≡ true → (w' : List ℕ) → Starts s w' → NewLeaves s w w' × (Ok 0 ≡ new_reply (opens (length w) s))
       unfolding new_reply
       new_starts u w' S = (record { starts = λ y. S; kept = λ y. clash (opens (length w) s) (all_right u) y }, rw (all_right u))
 
@@ -72,6 +72,6 @@ unfolding new_reply open_says
 open_row true = refl
 open_row false = refl
 
-pub new_said : (s : Setting) (w w' : List ℕ) (r : Moved) → NewLeaves s w w' × (r ≡ new_reply (opens (length w) s))
+pub new_said : (s : Setting) (w w' : List ℕ) (r : Result ℕ Refusal) → NewLeaves s w w' × (r ≡ new_reply (opens (length w) s))
     → (NewLeaves s w w' × (r ≡ new_reply (opens (length w) s))) × (moved_says r ≡ open_says (opens (length w) s))
 new_said s w w' r h = (h, ap moved_says h.1 ∙ open_row (opens (length w) s))

@@ -9,11 +9,11 @@ ghost use Rattle.sim_changes.specs.Happens.{happens, Leaves, moved_of, reply_of,
 ghost use Rattle.simulation.specs.Opens.{in_range, opens, new_reply, open_says, NewLeaves};
 
 use ids::Refusal;
-pub use sim_changes::{Moved, Reply};
+pub use sim_changes::Effect;
 use sim_layout::SIMULATION_WORDS;
 use system::{Event, Setting};
 
-fn work(w: &mut [u32], e: Event) -> Moved
+fn work(w: &mut [u32], e: Event) -> Result<u32, Refusal>
     requires { valid w.old ≡ true }
     ensures { Leaves w.old e w.new × (result ≡ moved_of (happens w.old e)) }
 {
@@ -31,27 +31,22 @@ fn work(w: &mut [u32], e: Event) -> Moved
 }
 
 // An event of a simulation that is known to be valid: for callers that made it, or tested it once.
-pub fn happen(w: &mut [u32], e: Event) -> Reply
+pub fn happen(w: &mut [u32], e: Event) -> Result<Effect, Refusal>
     requires { valid w.old ≡ true }
     ensures { Leaves w.old e w.new × (result ≡ reply_of (view w.old) (happens w.old e)) }
 {
-    let moved = work(w, e);
-    match moved {
-        Moved::Refused(x) => Reply::Refused(x),
-        Moved::Sent(count) => {
-            let holders = sim_layout::holders(w);
-            Reply::Accepted(count, holders)
-        }
-    }
+    let sent = work(w, e)?;
+    let holders = sim_layout::holders(w);
+    Ok(Effect { sent, holders })
 }
 
 // An event of any words: words that are no simulation are refused, and stay.
-pub fn event(w: &mut [u32], e: Event) -> Reply
+pub fn event(w: &mut [u32], e: Event) -> Result<Effect, Refusal>
     ensures event_leaves { EventLeaves w.old e w.new × (result ≡ event_reply w.old e) }
     ensures numbers { reply_says result ≡ event_says w.old e }
 {
     if !sim_layout::valid(w) {
-        return Reply::Refused(Refusal::InvalidRecord);
+        return Err(Refusal::InvalidRecord);
     }
     happen(w, e)
 }
@@ -65,21 +60,21 @@ pub fn in_range(s: Setting) -> bool
 }
 
 // A new simulation of a setting. Refused 7.
-pub fn new(w: &mut [u32], s: Setting) -> Moved
+pub fn new(w: &mut [u32], s: Setting) -> Result<u32, Refusal>
     ensures new_leaves { NewLeaves s w.old w.new × (result ≡ new_reply (opens (length w.old) s)) }
     ensures numbers { moved_says result ≡ open_says (opens (length w.old) s) }
 {
     if w.len() != SIMULATION_WORDS {
-        return Moved::Refused(Refusal::ParameterOutOfRange);
+        return Err(Refusal::ParameterOutOfRange);
     }
     if !quorum::in_range_up_to(system::MAX_SERVERS, s.n, s.m, s.f) {
-        return Moved::Refused(Refusal::ParameterOutOfRange);
+        return Err(Refusal::ParameterOutOfRange);
     }
     if !ids::within_limit(s.clients, system::MAX_CLIENTS) {
-        return Moved::Refused(Refusal::ParameterOutOfRange);
+        return Err(Refusal::ParameterOutOfRange);
     }
     sim_changes::start(w, s);
-    Moved::Sent(0)
+    Ok(0)
 }
 
 // A simulation by value, for callers that keep one and go on from another: it costs a copy of its words at each event.
@@ -92,7 +87,7 @@ pub struct Simulation {
 #[derive(Clone, Copy)]
 pub struct Happened {
     pub simulation: Simulation,
-    pub reply: Reply,
+    pub reply: Result<Effect, Refusal>,
 }
 
 // An event of a simulation by value. Refused as `event` is, and then the simulation is as it was.

@@ -1,7 +1,7 @@
 -- A client's step sends a token of its own request only for a token that it took or an own response that it gives up; and it
 -- sends no timestamp above its last one, a RELEASE below it.
 use mathlib.Core.Path.{◌≡◌, refl, sym, ap, subst, ◌∙◌}
-use mathlib.Core.Logic.{inl, inr}
+use mathlib.Core.Logic.{inl, inr, tt}
 use Prim.Native.Nat.{ℕ, zero, suc, ◌+◌, ◌-◌, ◌≤◌, ◌<◌, zero-le}
 use native.Mathlib.Nat.{le_refl}
 use native.Mathlib.Omega.{arith}
@@ -11,15 +11,13 @@ use lib.ListN.{length, get_or, set, replicate, length-replicate, length-set}
 use lib.Seq.{get_or-set_other}
 use lib.Dec.{eqb}
 use borrow.Author.Tests.{eqb-true, eqb-false, eq-eqb, ne_eqb}
-use Rattle.std.specs.Prelude.{if◌then◌else◌}
+use Rattle.std.specs.Prelude.{if◌then◌else◌, Some, None, Option}
 use Rattle.ids.specs.Order.{before}
 use Rattle.ids.specs.Requests.{same, is_request}
 use Rattle.ids.specs.declared.ClientId.{ClientId}
 use Rattle.ids.specs.declared.ServerId.{ServerId}
 use Rattle.ids.specs.declared.Timestamp.{Timestamp}
 use Rattle.ids.specs.declared.Request.{Request}
-use Rattle.ids.specs.declared.Owner.{Owner}
-use Rattle.ids.specs.declared.Owner.TheVariants.{Nobody, Of}
 use Rattle.ids.proofs.Choice.{decided, Test}
 use Rattle.wire.specs.Step.{Step, stay}
 use Rattle.wire.specs.declared.Message.{Message}
@@ -42,8 +40,8 @@ pub taken_greater : (c : ClientState) → c.timestamp.0 < (taken c).0
 taken_greater c = omega (arith, next_greater (latest c))
 
 -- 1 where the response of server j shows r
-abbrev pub shows : Request → List Owner → ℕ → ℕ
-shows r l j = bit (is_request r (at Nobody l j))
+abbrev pub shows : Request → List (Option Request) → ℕ → ℕ
+shows r l j = bit (is_request r (at None l j))
 
 -- a message with timestamp s may be sent when the last timestamp is t
 abbrev pub InTime : Tag → Timestamp → ℕ → Type 0
@@ -59,9 +57,9 @@ By k t (RESPONSE i j o) = ⊥
 By k t (CHECK i j s) = ⊥
 
 -- a response that names r's client has r's timestamp
-abbrev pub Mine : Request → Owner → Type 0
-Mine r Nobody = Unit
-Mine r (Of o) = o.client.0 ≡ r.client.0 → o.timestamp.0 ≡ r.timestamp.0
+abbrev pub Mine : Request → Option Request → Type 0
+Mine r None = Unit
+Mine r (Some o) = o.client.0 ≡ r.client.0 → o.timestamp.0 ≡ r.timestamp.0
 
 -- what a step of client k keeps in its epoch
 pub record Fine (n : ℕ) (wins : Quorum) (k : ClientId) (c : ClientState) : Type 0 where
@@ -114,7 +112,7 @@ requests-none p j k s (suc n) =
 -- a round of yields
 module _ (r : Request) where
   -- what is said to server j, which named o: a token only where o is r itself
-  reply-worth : (o : Request) (j : ServerId) → Mine r (Of o) → worth r (reply r j o) ≤ bit (same o r)
+  reply-worth : (o : Request) (j : ServerId) → Mine r (Some o) → worth r (reply r j o) ≤ bit (same o r)
   unfolding reply same
   reply-worth o j h =
       let G : Message → Type 0 = λ m. worth r m ≤ bit (same o r) in
@@ -135,94 +133,94 @@ module _ (r : Request) where
       branch G (eqb o.client.0 r.client.0) (λ e. (refl, omega arith))
       (λ e. branch G (before r o) (λ f. (refl, omega arith)) (λ f. (refl, omega arith)))
 
-  by_round : (j : ℕ) (l : List Owner) → All (By r.client r.timestamp.0) (round r j l)
+  by_round : (j : ℕ) (l : List (Option Request)) → All (By r.client r.timestamp.0) (round r j l)
   unfolding round
   by_round j [] = empty
-  by_round j (Nobody ∷ l) = by_round (suc j) l
-  by_round j (Of o ∷ l) = more {x = reply r (record { 0 = j }) o} (reply_by o (record { 0 = j })) (by_round (suc j) l)
+  by_round j (None ∷ l) = by_round (suc j) l
+  by_round j (Some o ∷ l) = more {x = reply r (record { 0 = j }) o} (reply_by o (record { 0 = j })) (by_round (suc j) l)
 
   reply_elsewhere : (i j : ℕ) (o : Request) → i < j → token r i (reply r (record { 0 = j }) o) ≡ 0
   reply_elsewhere i j o h = rw (reply-server o (record { 0 = j }), ne_eqb j i (λ e. omega arith))
 
-  reply-here : (i j : ℕ) (o : Request) → i ≡ j → Mine r (Of o) → token r i (reply r (record { 0 = j }) o) ≤ bit (same o r)
+  reply-here : (i j : ℕ) (o : Request) → i ≡ j → Mine r (Some o) → token r i (reply r (record { 0 = j }) o) ≤ bit (same o r)
   reply-here i j o h g = rw (reply-server o (record { 0 = j }), eq-eqb j i (omega arith)) (reply-worth o (record { 0 = j }) g)
 
   -- servers before j get nothing
-  round-before : (i j : ℕ) (l : List Owner) → i < j → sum (token r i) (round r j l) ≡ 0
+  round-before : (i j : ℕ) (l : List (Option Request)) → i < j → sum (token r i) (round r j l) ≡ 0
   unfolding round
   round-before i j [] h = refl
-  round-before i j (Nobody ∷ l) h = round-before i (suc j) l (omega arith)
-  round-before i j (Of o ∷ l) h = omega (arith, reply_elsewhere i j o h, round-before i (suc j) l (omega arith))
+  round-before i j (None ∷ l) h = round-before i (suc j) l (omega arith)
+  round-before i j (Some o ∷ l) h = omega (arith, reply_elsewhere i j o h, round-before i (suc j) l (omega arith))
 
   reply-later : (i j : ℕ) (o : Request) → j < i → token r i (reply r (record { 0 = j }) o) ≡ 0
   reply-later i j o h = rw (reply-server o (record { 0 = j }), ne_eqb j i (λ e. omega arith))
 
-  round-at : (i j x : ℕ) (l : List Owner) → i ≡ j + x → All (Mine r) l → sum (token r i) (round r j l) ≤ bit (is_request r (get_or l x Nobody))
+  round-at : (i j x : ℕ) (l : List (Option Request)) → i ≡ j + x → All (Mine r) l → sum (token r i) (round r j l) ≤ bit (is_request r (get_or l x None))
   unfolding round
   round-at i j x [] h g = zero-le
-  round-at i j zero (Nobody ∷ l) h g = omega (arith, round-before i (suc j) l (omega arith))
-  round-at i j (suc x) (Nobody ∷ l) h g = round-at i (suc j) x l (omega arith) (all_tail g)
-  round-at i j zero (Of o ∷ l) h g = omega (arith, reply-here i j o (omega arith) (all_head g), round-before i (suc j) l (omega arith))
-  round-at i j (suc x) (Of o ∷ l) h g = omega (arith, reply-later i j o (omega arith), round-at i (suc j) x l (omega arith) (all_tail g))
+  round-at i j zero (None ∷ l) h g = omega (arith, round-before i (suc j) l (omega arith))
+  round-at i j (suc x) (None ∷ l) h g = round-at i (suc j) x l (omega arith) (all_tail g)
+  round-at i j zero (Some o ∷ l) h g = omega (arith, reply-here i j o (omega arith) (all_head g), round-before i (suc j) l (omega arith))
+  round-at i j (suc x) (Some o ∷ l) h g = omega (arith, reply-later i j o (omega arith), round-at i (suc j) x l (omega arith) (all_tail g))
 
-  round-shows : (i : ℕ) (l : List Owner) → All (Mine r) l → sum (token r i) (round r 1 l) ≤ shows r l i
+  round-shows : (i : ℕ) (l : List (Option Request)) → All (Mine r) l → sum (token r i) (round r 1 l) ≤ shows r l i
   round-shows zero l g = omega (arith, round-before 0 1 l (omega arith))
   round-shows (suc x) l g = round-at (suc x) 1 x l (omega arith) g
 
   -- a response heard
-  set-shows : (l : List Owner) (x : ℕ) (o : Owner) → bit (is_request r (get_or (set l x o) x Nobody)) ≤ bit (is_request r o)
+  set-shows : (l : List (Option Request)) (x : ℕ) (o : Option Request) → bit (is_request r (get_or (set l x o) x None)) ≤ bit (is_request r o)
   set-shows [] x o = zero-le
   set-shows (a ∷ l) zero o = le_refl _
   set-shows (a ∷ l) (suc x) o = set-shows l x o
 
-  put-shows : (l : List Owner) (x i : ℕ) (o : Owner) → shows r (set l x o) i ≤ (if eqb (suc x) i then bit (is_request r o) else 0) + shows r l i
+  put-shows : (l : List (Option Request)) (x i : ℕ) (o : Option Request) → shows r (set l x o) i ≤ (if eqb (suc x) i then bit (is_request r o) else 0) + shows r l i
   put-shows l x zero o = zero-le
   put-shows l x (suc y) o = go (decided (eqb (suc x) (suc y)))
     where
       go : Test (eqb (suc x) (suc y)) → shows r (set l x o) (suc y) ≤ (if eqb (suc x) (suc y) then bit (is_request r o) else 0) + shows r l (suc y)
       go (inl e) =
           let q : x ≡ y = omega (arith, eqb-true (suc x) (suc y) e) in
-          rw e (omega (arith, subst (λ (z : ℕ). bit (is_request r (get_or (set l x o) z Nobody)) ≤ bit (is_request r o)) q (set-shows l x o)))
-      go (inr e) = rw (e, get_or-set_other l x y o Nobody (λ q. eqb-false (suc x) (suc y) e (ap suc (sym q)))) (omega arith)
+          rw e (omega (arith, subst (λ (z : ℕ). bit (is_request r (get_or (set l x o) z None)) ≤ bit (is_request r o)) q (set-shows l x o)))
+      go (inr e) = rw (e, get_or-set_other l x y o None (λ q. eqb-false (suc x) (suc y) e (ap suc (sym q)))) (omega arith)
 
   -- the response of a server with a number from 1
-  respond_shows : (l : List Owner) (j i : ℕ) (o : Owner) → 0 < j
+  respond_shows : (l : List (Option Request)) (j i : ℕ) (o : Option Request) → 0 < j
       → shows r (with_response l (record { 0 = j }) o) i ≤ (if eqb j i then bit (is_request r o) else 0) + shows r l i
   respond_shows l zero i o pos = absurd (omega arith)
   respond_shows l (suc x) i o pos = let z : suc x - 1 ≡ x = omega arith in rw z (put-shows l x i o)
 
-  heard-shows : (l : List Owner) (j : ServerId) (i : ℕ) (o : Owner) → 0 < j.0
+  heard-shows : (l : List (Option Request)) (j : ServerId) (i : ℕ) (o : Option Request) → 0 < j.0
       → shows r (heard r l j o) i ≤ (if eqb j.0 i then bit (is_request r o) else 0) + shows r l i
   unfolding heard
   heard-shows l j i o pos =
-      branch (λ (m : List Owner). shows r m i ≤ (if eqb j.0 i then bit (is_request r o) else 0) + shows r l i)
+      branch (λ (m : List (Option Request)). shows r m i ≤ (if eqb j.0 i then bit (is_request r o) else 0) + shows r l i)
       (not (is_request r (response_of l j)) && current r o)
       (λ e. respond_shows l j.0 i o pos) (λ e. omega arith)
 
-  current-mine : (o : Owner) → current r o ≡ true → Mine r o
-  current-mine Nobody e = tt
-  current-mine (Of x) e = λ q. eqb-true x.timestamp.0 r.timestamp.0 (rw (eq-eqb x.client.0 r.client.0 q) at e)
+  current-mine : (o : Option Request) → current r o ≡ true → Mine r o
+  current-mine None e = tt
+  current-mine (Some x) e = λ q. eqb-true x.timestamp.0 r.timestamp.0 (rw (eq-eqb x.client.0 r.client.0 q) at e)
 
-  heard-mine : {l : List Owner} (j : ServerId) (o : Owner) → All (Mine r) l → All (Mine r) (heard r l j o)
+  heard-mine : {l : List (Option Request)} (j : ServerId) (o : Option Request) → All (Mine r) l → All (Mine r) (heard r l j o)
   unfolding heard
   heard-mine {l} j o g =
       let test = not (is_request r (response_of l j)) in
       branch (All (Mine r)) (test && current r o) (λ e. all_set (j.0 - 1) o (current-mine o ((and-eq-true_iff test (current r o)).0 e).1) g) (λ e. g)
 
-  heard-length : (l : List Owner) (j : ServerId) (o : Owner) → length (heard r l j o) ≡ length l
+  heard-length : (l : List (Option Request)) (j : ServerId) (o : Option Request) → length (heard r l j o) ≡ length l
   unfolding heard
   heard-length l j o =
-      branch (λ (m : List Owner). length m ≡ length l) (not (is_request r (response_of l j)) && current r o) (λ e. length-set l (j.0 - 1) o) (λ e. refl)
+      branch (λ (m : List (Option Request)). length m ≡ length l) (not (is_request r (response_of l j)) && current r o) (λ e. length-set l (j.0 - 1) o) (λ e. refl)
 
-  pub shows-none : (n j : ℕ) → shows r (replicate n Nobody) j ≡ 0
+  pub shows-none : (n j : ℕ) → shows r (replicate n None) j ≡ 0
   shows-none n zero = refl
   shows-none zero (suc x) = refl
   shows-none (suc n) (suc zero) = refl
   shows-none (suc n) (suc (suc x)) = shows-none n (suc x)
 
-  pub mine-none : (n : ℕ) → All (Mine r) (replicate n Nobody)
+  pub mine-none : (n : ℕ) → All (Mine r) (replicate n None)
   mine-none zero = empty
-  mine-none (suc n) = more {x = Nobody} tt (mine-none n)
+  mine-none (suc n) = more {x = None} tt (mine-none n)
 
 module _ (n : ℕ) (wins : Quorum) (k : ClientId) where
   pub calm_stay : {c : ClientState} {gain : ℕ → ℕ} → Fine n wins k c → Calm n wins k c gain (stay c)
@@ -235,7 +233,7 @@ module _ (n : ℕ) (wins : Quorum) (k : ClientId) where
   calm_saw : {c : ClientState} {gain : ℕ → ℕ} {s : Step ClientState} (t : Timestamp) → Calm n wins k (saw t c) gain s → Calm n wins k c gain s
   calm_saw t a = record { timestamp = a.timestamp; epoch = a.epoch; kept = a.kept; by = a.by; fine = a.fine }
 
-  calm_judge : {c : ClientState} {gain : ℕ → ℕ} (l : List Owner) → is_remainder c.section ≡ false →
+  calm_judge : {c : ClientState} {gain : ℕ → ℕ} (l : List (Option Request)) → is_remainder c.section ≡ false →
       ((j : ℕ) → shows (request k c) l j ≤ gain j + shows (request k c) c.responses j) → All (Mine (request k c)) l → length l ≡ n →
       Calm n wins k c gain (judge wins n k c l)
   unfolding judge
@@ -256,7 +254,7 @@ module _ (n : ℕ) (wins : Quorum) (k : ClientId) where
         epoch = sym s;
         kept = λ j. omega (arith, h j, round-shows r j l g, shows-none r n j);
         by = by_round r 1 l;
-        fine = record { mine = λ _. mine-none r n; sized = λ _. length-replicate n Nobody; won = λ b. absurd (false≢true b) };
+        fine = record { mine = λ _. mine-none r n; sized = λ _. length-replicate n None; won = λ b. absurd (false≢true b) };
       }))
       (λ e. record {
         timestamp = refl;
@@ -266,16 +264,16 @@ module _ (n : ℕ) (wins : Quorum) (k : ClientId) where
         fine = record { mine = λ _. g; sized = λ _. len; won = λ b. absurd (false≢true b) };
       })
 
-  told-worth : (c : ClientState) (j : ServerId) (o : Owner) → worth (request k c) (RESPONSE k j o) ≡ bit (is_request (request k c) o)
-  told-worth c j Nobody = refl
-  told-worth c j (Of x) = rw (eq-eqb k.0 k.0 refl)
+  told-worth : (c : ClientState) (j : ServerId) (o : Option Request) → worth (request k c) (RESPONSE k j o) ≡ bit (is_request (request k c) o)
+  told-worth c j None = refl
+  told-worth c j (Some x) = rw (eq-eqb k.0 k.0 refl)
 
   trying_epoch : (s : Section) → is_trying s ≡ true → is_remainder s ≡ false
   trying_epoch Remainder e = sym e
   trying_epoch Trying e = refl
   trying_epoch Critical e = refl
 
-  calm_upon_response : {c : ClientState} (j : ServerId) (o : Owner) → 0 < j.0 → Fine n wins k c
+  calm_upon_response : {c : ClientState} (j : ServerId) (o : Option Request) → 0 < j.0 → Fine n wins k c
       → Calm n wins k c (λ i. token (request k c) i (RESPONSE k j o)) (upon_response wins n k j o c)
   unfolding upon_response
   calm_upon_response {c} j o pos f =
@@ -288,7 +286,7 @@ module _ (n : ℕ) (wins : Quorum) (k : ClientId) where
       (heard-length r c.responses j o ∙ f.sized s))
       (λ e. calm_stay f)
 
-  pub calm_respond : {c : ClientState} (j : ServerId) (o : Owner) → 0 < j.0 → Fine n wins k c
+  pub calm_respond : {c : ClientState} (j : ServerId) (o : Option Request) → 0 < j.0 → Fine n wins k c
       → Calm n wins k c (λ i. token (request k c) i (RESPONSE k j o)) (responds wins n k j o c)
   calm_respond {c} j o pos f = calm_saw (told o) (calm_upon_response j o pos (saw_fine (told o) f))
 

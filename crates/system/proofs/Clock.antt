@@ -1,5 +1,7 @@
 -- The largest timestamp that a client has seen never falls, a message that it takes raises it to the message's, and a try takes one above it: so what a
 -- client was told of at any time is below what it takes at any later try.
+use Rattle.ids.specs.declared.Request.{Request}
+use Rattle.std.specs.Prelude.{Some, Option}
 use mathlib.Core.Path.{◌≡◌, refl, sym, ap, subst}
 use Prim.Native.Nat.{ℕ, ◌≤◌, ◌<◌}
 use native.Mathlib.Nat.{le_refl}
@@ -7,11 +9,9 @@ use native.Mathlib.Omega.{arith}
 use mathlib.Core.Bool.{true, false≢true}
 use mathlib.Core.List.{List, [], ◌∷◌}
 use mathlib.Core.Logic.{inl}
-use mathlib.Core.Option.{some}
 use Rattle.ids.specs.declared.ClientId.{ClientId}
 use Rattle.ids.specs.declared.ServerId.{ServerId}
 use Rattle.ids.specs.declared.Timestamp.{Timestamp}
-use Rattle.ids.specs.declared.Owner.{Owner}
 use Rattle.ids.proofs.OrderLaws.{earlier_before}
 use Rattle.wire.specs.Format.{fields_of}
 use Rattle.wire.specs.Step.{Step}
@@ -75,15 +75,15 @@ module _ (n : ℕ) (wins : Quorum) where
           ≡ s.state.seen.0
       moved s = ap (λ (c : ClientPlace). c.state.seen.0) (put-flagged no_client (λ x. x.living) refl w.clients k.0 _ lives).here
 
-      response-seen : (o : Owner) → pending i.0 w.transit ≡ some (RESPONSE k j o) → (told o).0 ≤ seen_by (next n wins w (Take i)) k.0
+      response-seen : (o : Option Request) → pending i.0 w.transit ≡ Some (RESPONSE k j o) → (told o).0 ≤ seen_by (next n wins w (Take i)) k.0
       unfolding event deliver after
       response-seen o e = rw (e, lives) (omega (arith, moved (responds wins n k j o (client_at w k).state), responds_sees n wins k j o (client_at w k).state))
 
-      check-seen : (t : Timestamp) → pending i.0 w.transit ≡ some (CHECK k j t) → t.0 ≤ seen_by (next n wins w (Take i)) k.0
+      check-seen : (t : Timestamp) → pending i.0 w.transit ≡ Some (CHECK k j t) → t.0 ≤ seen_by (next n wins w (Take i)) k.0
       unfolding event deliver after
       check-seen t e = rw (e, lives) (omega (arith, moved (checked k j t (client_at w k).state), checked_sees n wins k j t (client_at w k).state))
 
-    sees : (i : MessageNumber) (m : Message) (k : ClientId) → pending i.0 w.transit ≡ some m → receiver_of m ≡ Client k
+    sees : (i : MessageNumber) (m : Message) (k : ClientId) → pending i.0 w.transit ≡ Some m → receiver_of m ≡ Client k
         → (client_at w k).living ≡ true → (fields_of m).timestamp ≤ seen_by (next n wins w (Take i)) k.0
     unfolding fields_of
     sees i (RESPONSE a j o) k e to lives =

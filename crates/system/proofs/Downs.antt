@@ -7,12 +7,11 @@ use Prim.Native.Nat.{ℕ, zero, suc, ◌≤◌, zero-le}
 use native.Mathlib.Nat.{le_refl}
 use native.Mathlib.Omega.{arith}
 use mathlib.Core.Bool.{Bool, true, false, ◌&&◌, false≢true}
-use mathlib.Core.Option.{Option, none, some}
 use mathlib.Core.List.{List, [], ◌∷◌, map}
 use lib.ListN.{length, get_or, set}
 use lib.Dec.{leb}
 use borrow.Author.Tests.{eq-eqb, ne_eqb}
-use Rattle.std.specs.Prelude.{if◌then◌else◌}
+use Rattle.std.specs.Prelude.{if◌then◌else◌, Some, None, Option}
 use Rattle.ids.specs.declared.ClientId.{ClientId}
 use Rattle.ids.proofs.Choice.{decided, Test, clash}
 use Rattle.wire.specs.Step.{Step, refused, stepped}
@@ -38,18 +37,18 @@ use Rattle.system.proofs.Flags.{Marked, numbers, length-numbers, member-numbers,
 
 -- the client whose epoch begins: an event that gave o is that client's accepted try
 abbrev begun : Event → Result → Option ClientId
-begun e o = if is_stepped o then epochs.begins e else none
+begun e o = if is_stepped o then epochs.begins e else None
 
 -- the event neither begins nor ends client k's epoch
 record Passes (k : ClientId) (e : Event) (o : Result) : Type 0 where
   ends : is_stepped o && ends k e ≡ false
-  begins : begun e o ≡ some k → ⊥
+  begins : begun e o ≡ Some k → ⊥
 
 -- client k's place is c before the event and c' after it, the servers are q and q'
 data Turn (k : ClientId) (e : Event) (o : Result) (q q' : List ServerPlace) (c c' : ClientPlace) : Type 0 where
-  opens : begun e o ≡ some k → q' ≡ q → in_epoch c ≡ false → in_epoch c' ≡ true
+  opens : begun e o ≡ Some k → q' ≡ q → in_epoch c ≡ false → in_epoch c' ≡ true
       → c'.downs ≡ down_from 1 q → Turn k e o q q' c c'
-  closes : is_stepped o && ends k e ≡ true → (begun e o ≡ some k → ⊥) → in_epoch c' ≡ false → c'.downs ≡ [] → Turn k e o q q' c c'
+  closes : is_stepped o && ends k e ≡ true → (begun e o ≡ Some k → ⊥) → in_epoch c' ≡ false → c'.downs ≡ [] → Turn k e o q q' c c'
   stays : Passes k e o → in_epoch c' ≡ in_epoch c → c'.downs ≡ c.downs → Turn k e o q q' c c'
   counts : Passes k e o → in_epoch c ≡ true → in_epoch c' ≡ true → (i : ℕ) → get_or (map is_down q') i false ≡ true
       → c'.downs ≡ added (suc i) c.downs → Turn k e o q q' c c'
@@ -60,10 +59,10 @@ now-down [] i v h e = absurd (omega arith)
 now-down (q ∷ l) zero v h e = rw e
 now-down (q ∷ l) (suc i) v h e = now-down l i v (omega arith) e
 
-none_some : {i : ClientId} → ◌≡◌ {A = Option ClientId} none (some i) → ⊥
+none_some : {i : ClientId} → ◌≡◌ {A = Option ClientId} None (Some i) → ⊥
 none_some e = let z : ◌≡◌ {A = ℕ} 0 1 = cc in omega arith
 
-passed : {e : Event} (o : Result) (i : ClientId) → epochs.begins e ≡ none → ends i e ≡ false → Passes i e o
+passed : {e : Event} (o : Result) (i : ClientId) → epochs.begins e ≡ None → ends i e ≡ false → Passes i e o
 passed (refused x) i b n = record { ends = refl; begins = none_some }
 passed (stepped v) i b n = record { ends = n; begins = λ q. none_some (sym b ∙ q) }
 
@@ -244,7 +243,7 @@ module _ (n : ℕ) (wins : Quorum) (step : System → Event → Result) (follows
           }
 
       -- forward
-      try_few : (k : ClientId) → begun e (step w e) ≡ some k → most_down step w (e ∷ es) ≤ b → count (ever k) ≤ b
+      try_few : (k : ClientId) → begun e (step w e) ≡ Some k → most_down step w (e ∷ es) ≤ b → count (ever k) ≤ b
       unfolding most_down
       try_few k q h = omega (arith, rw q at h)
 
@@ -318,7 +317,7 @@ module _ (n : ℕ) (wins : Quorum) (step : System → Event → Result) (follows
             rest = rest-few t.rest;
           }
 
-      try_back : (k : ClientId) → Within b w' es → begun e (step w e) ≡ some k → Turned k → count (ever k) ≤ b
+      try_back : (k : ClientId) → Within b w' es → begun e (step w e) ≡ Some k → Turned k → count (ever k) ≤ b
       try_back k t q (opens _ _ _ ep _) = let r : Room b k w' es = t.running k ep in omega (arith, r.few, fits (ever k) r.held r.ahead)
       try_back k t q (closes _ f _ _) = absurd (f q)
       try_back k t q (stays p _ _) = absurd (p.begins q)

@@ -1,16 +1,15 @@
 -- What an event does, once for all invariants: it is refused, or one of eleven things happens.
+use Rattle.sim_changes.specs.declared.Effect.{Effect}
+use Rattle.std.specs.Prelude.{Some, Option}
 use mathlib.Core.Path.{◌≡◌}
 use Prim.Native.Nat.{ℕ}
 use mathlib.Core.Bool.{true, false, not}
-use mathlib.Core.Option.{some}
 use borrow.Author.Tests.{not-true}
 use Rattle.ids.specs.declared.ClientId.{ClientId}
 use Rattle.ids.specs.declared.ServerId.{ServerId}
 use Rattle.ids.specs.declared.Timestamp.{Timestamp}
 use Rattle.ids.specs.declared.Request.{Request}
 use Rattle.ids.specs.declared.Refusal.{Refusal}
-use Rattle.ids.specs.declared.Owner.{Owner}
-use Rattle.ids.specs.declared.Owner.TheVariants.{Of}
 use Rattle.wire.specs.Step.{refused, stepped}
 use Rattle.wire.specs.declared.Message.{Message}
 use Rattle.wire.specs.declared.Message.TheVariants.{Request as REQUEST, Yield as YIELD, Release as RELEASE, Inquiry as INQUIRY, Response as RESPONSE, Check as CHECK}
@@ -38,21 +37,21 @@ module _ (n : ℕ) (wins : Quorum) (w : System) where
     sinks : {j : ServerId} → (server_at w j).up ≡ true → Effect (Down j) (stepped (went_down w j))
     rises : {j : ServerId} → has w.servers j.0 ≡ true → Effect (Up j) (stepped (came_up w j))
     server_takes : {i : MessageNumber} (tag : Tag) (k : ClientId) (j : ServerId) (t : Timestamp) →
-        pending i.0 w.transit ≡ some (message tag k j t) → (server_at w j).up ≡ true → Effect (Take i) (stepped (server_took w i.0 tag k j t))
-    client_takes : {i : MessageNumber} {k : ClientId} {j : ServerId} {o : Owner} →
-        pending i.0 w.transit ≡ some (RESPONSE k j o) → (client_at w k).living ≡ true → Effect (Take i) (stepped (response_took n wins w i.0 k j o))
+        pending i.0 w.transit ≡ Some (message tag k j t) → (server_at w j).up ≡ true → Effect (Take i) (stepped (server_took w i.0 tag k j t))
+    client_takes : {i : MessageNumber} {k : ClientId} {j : ServerId} {o : Option Request} →
+        pending i.0 w.transit ≡ Some (RESPONSE k j o) → (client_at w k).living ≡ true → Effect (Take i) (stepped (response_took n wins w i.0 k j o))
     client_checked : {i : MessageNumber} {k : ClientId} {j : ServerId} {t : Timestamp} →
-        pending i.0 w.transit ≡ some (CHECK k j t) → (client_at w k).living ≡ true → Effect (Take i) (stepped (check_took w i.0 k j t))
+        pending i.0 w.transit ≡ Some (CHECK k j t) → (client_at w k).living ≡ true → Effect (Take i) (stepped (check_took w i.0 k j t))
     loses : {i : MessageNumber} → Effect (Drop i) (stepped (dropped w i.0))
-    suspects : {j : ServerId} {o : Request} → (server_at w j).up ≡ true → (server_at w j).state.owner ≡ Of o →
+    suspects : {j : ServerId} {o : Request} → (server_at w j).up ≡ true → (server_at w j).state.owner ≡ Some o →
         (client_at w o.client).living ≡ false → Effect (Miss j) (stepped (suspected w j))
     asks : {j : ServerId} → (server_at w j).up ≡ true → Effect (Check j) (stepped (asked w j))
 
   arrives : (i : MessageNumber) (tag : Tag) (k : ClientId) (j : ServerId) (t : Timestamp) →
-      pending i.0 w.transit ≡ some (message tag k j t) → Effect (Take i) (to_server w i.0 tag k j t)
+      pending i.0 w.transit ≡ Some (message tag k j t) → Effect (Take i) (to_server w i.0 tag k j t)
   arrives i tag k j t e = branch (Effect (Take i)) (server_at w j).up (server_takes tag k j t e) (λ _. refuses)
 
-  delivers : (i : MessageNumber) (m : Message) → pending i.0 w.transit ≡ some m → Effect (Take i) (deliver n wins w i.0 m)
+  delivers : (i : MessageNumber) (m : Message) → pending i.0 w.transit ≡ Some m → Effect (Take i) (deliver n wins w i.0 m)
   unfolding deliver
   delivers i (REQUEST k j t) e = arrives i Asks k j t e
   delivers i (YIELD k j t) e = arrives i Yields k j t e

@@ -8,13 +8,11 @@ use mathlib.Core.Bool.{Bool, true, false}
 use mathlib.Core.List.{List, [], ◌∷◌, map}
 use lib.ListN.{length, replicate, length-replicate}
 use borrow.Author.Tests.{eq-eqb, le-leb, lt-leb, lt-ltb}
-use mathlib.Core.Logic.{⊎_elim}
-use Rattle.std.specs.Prelude.{if◌then◌else◌}
+use mathlib.Core.Logic.{⊎_elim, tt}
+use Rattle.std.specs.Prelude.{if◌then◌else◌, Some, None, Option}
 use Rattle.ids.specs.Requests.{is_request}
 use Rattle.ids.specs.declared.Timestamp.{Timestamp}
 use Rattle.ids.specs.declared.Request.{Request}
-use Rattle.ids.specs.declared.Owner.{Owner}
-use Rattle.ids.specs.declared.Owner.TheVariants.{Nobody, Of}
 use Rattle.ids.proofs.RequestLaws.{same_refl}
 use Rattle.wire.specs.Step.{Step, stay, tell, stepped}
 use Rattle.wire.specs.declared.Message.{Message}
@@ -45,12 +43,12 @@ pair k t = record { client = client_no k; timestamp = t }
 
 -- server j, with k as owner, tells it so
 abbrev yes_to : ℕ → Timestamp → ℕ → Step ServerState
-yes_to k t j = tell (record { owner = Of (pair k t); queue = [] }) (RESPONSE (client_no k) (server_no j) (Of (pair k t)))
+yes_to k t j = tell (record { owner = Some (pair k t); queue = [] }) (RESPONSE (client_no k) (server_no j) (Some (pair k t)))
 
 -- Messages after i: the answers of js, in order
 abbrev Answers : ℕ → Timestamp → System → ℕ → List ℕ → Type 0
 Answers k t w i [] = Unit
-Answers k t w i (j ∷ js) = Pends w (suc i) (RESPONSE (client_no k) (server_no j) (Of (pair k t))) × Answers k t w (suc i) js
+Answers k t w i (j ∷ js) = Pends w (suc i) (RESPONSE (client_no k) (server_no j) (Some (pair k t))) × Answers k t w (suc i) js
 
 answers-later : (k : ℕ) (t : Timestamp) (w u : System) (i : ℕ) (js : List ℕ) → ((a : ℕ) (m : Message) → i < a → Pends w a m → Pends u a m)
     → Answers k t w i js → Answers k t u i js
@@ -69,7 +67,7 @@ module _ (n : ℕ) (wins : Quorum) (s k : ℕ) (t : Timestamp) where
     sent : u.sent ≡ suc w.sent
     servers : Changes (at no_server w.servers) (at no_server u.servers) j (record { up = true; state = (yes_to k t j).state })
     waits : (i : ℕ) (m : Message) → (i ≡ s + j → ⊥) → Pends w i m → Pends u i m
-    answer : Pends u (suc w.sent) (RESPONSE (client_no k) (server_no j) (Of (pair k t)))
+    answer : Pends u (suc w.sent) (RESPONSE (client_no k) (server_no j) (Some (pair k t)))
 
   ask_event : {w : System} {j : ℕ} → Asked w j
       → event n wins w (takes (s + j)) ≡ stepped (server_moves w (server_no j) (replaced (s + j) keeping w.transit) (yes_to k t j))
@@ -144,49 +142,49 @@ map-put f (a ∷ l) (suc zero) v = refl
 map-put f (a ∷ l) (suc (suc x)) v = ap (λ (m : List _). f a ∷ m) (map-put f l (suc x) v)
 
 -- client k after the answers l, with those of js to come, when it has seen timestamp z
-abbrev Place : Timestamp → Timestamp → List ℕ → List Owner → List ℕ → ClientPlace
+abbrev Place : Timestamp → Timestamp → List ℕ → List (Option Request) → List ℕ → ClientPlace
 Place t z js l d =
     record { living = true; state = record { section = if is_empty js then Critical else Trying; timestamp = t; seen = z; responses = l }; downs = d }
 
 module _ (n : ℕ) (wins : Quorum) (k : ℕ) (t : Timestamp) (d : List ℕ) where
   -- the answers l are k's own, with the flags b, and the places js are empty
-  record Own (l : List Owner) (b : List Bool) (js : List ℕ) : Type 0 where
+  record Own (l : List (Option Request)) (b : List Bool) (js : List ℕ) : Type 0 where
     fills : map filled l ≡ b
     own : map (is_request (pair k t)) l ≡ b
-    blank : (j : ℕ) → member j js ≡ true → at Nobody l j ≡ Nobody
+    blank : (j : ℕ) → member j js ≡ true → at None l j ≡ None
 
-  own_put : {l : List Owner} {b : List Bool} {j : ℕ} {js : List ℕ} → member j js ≡ false → Own l b (j ∷ js) → Own (put l j (Of (pair k t))) (put b j true) js
+  own_put : {l : List (Option Request)} {b : List Bool} {j : ℕ} {js : List ℕ} → member j js ≡ false → Own l b (j ∷ js) → Own (put l j (Some (pair k t))) (put b j true) js
   own_put {l} {b} {j} {js} out o =
       record {
-        fills = map-put filled l j (Of (pair k t)) ∙ rw o.fills;
-        own = map-put (is_request (pair k t)) l j (Of (pair k t)) ∙ rw (o.own, same_refl (pair k t));
-        blank = λ i m. at_other Nobody l j _ i (apart i j js out m) ∙ o.blank i (mem_tail i j js m);
+        fills = map-put filled l j (Some (pair k t)) ∙ rw o.fills;
+        own = map-put (is_request (pair k t)) l j (Some (pair k t)) ∙ rw (o.own, same_refl (pair k t));
+        blank = λ i m. at_other None l j _ i (apart i j js out m) ∙ o.blank i (mem_tail i j js m);
       }
 
   -- a server with a number from 1
-  respond_put : (l : List Owner) (j : ℕ) (o : Owner) → 0 < j → with_response l (server_no j) o ≡ put l j o
+  respond_put : (l : List (Option Request)) (j : ℕ) (o : Option Request) → 0 < j → with_response l (server_no j) o ≡ put l j o
   respond_put l zero o pos = absurd (omega arith)
   respond_put l (suc x) o pos = let z : suc x - 1 ≡ x = omega arith in rw z
 
-  respond_at : (l : List Owner) (j : ℕ) → 0 < j → response_of l (server_no j) ≡ at Nobody l j
+  respond_at : (l : List (Option Request)) (j : ℕ) → 0 < j → response_of l (server_no j) ≡ at None l j
   respond_at l zero pos = absurd (omega arith)
   respond_at l (suc x) pos = let z : suc x - 1 ≡ x = omega arith in rw z
 
-  hear : (l : List Owner) (j : ℕ) → 0 < j → at Nobody l j ≡ Nobody → heard (pair k t) l (server_no j) (Of (pair k t)) ≡ put l j (Of (pair k t))
+  hear : (l : List (Option Request)) (j : ℕ) → 0 < j → at None l j ≡ None → heard (pair k t) l (server_no j) (Some (pair k t)) ≡ put l j (Some (pair k t))
   unfolding heard
-  hear l j pos e = rw (respond_at l j pos, e, eq-eqb k k refl, eq-eqb t.0 t.0 refl) (respond_put l j (Of (pair k t)) pos)
+  hear l j pos e = rw (respond_at l j pos, e, eq-eqb k k refl, eq-eqb t.0 t.0 refl) (respond_put l j (Some (pair k t)) pos)
 
-  hear_client : (z : Timestamp) (l : List Owner) {b : List Bool} (j : ℕ) (js : List ℕ) → 0 < j → at Nobody l j ≡ Nobody
-      → Own (put l j (Of (pair k t))) b js → Tips wins b js →
-      responds wins n (client_no k) (server_no j) (Of (pair k t)) (Place t z (j ∷ js) l d).state ≡ stay
-      (Place t (later z t) js (put l j (Of (pair k t))) d).state
+  hear_client : (z : Timestamp) (l : List (Option Request)) {b : List Bool} (j : ℕ) (js : List ℕ) → 0 < j → at None l j ≡ None
+      → Own (put l j (Some (pair k t))) b js → Tips wins b js →
+      responds wins n (client_no k) (server_no j) (Some (pair k t)) (Place t z (j ∷ js) l d).state ≡ stay
+      (Place t (later z t) js (put l j (Some (pair k t))) d).state
   unfolding upon_response judge
   hear_client z l j [] pos e o tips = rw (hear l j pos e, o.fills, o.own, tips)
   hear_client z l j (i ∷ js) pos e o tips = rw (hear l j pos e, o.fills, o.own, tips.0)
 
-  hear_event : (w : System) (i : ℕ) {z z' : Timestamp} {l l' : List Owner} (j : ℕ) (js : List ℕ) → client_at w (client_no k) ≡ Place t z (j ∷ js) l d
-      → Pends w i (RESPONSE (client_no k) (server_no j) (Of (pair k t))) →
-      responds wins n (client_no k) (server_no j) (Of (pair k t)) (Place t z (j ∷ js) l d).state ≡ stay (Place t z' js l' d).state →
+  hear_event : (w : System) (i : ℕ) {z z' : Timestamp} {l l' : List (Option Request)} (j : ℕ) (js : List ℕ) → client_at w (client_no k) ≡ Place t z (j ∷ js) l d
+      → Pends w i (RESPONSE (client_no k) (server_no j) (Some (pair k t))) →
+      responds wins n (client_no k) (server_no j) (Some (pair k t)) (Place t z (j ∷ js) l d).state ≡ stay (Place t z' js l' d).state →
       event n wins w (takes i) ≡ stepped (client_moves w (client_no k) (replaced i gone w.transit) d (stay (Place t z' js l' d).state))
   unfolding event deliver
   hear_event w i j js here m e = rw (m, here, e)
@@ -214,18 +212,18 @@ module _ (n : ℕ) (wins : Quorum) (k : ℕ) (t : Timestamp) (d : List ℕ) wher
     servers : u.servers ≡ w.servers
     sent : u.sent ≡ w.sent
     others : (i : ℕ) → (i ≡ k → ⊥) → client_at u (client_no i) ≡ client_at w (client_no i)
-    responses : List Owner
+    responses : List (Option Request)
     seen : Timestamp
     here : client_at u (client_no k) ≡ Place t seen [] responses d
 
-  hears : {js : List ℕ} {w : System} (i : ℕ) {z : Timestamp} {l : List Owner} {b : List Bool} → Different n js → Own l b js → Tips wins b js →
+  hears : {js : List ℕ} {w : System} (i : ℕ) {z : Timestamp} {l : List (Option Request)} {b : List Bool} → Different n js → Own l b js → Tips wins b js →
       client_at w (client_no k) ≡ Place t z js l d → Answers k t w i js → Leads n wins w (map takes (span i (length js))) (Hears w)
   hears i {z = z} {l = l} no_more o tips here a =
       lead_none (record { servers = refl; sent = refl; others = λ _ _. refl; responses = l; seen = z; here = here })
   hears {w = w} i {z = before} {l = l} {b = b} (another {j = j} {js = js} pos jn out df) o tips here a =
       let o' = own_put out o in
       let e = hear_event w (suc i) j js here a.0 (hear_client before l j js pos (o.blank j (mem_head j j js refl)) o' tips.1) in
-      let hd : Heard w (suc i) (Place t (later before t) js (put l j (Of (pair k t))) d) (next n wins w (takes (suc i))) = heard_by w (suc i) _
+      let hd : Heard w (suc i) (Place t (later before t) js (put l j (Some (pair k t))) d) (next n wins w (takes (suc i))) = heard_by w (suc i) _
       (ap (λ (c : ClientPlace). c.living) here) e in
       lead_cons (rw e)
       (lead_map (hears {w = next n wins w (takes (suc i))} (suc i) df o' tips.1 hd.clients.here (answers-later k t w (next n wins w (takes (suc i))) (suc i) js (λ x m lt. hd.waits x m (λ q. omega arith)) a.1))
@@ -269,7 +267,7 @@ module _ (n : ℕ) (wins : Quorum) where
     clients : Changes (at no_client w.clients) (at no_client u.clients) k
         (record {
           living = true;
-          state = record { section = Trying; timestamp = coming w k; seen = (client_at w (client_no k)).state.seen; responses = replicate n Nobody };
+          state = record { section = Trying; timestamp = coming w k; seen = (client_at w (client_no k)).state.seen; responses = replicate n None };
           downs = down_from 1 w.servers;
         })
     asked : (j : ℕ) → 0 < j → j ≤ n → Pends u (w.sent + j) (REQUEST (client_no k) (server_no j) (coming w k))
@@ -297,10 +295,10 @@ module _ (n : ℕ) (wins : Quorum) where
     answered z (another {j = j} {js = js} p q out df) pos tips =
         lead_map (hears n wins k (coming w k) (down_from 1 w.servers) (w.sent + n) {z = (client_at w (client_no k)).state.seen} (another p q out df)
         (record {
-          fills = map-replicate filled n Nobody;
-          own = map-replicate (is_request (pair k (coming w k))) n Nobody;
+          fills = map-replicate filled n None;
+          own = map-replicate (is_request (pair k (coming w k))) n None;
           blank = λ i m.
-              at-replicate Nobody (λ o. o ≡ Nobody) n i Nobody refl refl;
+              at-replicate None (λ o. o ≡ None) n i None refl refl;
         })
         tips (rw z.clients tr.clients.here) (rw tr.sent at z.responses))
         (λ u y. record {

@@ -1,10 +1,11 @@
 -- The invariant of a whole run: tokens, nested down-sets, and the count of the most servers down. Every event keeps it.
+use mathlib.Core.Logic.{tt}
+use Rattle.std.specs.Prelude.{Some, None}
 use mathlib.Core.Path.{◌≡◌, refl, ap}
 use Prim.Native.Nat.{ℕ, suc, zero, ◌≤◌, ◌<◌, zero-le}
 use native.Mathlib.Nat.{le_refl}
 use native.Mathlib.Omega.{arith}
 use mathlib.Core.Bool.{true, false, not, false≢true, true≢false, and-eq-true_iff}
-use mathlib.Core.Option.{some}
 use mathlib.Core.List.{List, [], ◌∷◌, ◌++◌}
 use lib.ListN.{length, length-replicate}
 use borrow.Author.Tests.{eq-eqb}
@@ -13,7 +14,6 @@ use Rattle.ids.specs.declared.ClientId.{ClientId}
 use Rattle.ids.specs.declared.ServerId.{ServerId}
 use Rattle.ids.specs.declared.Timestamp.{Timestamp}
 use Rattle.ids.specs.declared.Request.{Request}
-use Rattle.ids.specs.declared.Owner.TheVariants.{Nobody}
 use Rattle.wire.specs.Step.{Step, stay, refused, stepped}
 use Rattle.wire.specs.declared.Message.{Message}
 use Rattle.wire.specs.declared.Message.TheVariants.{Request as REQUEST, Release as RELEASE, Response as RESPONSE, Check as CHECK}
@@ -95,7 +95,7 @@ module _ (n : ℕ) (wins : Quorum) where
         Spares tag (record { client = k; timestamp = t }) p
     spared tag t k h p run e = omega (arith, ap (λ (x : ClientId). last (at no_client w.clients) x.0) e, run.1)
 
-    safe_calm : (k : ClientId) (i : ℕ) (m : Message) (step : Step ClientState) → pending i w.transit ≡ some m → (client_at w k).living ≡ true →
+    safe_calm : (k : ClientId) (i : ℕ) (m : Message) (step : Step ClientState) → pending i w.transit ≡ Some m → (client_at w k).living ≡ true →
         Calm n wins k (client_at w k).state (λ j. token (request k (client_at w k).state) j m) step →
         Safe (client_moves w k (replaced i gone w.transit) (client_at w k).downs step).state
     safe_calm k i m step e lives c =
@@ -114,7 +114,7 @@ module _ (n : ℕ) (wins : Quorum) where
         record {
           sound = sound_client_lem n wins (new_client_lem k.0 _ lives) s.sound (posted w.sent unchanged)
               (omega (arith, gt)) (by_all (λ j. REQUEST k j t) (λ j. (refl, omega arith)) n)
-              (record { mine = λ _. mine-none r n; sized = λ _. length-replicate n Nobody; won = λ b. absurd (false≢true b) })
+              (record { mine = λ _. mine-none r n; sized = λ _. length-replicate n None; won = λ b. absurd (false≢true b) })
               (λ j ep no. omega (arith, fresh (last (at no_client w.clients)) r j gt s.sound.mail, requests-none r j k t n, shows-none r n j));
           nest = nest_client (new_client_lem k.0 _ lives) s.nest (λ ep. starts refl);
         }

@@ -6,18 +6,16 @@ use native.Mathlib.Nat.{le_refl}
 use native.Mathlib.Omega.{arith}
 use mathlib.Core.Bool.{Bool, true, false, and-false}
 use mathlib.Core.List.{List, [], ◌∷◌}
-use mathlib.Core.Logic.{inl, inr}
+use mathlib.Core.Logic.{inl, inr, tt}
 use lib.Dec.{eqb, ltb}
 use borrow.Author.Tests.{ltb-true}
-use Rattle.std.specs.Prelude.{if◌then◌else◌}
+use Rattle.std.specs.Prelude.{if◌then◌else◌, Some, None, Option}
 use Rattle.ids.specs.Lists.{every}
 use Rattle.ids.specs.Order.{before}
 use Rattle.ids.specs.Requests.{same, is_request, is_client}
 use Rattle.ids.specs.declared.ClientId.{ClientId}
 use Rattle.ids.specs.declared.ServerId.{ServerId}
 use Rattle.ids.specs.declared.Request.{Request}
-use Rattle.ids.specs.declared.Owner.{Owner}
-use Rattle.ids.specs.declared.Owner.TheVariants.{Nobody, Of}
 use Rattle.ids.proofs.Choice.{decided, Test, both}
 use Rattle.ids.proofs.RequestLaws.{same_true}
 use Rattle.wire.specs.Step.{Step, stay, tell, ◌then◌}
@@ -32,9 +30,9 @@ use Rattle.server_votes.proofs.Tagged.{message}
 use Rattle.system.proofs.Tokens.{age, worth, sum, sum-append, All, empty, more, all_append, every-all, all-every}
 
 module _ (P : Request → Type 0) where
-  abbrev pub Named : Owner → Type 0
-  Named Nobody = Unit
-  Named (Of o) = P o
+  abbrev pub Named : Option Request → Type 0
+  Named None = Unit
+  Named (Some o) = P o
 
   -- the owner and the queue are requests with P
   pub record Holds (q : ServerState) : Type 0 where
@@ -52,20 +50,20 @@ module _ (P : Request → Type 0) where
 
   -- A step of server j from owner o. For a request p with R it sends no token that it does not own, but for the `gain` tokens
   -- that it took; its messages and its new state name only requests with P.
-  pub record Fair (R : Request → Type 0) (j : ServerId) (o : Owner) (gain : Request → ℕ) (s : Step ServerState) : Type 0 where
+  pub record Fair (R : Request → Type 0) (j : ServerId) (o : Option Request) (gain : Request → ℕ) (s : Step ServerState) : Type 0 where
     pub kept : (p : Request) → R p → sum (worth p) s.sent + bit (is_request p o) ≤ bit (is_request p s.state.owner) + gain p
     pub from : All (From j) s.sent
     pub holds : Holds s.state
 
 -- the same by a test that the candidates pass
 module _ (f : Request → Bool) where
-  holds_by : (o : Owner) (l : List Request) → every f (candidates (record { owner = o; queue = l })) ≡ true → Holds (λ r. f r ≡ true) (record { owner = o; queue = l })
-  holds_by Nobody l h = record { owner = tt; queue = every-all f l h }
-  holds_by (Of r) l h = let (a, g) = both (f r) (every f l) h in record { owner = a; queue = every-all f l g }
+  holds_by : (o : Option Request) (l : List Request) → every f (candidates (record { owner = o; queue = l })) ≡ true → Holds (λ r. f r ≡ true) (record { owner = o; queue = l })
+  holds_by None l h = record { owner = tt; queue = every-all f l h }
+  holds_by (Some r) l h = let (a, g) = both (f r) (every f l) h in record { owner = a; queue = every-all f l g }
 
-  every_by : (o : Owner) (l : List Request) → Holds (λ r. f r ≡ true) (record { owner = o; queue = l }) → every f (candidates (record { owner = o; queue = l })) ≡ true
-  every_by Nobody l h = all-every f h.queue
-  every_by (Of r) l h = rw h.owner (all-every f h.queue)
+  every_by : (o : Option Request) (l : List Request) → Holds (λ r. f r ≡ true) (record { owner = o; queue = l }) → every f (candidates (record { owner = o; queue = l })) ≡ true
+  every_by None l h = all-every f h.queue
+  every_by (Some r) l h = rw h.owner (all-every f h.queue)
 
   pub every_holds : (q : ServerState) → every f (candidates q) ≡ true → Holds (λ r. f r ≡ true) q
   every_holds q h = holds_by q.owner q.queue h
@@ -85,16 +83,16 @@ older : (tag : Tag) (r p : Request) → Spares tag r p → r ≡ p → r.timesta
 older tag r p f e = omega (arith, f (ap (λ (x : Request). x.client) e), ap (λ (x : Request). x.timestamp.0) e)
 
 -- a RESPONSE to client k that names another owner, or none, is no token
-aside : (p : Request) (k : ClientId) (j : ServerId) (o : Owner) → is_client k o ≡ false → worth p (RESPONSE k j o) ≡ 0
-aside p k j Nobody e = refl
-aside p k j (Of x) e = go (decided (same x p))
+aside : (p : Request) (k : ClientId) (j : ServerId) (o : Option Request) → is_client k o ≡ false → worth p (RESPONSE k j o) ≡ 0
+aside p k j None e = refl
+aside p k j (Some x) e = go (decided (same x p))
   where
-    go : Test (same x p) → worth p (RESPONSE k j (Of x)) ≡ 0
+    go : Test (same x p) → worth p (RESPONSE k j (Some x)) ≡ 0
     go (inl s) = rw (rw (same_true x p s) at e)
     go (inr s) = rw (s, and-false (eqb p.client.0 k.0))
 
-owns : (p : Request) {o o' : Owner} → o ≡ o' → bit (is_request p o) ≡ bit (is_request p o')
-owns p e = ap (λ (o : Owner). bit (is_request p o)) e
+owns : (p : Request) {o o' : Option Request} → o ≡ o' → bit (is_request p o) ≡ bit (is_request p o')
+owns p e = ap (λ (o : Option Request). bit (is_request p o)) e
 
 module _ {P : Request → Type 0} where
   pub all_insert : (r : Request) {l : List Request} → P r → All P l → All P (insert r l)
@@ -111,14 +109,14 @@ module _ {P : Request → Type 0} where
   all_without r empty = empty
   all_without r (more {x = x} a g) = branch (All P) (same x r) (λ e. g) (λ e. more a (all_without r g))
 
-  said : {k : ClientId} {j : ServerId} {o : Owner} → Named P o → All (From P j) (RESPONSE k j o ∷ [])
+  said : {k : ClientId} {j : ServerId} {o : Option Request} → Named P o → All (From P j) (RESPONSE k j o ∷ [])
   said {k} {j} {o} h = more {x = RESPONSE k j o} (refl, h) empty
 
   module _ {R : Request → Type 0} {j : ServerId} where
     pub fair_stay : {q : ServerState} {g : Request → ℕ} → Holds P q → Fair P R j q.owner g (stay q)
     fair_stay h = record { kept = λ p a. omega arith; from = empty; holds = h }
 
-    fair_then : {o : Owner} {g g₁ g₂ : Request → ℕ} {s : Step ServerState} (f : ServerState → Step ServerState) → ((p : Request) → g₁ p + g₂ p ≤ g p) →
+    fair_then : {o : Option Request} {g g₁ g₂ : Request → ℕ} {s : Step ServerState} (f : ServerState → Step ServerState) → ((p : Request) → g₁ p + g₂ p ≤ g p) →
         Fair P R j o g₁ s → Fair P R j s.state.owner g₂ (f s.state) → Fair P R j o g (s then f)
     fair_then {s} f le a b =
         record {
@@ -128,7 +126,7 @@ module _ {P : Request → Type 0} where
         }
 
     -- the head of the queue becomes owner in place of o, which is not p, or whose token was taken
-    fair_promote : {o : Owner} {g : Request → ℕ} {l : List Request} → All P l → ((p : Request) → R p → bit (is_request p o) ≤ g p) → Fair P R j o g (promote j l)
+    fair_promote : {o : Option Request} {g : Request → ℕ} {l : List Request} → All P l → ((p : Request) → R p → bit (is_request p o) ≤ g p) → Fair P R j o g (promote j l)
     unfolding promote
     fair_promote empty h = record { kept = λ p a. omega (arith, h p a); from = empty; holds = record { owner = tt; queue = empty } }
     fair_promote (more {x = x} a t) h =
@@ -162,9 +160,9 @@ module _ {P : Request → Type 0} where
           holds = record { owner = a; queue = h.queue };
         })
         (λ o e. let n : P o = rw e at h.owner in
-        let i' : is_client r.client (Of o) ≡ false = rw e at i in
+        let i' : is_client r.client (Some o) ≡ false = rw e at i in
         record {
-          kept = λ p b. omega (arith, aside p r.client j (Of o) i', owns p e);
+          kept = λ p b. omega (arith, aside p r.client j (Some o) i', owns p e);
           from = said n;
           holds = record { owner = n; queue = all-enqueue r a h.queue };
         })

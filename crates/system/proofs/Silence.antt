@@ -1,17 +1,16 @@
 -- Servers that are down and stay down answer nobody: no RESPONSE of theirs is in transit, and no own response of theirs is kept.
+use mathlib.Core.Logic.{tt}
+use Rattle.std.specs.Prelude.{Some, None, Option}
 use mathlib.Core.Path.{◌≡◌, refl, sym, ◌∙◌}
 use Prim.Native.Nat.{ℕ}
 use native.Mathlib.Omega.{arith}
 use mathlib.Core.Bool.{true, false, true≢false}
-use mathlib.Core.Option.{some}
 use mathlib.Core.List.{List, [], ◌∷◌}
 use borrow.Author.Tests.{ne_eqb}
 use Rattle.ids.specs.declared.ClientId.{ClientId}
 use Rattle.ids.specs.declared.ServerId.{ServerId}
 use Rattle.ids.specs.declared.Timestamp.{Timestamp}
 use Rattle.ids.specs.declared.Request.{Request}
-use Rattle.ids.specs.declared.Owner.{Owner}
-use Rattle.ids.specs.declared.Owner.TheVariants.{Nobody, Of}
 use Rattle.wire.specs.Step.{Step, refused, stepped}
 use Rattle.wire.specs.declared.Message.{Message}
 use Rattle.wire.specs.declared.Message.TheVariants.{Request as REQUEST, Yield as YIELD, Release as RELEASE, Inquiry as INQUIRY, Response as RESPONSE, Check as CHECK}
@@ -93,9 +92,9 @@ any_line : (l : List Request) → All Any l
 any_line [] = empty
 any_line (r ∷ l) = more {x = r} tt (any_line l)
 
-any_named : (o : Owner) → Named Any o
-any_named Nobody = tt
-any_named (Of r) = tt
+any_named : (o : Option Request) → Named Any o
+any_named None = tt
+any_named (Some r) = tt
 
 any_server : (q : ServerState) → Holds Any q
 any_server q = record { owner = any_named q.owner; queue = any_line q.queue }
@@ -137,7 +136,7 @@ module _ (n : ℕ) (wins : Quorum) (d : List ℕ) where
           blank = s.blank;
         }
 
-    silent_calm : (k : ClientId) (i : ℕ) (m : Message) {gain : ℕ → ℕ} (step : Step ClientState) → pending i w.transit ≡ some m
+    silent_calm : (k : ClientId) (i : ℕ) (m : Message) {gain : ℕ → ℕ} (step : Step ClientState) → pending i w.transit ≡ Some m
         → (client_at w k).living ≡ true → Calm n wins k (client_at w k).state gain step →
         ((j : ℕ) → member j d ≡ true → gain j ≡ 0) → Silent d (client_moves w k (replaced i gone w.transit) (client_at w k).downs step).state
     silent_calm k i m step e lives c no_gain =

@@ -1,5 +1,6 @@
 -- The token invariant: a client in its epoch has, at a server never down in it, at most one token or own response, and none
 -- unless the server's owner is its request. Every event keeps it.
+use mathlib.Core.Logic.{tt}
 use mathlib.Core.Path.{◌≡◌, refl, sym, ap, ◌∙◌}
 use Prim.Native.Nat.{ℕ, ◌+◌, ◌≤◌, ◌<◌, zero-le}
 use native.Mathlib.Nat.{le_refl}
@@ -8,14 +9,12 @@ use mathlib.Core.Bool.{Bool, true, false, and-false}
 use mathlib.Core.List.{List, [], ◌∷◌, map}
 use lib.Dec.{eqb}
 use borrow.Author.Tests.{ne_eqb}
-use Rattle.std.specs.Prelude.{if◌then◌else◌}
+use Rattle.std.specs.Prelude.{if◌then◌else◌, Some, None, Option}
 use Rattle.ids.specs.Requests.{same, is_request}
 use Rattle.ids.specs.declared.ClientId.{ClientId}
 use Rattle.ids.specs.declared.ServerId.{ServerId}
 use Rattle.ids.specs.declared.Timestamp.{Timestamp}
 use Rattle.ids.specs.declared.Request.{Request}
-use Rattle.ids.specs.declared.Owner.{Owner}
-use Rattle.ids.specs.declared.Owner.TheVariants.{Nobody, Of}
 use Rattle.wire.specs.Step.{Step}
 use Rattle.wire.specs.declared.Message.{Message}
 use Rattle.wire.specs.declared.Message.TheVariants.{Request as REQUEST, Yield as YIELD, Release as RELEASE, Inquiry as INQUIRY, Response as RESPONSE, Check as CHECK}
@@ -59,7 +58,7 @@ Runs K p = (in_epoch (K p.client.0) ≡ true) × (p.timestamp.0 ≡ last K p.cli
 
 -- Client k at place c, and server j with owner o: if j was not down in k's epoch, then k's request has at most one token or own
 -- response at j, and none unless it is the owner.
-abbrev pub Balanced : ℕ → ℕ → ClientPlace → List InTransit → Owner → Type 0
+abbrev pub Balanced : ℕ → ℕ → ClientPlace → List InTransit → Option Request → Type 0
 Balanced k j c l o =
     in_epoch c ≡ true → member j c.downs ≡ false →
     weight (request (id k) c.state) j l + shows (request (id k) c.state) c.state.responses j ≤ bit (is_request (request (id k) c.state) o)
@@ -72,9 +71,9 @@ pub record Sound (n : ℕ) (wins : Quorum) (K : ℕ → ClientPlace) (Q : ℕ �
 
 -- timestamps only grow
 module _ (s t : ℕ → ℕ) (le : (k : ℕ) → s k ≤ t k) where
-  named-later : (o : Owner) → Named (Old s) o → Named (Old t) o
-  named-later Nobody h = tt
-  named-later (Of r) h = omega (arith, le r.client.0)
+  named-later : (o : Option Request) → Named (Old s) o → Named (Old t) o
+  named-later None h = tt
+  named-later (Some r) h = omega (arith, le r.client.0)
 
   past_later : (m : Message) → Past s m → Past t m
   past_later (REQUEST k j x) h = omega (arith, le k.0)
@@ -141,8 +140,8 @@ fresh t p j lt (more {x = x} {l = l} h g) = rw (
     none-worth (YIELD k i s) b = rw (none-same (record { client = k; timestamp = s }) (omega arith))
     none-worth (RELEASE k i s) b = refl
     none-worth (INQUIRY k i s) b = refl
-    none-worth (RESPONSE k i Nobody) b = refl
-    none-worth (RESPONSE k i (Of o)) b = rw (none-same o b.1, and-false (eqb p.client.0 k.0))
+    none-worth (RESPONSE k i None) b = refl
+    none-worth (RESPONSE k i (Some o)) b = rw (none-same o b.1, and-false (eqb p.client.0 k.0))
     none-worth (CHECK k i s) b = refl
 
 module _ (n : ℕ) (wins : Quorum) where

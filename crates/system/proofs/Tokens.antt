@@ -6,12 +6,11 @@ use mathlib.Core.Bool.{Bool, true, ◌&&◌}
 use mathlib.Core.List.{List, [], ◌∷◌, ◌++◌}
 use lib.Dec.{eqb}
 use lib.ListN.{length, set, length-set}
-use Rattle.std.specs.Prelude.{if◌then◌else◌}
+use Rattle.std.specs.Prelude.{if◌then◌else◌, Some, None}
 use Rattle.ids.specs.Lists.{every}
 use Rattle.ids.specs.Requests.{same}
 use Rattle.ids.specs.declared.ServerId.{ServerId}
 use Rattle.ids.specs.declared.Request.{Request}
-use Rattle.ids.specs.declared.Owner.TheVariants.{Nobody, Of}
 use Rattle.ids.proofs.Choice.{both}
 use Rattle.wire.specs.declared.Message.{Message}
 use Rattle.wire.specs.declared.Message.TheVariants.{Request as REQUEST, Yield as YIELD, Release as RELEASE, Inquiry as INQUIRY, Response as RESPONSE, Check as CHECK}
@@ -33,8 +32,8 @@ worth p (REQUEST k j t) = 0
 worth p (YIELD k j t) = bit (same (record { client = k; timestamp = t }) p)
 worth p (RELEASE k j t) = 0
 worth p (INQUIRY k j t) = 0
-worth p (RESPONSE k j Nobody) = 0
-worth p (RESPONSE k j (Of o)) = bit (eqb p.client.0 k.0 && same o p)
+worth p (RESPONSE k j None) = 0
+worth p (RESPONSE k j (Some o)) = bit (eqb p.client.0 k.0 && same o p)
 worth p (CHECK k j t) = 0
 
 abbrev pub server_of : Message → ServerId

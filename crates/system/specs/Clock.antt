@@ -1,7 +1,6 @@
 -- What the clock of document 02's L4 is for: the timestamp that a client takes at a try is greater than every timestamp that it was told of, whoever's, so
 -- that a client which has heard of a request passes it with no later try. A claim about whole runs, from any system and whatever happens in between.
-use Rattle.std.specs.Prelude.{◌≡◌, ℕ, ◌<◌, ◌≤◌, true, List, ◌∷◌}
-use Rattle.std.proofs.Math.Option.{some}
+use Rattle.std.specs.Prelude.{◌≡◌, ℕ, ◌<◌, ◌≤◌, true, List, ◌∷◌, Some}
 use Rattle.ids.specs.Order.{before}
 use Rattle.ids.specs.declared.ClientId.{ClientId}
 use Rattle.ids.specs.declared.Timestamp.{Timestamp}
@@ -31,7 +30,7 @@ module _ (n : ℕ) (wins : Quorum) where
   abbrev pub AboveTold : Type 0
   AboveTold =
       (w : System) (i : MessageNumber) (m : Message) (k : ClientId) (es : List Event)
-      → pending i.0 w.transit ≡ some m → receiver_of m ≡ Client k → (client_at w k).living ≡ true
+      → pending i.0 w.transit ≡ Some m → receiver_of m ≡ Client k → (client_at w k).living ≡ true
       → tries (run_from n wins w (Take i ∷ es)) k
       → (fields_of m).timestamp < (timestamp_tried (run_from n wins w (Take i ∷ es)) k).0
 
@@ -40,6 +39,6 @@ module _ (n : ℕ) (wins : Quorum) where
   abbrev pub BehindHeard : Type 0
   BehindHeard =
       (w : System) (i : MessageNumber) (m : Message) (k : ClientId) (r : Request) (es : List Event)
-      → pending i.0 w.transit ≡ some m → receiver_of m ≡ Client k → (client_at w k).living ≡ true → r.timestamp.0 ≤ (fields_of m).timestamp
+      → pending i.0 w.transit ≡ Some m → receiver_of m ≡ Client k → (client_at w k).living ≡ true → r.timestamp.0 ≤ (fields_of m).timestamp
       → tries (run_from n wins w (Take i ∷ es)) k
       → before r (record { client = k; timestamp = timestamp_tried (run_from n wins w (Take i ∷ es)) k }) ≡ true

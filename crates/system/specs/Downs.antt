@@ -1,8 +1,7 @@
 -- The different servers ever down within an epoch, from the list of events: nothing here reads what a system carries along of it
 -- (`downs`, `most`). An epoch runs from a client's accepted try to its next accepted exit or fall, or the end; a server down at its
 -- start counts.
-use Rattle.std.specs.Prelude.{◌≡◌, ℕ, max, Bool, true, false, not, ◌&&◌, ◌||◌, List, [], ◌∷◌, map, eqb, if◌then◌else◌}
-use Rattle.std.proofs.Math.Option.{Option, none, some}
+use Rattle.std.specs.Prelude.{◌≡◌, ℕ, max, Bool, true, false, not, ◌&&◌, ◌||◌, List, [], ◌∷◌, map, eqb, if◌then◌else◌, Some, None, Option}
 use Rattle.ids.specs.Choice.{maybe}
 use Rattle.ids.specs.declared.ClientId.{ClientId}
 use Rattle.client_responses.specs.Figure1.{Quorum, count}
@@ -27,15 +26,15 @@ either (x ∷ a) (y ∷ b) = (x || y) ∷ either a b
 
 -- whose epoch the event begins, where it is accepted
 abbrev pub begins : Event → Option ClientId
-begins (Try k) = some k
-begins (Exit k) = none
-begins (Fall k) = none
-begins (Down j) = none
-begins (Up j) = none
-begins (Take i) = none
-begins (Drop i) = none
-begins (Miss j) = none
-begins (Check j) = none
+begins (Try k) = Some k
+begins (Exit k) = None
+begins (Fall k) = None
+begins (Down j) = None
+begins (Up j) = None
+begins (Take i) = None
+begins (Drop i) = None
+begins (Miss j) = None
+begins (Check j) = None
 
 -- whether it ends client k's
 abbrev pub ends : ClientId → Event → Bool
@@ -62,7 +61,7 @@ module _ (step : System → Event → Result) where
   unfoldable pub most_down : System → List Event → ℕ
   most_down w [] = 0
   most_down w (e ∷ es) =
-      max (maybe (if is_stepped (step w e) then begins e else none) 0 (λ k. count (ever_down k (after w (step w e)) es)))
+      max (maybe (if is_stepped (step w e) then begins e else None) 0 (λ k. count (ever_down k (after w (step w e)) es)))
       (most_down (after w (step w e)) es)
 
 -- a step that may refuse more than `event` does, and else does the same

@@ -1,12 +1,11 @@
 -- What an event does to a whole system: the row 'gallery event' of document 01's table, each refusal in its order.
-use Rattle.std.specs.Prelude.{ℕ, ◌+◌, Bool, true, false, not, ◌&&◌, List, [], ◌∷◌, ◌++◌, map, leb, length, if◌then◌else◌}
-use Rattle.std.proofs.Math.Option.{Option}
+use Rattle.ids.specs.declared.Request.{Request}
+use Rattle.std.specs.Prelude.{ℕ, ◌+◌, Bool, true, false, not, ◌&&◌, List, [], ◌∷◌, ◌++◌, map, leb, length, if◌then◌else◌, Result, Option}
 use Rattle.ids.specs.Choice.{maybe}
 use Rattle.ids.specs.Requests.{by_owner}
 use Rattle.ids.specs.declared.ClientId.{ClientId}
 use Rattle.ids.specs.declared.ServerId.{ServerId}
 use Rattle.ids.specs.declared.Timestamp.{Timestamp}
-use Rattle.ids.specs.declared.Owner.{Owner}
 use Rattle.ids.specs.declared.Refusal.{Refusal}
 use Rattle.ids.specs.declared.Refusal.TheVariants.{NoSuchParty, PartyDown, NoOwner, OwnerLives, SystemFull}
 use Rattle.wire.specs.Step.{Step, stay, Outcome, refused, stepped}
@@ -99,7 +98,7 @@ server_took w i tag k j t =
     server_moves w j (replaced i keeping w.transit) (votes.receive j tag (record { client = k; timestamp = t }) (server_at w j).state)
 
 -- client k takes the message with number i: it is gone
-abbrev pub response_took : ℕ → Quorum → System → ℕ → ClientId → ServerId → Owner → Step System
+abbrev pub response_took : ℕ → Quorum → System → ℕ → ClientId → ServerId → Option Request → Step System
 response_took n wins w i k j o =
     client_moves w k (replaced i gone w.transit) (client_at w k).downs (client.responds wins n k j o (client_at w k).state)
 

@@ -1,11 +1,12 @@
 -- The invariant of every run: each client's state fits its numbers, each server's is good and knows only requests of clients that are there, and so does
 -- each message in transit, which is in range. Every event keeps it.
+use mathlib.Core.Logic.{tt}
+use Rattle.std.specs.Prelude.{Some, None, Option}
 use Prim.Native.Nat.{ℕ, zero, suc, ◌≤◌}
 use native.Mathlib.Omega.{arith}
 use mathlib.Core.Path.{◌≡◌, refl, sym, subst, ◌∙◌}
 use mathlib.Core.Bool.{Bool, true, ◌&&◌}
 use mathlib.Core.List.{List, [], ◌∷◌}
-use mathlib.Core.Option.{some}
 use lib.Dec.{leb}
 use lib.ListN.{length, replicate, length-map, length-replicate, get_or-replicate}
 use borrow.Author.Tests.{leb-true, le-leb}
@@ -16,8 +17,6 @@ use Rattle.ids.specs.declared.ClientId.{ClientId}
 use Rattle.ids.specs.declared.ServerId.{ServerId}
 use Rattle.ids.specs.declared.Timestamp.{Timestamp}
 use Rattle.ids.specs.declared.Request.{Request}
-use Rattle.ids.specs.declared.Owner.{Owner}
-use Rattle.ids.specs.declared.Owner.TheVariants.{Nobody, Of}
 use Rattle.ids.proofs.Choice.{both}
 use Rattle.ids.proofs.ListLaws.{every-both}
 use Rattle.wire.specs.Format as format
@@ -99,7 +98,7 @@ message-known n clients tag k j t h =
     rw (message-request tag k j t v, a)
 
 -- a RESPONSE's owner is in range
-pub response-owner : (n clients : ℕ) (k : ClientId) (j : ServerId) (o : Owner) → There n clients (RESPONSE k j o) → valid_owner o ≡ true
+pub response-owner : (n clients : ℕ) (k : ClientId) (j : ServerId) (o : Option Request) → There n clients (RESPONSE k j o) → valid_owner o ≡ true
 unfolding format.valid_up_to valid_response_up_to
 response-owner n clients k j o h =
     let (v, a, b) = there-parts n clients (RESPONSE k j o) h in
@@ -123,7 +122,7 @@ module _ (n m clients : ℕ) (k : ClientId) (s : State) (F : Fits n m k s) (last
       every-both format.valid (between n clients) (exits n k s).sent (of_client.exits-valid n m k s F h)
       (of_client.exits_passes (between n clients) n k s (λ j a b. parties j b))
 
-  responds-there : (j : ServerId) (o : Owner) → every (there n clients) (responds (enough m) n k j o s).sent ≡ true
+  responds-there : (j : ServerId) (o : Option Request) → every (there n clients) (responds (enough m) n k j o s).sent ≡ true
   unfolding fields_of
   responds-there j o =
       every-both format.valid (between n clients) (responds (enough m) n k j o s).sent (of_client.responds-valid n m k s F (enough m) j o)
@@ -145,14 +144,14 @@ module _ (n clients : ℕ) (j : ServerId) (sizes : server.valid_sizes n j ≡ tr
   small : leb j.0 n ≡ true
   small = (both (leb 1 j.0) (leb j.0 n) (both (within n max_servers) (within j.0 n) sizes).1).1
 
-  owner-known : (o : Owner) (l : List Request) → Holds (Known clients) (record { owner = o; queue = l }) → by_owner o true (known clients) ≡ true
-  owner-known Nobody l h = refl
-  owner-known (Of r) l h = h.owner
+  owner-known : (o : Option Request) (l : List Request) → Holds (Known clients) (record { owner = o; queue = l }) → by_owner o true (known clients) ≡ true
+  owner-known None l h = refl
+  owner-known (Some r) l h = h.owner
 
   knows : Knows (known clients) q
   knows = record { owner = owner-known q.owner q.queue S.holds; queue = all-every (known clients) S.holds.queue }
 
-  tells : (r : Request) (o : Owner) → known clients r ≡ true → by_owner o true (known clients) ≡ true → between n clients (RESPONSE r.client j o) ≡ true
+  tells : (r : Request) (o : Option Request) → known clients r ≡ true → by_owner o true (known clients) ≡ true → between n clients (RESPONSE r.client j o) ≡ true
   unfolding fields_of
   tells r o a h = rw ((both (valid_request r) (leb r.client.0 clients) a).1, small)
 
@@ -259,7 +258,7 @@ module _ (n m clients : ℕ) (w : System) (K : Kept n m clients w) where
       }
 
   -- a message that is pending
-  pub arrived : (i : ℕ) (x : Message) → pending i w.transit ≡ some x → There n clients x
+  pub arrived : (i : ℕ) (x : Message) → pending i w.transit ≡ Some x → There n clients x
   arrived i x e = pending-all (There n clients) i e K.mail
 
   pub server_sizes : client.valid_sizes n m ≡ true → (j : ServerId) → 1 ≤ j.0 → j.0 ≤ n → server.valid_sizes n j ≡ true
@@ -364,7 +363,7 @@ module _ (n m clients : ℕ) (z : client.valid_sizes n m ≡ true) where
   fresh-fits few (suc k) a b =
       let (c, d, e, f) = sizes_range n m z in
       let R : InRange n m (client_no (suc k)) = record
-      { some = c; few = d; threshold = e; reached = f; client = rw (le-leb 1 (suc k) a, le-leb (suc k) max_client (omega arith)) } in
+      { Some = c; few = d; threshold = e; reached = f; client = rw (le-leb 1 (suc k) a, le-leb (suc k) max_client (omega arith)) } in
       rw (get_or-replicate clients k (record { living = true; state = fresh n; downs = [] }) no_client (omega arith))
       (remainder_fits n m (client_no (suc k)) R (record { 0 = 0 }) (record { 0 = 0 }))
 

@@ -1,4 +1,5 @@
 -- What each call does on the record that a fitting state is stored as: it is accepted, and leaves the record that the step's state is stored as.
+use Rattle.std.specs.Prelude.{Some, Option}
 use Prim.Native.Nat.{ℕ, ◌*◌, ◌≤◌}
 use native.Mathlib.Omega.{arith}
 use mathlib.Core.Path.{◌≡◌, refl}
@@ -13,8 +14,6 @@ use Rattle.ids.specs.declared.ClientId.{ClientId}
 use Rattle.ids.specs.declared.ServerId.{ServerId}
 use Rattle.ids.specs.declared.Timestamp.{Timestamp}
 use Rattle.ids.specs.declared.Request.{Request}
-use Rattle.ids.specs.declared.Owner.{Owner}
-use Rattle.ids.specs.declared.Owner.TheVariants.{Of}
 use Rattle.ids.proofs.Choice.{both}
 use Rattle.rows.proofs.RowLaws.{length_row_of}
 use Rattle.wire.specs.Format as format
@@ -71,7 +70,7 @@ module _ (n m : ℕ) (k : ClientId) (s : State) (F : Fits n m k s) where
   for_me : (j : ServerId) → leb j.0 n ≡ true → for_client (client.head_in n m k s) k j ≡ true
   for_me j h = rw (eq-eqb k.0 k.0 refl, h)
 
-  pub response-outcome : (clients : ℕ) (j : ServerId) (o : Owner) → There n clients (Response k j o)
+  pub response-outcome : (clients : ℕ) (j : ServerId) (o : Option Request) → There n clients (Response k j o)
       → client_calls.message_outcome (client.store n m k s) (Response k j o) ≡ stepped (responds (enough m) n k j o s)
   unfolding client_calls.message_outcome_up_to fields_of
   response-outcome clients j o a =
@@ -125,7 +124,7 @@ module _ (n clients : ℕ) (few : clients ≤ system_clients) (j : ServerId) (si
       (2 * length (receive j tag r q).state.queue) (omega (arith, words_long)) in
       rw (stored-server, v, received_as (server.store n j q) tag k j t, shown-server, eq-eqb j.0 j.0 refl, f)
 
-  pub suspect-outcome : (o : Request) → q.owner ≡ Of o → server_calls.suspect_outcome (server.store n j q) ≡ stepped (suspect j q)
+  pub suspect-outcome : (o : Request) → q.owner ≡ Some o → server_calls.suspect_outcome (server.store n j q) ≡ stepped (suspect j q)
   unfolding server_calls.suspect_outcome
   suspect-outcome o e = rw (stored-server, shown-server, e)
 

@@ -1,11 +1,12 @@
 -- Every run is a run of the calls: by the invariant (`Kept`) each record that a party is stored as is valid, and by what the calls do on such a record
 -- (`Outcomes`) each accepted event is the accepted call.
+use mathlib.Core.Logic.{tt}
+use Rattle.std.specs.Prelude.{Some}
 use Prim.Native.Nat.{ℕ, zero, suc, ◌≤◌}
 use native.Mathlib.Omega.{arith}
 use mathlib.Core.Path.{◌≡◌, subst}
 use mathlib.Core.Bool.{true}
 use mathlib.Core.List.{List, []}
-use mathlib.Core.Option.{some}
 use lib.Dec.{ltb, leb}
 use lib.ListN.{length, replicate, get_or-replicate}
 use borrow.Author.Tests.{ltb-true, leb-true, le-leb}
@@ -112,8 +113,8 @@ module _ (n m clients : ℕ) (z : client.valid_sizes n m ≡ true) (few : client
   By e (stepped s) = ByCalls n m w e s
 
   -- what is taken is the pending message
-  taken_as : (i : ℕ) (s : Step System) (x : Message) → pending i w.transit ≡ some x → TakenByCall n m w s x
-      → (y : Message) → pending i w.transit ≡ some y → TakenByCall n m w s y
+  taken_as : (i : ℕ) (s : Step System) (x : Message) → pending i w.transit ≡ Some x → TakenByCall n m w s x
+      → (y : Message) → pending i w.transit ≡ Some y → TakenByCall n m w s y
   taken_as i s x e h y f = let q : x ≡ y = cc in subst (TakenByCall n m w s) q h
 
   by : {e : Event} {o : Result} → Effect n (enough m) w e o → By e o

@@ -1,13 +1,11 @@
 -- What a run has to do with the calls that a host makes: the record that each client and each server of a system is stored as, and the call that each
 -- accepted event is on such a record.
-use Rattle.std.specs.Prelude.{ℕ, ◌*◌, ◌≤◌, ◌≡◌, true}
-use Rattle.std.proofs.Math.Option.{some}
+use Rattle.std.specs.Prelude.{ℕ, ◌*◌, ◌≤◌, ◌≡◌, true, Ok, Some}
 use Rattle.ids.specs.Limits.{within}
 use Rattle.ids.specs.declared.ClientId.{ClientId}
 use Rattle.ids.specs.declared.ServerId.{ServerId}
 use Rattle.wire.specs.Format.{message_bytes}
 use Rattle.wire.specs.Step.{Step, Outcome, stepped, with_room}
-use Rattle.wire.specs.declared.Answer.TheVariants.{Sent}
 use Rattle.wire.specs.declared.Message.{Message}
 use Rattle.wire.specs.declared.Message.TheVariants.{Request as REQUEST, Yield as YIELD, Release as RELEASE, Inquiry as INQUIRY, Response as RESPONSE, Check as CHECK}
 use Rattle.server_votes.specs.Figure1 as votes
@@ -79,7 +77,7 @@ ByCalls n m w (Exit k) s = ClientCalled n m w k s (client_calls.exit_outcome (cl
 ByCalls n m w (Fall k) s = Unit {0}
 ByCalls n m w (Down j) s = Unit {0}
 ByCalls n m w (Up j) s = Unit {0}
-ByCalls n m w (Take i) s = (x : Message) → pending i.0 w.transit ≡ some x → TakenByCall n m w s x
+ByCalls n m w (Take i) s = (x : Message) → pending i.0 w.transit ≡ Some x → TakenByCall n m w s x
 ByCalls n m w (Drop i) s = Unit {0}
 ByCalls n m w (Miss j) s = ServerCalled n w j s (server_calls.suspect_outcome (server_record n w j))
 ByCalls n m w (Check j) s = ServerCalled n w j s (server_calls.check_outcome (server_record n w j))
@@ -93,6 +91,6 @@ pub record OnRecords (n m : ℕ) (w : System) : Type 0 where
 -- a fresh start with so many clients has the records that the calls `new` give
 pub record StartsByNew (n m clients : ℕ) : Type 0 where
   pub client_new : (k : ClientId) → within k.0 clients ≡ true
-      → client_calls.new_result n m k ≡ record { client = client_record n m (start n (enough m) clients) k; answer = Sent 0 0 }
+      → client_calls.new_result n m k ≡ record { client = client_record n m (start n (enough m) clients) k; answer = Ok (record { messages = 0; bytes = 0 }) }
   pub server_new : (j : ServerId) → within j.0 n ≡ true
-      → server_calls.new_result n j ≡ record { server = server_record n (start n (enough m) clients) j; answer = Sent 0 0 }
+      → server_calls.new_result n j ≡ record { server = server_record n (start n (enough m) clients) j; answer = Ok (record { messages = 0; bytes = 0 }) }

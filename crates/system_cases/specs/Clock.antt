@@ -1,9 +1,8 @@
 -- Cases of the clock, document 02's L4: its worked case, those of what is seen beside it, and the edges of refusal 11. The client is client 5, with two
 -- servers and threshold 2.
-use Rattle.std.specs.Prelude.{◌≡◌, ℕ, List, [], ◌∷◌}
+use Rattle.ids.specs.declared.Request.{Request}
+use Rattle.std.specs.Prelude.{◌≡◌, ℕ, List, [], ◌∷◌, Some, None, Option}
 use Rattle.ids.specs.Refusals.{code}
-use Rattle.ids.specs.declared.Owner.{Owner}
-use Rattle.ids.specs.declared.Owner.TheVariants.{Nobody, Of}
 use Rattle.wire.specs.Step.{Outcome, refused, stepped}
 use Rattle.client_responses.specs.declared.Section.{Section}
 use Rattle.client_responses.specs.declared.Section.TheVariants.{Remainder, Trying, Critical}
@@ -21,13 +20,13 @@ said (stepped p) = takes p.state.timestamp.0
 
 -- a client with this last timestamp and this largest one seen, in a section
 abbrev pub having : Section → ℕ → ℕ → State
-having s last seen = record { section = s; timestamp = record { 0 = last }; seen = record { 0 = seen }; responses = Nobody ∷ Nobody ∷ [] }
+having s last seen = record { section = s; timestamp = record { 0 = last }; seen = record { 0 = seen }; responses = None ∷ None ∷ [] }
 
 -- a try or an exit says so; a RESPONSE or a CHECK, in a section, leaves so much seen
 pub data Case : Type 0 where
   tried : ℕ → ℕ → Says → Case
   exited : ℕ → ℕ → Says → Case
-  told : Section → ℕ → ℕ → Owner → ℕ → Case
+  told : Section → ℕ → ℕ → Option Request → ℕ → Case
   asked : Section → ℕ → ℕ → ℕ → ℕ → Case
 
 unfoldable pub timestamps : List Case
@@ -49,13 +48,13 @@ timestamps =
 
 unfoldable pub seen : List Case
 seen =
-    told Remainder 3 7 (Of (pair 9 40)) 40
-    ∷ told Trying 3 7 (Of (pair 9 40)) 40
-    ∷ told Critical 3 7 (Of (pair 9 40)) 40
-    ∷ told Trying 3 7 (Of (pair 9 5)) 7
-    ∷ told Trying 30 7 (Of (pair 5 29)) 29
-    ∷ told Trying 30 7 (Of (pair 5 30)) 30
-    ∷ told Trying 3 7 Nobody 7
+    told Remainder 3 7 (Some (pair 9 40)) 40
+    ∷ told Trying 3 7 (Some (pair 9 40)) 40
+    ∷ told Critical 3 7 (Some (pair 9 40)) 40
+    ∷ told Trying 3 7 (Some (pair 9 5)) 7
+    ∷ told Trying 30 7 (Some (pair 5 29)) 29
+    ∷ told Trying 30 7 (Some (pair 5 30)) 30
+    ∷ told Trying 3 7 None 7
     ∷ asked Remainder 3 7 40 40
     ∷ asked Trying 40 7 40 40
     ∷ asked Critical 41 7 40 40

@@ -8,7 +8,7 @@ use mathlib.Core.Bool.{Bool, true, false}
 use mathlib.Core.List.{List, [], ◌∷◌, ◌++◌}
 use lib.ListN.{length, take}
 use lib.Seq.{take_all}
-use Rattle.std.specs.Prelude.{if◌then◌else◌}
+use Rattle.std.specs.Prelude.{if◌then◌else◌, Some, None}
 use Rattle.system.specs.Index.{is_to, Entry, entry_of, index_of}
 use Rattle.system.specs.Places.{System}
 use Rattle.system.specs.Transit.{InTransit}
@@ -16,7 +16,6 @@ use Rattle.system.specs.declared.MessageNumber.{MessageNumber}
 use Rattle.system.specs.declared.Receiver.{Receiver}
 use Rattle.sim_transit.proofs.Kept.{length-slots}
 use Rattle.sim_indexed.specs.Indexed.{table, listed_at}
-use Rattle.sim_indexed.specs.declared.Listed.TheVariants.{Nothing, Entry as At}
 use Rattle.sim_layout.specs.Layout.{length_of, transit_words, view}
 use Rattle.text_sheet.specs.Sheet.{Sheet, puts}
 use Rattle.text_sheet.proofs.SheetLaws.{then as behind}
@@ -36,14 +35,14 @@ pub entries_few : (w : List ℕ) (r : Receiver) → length (index_of r (view w).
 unfolding view
 entries_few w r = omega (arith, index-few r (view w).transit, length-slots (length_of w) (table (transit_words w)))
 
-pub none_past : (l : List Entry) (i : ℕ) → Nothing ≡ listed_at l i → length l ≤ i
+pub none_past : (l : List Entry) (i : ℕ) → None ≡ listed_at l i → length l ≤ i
 unfolding listed_at
 none_past [] i e = omega arith
 none_past (x ∷ l) zero e = let z : ◌≡◌ {A = ℕ} 0 1 = cc in omega arith
 none_past (x ∷ l) (suc i) e = omega (arith, none_past l i e)
 
 module _ (n : MessageNumber) (d : Bool) where
-  listed_next : (l : List Entry) (i : ℕ) → At n d ≡ listed_at l i
+  listed_next : (l : List Entry) (i : ℕ) → Some (n, d) ≡ listed_at l i
       → entries_text (take (suc i) l) ≡ entries_text (take i l) ++ entry_text (record { number = n.0; delivered = d })
   unfolding listed_at entries_text
   listed_next [] i e = let z : ◌≡◌ {A = ℕ} 0 1 = cc in absurd (omega arith)
@@ -58,7 +57,7 @@ module _ (l : List Entry) (s₀ : Sheet) where
   unfolding entries_text puts
   entries_none = refl
 
-  pub entries_more : (i : ℕ) (n : MessageNumber) (d : Bool) {s₁ s₂ : Sheet} → At n d ≡ listed_at l i → s₁ ≡ puts (entries_text (take i l)) s₀
+  pub entries_more : (i : ℕ) (n : MessageNumber) (d : Bool) {s₁ s₂ : Sheet} → Some (n, d) ≡ listed_at l i → s₁ ≡ puts (entries_text (take i l)) s₀
       → s₂ ≡ puts (entry_text (record { number = n.0; delivered = d })) s₁ → s₂ ≡ puts (entries_text (take (i + 1) l)) s₀
   entries_more i n d e p q = rw (add-one i, listed_next n d l i e) (behind s₀ _ _ p q)
 

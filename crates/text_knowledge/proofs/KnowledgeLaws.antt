@@ -7,11 +7,10 @@ use mathlib.Core.Bool.{Bool, true, false}
 use mathlib.Core.List.{List, [], ◌∷◌, ◌++◌, map, map-append, append_assoc}
 use lib.ListN.{length, get_or, take, length-take, length-map}
 use lib.Seq.{take-suc}
-use Rattle.std.specs.Prelude.{if◌then◌else◌}
+use Rattle.std.specs.Prelude.{if◌then◌else◌, Option}
 use Rattle.ids.specs.Requests.{no_request, is_request}
 use Rattle.ids.specs.declared.ClientId.{ClientId}
 use Rattle.ids.specs.declared.ServerId.{ServerId}
-use Rattle.ids.specs.declared.Owner.{Owner}
 use Rattle.ids.specs.declared.Request.{Request}
 use Rattle.script_numbers.specs.Decimals.{decimal}
 use Rattle.script_lines.specs.Words.{text}
@@ -77,7 +76,7 @@ pub queue_some : (row : List ℕ) (len : ℕ) → Padded row len → (len ≡ 0 
 queue_some row len p h = some_text (requests_in row) len p.within h
 
 -- the servers whose response is r
-support_append : (r : Request) (j : ℕ) (a b : List Owner)
+support_append : (r : Request) (j : ℕ) (a b : List (Option Request))
     → support_text r (server_no j) (a ++ b) ≡ support_text r (server_no j) a ++ support_text r (server_no (j + length a)) b
 unfolding support_text
 support_append r j [] b = let z : j + 0 ≡ j = omega arith in rw z

@@ -6,11 +6,10 @@
 --   kiosk 1 holding ticket 41 seen 41 keepers 1 2     the section, the last ticket, the largest one seen, and the keepers whose answer is its own
 --   kiosk 2 remainder ticket 0 seen 0
 --   kiosk 3 fallen
-use Rattle.std.specs.Prelude.{ℕ, zero, suc, List, [], ◌∷◌, ◌++◌, if◌then◌else◌}
+use Rattle.std.specs.Prelude.{ℕ, zero, suc, List, [], ◌∷◌, ◌++◌, if◌then◌else◌, Option}
 use Rattle.ids.specs.Requests.{is_request, by_owner}
 use Rattle.ids.specs.declared.ClientId.{ClientId}
 use Rattle.ids.specs.declared.ServerId.{ServerId}
-use Rattle.ids.specs.declared.Owner.{Owner}
 use Rattle.ids.specs.declared.Request.{Request}
 use Rattle.script_numbers.specs.Decimals.{decimal}
 use Rattle.text_sheet.specs.Sheet.{ends}
@@ -43,7 +42,7 @@ unfoldable pub server_text : ServerId → ServerPlace → List (List ℕ)
 server_text j p = text "keeper " ∷ decimal j.0 ∷ ((if p.up then votes_text p.state else text " down" ∷ []) ++ ends)
 
 -- the servers, from number j, whose response is r
-unfoldable pub support_text : Request → ServerId → List Owner → List (List ℕ)
+unfoldable pub support_text : Request → ServerId → List (Option Request) → List (List ℕ)
 support_text r j [] = []
 support_text r j (o ∷ l) = (if is_request r o then text " " ∷ decimal j.0 ∷ [] else []) ++ support_text r (server_no (suc j.0)) l
 

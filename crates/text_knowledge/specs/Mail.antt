@@ -3,10 +3,10 @@
 --   mail 1 REQUEST kiosk 1 keeper 1 ticket 1 taken        the number, the kind, the sender, the receiver, the ticket
 --   mail 4 RESPONSE keeper 1 kiosk 2 owner 1,1 waiting    an answer names the owner, a kiosk and its ticket
 --   mail 5 RESPONSE keeper 2 kiosk 2 free waiting         or none
-use Rattle.std.specs.Prelude.{ℕ, Bool, List, [], ◌∷◌, ◌++◌, if◌then◌else◌}
+use Rattle.ids.specs.declared.Request.{Request as Pair}
+use Rattle.std.specs.Prelude.{ℕ, Bool, List, [], ◌∷◌, ◌++◌, if◌then◌else◌, Option}
 use Rattle.ids.specs.Requests.{by_owner}
 use Rattle.ids.specs.declared.ClientId.{ClientId}
-use Rattle.ids.specs.declared.Owner.{Owner}
 use Rattle.ids.specs.declared.ServerId.{ServerId}
 use Rattle.ids.specs.declared.Timestamp.{Timestamp}
 use Rattle.script_numbers.specs.Decimals.{decimal}
@@ -29,7 +29,7 @@ abbrev pub to_client_text : List ℕ → ClientId → ServerId → List (List �
 to_client_text kind k j = kind ∷ text " keeper " ∷ decimal j.0 ∷ text " kiosk " ∷ decimal k.0 ∷ []
 
 -- what a RESPONSE says: the server's slip when it was sent, without those who wait
-unfoldable pub owner_text : Owner → List (List ℕ)
+unfoldable pub owner_text : Option Pair → List (List ℕ)
 owner_text o = by_owner o (text " free" ∷ []) (λ r. text " owner " ∷ request_text r)
 
 unfoldable pub message_text : Message → List (List ℕ)

@@ -25,9 +25,8 @@ ghost use Rattle.system.specs.Numbered.{server_no};
 
 use client::Head;
 use client_responses::Section;
-use ids::{ClientId, Owner, Request, ServerId, Timestamp};
+use ids::{ClientId, Request, ServerId, Timestamp};
 use server_votes::Votes;
-use sim_indexed::Listed;
 use system::{MessageNumber, Receiver};
 use wire::Message;
 
@@ -76,10 +75,9 @@ fn put_votes(out: &mut [u8], at: usize, v: Votes, row: &[u32]) -> usize
     requires { Padded row.now v.len }
     ensures { sheet_of out.new result ≡ puts (votes_text (votes_view v row.now)) (sheet_of out.old at) }
 {
-    let owner = v.owner;
-    match owner {
-        Owner::Nobody => text_sheet::put(out, at, b" free"),
-        Owner::Of(o) => {
+    match v.owner {
+        None => text_sheet::put(out, at, b" free"),
+        Some(o) => {
             let p = text_sheet::put(out, at, b" owner ");
             let e = put_request(out, p, o);
             put_queue(out, e, row, v.len)
@@ -276,19 +274,19 @@ fn put_to_client(out: &mut [u8], at: usize, kind: &[u8], k: ClientId, j: ServerI
     text_sheet::put_with(out, q, b" kiosk ", k.0 as u32)
 }
 
-fn put_owner(out: &mut [u8], at: usize, o: Owner) -> usize
+fn put_owner(out: &mut [u8], at: usize, o: Option<Request>) -> usize
     ensures { sheet_of out.new result ≡ puts (owner_text o) (sheet_of out.old at) }
 {
     match o {
-        Owner::Nobody => text_sheet::put(out, at, b" free"),
-        Owner::Of(r) => {
+        None => text_sheet::put(out, at, b" free"),
+        Some(r) => {
             let p = text_sheet::put(out, at, b" owner ");
             put_request(out, p, r)
         }
     }
 }
 
-fn put_response(out: &mut [u8], at: usize, k: ClientId, j: ServerId, o: Owner) -> usize
+fn put_response(out: &mut [u8], at: usize, k: ClientId, j: ServerId, o: Option<Request>) -> usize
     ensures { sheet_of out.new result ≡ puts (message_text (Response k j o)) (sheet_of out.old at) }
 {
     let p = put_to_client(out, at, b" RESPONSE", k, j);
@@ -380,7 +378,7 @@ fn put_entries(out: &mut [u8], at: usize, w: &[u32], r: Receiver) -> usize
     let mut end = at;
     let mut i: usize = 0;
     while i < len {
-        let Listed::Entry(number, delivered) = sim_layout::entry_of(w, r, i) else {
+        let Some((number, delivered)) = sim_layout::entry_of(w, r, i) else {
             return end;
         };
         end = put_entry(out, end, number, delivered);

@@ -1,6 +1,7 @@
 -- What the commissioning screen says of a setting, line by line, and the script of the run that shows a setting unsafe.
 -- Each is the list of the texts that stand one after another.
-use Rattle.std.specs.Prelude.{ℕ, zero, suc, List, [], ◌∷◌, ◌++◌, leb, ℤ, pos, negsuc, if◌then◌else◌}
+use Rattle.system.specs.declared.Event.{Event}
+use Rattle.std.specs.Prelude.{ℕ, zero, suc, List, [], ◌∷◌, ◌++◌, leb, ℤ, pos, negsuc, if◌then◌else◌, Ok, Err, Result, Some, None, Option}
 use Rattle.ids.specs.Refusals.{code}
 use Rattle.ids.specs.declared.Refusal.{Refusal}
 use Rattle.ids.specs.declared.Refusal.TheVariants.{ParameterOutOfRange, Unsafe as NotSafe, Stalls as Stalling}
@@ -10,12 +11,8 @@ use Rattle.text_sheet.specs.Sheet.{ends}
 use Rattle.script_lines.specs.Words.{text, newline}
 use Rattle.system.specs.Limits.{system_servers}
 use Rattle.system.specs.declared.Setting.{Setting}
-use Rattle.quorum.specs.declared.Asked.{Asked}
-use Rattle.quorum.specs.declared.Asked.TheVariants.{Event, Refused}
 use Rattle.quorum.specs.declared.Proposal.{Proposal}
 use Rattle.quorum.specs.declared.Proposal.TheVariants.{Thresholds, NoThreshold, OutOfRange as NoProposal}
-use Rattle.quorum.specs.declared.Threshold.{Threshold}
-use Rattle.quorum.specs.declared.Threshold.TheVariants.{Default, OutOfRange as Outside}
 use Rattle.quorum.specs.declared.Verdict.{Verdict}
 use Rattle.quorum.specs.declared.Verdict.TheVariants.{Accepted, Unsafe, Stalls, OutOfRange}
 use Rattle.quorum.specs.Check.{in_range, margin, verdict}
@@ -53,9 +50,9 @@ events_text (Stalls x) = []
 events_text OutOfRange = []
 
 -- the default threshold of n servers, and the faults up to which it is accepted
-unfoldable pub threshold_text : ℕ → Threshold → List (List ℕ)
-threshold_text n (Default m) = text "usual threshold " ∷ decimal m ∷ text " for f up to " ∷ decimal (most_faults n) ∷ ends
-threshold_text n Outside = []
+unfoldable pub threshold_text : ℕ → Option ℕ → List (List ℕ)
+threshold_text n (Some m) = text "usual threshold " ∷ decimal m ∷ text " for f up to " ∷ decimal (most_faults n) ∷ ends
+threshold_text n None = []
 
 -- a run of more servers than a simulation has can be read, not played
 unfoldable pub limit_text : ℕ → List (List ℕ)
@@ -89,9 +86,9 @@ abbrev pub opening_text : ℕ → ℕ → ℕ → List (List ℕ)
 opening_text n m f = setting_line (opening n m f) ∷ ends
 
 -- one event, a line
-unfoldable pub asked_text : Asked → List (List ℕ)
-asked_text (Event e) = event_line e ∷ ends
-asked_text (Refused e) = []
+unfoldable pub asked_text : Result Event Refusal → List (List ℕ)
+asked_text (Ok e) = event_line e ∷ ends
+asked_text (Err e) = []
 
 -- the first events of the unsafe run, by their numbers from 1
 unfoldable pub run_text : ℕ → ℕ → ℕ → ℕ → List (List ℕ)

@@ -13,7 +13,7 @@ ghost use Rattle.text_sheet.specs.Sheet.{sheet as sheet_of, puts, ends};
 ghost use Rattle.text_screen.specs.Screen.{signed, margin_text, refused_text, verdict_text, events_text, limit_text, fits_text, threshold_text, report, thresholds_text, proposal, opening_text, asked_text, script_text};
 
 use ids::Refusal;
-use quorum::{Asked, Proposal, Threshold, Verdict};
+use quorum::{Proposal, Verdict};
 use system::{Event, Setting};
 
 // The margin of a setting in range.
@@ -109,11 +109,11 @@ fn put_counts(out: &mut [u8], at: usize, first: &[u8], x: u32, second: &[u8], y:
 }
 
 // The default threshold of n servers.
-fn put_threshold(out: &mut [u8], at: usize, n: u32, t: Threshold) -> usize
+fn put_threshold(out: &mut [u8], at: usize, n: u32, t: Option<u32>) -> usize
     ensures { sheet_of out.new result ≡ puts (threshold_text n t) (sheet_of out.old at) }
 {
     match t {
-        Threshold::Default(m) => put_counts(
+        Some(m) => put_counts(
             out,
             at,
             b"usual threshold ",
@@ -121,7 +121,7 @@ fn put_threshold(out: &mut [u8], at: usize, n: u32, t: Threshold) -> usize
             b" for f up to ",
             quorum::most_faults(n),
         ),
-        Threshold::OutOfRange => at,
+        None => at,
     }
 }
 
@@ -190,10 +190,9 @@ fn put_opening(out: &mut [u8], n: u32, m: u32, f: u32) -> usize
 fn put_numbered(out: &mut [u8], at: usize, n: u32, m: u32, f: u32, i: u32) -> usize
     ensures { sheet_of out.new result ≡ puts (asked_text (run_event n m f i)) (sheet_of out.old at) }
 {
-    let a = quorum::run_event(n, m, f, i);
-    match a {
-        Asked::Event(e) => put_event(out, at, e),
-        Asked::Refused(_) => at,
+    match quorum::run_event(n, m, f, i) {
+        Ok(e) => put_event(out, at, e),
+        Err(_) => at,
     }
 }
 

@@ -1,4 +1,5 @@
 -- Laws of the format's definitions, one for each way in which the code decides them.
+use Rattle.ids.specs.declared.Request.{Request as Pair}
 use Prim.Native.Nat.{ℕ, ◌+◌, ◌≤◌}
 use native.Mathlib.Omega.{arith}
 use mathlib.Core.Path.{◌≡◌, refl}
@@ -8,8 +9,7 @@ use lib.Dec.{eqb}
 use lib.ListN.{length, take, drop}
 use lib.Seq.{drop-drop, sets}
 use borrow.Author.Tests.{eq-eqb, ne_eqb}
-use Rattle.std.specs.Prelude.{if◌then◌else◌}
-use Rattle.ids.specs.declared.Owner.{Owner}
+use Rattle.std.specs.Prelude.{if◌then◌else◌, Option}
 use Rattle.ids.specs.declared.ClientId.{ClientId}
 use Rattle.ids.specs.declared.ServerId.{ServerId}
 use Rattle.ids.specs.declared.Timestamp.{Timestamp}
@@ -47,7 +47,7 @@ module _ (f : Fields) where
   unfolding message_of
   message_inquiry e = rw e
 
-  pub message-response : (o : Owner) → f.kind ≡ 5 → o ≡ owner_of (record { 0 = f.owner }) (record { 0 = f.timestamp })
+  pub message-response : (o : Option Pair) → f.kind ≡ 5 → o ≡ owner_of (record { 0 = f.owner }) (record { 0 = f.timestamp })
       → Response (client f) (server f) o ≡ message_of f
   unfolding message_of
   message-response o e p = rw (e, p)

@@ -1,4 +1,6 @@
 -- A message and its numbers: a valid message's numbers fit the format and make it again, and numbers that pass the range test are a valid message's.
+use Rattle.ids.specs.declared.Request.{Request as Pair}
+use Rattle.std.specs.Prelude.{Some, None, Option}
 use Prim.Native.Nat.{ℕ, zero, suc, ◌<◌, ◌≤◌}
 use native.Mathlib.Omega.{arith}
 use mathlib.Core.Path.{◌≡◌, refl, ap}
@@ -7,8 +9,6 @@ use mathlib.Core.List.{List}
 use lib.Dec.{leb, eqb}
 use borrow.Author.Tests.{le-leb, ne_eqb, eqb-true, eqb-false}
 use Rattle.ids.specs.Limits.{max_client, max_servers, valid_request, valid_timestamp, valid_owner, valid_parties, valid_parties_up_to, valid_stamped, valid_stamped_up_to, max_timestamp}
-use Rattle.ids.specs.declared.Owner.{Owner}
-use Rattle.ids.specs.declared.Owner.TheVariants.{Nobody, Of}
 use Rattle.ids.specs.declared.ClientId.{ClientId}
 use Rattle.ids.specs.declared.ServerId.{ServerId}
 use Rattle.ids.specs.declared.Timestamp.{Timestamp}
@@ -52,14 +52,14 @@ plain_sound kind k j t e v =
     let tt' = timestamp-range t b in
     record { kind = e; client = omega arith; server = omega arith; timestamp = omega arith; owner = omega arith; alone = λ n. refl }
 
-owner_sound : (o : Owner) → valid_owner o ≡ true → (owner_client o ≤ max_client) × (owner_timestamp o ≤ max_timestamp)
+owner_sound : (o : Option Pair) → valid_owner o ≡ true → (owner_client o ≤ max_client) × (owner_timestamp o ≤ max_timestamp)
 unfolding valid_owner
-owner_sound Nobody v = (omega arith, omega arith)
-owner_sound (Of q) v =
+owner_sound None v = (omega arith, omega arith)
+owner_sound (Some q) v =
     let (a, b) = request-range q v in
     ((client-range q.client a).1, (timestamp-range q.timestamp b).1)
 
-response_sound : (k : ClientId) (j : ServerId) (o : Owner) → valid_response k j o ≡ true → Sound (answer k j o)
+response_sound : (k : ClientId) (j : ServerId) (o : Option Pair) → valid_response k j o ≡ true → Sound (answer k j o)
 unfolding valid_response_up_to
 response_sound k j o v =
     let (a, b) = both (valid_parties k j) (valid_named o) v in
@@ -77,10 +77,10 @@ valid_sound (Response k j o) v = response_sound k j o v
 valid_sound (Check k j t) v = plain_sound 6 k j t refl v
 
 -- the numbers of a valid message make the message again
-pub owner-again : (o : Owner) → valid_owner o ≡ true → owner_of (record { 0 = owner_client o }) (record { 0 = owner_timestamp o }) ≡ o
+pub owner-again : (o : Option Pair) → valid_owner o ≡ true → owner_of (record { 0 = owner_client o }) (record { 0 = owner_timestamp o }) ≡ o
 unfolding valid_owner
-owner-again Nobody v = refl
-owner-again (Of q) v =
+owner-again None v = refl
+owner-again (Some q) v =
     let c = client-range q.client (request-range q v).0 in
     let n : q.client.0 ≡ 0 → ⊥ = omega arith in
     simp (ne_eqb _ _ n)

@@ -1,11 +1,10 @@
 -- The format of document 01, 'Messages': what bytes a message is. `widths` and `words` are all of it.
-use Rattle.std.specs.Prelude.{ℕ, ◌+◌, Bool, ◌&&◌, List, [], ◌∷◌, ◌++◌, eqb, get_or, if◌then◌else◌}
+use Rattle.ids.specs.declared.Request.{Request as Pair}
+use Rattle.std.specs.Prelude.{ℕ, ◌+◌, Bool, ◌&&◌, List, [], ◌∷◌, ◌++◌, eqb, get_or, if◌then◌else◌, Some, None, Option}
 use Rattle.ids.specs.Limits.{max_servers, valid_parties_up_to, valid_stamped_up_to, valid_timestamp, valid_owner, within}
 use Rattle.ids.specs.declared.ClientId.{ClientId}
 use Rattle.ids.specs.declared.ServerId.{ServerId}
 use Rattle.ids.specs.declared.Timestamp.{Timestamp}
-use Rattle.ids.specs.declared.Owner.{Owner}
-use Rattle.ids.specs.declared.Owner.TheVariants.{Nobody, Of}
 use Rattle.wire.specs.Bytes.{encode, decode, total}
 use Rattle.wire.specs.declared.Message.{Message}
 use Rattle.wire.specs.declared.Message.TheVariants.{Request, Yield, Release, Inquiry, Response, Check}
@@ -40,15 +39,15 @@ abbrev pub plain : ℕ → ClientId → ServerId → Timestamp → Fields
 plain kind k j t = record { kind = kind; client = k.0; server = j.0; timestamp = t.0; owner = 0 }
 
 -- the owner's numbers: 0 and 0 for nobody
-abbrev pub owner_client : Owner → ℕ
-owner_client Nobody = 0
-owner_client (Of q) = q.client.0
+abbrev pub owner_client : Option Pair → ℕ
+owner_client None = 0
+owner_client (Some q) = q.client.0
 
-abbrev pub owner_timestamp : Owner → ℕ
-owner_timestamp Nobody = 0
-owner_timestamp (Of q) = q.timestamp.0
+abbrev pub owner_timestamp : Option Pair → ℕ
+owner_timestamp None = 0
+owner_timestamp (Some q) = q.timestamp.0
 
-abbrev pub answer : ClientId → ServerId → Owner → Fields
+abbrev pub answer : ClientId → ServerId → Option Pair → Fields
 answer k j o = record { kind = response; client = k.0; server = j.0; timestamp = owner_timestamp o; owner = owner_client o }
 
 -- a message's numbers
@@ -84,10 +83,10 @@ unfoldable pub size_of : Message → ℕ
 size_of m = length_of (fields_of m).kind
 
 -- the range of the owner that a message names, apart from that of an owner in a record
-abbrev pub valid_named : Owner → Bool
+abbrev pub valid_named : Option Pair → Bool
 valid_named = valid_owner
 
-unfoldable pub valid_response_up_to : ℕ → ClientId → ServerId → Owner → Bool
+unfoldable pub valid_response_up_to : ℕ → ClientId → ServerId → Option Pair → Bool
 valid_response_up_to limit k j o = valid_parties_up_to limit k j && valid_named o
 
 -- every number of the message is in its range, the server's up to a limit
@@ -104,8 +103,8 @@ abbrev pub valid : Message → Bool
 valid = valid_up_to max_servers
 
 -- a server's owner from its numbers
-abbrev pub owner_of : ClientId → Timestamp → Owner
-owner_of k t = if eqb k.0 0 && eqb t.0 0 then Nobody else Of (record { client = k; timestamp = t })
+abbrev pub owner_of : ClientId → Timestamp → Option Pair
+owner_of k t = if eqb k.0 0 && eqb t.0 0 then None else Some (record { client = k; timestamp = t })
 
 -- the message with these numbers, where their kind is known
 unfoldable pub message_of : Fields → Message

@@ -1,9 +1,9 @@
 -- Definitions that only the contracts of private functions cite: no promise rests on them.
-use Rattle.std.specs.Prelude.{ℕ, Bool, List, [], ◌∷◌, ◌++◌}
+use Rattle.ids.specs.declared.Request.{Request}
+use Rattle.std.specs.Prelude.{ℕ, Bool, List, [], ◌∷◌, ◌++◌, Option}
 use Rattle.ids.specs.Limits.{max_servers}
 use Rattle.ids.specs.declared.ClientId.{ClientId}
 use Rattle.ids.specs.declared.ServerId.{ServerId}
-use Rattle.ids.specs.declared.Owner.{Owner}
 use Rattle.wire.specs.Bytes.{encode}
 use Rattle.wire.specs.declared.Fields.{Fields}
 use Rattle.wire.specs.Format.{header, length_of, words, valid_response_up_to, valid_numbers_up_to}
@@ -12,7 +12,7 @@ use Rattle.wire.specs.Format.{header, length_of, words, valid_response_up_to, va
 unfoldable pub front : Fields → List ℕ
 front f = encode (header ++ 2 ∷ 2 ∷ 4 ∷ []) (length_of f.kind ∷ words f)
 
-abbrev pub valid_response : ClientId → ServerId → Owner → Bool
+abbrev pub valid_response : ClientId → ServerId → Option Request → Bool
 valid_response = valid_response_up_to max_servers
 
 abbrev pub valid_numbers : Fields → Bool

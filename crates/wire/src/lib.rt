@@ -11,7 +11,7 @@ ghost use Rattle.wire.specs.Calls.{read_of, numbers_of, write_of, buffer_after, 
 ghost use Rattle.wire.specs.Says.{parsed_says, numbers_says, read_says, written_says, write_says};
 ghost use Rattle.ids.specs.Limits.{valid_owner};
 
-use ids::{ClientId, Owner, Refusal, Request, ServerId, Timestamp};
+use ids::{ClientId, Refusal, Request, ServerId, Timestamp};
 
 // REQUEST, YIELD, RELEASE and INQUIRY go from the client to the server, RESPONSE and CHECK from the server to the client.
 #[derive(Clone, Copy)]
@@ -20,7 +20,7 @@ pub enum Message {
     Yield(ClientId, ServerId, Timestamp),
     Release(ClientId, ServerId, Timestamp),
     Inquiry(ClientId, ServerId, Timestamp),
-    Response(ClientId, ServerId, Owner),
+    Response(ClientId, ServerId, Option<Request>),
     Check(ClientId, ServerId, Timestamp),
 }
 
@@ -124,12 +124,12 @@ fn plain_fields(kind: u16, k: ClientId, j: ServerId, t: Timestamp) -> Fields
     }
 }
 
-fn response_fields(k: ClientId, j: ServerId, o: Owner) -> Fields
+fn response_fields(k: ClientId, j: ServerId, o: Option<Request>) -> Fields
     ensures { result ≡ answer k j o }
 {
     match o {
-        Owner::Nobody => plain_fields(5, k, j, Timestamp(0)),
-        Owner::Of(q) => Fields {
+        None => plain_fields(5, k, j, Timestamp(0)),
+        Some(q) => Fields {
             kind: 5,
             client: k.0,
             server: j.0,
@@ -154,16 +154,16 @@ pub fn fields_of(m: Message) -> Fields
 }
 
 // The owner with these numbers: nobody for 0 and 0.
-pub fn owner_of(client: ClientId, timestamp: Timestamp) -> Owner
+pub fn owner_of(client: ClientId, timestamp: Timestamp) -> Option<Request>
     ensures { result ≡ owner_of client timestamp }
 {
     if client.0 == 0 {
         if timestamp.0 == 0 {
-            return Owner::Nobody;
+            return None;
         }
     }
     let q = Request { client, timestamp };
-    Owner::Of(q)
+    Some(q)
 }
 
 // The message with these numbers; a kind that is not known is taken for CHECK's.
@@ -193,7 +193,7 @@ pub fn message_of(f: Fields) -> Message
     Message::Check(k, j, t)
 }
 
-fn valid_response(k: ClientId, j: ServerId, o: Owner) -> bool
+fn valid_response(k: ClientId, j: ServerId, o: Option<Request>) -> bool
     ensures { result ≡ valid_response k j o }
 {
     ids::valid_parties(k, j) && ids::valid_owner(o)

@@ -1,4 +1,5 @@
 -- Words and messages: when five words cross, and which message they are.
+use Rattle.std.specs.Prelude.{Some, None, Option}
 use Prim.Native.Nat.{ℕ, ◌<◌, ◌≤◌}
 use mathlib.Core.Path.{◌≡◌, refl, sym, ap, ◌∙◌}
 use mathlib.Core.Bool.{Bool, true, false, ◌&&◌}
@@ -12,8 +13,6 @@ use Rattle.wire.specs.Format.{valid_fields, message_of}
 use Rattle.wire.specs.declared.Fields.{Fields}
 use Rattle.wire.specs.declared.Message.{Message}
 use Rattle.words.specs.Messages.{fits, fields_from, crossing, crossed_says, five_says, message_in, message_or, no_message}
-use Rattle.words.specs.declared.Crossed.{Crossed}
-use Rattle.words.specs.declared.Crossed.TheVariants.{Numbers, TooLarge}
 
 module _ (kind client server owner : ℕ) where
   pub fit_kind : max_short < kind → false ≡ fits kind client server owner
@@ -33,12 +32,12 @@ module _ (kind client server owner : ℕ) where
   fit_owner a b c = rw (le-leb _ _ a, le-leb _ _ b, le-leb _ _ c)
 
 module _ (ws : List ℕ) where
-  pub cross_length : (length ws ≡ 5 → ⊥) → TooLarge ≡ crossing ws
+  pub cross_length : (length ws ≡ 5 → ⊥) → None ≡ crossing ws
   unfolding crossing
   cross_length n = rw (ne_eqb (length ws) 5 n)
 
   module _ (l : length ws ≡ 5) (x : Bool) (f : x ≡ fits (get_or ws 0 0) (get_or ws 1 0) (get_or ws 2 0) (get_or ws 4 0)) where
-    pub cross_large : x ≡ false → TooLarge ≡ crossing ws
+    pub cross_large : x ≡ false → None ≡ crossing ws
     unfolding crossing
     cross_large n = let u : x ≡ false = n in rw (l, ← f, u)
 
@@ -56,27 +55,27 @@ module _ (ws : List ℕ) where
           let (b, c) = both (leb (get_or ws 2 0) max_short) (leb (get_or ws 4 0) max_short) r₂ in
           (leb-true _ _ k, leb-true _ _ a, leb-true _ _ b, leb-true _ _ c)
 
-      pub cross_numbers : (g : Fields) → g ≡ fields_from ws → Numbers g ≡ crossing ws
+      pub cross_numbers : (g : Fields) → g ≡ fields_from ws → Some g ≡ crossing ws
       unfolding crossing
       cross_numbers g e = let t : x ≡ true = n in rw (e, l, ← f, t)
 
 -- the message, from what crossed
-module _ (ws : List ℕ) (g : Crossed) (e : g ≡ crossing ws) (m : Message) where
-  pub in_large : g ≡ TooLarge → m ≡ no_message → m ≡ message_or (message_in ws)
-  in_large a p = let q : crossing ws ≡ TooLarge = cc in rw (q, p)
+module _ (ws : List ℕ) (g : Option Fields) (e : g ≡ crossing ws) (m : Message) where
+  pub in_large : g ≡ None → m ≡ no_message → m ≡ message_or (message_in ws)
+  in_large a p = let q : crossing ws ≡ None = cc in rw (q, p)
 
-  module _ (f : Fields) (a : g ≡ Numbers f) (b : Bool) (v : b ≡ valid_fields f) where
+  module _ (f : Fields) (a : g ≡ Some f) (b : Bool) (v : b ≡ valid_fields f) where
     pub in_invalid : b ≡ false → m ≡ no_message → m ≡ message_or (message_in ws)
-    in_invalid n p = let q : crossing ws ≡ Numbers f = cc in let u : valid_fields f ≡ false = sym v ∙ n in rw (q, u, p)
+    in_invalid n p = let q : crossing ws ≡ Some f = cc in let u : valid_fields f ≡ false = sym v ∙ n in rw (q, u, p)
 
     pub in_valid : b ≡ true → m ≡ message_of f → m ≡ message_or (message_in ws)
-    in_valid n p = let q : crossing ws ≡ Numbers f = cc in let u : valid_fields f ≡ true = sym v ∙ n in rw (q, u, p)
+    in_valid n p = let q : crossing ws ≡ Some f = cc in let u : valid_fields f ≡ true = sym v ∙ n in rw (q, u, p)
 
 -- the same in document 01's numbers
 five_row : (ws : List ℕ) → crossed_says (crossing ws) ≡ five_says ws
 unfolding crossing five_says
 five_row ws =
-    of_choice crossed_says (eqb (length ws) 5 && fits (get_or ws 0 0) (get_or ws 1 0) (get_or ws 2 0) (get_or ws 4 0)) (Numbers (fields_from ws)) TooLarge refl refl
+    of_choice crossed_says (eqb (length ws) 5 && fits (get_or ws 0 0) (get_or ws 1 0) (get_or ws 2 0) (get_or ws 4 0)) (Some (fields_from ws)) None refl refl
 
-pub cross_said : (ws : List ℕ) (r : Crossed) → r ≡ crossing ws → (r ≡ crossing ws) × (crossed_says r ≡ five_says ws)
+pub cross_said : (ws : List ℕ) (r : Option Fields) → r ≡ crossing ws → (r ≡ crossing ws) × (crossed_says r ≡ five_says ws)
 cross_said ws r e = (e, ap crossed_says e ∙ five_row ws)

@@ -1,4 +1,6 @@
 -- The tests of a record's words, one after another; what a passed test tells of them; and a head read from its words and written in them.
+use Rattle.ids.specs.declared.Request.{Request}
+use Rattle.std.specs.Prelude.{Option}
 use Prim.Native.Nat.{ℕ, ◌+◌, ◌≤◌, ◌<◌, ◌-◌}
 use native.Mathlib.Omega.{arith}
 use mathlib.Core.Path.{◌≡◌, refl, sym, ◌∙◌}
@@ -10,7 +12,6 @@ use lib.ListN.{length, get_or, set, drop, length-drop}
 use lib.Seq.{sets}
 use borrow.Author.Tests.{le-leb, lt-leb, leb-true, eqb-true, eqb-false, eq-eqb, ne_eqb}
 use Rattle.ids.specs.Limits.{max_short}
-use Rattle.ids.specs.declared.Owner.{Owner}
 use Rattle.ids.proofs.Choice.{both, decided}
 use Rattle.wire.specs.Format.{owner_of, owner_client, owner_timestamp}
 use Rattle.wire.proofs.BytesLaws.{stored_on}
@@ -124,7 +125,7 @@ module _ (ws : List ℕ) where
   pub headed-small : {head : ℕ} → Headed head ws → (get_or ws 0 0 ≤ max_short) × (get_or ws 1 0 ≤ max_short) × (get_or ws 2 0 ≤ max_short)
   headed-small H = head_small (get_or ws 0 0) (get_or ws 1 0) (get_or ws 2 0) H.small
 
-  pub server-headed : (o : Owner) → o ≡ owner_of (record { 0 = get_or ws 2 0 }) (record { 0 = get_or ws 3 0 })
+  pub server-headed : (o : Option Request) → o ≡ owner_of (record { 0 = get_or ws 2 0 }) (record { 0 = get_or ws 3 0 })
       → record { n = get_or ws 0 0; id = record { 0 = get_or ws 1 0 }; votes = record { owner = o; len = get_or ws 4 0 } } ≡ server_head_from ws
   unfolding server_head_from
   server-headed o e = rw e

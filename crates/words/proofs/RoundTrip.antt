@@ -1,18 +1,17 @@
 -- The words of a valid record are read back as that record, and words that hold a record are the words of the record read from them: what a
 -- record is says every word.
+use Rattle.ids.specs.declared.Request.{Request}
+use Rattle.std.specs.Prelude.{Some, None, Option}
 use Prim.Native.Nat.{ℕ, zero, suc, ◌≤◌}
 use native.Mathlib.Omega.{arith}
 use mathlib.Core.Path.{◌≡◌, refl, sym, ap, ◌∙◌}
 use mathlib.Core.Bool.{true}
 use mathlib.Core.List.{List, [], ◌∷◌}
-use mathlib.Core.Option.{some}
 use lib.Dec.{leb}
 use lib.ListN.{length, get_or, drop}
 use lib.Seq.{drop-cons}
 use borrow.Author.Tests.{eq-eqb}
 use Rattle.ids.specs.Limits.{within, max_servers, valid_owner, max_short}
-use Rattle.ids.specs.declared.Owner.{Owner}
-use Rattle.ids.specs.declared.Owner.TheVariants.{Nobody, Of}
 use Rattle.ids.proofs.Choice.{both}
 use Rattle.ids.proofs.LimitsLaws.{within-range, client-range, request-range}
 use Rattle.wire.specs.Format.{owner_client}
@@ -28,10 +27,10 @@ use Rattle.client_responses.specs.declared.Section.TheVariants.{Remainder, Tryin
 use Rattle.words.specs.Records.{server_head, client_head, server_size_of, client_size_of, fits_head, holds_server_of, holds_client_of, server_head_words, server_words, server_head_from, server_from, server_in_of, client_head_words, client_words, client_head_from, client_from, client_in_of, section_of, section_word}
 use Rattle.words.proofs.RecordsLaws.{head-fits, server-held, client-held, client_section_small}
 
-owner-small : (o : Owner) → valid_owner o ≡ true → owner_client o ≤ max_short
+owner-small : (o : Option Request) → valid_owner o ≡ true → owner_client o ≤ max_short
 unfolding valid_owner
-owner-small Nobody v = omega arith
-owner-small (Of q) v = (client-range q.client (request-range q v).0).1
+owner-small None v = omega arith
+owner-small (Some q) v = (client-range q.client (request-range q v).0).1
 
 -- a server's record
 module _ (s : Server) (v : server.valid s ≡ true) where
@@ -43,7 +42,7 @@ module _ (s : Server) (v : server.valid s ≡ true) where
       head-fits s.head.n s.head.id.0 (owner_client s.head.votes.owner) (omega arith) (omega arith)
       (owner-small s.head.votes.owner (view-good max_servers s v).1.owner)
 
-  pub server_read_back : (row : ℕ) → length s.row ≡ row → server_in_of row (server_words s) ≡ some s
+  pub server_read_back : (row : ℕ) → length s.row ≡ row → server_in_of row (server_words s) ≡ Some s
   unfolding holds_server_of server_head_from server_head_words server_words
   server_read_back row long =
       let size : length (server_words s) ≡ server_size_of row = omega (arith, long) in
@@ -67,7 +66,7 @@ module _ (c : Client) (v : client.valid c ≡ true) where
       let r = client-range c.head.id K.client in
       head-fits c.head.n c.head.m c.head.id.0 (omega (arith, K.few)) (omega (arith, K.few, K.reached)) r.1
 
-  pub client_read_back : (row : ℕ) → length c.row ≡ row → client_in_of row (client_words c) ≡ some c
+  pub client_read_back : (row : ℕ) → length c.row ≡ row → client_in_of row (client_words c) ≡ Some c
   unfolding holds_client_of client_head_from client_head_words client_words
   client_read_back row long =
       let size : length (client_words c) ≡ client_size_of row = omega (arith, long) in

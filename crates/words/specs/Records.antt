@@ -1,6 +1,5 @@
 -- How a record crosses to C: 32-bit words in a fixed order, 0 for none. Some numbers, its head, then the row of its places as it stands.
-use Rattle.std.specs.Prelude.{ℕ, ◌+◌, ◌≤◌, ◌≡◌, Bool, true, ◌&&◌, List, [], ◌∷◌, ◌++◌, eqb, leb, length, get_or, drop, if◌then◌else◌}
-use Rattle.std.proofs.Math.Option.{Option, none, some}
+use Rattle.std.specs.Prelude.{ℕ, ◌+◌, ◌≤◌, ◌≡◌, Bool, true, ◌&&◌, List, [], ◌∷◌, ◌++◌, eqb, leb, length, get_or, drop, if◌then◌else◌, Some, None, Option}
 use Rattle.ids.specs.Limits.{max_short}
 use Rattle.wire.specs.Format.{owner_of, owner_client, owner_timestamp}
 use Rattle.server.specs.Record as server
@@ -113,10 +112,10 @@ client_from ws = client.client_of (client_head_from ws) (drop client_head ws)
 
 -- the record with a row of so many words that these words are, if they are one
 abbrev pub server_in_of : ℕ → List ℕ → Option Server
-server_in_of row ws = if holds_server_of row ws then some (server_from ws) else none
+server_in_of row ws = if holds_server_of row ws then Some (server_from ws) else None
 
 abbrev pub client_in_of : ℕ → List ℕ → Option Client
-client_in_of row ws = if holds_client_of row ws then some (client_from ws) else none
+client_in_of row ws = if holds_client_of row ws then Some (client_from ws) else None
 
 abbrev pub server_in : List ℕ → Option Server
 server_in = server_in_of server.row_words

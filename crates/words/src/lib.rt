@@ -10,7 +10,7 @@ ghost use Rattle.words.specs.Messages.{fits, crossing, crossed_says, five_says, 
 ghost use Rattle.words.specs.Records.{server_head, client_head, max_word, fits_head, Headed, section_of, section_word, holds_server_of, holds_server, server_head_from, server_head_words, holds_client_of, holds_client, client_head_from, client_head_words};
 
 use client_responses::Section;
-use ids::{ClientId, MAX_SHORT, Owner, ServerId, Timestamp};
+use ids::{ClientId, MAX_SHORT, Request, ServerId, Timestamp};
 use server_votes::Votes;
 use wire::{Fields, Message};
 
@@ -22,13 +22,6 @@ pub const CLIENT_HEAD: usize = 6;
 pub const SERVER_WORDS: usize = SERVER_HEAD + server::ROW_WORDS;
 
 pub const CLIENT_WORDS: usize = CLIENT_HEAD + client::ROW_WORDS;
-
-// What five words hold.
-#[derive(Clone, Copy)]
-pub enum Crossed {
-    Numbers(Fields),
-    TooLarge,
-}
 
 fn fit(kind: u32, client: u32, server: u32, owner: u32) -> bool
     ensures { result ≡ fits kind client server owner }
@@ -58,23 +51,22 @@ fn fields_of_words(kind: u32, client: u32, server: u32, timestamp: u32, owner: u
     }
 }
 
-// The numbers in five words, none too large for its field.
-pub fn cross(words: &[u32]) -> Crossed
+// The numbers in five words, unless one is too large for its field.
+pub fn cross(words: &[u32]) -> Option<Fields>
     ensures value { result ≡ crossing words.now }
     ensures numbers { crossed_says result ≡ five_says words.now }
 {
     if words.len() != 5 {
-        return Crossed::TooLarge;
+        return None;
     }
     let kind = words[0];
     let client = words[1];
     let server = words[2];
     let owner = words[4];
     if !fit(kind, client, server, owner) {
-        return Crossed::TooLarge;
+        return None;
     }
-    let f = fields_of_words(kind, client, server, words[3], owner);
-    Crossed::Numbers(f)
+    Some(fields_of_words(kind, client, server, words[3], owner))
 }
 
 fn no_message() -> Message
@@ -90,15 +82,9 @@ fn no_message() -> Message
 pub fn message_in(words: &[u32]) -> Message
     ensures { result ≡ message_or (message_in words.now) }
 {
-    let g = cross(words);
-    match g {
-        Crossed::Numbers(f) => {
-            if !wire::valid_fields(f) {
-                return no_message();
-            }
-            wire::message_of(f)
-        }
-        Crossed::TooLarge => no_message(),
+    match cross(words) {
+        Some(f) if wire::valid_fields(f) => wire::message_of(f),
+        _ => no_message(),
     }
 }
 
@@ -228,21 +214,21 @@ fn put_five(words: &mut [u32], a: u32, b: u32, c: u32, d: u32, e: u32)
     words[4] = e;
 }
 
-fn owner_client(o: Owner) -> u32
+fn owner_client(o: Option<Request>) -> u32
     ensures { result ≡ owner_client o }
 {
     match o {
-        Owner::Nobody => 0,
-        Owner::Of(q) => q.client.0 as u32,
+        None => 0,
+        Some(q) => q.client.0 as u32,
     }
 }
 
-fn owner_timestamp(o: Owner) -> u32
+fn owner_timestamp(o: Option<Request>) -> u32
     ensures { result ≡ owner_timestamp o }
 {
     match o {
-        Owner::Nobody => 0,
-        Owner::Of(q) => q.timestamp.0,
+        None => 0,
+        Some(q) => q.timestamp.0,
     }
 }
 

@@ -3,12 +3,12 @@ use borrow.Author.Rules.{rules}
 use Rattle.capi.proofs.client_made.Statement.{statement}
 use Rattle.capi.proofs.client_made.Tie as tie
 
-returns : tie.Need-returns-in-Sent
+returns : tie.Need-returns-in-Ok
 returns c =
-    (rw c.in-Sent.is, rw c.in-Sent.is c.put_client.ensures)
+    (rw c.in-Ok.is, rw c.in-Ok.is c.put_client.ensures)
 
-returns-2 : tie.Need-returns-in-Refused
-returns-2 c = (rw c.in-Refused.is c.code_of.ensures, rw c.in-Refused.is)
+returns-2 : tie.Need-returns-in-Err
+returns-2 c = (rw c.in-Err.is c.code_of.ensures, rw c.in-Err.is)
 
 pub client_made_spec : {M : Type 1} → statement M
 client_made_spec =

@@ -1,10 +1,11 @@
 -- `capi::server_call` meets its contract: the row is the words behind the head, and the step on it is the outcome on the words.
+use mathlib.Core.Logic.{tt}
+use Rattle.std.specs.Prelude.{Ok}
 use mathlib.Core.Path.{◌≡◌}
 use Prim.Native.Nat.{◌≤◌}
 use native.Mathlib.Omega.{arith}
 use lib.ListN.{length}
 use Rattle.server.specs.Record as server
-use Rattle.server.specs.declared.Ruling.TheVariants.{Done}
 use Rattle.words.specs.Records.{max_word, server_size}
 use Rattle.words.proofs.RecordsLaws.{server-held}
 use Rattle.capi.proofs.StepLaws.{refused_leaves, no_server_lem, is-server, server-long, server-kept, server-short, server_leaves}
@@ -26,7 +27,7 @@ module _ (c : tie.After-server_step-t) where
   kept = server-kept _ _ c.holds_server.ensures c.if-not-holds_server.false _ _ c.server_head-h.ensures
       c.copy.ensures c.args.call _ _ c.server_step-t.ensures
 
-  short : c.server_step-t.result.ruling ≡ Done → c.server_step-t.result.head.votes.len ≤ max_word
+  short : c.server_step-t.result.ruling ≡ Ok tt → c.server_step-t.result.head.votes.len ≤ max_word
   short = server-short _ _ c.holds_server.ensures c.if-not-holds_server.false _ _ c.server_head-h.ensures
       c.copy.ensures c.args.call _ _ c.server_step-t.ensures
 

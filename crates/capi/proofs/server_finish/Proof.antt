@@ -8,16 +8,16 @@ use Rattle.capi.proofs.server_finish.Tie as tie
 server-send-requires : tie.Need-server_send-requires
 server-send-requires c κs = (
   c.requires.0,
-  c.requires.1 c.in-Done.is,
+  c.requires.1 c.in-Ok.is,
 )
 
-returns : tie.Need-returns-in-Done
-returns c = rw c.in-Done.is
+returns : tie.Need-returns-in-Ok
+returns c = rw c.in-Ok.is
     c.server_send.ensures
 
-returns-2 : tie.Need-returns-in-Refused
+returns-2 : tie.Need-returns-in-Err
 returns-2 c =
-    rw c.in-Refused.is (refused_leaves _ _ _ c.args.state.now c.args.out.now c.args.sent.now refl c.code_of.ensures)
+    rw c.in-Err.is (refused_leaves _ _ _ c.args.state.now c.args.out.now c.args.sent.now refl c.code_of.ensures)
 
 pub server_finish_spec : {M : Type 1} → statement M
 server_finish_spec =

@@ -5,15 +5,15 @@ use Rattle.capi.proofs.server_store.Tie as tie
 
 put-counts-requires : tie.Need-put_counts-requires
 put-counts-requires c κs =
-    let few = c.requires.3.few _ _ c.in-Sent.is in
+    let few = c.requires.3.few _ _ c.in-Ok.is in
     (c.requires.1, few.0, few.1)
 
-returns : tie.Need-returns-in-Sent
+returns : tie.Need-returns-in-Ok
 returns c =
-    (rw c.in-Sent.is, rw c.in-Sent.is c.put_server.ensures, rw c.in-Sent.is c.put_counts.ensures)
+    (rw c.in-Ok.is, rw c.in-Ok.is c.put_server.ensures, rw c.in-Ok.is c.put_counts.ensures)
 
-returns-2 : tie.Need-returns-in-Refused
-returns-2 c = (rw c.in-Refused.is c.code_of.ensures, rw c.in-Refused.is, rw c.in-Refused.is)
+returns-2 : tie.Need-returns-in-Err
+returns-2 c = (rw c.in-Err.is c.code_of.ensures, rw c.in-Err.is, rw c.in-Err.is)
 
 pub server_store_spec : {M : Type 1} → statement M
 server_store_spec =

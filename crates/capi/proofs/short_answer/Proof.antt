@@ -12,4 +12,4 @@ short_answer_spec =
     (λ c. search rules)
     (λ c κs. search rules)
     (λ c. search rules)
-    (λ c. rw c.in-Refused.is c.code_of-in-Refused.ensures))
+    (λ c. rw c.in-Err.is c.code_of-in-Err.ensures))

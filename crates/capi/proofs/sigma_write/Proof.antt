@@ -4,13 +4,13 @@ use borrow.Author.Rules.{rules}
 use Rattle.capi.proofs.sigma_write.Statement.{statement}
 use Rattle.capi.proofs.sigma_write.Tie as tie
 
-returns : tie.Need-returns-in-Numbers
+returns : tie.Need-returns-in-Some
 returns c =
-    write_numbers_lem _ _ _ c.cross-g.ensures.0 _ _ _ _ c.in-Numbers.is c.write_fields.ensures.0.0
+    write_numbers_lem _ _ _ c.cross-g.ensures.0 _ _ _ _ c.in-Some.is c.write_fields.ensures.0.0
     c.write_fields.ensures.0.1 c.written_code.ensures
 
-returns-2 : tie.Need-returns-in-TooLarge
-returns-2 c = write_large _ _ _ c.cross-g.ensures.0 _ c.in-TooLarge.is c.code_of.ensures
+returns-2 : tie.Need-returns-in-None
+returns-2 c = write_large _ _ _ c.cross-g.ensures.0 _ c.in-None.is c.code_of.ensures
 
 pub sigma_write_spec : {M : Type 1} → statement M
 sigma_write_spec =

@@ -11,4 +11,4 @@ written_code_spec =
     (λ c. search rules)
     (λ c κs. search rules)
     (λ c. search rules)
-    (λ c. rw c.in-Refused.is c.code_of.ensures))
+    (λ c. rw c.in-Err.is c.code_of.ensures))

@@ -37,4 +37,4 @@ sigma_packet_next_spec =
     returns
     (λ c. search rules)
     returns-2
-    (λ c. next-none _ _ _ _ c.next_at.ensures.0 _ _ _ c.in-Refused.is c.code_of.ensures refl))
+    (λ c. next-none _ _ _ _ c.next_at.ensures.0 _ _ _ c.in-Err.is c.code_of.ensures refl))

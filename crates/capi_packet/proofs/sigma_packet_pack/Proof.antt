@@ -17,4 +17,4 @@ sigma_packet_pack_spec =
     (λ c. search rules)
     (λ c.
     let p = c.pack.ensures.0 in
-    (pack_refused _ _ p.0 _ _ c.in-Refused.is c.code_of.ensures, p.1)))
+    (pack_refused _ _ p.0 _ _ c.in-Err.is c.code_of.ensures, p.1)))

@@ -12,10 +12,10 @@ returns c =
     c.in-Event.is c.kind_of.ensures
     c.before.before.before.number_of.ensures c.put_two.ensures
 
-returns-2 : tie.Need-returns-in-Refused
+returns-2 : tie.Need-returns-in-Err
 returns-2 c =
     let a = c.args in
-    event-refused a.n a.m a.f a.i a.words.now [] _ _ c.run_event-a.ensures.0 _ c.in-Refused.is c.code_of.ensures
+    event-refused a.n a.m a.f a.i a.words.now [] _ _ c.run_event-a.ensures.0 _ c.in-Err.is c.code_of.ensures
 
 pub sigma_run_event_spec : {M : Type 1} → statement M
 sigma_run_event_spec =

@@ -12,4 +12,4 @@ number_of_spec =
     (λ c. search rules)
     (λ c κs. search rules)
     (λ c. search rules)
-    (λ c. refused-code _ _ _ c.in-Refused.is c.code_of.ensures))
+    (λ c. refused-code _ _ _ c.in-Err.is c.code_of.ensures))

@@ -13,5 +13,5 @@ put_counts_spec =
     (λ c. search rules)
     (λ c. search rules)
     (λ c. search rules)
-    (λ c. took_counts c.args.counts.now _ _ _ c.in-Took.is)
+    (λ c. took_counts c.args.counts.now _ _ _ c.in-Ok.is)
     (λ c. search rules))

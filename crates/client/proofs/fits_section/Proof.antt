@@ -1,6 +1,7 @@
 -- `client::fits_section` meets its contract, section by section.
+use Rattle.ids.specs.declared.Request.{Request}
+use Rattle.std.specs.Prelude.{Option}
 use mathlib.Core.List.{List}
-use Rattle.ids.specs.declared.Owner.{Owner}
 use Rattle.client_responses.specs.Row.{responses_in}
 use Rattle.client.proofs.ValidLaws.{section_remainder, section-trying, section_critical, section-few}
 use borrow.Author.Rules.{rules}
@@ -9,7 +10,7 @@ use Rattle.client.proofs.fits_section.Tie as tie
 
 -- the filled places are counted
 module _ (c : tie.After-filled_count-found) where
-  abbrev heard : List Owner
+  abbrev heard : List (Option Request)
   heard = responses_in c.args.row.now c.args.n
 
 returns : tie.Need-returns-in-Remainder

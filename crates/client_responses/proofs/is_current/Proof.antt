@@ -6,11 +6,11 @@ use Rattle.client_responses.proofs.is_current.Tie as tie
 
 returns : tie.Need-returns-then-q-r
 returns c =
-    rw c.in-Of.is (current-other c.args.r c.in-Of.q c.if-q-r.true)
+    rw c.in-Some.is (current-other c.args.r c.in-Some.q c.if-q-r.true)
 
 returns-3 : tie.Need-returns-else-q-r
 returns-3 c =
-    rw c.in-Of.is (current-own c.args.r c.in-Of.q c.if-q-r.false)
+    rw c.in-Some.is (current-own c.args.r c.in-Some.q c.if-q-r.false)
 
 pub is_current_spec : {M : Type 1} → statement M
 is_current_spec =

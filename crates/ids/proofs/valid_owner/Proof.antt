@@ -13,4 +13,4 @@ valid_owner_spec =
     (λ c. search rules)
     (λ c κs. search rules)
     (λ c. search rules)
-    (λ c. rw c.in-Of.is c.valid_request.ensures))
+    (λ c. rw c.in-Some.is c.valid_request.ensures))

@@ -34,10 +34,10 @@ loop-again c =
     judging_more _ _ _ (judging c.before.before.before) _ c.loop-at-test.true c.size_at.ensures _ c.read.ensures.0 _ _ c.in-Accepted.is
 
 -- it was refused
-returns : tie.Need-returns-in-Refused invariant-loop decreases-loop
+returns : tie.Need-returns-in-Err invariant-loop decreases-loop
 returns c =
     let r = c.read.ensures.0 in
-    judging_bad _ _ _ (judging c.before.before.before) _ c.loop-at-test.true c.size_at.ensures _ r _ c.in-Refused.is
+    judging_bad _ _ _ (judging c.before.before.before) _ c.loop-at-test.true c.size_at.ensures _ r _ c.in-Err.is
 
 pub first_bad_spec : {M : Type 1} → statement M
 first_bad_spec =

@@ -51,4 +51,4 @@ message_at_spec =
     (λ c.
     let b = c.before.before.before.before.before in
     let r = c.read.ensures.0 in
-    place_bad _ _ _ (reached c.before.before.before) c.if-place-at.false _ (inside c.before.before.before) c.size_at.ensures _ r _ c.in-Refused.is))
+    place_bad _ _ _ (reached c.before.before.before) c.if-place-at.false _ (inside c.before.before.before) c.size_at.ensures _ r _ c.in-Err.is))

@@ -28,5 +28,5 @@ next_at_spec =
     next-said _ _ _ (next-found _ _ _ c.total_of-total.ensures c.if-total-eq0.false j _ c.message_at.ensures))
     (λ c.
     let b = c.before.before.before.before.before in
-    let j = sym c.in-Refused.is ∙ c.judge.ensures in
+    let j = sym c.in-Err.is ∙ c.judge.ensures in
     next-said _ _ _ (next-refused _ _ _ c.total_of-total.ensures c.if-total-eq0.false _ j)))

@@ -17,7 +17,7 @@ pack_spec =
     (λ c. search rules)
     (λ c.
     let j = c.before.before.before in
-    pack_said _ _ _ _ (pack_refused _ _ c.if-bytes.false _ (sym c.in-Refused.is ∙ c.judge.ensures)))
+    pack_said _ _ _ _ (pack_refused _ _ c.if-bytes.false _ (sym c.in-Err.is ∙ c.judge.ensures)))
     (λ c. search rules)
     (λ c.
     let j = c.before.before.before in

@@ -24,4 +24,4 @@ part_of_spec =
     (λ c. search rules)
     (λ c. (shows _ _ _ _ (sym c.requires ∙ c.in-Message.is)).shown)
     (λ c. end_shows _ _ _ c.requires c.in-End.is)
-    (λ c. refused-shows _ _ _ c.requires _ c.in-Refused.is))
+    (λ c. refused-shows _ _ _ c.requires _ c.in-Err.is))

@@ -15,10 +15,10 @@ returns c =
     bad_first c.args.w.now c.args.out.now c.args.at c.requires.0 _ _ _
     (sym c.in-Bad.is ∙ c.read_setting-first.ensures) c.refuse.ensures
 
-returns-2 : tie.Need-returns-in-Setting
+returns-2 : tie.Need-returns-in-Some
 returns-2 c =
     setting-first c.args.w.now c.args.out.now c.args.at c.requires.0 _ _ _
-    _ (sym c.in-Setting.is ∙ c.read_setting-first.ensures) c.begin.ensures
+    _ (sym c.in-Some.is ∙ c.read_setting-first.ensures) c.begin.ensures
 
 pub open_spec : {M : Type 1} → statement M
 open_spec =

@@ -9,9 +9,9 @@ put-ok-requires : tie.Need-put_ok-requires
 put-ok-requires c κs =
     ok_fits c.args.out.now _ c.requires _ _ _ (omega arith) (omega arith) (omega arith)
 
-returns : tie.Need-returns-in-Refused
+returns : tie.Need-returns-in-Err
 returns c =
-    replied_no _ _ _ _ _ _ (omega arith) _ c.in-Refused.is c.put_no.ensures
+    replied_no _ _ _ _ _ _ (omega arith) _ c.in-Err.is c.put_no.ensures
 
 returns-2 : tie.Need-returns-in-Accepted
 returns-2 c =

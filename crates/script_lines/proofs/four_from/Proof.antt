@@ -13,35 +13,35 @@ module _ (c : tie.Start) where
   line = c.args.line.now
 
 -- the first number is found, the second, the third: each with the place behind the space that ended it
-module _ (c : tie.In-Number) where
+module _ (c : tie.In-Some) where
   abbrev entry : tie.Start
   entry = c.before.before.before
 
   abbrev n : ℕ
-  n = c.in-Number.n
+  n = c.in-Some.n
 
   abbrev behind₁ : ℕ
-  behind₁ = c.in-Number.a
+  behind₁ = c.in-Some.a
 
   one : Found (line entry) c.args.at n behind₁
-  one = found _ _ _ _ _ c.requires c.read_field.ensures c.in-Number.is
+  one = found _ _ _ _ _ c.requires c.read_field.ensures c.in-Some.is
 
-module _ (c : tie.In-Number-read_field) where
-  abbrev from₁ : tie.In-Number
+module _ (c : tie.In-Some-read_field) where
+  abbrev from₁ : tie.In-Some
   from₁ = c.before.before
 
   abbrev behind₂ : ℕ
-  behind₂ = c.in-Number-read_field.b
+  behind₂ = c.in-Some-read_field.b
 
-  two : Found (line (entry from₁)) (behind₁ from₁) c.in-Number-read_field.m behind₂
-  two = found _ _ _ _ _ (one from₁).within c.read_field-2.ensures c.in-Number-read_field.is
+  two : Found (line (entry from₁)) (behind₁ from₁) c.in-Some-read_field.m behind₂
+  two = found _ _ _ _ _ (one from₁).within c.read_field-2.ensures c.in-Some-read_field.is
 
-module _ (c : tie.In-Number-read_field-2) where
-  abbrev from₂ : tie.In-Number-read_field
+module _ (c : tie.In-Some-read_field-2) where
+  abbrev from₂ : tie.In-Some-read_field
   from₂ = c.before.before
 
-  three : Found (line (entry (from₁ from₂))) (behind₂ from₂) c.in-Number-read_field-2.f c.in-Number-read_field-2.c
-  three = found _ _ _ _ _ (two from₂).within c.read_field-3.ensures c.in-Number-read_field-2.is
+  three : Found (line (entry (from₁ from₂))) (behind₂ from₂) c.in-Some-read_field-2.f c.in-Some-read_field-2.c
+  three = found _ _ _ _ _ (two from₂).within c.read_field-3.ensures c.in-Some-read_field-2.is
 
 returns-2 : tie.Need-returns-in_default-read_field
 returns-2 c =
@@ -57,7 +57,7 @@ returns-4 c =
 
 returns-5 : tie.Need-returns
 returns-5 c =
-    all_four _ _ _ _ (one (from₁ c.before.before.before.before.before)) _ _ (two c.before.before.before.before.before) _ _ (three c.before.before.before) _ c.read_number.ensures.0 _ c.in-Number-read_number.is
+    all_four _ _ _ _ (one (from₁ c.before.before.before.before.before)) _ _ (two c.before.before.before.before.before) _ _ (three c.before.before.before) _ c.read_number.ensures.0 _ c.in-Some-read_number.is
 
 pub four_from_spec : {M : Type 1} → statement M
 four_from_spec =

@@ -5,15 +5,15 @@ use borrow.Author.Rules.{rules}
 use Rattle.script_lines.proofs.parse_event.Statement.{statement}
 use Rattle.script_lines.proofs.parse_event.Tie as tie
 
-returns-3 : tie.Need-returns-in-Number
+returns-3 : tie.Need-returns-in-Some
 returns-3 c =
     line-said _ _ (event_command _ _ c.if-n-gt-MAX_LINE.false c.word_end-p.ensures c.if-p-n.false _ c.read_number.ensures.0
-    _ _ _ c.in-Number.is c.command_in.ensures c.line_of.ensures)
+    _ _ _ c.in-Some.is c.command_in.ensures c.line_of.ensures)
 
-returns-4 : tie.Need-returns-in-Nothing
+returns-4 : tie.Need-returns-in-None
 returns-4 c =
     line-said _ _ (event_no_number _ _ c.if-n-gt-MAX_LINE.false c.word_end-p.ensures c.if-p-n.false _ c.read_number.ensures.0
-    c.in-Nothing.is)
+    c.in-None.is)
 
 pub parse_event_spec : {M : Type 1} → statement M
 parse_event_spec =

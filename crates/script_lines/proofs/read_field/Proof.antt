@@ -4,13 +4,13 @@ use borrow.Author.Rules.{rules}
 use Rattle.script_lines.proofs.read_field.Statement.{statement}
 use Rattle.script_lines.proofs.read_field.Tie as tie
 
-returns-2 : tie.Need-returns-in-Number
+returns-2 : tie.Need-returns-in-Some
 returns-2 c =
-    field_found _ _ _ c.word_end-p.ensures c.if-p-line.false _ c.read_number.ensures.0 _ c.in-Number.is
+    field_found _ _ _ c.word_end-p.ensures c.if-p-line.false _ c.read_number.ensures.0 _ c.in-Some.is
 
-returns-3 : tie.Need-returns-in-Nothing
+returns-3 : tie.Need-returns-in-None
 returns-3 c =
-    field_unread _ _ _ c.word_end-p.ensures c.if-p-line.false _ c.read_number.ensures.0 c.in-Nothing.is
+    field_unread _ _ _ c.word_end-p.ensures c.if-p-line.false _ c.read_number.ensures.0 c.in-None.is
 
 pub read_field_spec : {M : Type 1} → statement M
 read_field_spec =

@@ -4,12 +4,12 @@ use borrow.Author.Rules.{rules}
 use Rattle.server.proofs.answered.Statement.{statement}
 use Rattle.server.proofs.answered.Tie as tie
 
-returns : tie.Need-returns-in-Done
+returns : tie.Need-returns-in-Ok
 returns c =
-    answers-done c.args.t _ _ _ c.in-Done.is c.send.ensures
+    answers-done c.args.t _ _ _ c.in-Ok.is c.send.ensures
 
-returns-2 : tie.Need-returns-in-Refused
-returns-2 c = answers-refused c.args.t _ _ c.in-Refused.is
+returns-2 : tie.Need-returns-in-Err
+returns-2 c = answers-refused c.args.t _ _ c.in-Err.is
 
 pub answered_spec : {M : Type 1} → statement M
 answered_spec =

@@ -11,15 +11,15 @@ module _ (c : tie.Else-not-valid_row) where
   padded : Padded c.args.row.now c.args.h.votes.len
   padded = server-padded _ _ c.valid_row.ensures c.if-not-valid_row.false
 
-returns-2 : tie.Need-returns-in-Nobody
+returns-2 : tie.Need-returns-in-None
 returns-2 c =
-    check-idle c.args.h _ _ _ c.valid_row.ensures c.if-not-valid_row.false (padded c.before.before.before.before.before) _ c.in-Nobody.is
+    check-idle c.args.h _ _ _ c.valid_row.ensures c.if-not-valid_row.false (padded c.before.before.before.before.before) _ c.in-None.is
     c.still.ensures c.done.ensures
 
-returns-3 : tie.Need-returns-in-Of
+returns-3 : tie.Need-returns-in-Some
 returns-3 c =
-    check-asked c.args.h _ _ _ c.valid_row.ensures c.if-not-valid_row.false (padded c.before.before.before.before.before.before.before) _ c.in-Of.is _
-    c.telling.ensures c.done-in-Of.ensures
+    check-asked c.args.h _ _ _ c.valid_row.ensures c.if-not-valid_row.false (padded c.before.before.before.before.before.before.before) _ c.in-Some.is _
+    c.telling.ensures c.done-in-Some.ensures
 
 pub check_row_spec : {M : Type 1} → statement M
 check_row_spec =

@@ -4,8 +4,8 @@ use borrow.Author.Rules.{rules}
 use Rattle.server.proofs.put_mail.Statement.{statement}
 use Rattle.server.proofs.put_mail.Tie as tie
 
-returns-2 : tie.Need-returns-in-One
-returns-2 c = one-put _ _ _ _ _ _ c.in-One.is c.put.ensures
+returns-2 : tie.Need-returns-in-Some
+returns-2 c = one-put _ _ _ _ _ _ c.in-Some.is c.put.ensures
 
 pub put_mail_spec : {M : Type 1} → statement M
 put_mail_spec =
@@ -14,6 +14,6 @@ put_mail_spec =
     (λ c. search rules)
     (λ c. search rules)
     (λ c κs. search one-room)
-    (λ c. no_put _ _ _ c.in-Nothing.is)
+    (λ c. no_put _ _ _ c.in-None.is)
     (λ c. search rules)
     returns-2)

@@ -14,9 +14,9 @@ module _ (c : tie.Else-not-valid_row) where
 delete-requires : tie.Need-delete-m-requires
 delete-requires c κs = padded c.before.before.before.before
 
-returns-3 : tie.Need-returns-in-Of
+returns-3 : tie.Need-returns-in-Some
 returns-3 c =
-    suspect-done c.args.h _ _ _ c.valid_row.ensures c.if-not-valid_row.false (padded c.before.before.before.before.before.before.before.before) _ c.in-Of.is _ _
+    suspect-done c.args.h _ _ _ c.valid_row.ensures c.if-not-valid_row.false (padded c.before.before.before.before.before.before.before.before) _ c.in-Some.is _ _
     c.delete-m.ensures c.done.ensures
 
 pub suspect_row_spec : {M : Type 1} → statement M

@@ -3,8 +3,8 @@ use borrow.Author.Rules.{rules}
 use Rattle.server_votes.proofs.names.Statement.{statement}
 use Rattle.server_votes.proofs.names.Tie as tie
 
-returns-2 : tie.Need-returns-in-Of
-returns-2 c = rw c.in-Of.is
+returns-2 : tie.Need-returns-in-Some
+returns-2 c = rw c.in-Some.is
 
 pub names_spec : {M : Type 1} → statement M
 names_spec =

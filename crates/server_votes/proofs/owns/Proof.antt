@@ -11,4 +11,4 @@ owns_spec =
     (λ c. search rules)
     (λ c κs. search rules)
     (λ c. search rules)
-    (λ c. rw c.in-Of.is c.same_request.ensures))
+    (λ c. rw c.in-Some.is c.same_request.ensures))

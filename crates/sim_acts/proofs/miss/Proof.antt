@@ -32,7 +32,7 @@ module _ (c : tie.Else-not-is_up) where
   up = server-runs (words present) c.args.j (here present) c.is_up.ensures c.if-not-is_up.false
 
 -- it has an owner
-module _ (c : tie.In-Of) where
+module _ (c : tie.In-Some) where
   abbrev running : tie.Else-not-is_up
   running = c.before.before
 
@@ -45,22 +45,22 @@ returns-2 c = server-down _ _ (here c.before.before) c.is_up.ensures _ (misses-d
 
 is-living-requires : tie.Need-is_living-requires
 is-living-requires c κs =
-    client_in_lem _ _ (owner-client _ _ (here (present c.before.before.before)) (up c.before.before.before) _ c.owner_of-owner.ensures _ c.in-Of.is)
+    client_in_lem _ _ (owner-client _ _ (here (present c.before.before.before)) (up c.before.before.before) _ c.owner_of-owner.ensures _ c.in-Some.is)
 
 returns-3 : tie.Need-returns-then-is_living
 returns-3 c =
-    miss-living _ _ (here (present c.before.before.before.before.before)) (up c.before.before.before.before.before) _ c.owner_of-owner.ensures _ c.in-Of.is _ c.is_living.ensures c.if-is_living.true
+    miss-living _ _ (here (present c.before.before.before.before.before)) (up c.before.before.before.before.before) _ c.owner_of-owner.ensures _ c.in-Some.is _ c.is_living.ensures c.if-is_living.true
 
 server-steps-requires : tie.Need-server_steps-requires
 server-steps-requires c κs = (
-  owner_missing _ _ (here (present c.before.before.before.before.before.before)) (up c.before.before.before.before.before.before) _ c.owner_of-owner.ensures _ c.in-Of.is _ c.is_living.ensures
+  owner_missing _ _ (here (present c.before.before.before.before.before.before)) (up c.before.before.before.before.before.before) _ c.owner_of-owner.ensures _ c.in-Some.is _ c.is_living.ensures
       c.if-is_living.false,
   up c.before.before.before.before.before.before,
 )
 
-returns-4 : tie.Need-returns-in-Nobody
+returns-4 : tie.Need-returns-in-None
 returns-4 c =
-    miss_nobody _ _ (here (present c.before.before)) (up c.before.before) _ c.owner_of-owner.ensures c.in-Nobody.is
+    miss_nobody _ _ (here (present c.before.before)) (up c.before.before) _ c.owner_of-owner.ensures c.in-None.is
 
 pub miss_spec : {M : Type 1} → statement M
 miss_spec =

@@ -51,7 +51,7 @@ module _ (c : tie.After-client_head) where
   read = client_read _ _ _ c.client_head.ensures c.client_row.ensures
 
 -- its call is accepted: the step is the event's, and the buffer had room for all that it sends
-module _ (c : tie.In-Sent) where
+module _ (c : tie.In-Ok) where
   abbrev call : tie.After-call_client-s
   call = c.before.before.before
 
@@ -62,20 +62,20 @@ module _ (c : tie.In-Sent) where
   from = c.before.before.before.before.before.before.before.before.before.before.before.before.before
 
   abbrev count : ℕ
-  count = c.in-Sent.count
+  count = c.in-Ok.count
 
   called : ClientCalled (words from) c.args.k c.args.act c.call_client-s.result
       c.call_client-s.new.row c.call_client-s.new.out
   called =
       events.client-called (words from) c.args.k c.args.act c.requires (lives (alive loaded)) _ _ (read loaded) _ _ _
-      c.call_client-s.ensures _ _ c.in-Sent.is
+      c.call_client-s.ensures _ _ c.in-Ok.is
 
   few : count ≤ system_servers
-  few = events.client-few called _ _ c.in-Sent.is
+  few = events.client-few called _ _ c.in-Ok.is
 
 -- the simulation's room for it is tested
 module _ (c : tie.After-has_room) where
-  abbrev accepted : tie.In-Sent
+  abbrev accepted : tie.In-Ok
   accepted = c.before.before
 
   tested : ClientTested (words (from accepted)) c.args.k c.args.act c.call_client-s.result
@@ -84,7 +84,7 @@ module _ (c : tie.After-has_room) where
       record {
         called = called accepted;
         size = _;
-        answered = c.in-Sent.is;
+        answered = c.in-Ok.is;
         room = rw c.messages_gone.ensures at c.has_room.ensures;
       }
 
@@ -130,10 +130,10 @@ cast-t31 c =
     record { fits = omega (arith, few (accepted (roomy c.before.before.before.before.before.before.before).before)) }
 
 -- the call was refused, as the event is
-returns-3 : tie.Need-returns-in-Refused
+returns-3 : tie.Need-returns-in-Err
 returns-3 c =
     events.client-refused (words c.before.before.before.before.before.before.before.before.before.before.before.before.before) c.args.k c.args.act c.requires (lives (alive c.before.before.before.before.before.before)) _ _ (read c.before.before.before.before.before.before) _ _ _
-    c.call_client-s.ensures _ c.in-Refused.is
+    c.call_client-s.ensures _ c.in-Err.is
 
 returns-4 : tie.Need-returns-else-not-has_room
 returns-4 c =

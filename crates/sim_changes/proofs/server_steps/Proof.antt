@@ -104,8 +104,8 @@ cast-t35 : tie.Need-overflow_cast-result
 cast-t35 c =
     record { fits = omega (arith, few c.before.before.before.before.before.before.before.before.before.before.before.before) }
 
-returns-2 : tie.Need-returns-in-Refused
-returns-2 c = ruled-refused (called c.before.before).ruled _ c.in-Refused.is
+returns-2 : tie.Need-returns-in-Err
+returns-2 c = ruled-refused (called c.before.before).ruled _ c.in-Err.is
 
 returns-3 : tie.Need-returns-else-not-has_room
 returns-3 c =

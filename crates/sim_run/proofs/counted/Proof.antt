@@ -4,7 +4,7 @@ use borrow.Author.Rules.{rules}
 use Rattle.sim_run.proofs.counted.Statement.{statement}
 use Rattle.sim_run.proofs.counted.Tie as tie
 
-returns : tie.Need-returns-in-Refused
+returns : tie.Need-returns-in-Err
 returns c = search (rules, counted-refused)
 
 returns-2 : tie.Need-returns-in-Accepted

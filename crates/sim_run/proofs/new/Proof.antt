@@ -4,17 +4,17 @@ use borrow.Author.Rules.{rules}
 use Rattle.sim_run.proofs.new.Statement.{statement}
 use Rattle.sim_run.proofs.new.Tie as tie
 
-same_length : tie.Need-shape_of-w-in-Refused
+same_length : tie.Need-shape_of-w-in-Err
 same_length c = search (rules, refused-same)
 
-returns : tie.Need-returns-in-Refused
-returns c = new_said _ _ _ _ (new_refused _ _ _ _ c.new-made.ensures.0 _ c.in-Refused.is)
+returns : tie.Need-returns-in-Err
+returns c = new_said _ _ _ _ (new_refused _ _ _ _ c.new-made.ensures.0 _ c.in-Err.is)
 
-same-length-2 : tie.Need-shape_of-w-in-Sent
+same-length-2 : tie.Need-shape_of-w-in-Ok
 same-length-2 c = search (rules, run-same)
 
-returns-2 : tie.Need-returns-in-Sent
-returns-2 c = new_said _ _ _ _ (new_run _ _ _ _ c.new-made.ensures.0 _ c.in-Sent.is)
+returns-2 : tie.Need-returns-in-Ok
+returns-2 c = new_said _ _ _ _ (new_run _ _ _ _ c.new-made.ensures.0 _ c.in-Ok.is)
 
 pub new_spec : {M : Type 1} → statement M
 new_spec =

@@ -11,7 +11,7 @@ add-result c =
     omega (
       arith,
       fitting_inside c.args.at c.args.number c.args.from c.args.bytes.now c.args.t.now
-          _ (read-rest c.args.bytes.now c.args.from _ c.read_fields-p.ensures.0) c.requires.1 _ _ c.in-Fitting.is,
+          _ (read-rest c.args.bytes.now c.args.from _ c.read_fields-p.ensures.0) c.requires.1 _ _ c.in-Ok.is,
     )
 
 pub post_one_spec : {M : Type 1} → statement M

@@ -4,12 +4,12 @@ use borrow.Author.Rules.{rules}
 use Rattle.simulation.proofs.happen.Statement.{statement}
 use Rattle.simulation.proofs.happen.Tie as tie
 
-returns : tie.Need-returns-in-Refused
-returns c = happened-refused _ _ _ _ c.work-moved.ensures _ c.in-Refused.is
+returns : tie.Need-returns-in-Err
+returns c = happened-refused _ _ _ _ c.work-moved.ensures _ c.in-Err.is
 
-returns-2 : tie.Need-returns-in-Sent
+returns-2 : tie.Need-returns-in-Ok
 returns-2 c = happened _ _ _ _ c.work-moved.ensures _ _
-    c.in-Sent.is c.holders-holders.ensures
+    c.in-Ok.is c.holders-holders.ensures
 
 pub happen_spec : {M : Type 1} → statement M
 happen_spec =

@@ -59,7 +59,7 @@ returns c =
 loop-again : tie.Need-loop-i-preserved invariant-loop decreases-loop
 loop-again c =
     let l = c.loop-i in
-    let there = sym c.in-Entry.is ∙ c.entry_of.ensures in
+    let there = sym c.in-Some.is ∙ c.entry_of.ensures in
     (entries_more (entries (entry (turn (read c.before.before)))) _ l.i _ _ there l.invariant.0 c.put_entry-end.ensures, omega arith, omega arith)
 
 returns-2 : tie.Need-returns invariant-loop decreases-loop

@@ -5,14 +5,14 @@ use borrow.Author.Rules.{rules}
 use Rattle.text_knowledge.proofs.put_owner.Statement.{statement}
 use Rattle.text_knowledge.proofs.put_owner.Tie as tie
 
-returns : tie.Need-returns-in-Nobody
+returns : tie.Need-returns-in-None
 unfolding owner_text
-returns c = rw c.in-Nobody.is c.put.ensures
+returns c = rw c.in-None.is c.put.ensures
 
-returns-2 : tie.Need-returns-in-Of
+returns-2 : tie.Need-returns-in-Some
 unfolding owner_text
 returns-2 c =
-    rw c.in-Of.is (then _ _ _ c.put-p.ensures c.put_request.ensures)
+    rw c.in-Some.is (then _ _ _ c.put-p.ensures c.put_request.ensures)
 
 pub put_owner_spec : {M : Type 1} → statement M
 put_owner_spec =

@@ -5,10 +5,10 @@ use borrow.Author.Rules.{rules}
 use Rattle.text_knowledge.proofs.put_votes.Statement.{statement}
 use Rattle.text_knowledge.proofs.put_votes.Tie as tie
 
-returns-2 : tie.Need-returns-in-Of
+returns-2 : tie.Need-returns-in-Some
 unfolding votes_text
 returns-2 c =
-    rw c.in-Of.is (then _ _ _ (then _ _ _ c.put-p.ensures c.put_request-e.ensures) c.put_queue.ensures)
+    rw c.in-Some.is (then _ _ _ (then _ _ _ c.put-p.ensures c.put_request-e.ensures) c.put_queue.ensures)
 
 pub put_votes_spec : {M : Type 1} → statement M
 unfolding votes_text
@@ -22,6 +22,6 @@ put_votes_spec =
     (λ c κs. search rules)
     (λ c κs. search rules)
     (λ c. search rules)
-    (λ c. rw c.in-Nobody.is c.put.ensures)
+    (λ c. rw c.in-None.is c.put.ensures)
     (λ c. search rules)
     returns-2)

@@ -11,9 +11,9 @@ returns c =
     rw (← c.run_event-a.ensures.0, c.in-Event.is)
     c.put_event.ensures
 
-returns-2 : tie.Need-returns-in-Refused
+returns-2 : tie.Need-returns-in-Err
 unfolding asked_text puts
-returns-2 c = rw (← c.run_event-a.ensures.0, c.in-Refused.is)
+returns-2 c = rw (← c.run_event-a.ensures.0, c.in-Err.is)
 
 pub put_numbered_spec : {M : Type 1} → statement M
 put_numbered_spec =

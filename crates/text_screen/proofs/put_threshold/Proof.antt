@@ -5,10 +5,10 @@ use borrow.Author.Rules.{rules}
 use Rattle.text_screen.proofs.put_threshold.Statement.{statement}
 use Rattle.text_screen.proofs.put_threshold.Tie as tie
 
-returns : tie.Need-returns-in-Default
+returns : tie.Need-returns-in-Some
 unfolding threshold_text
 returns c =
-    rw (c.in-Default.is, ← c.most_faults.ensures.0) c.put_counts.ensures
+    rw (c.in-Some.is, ← c.most_faults.ensures.0) c.put_counts.ensures
 
 pub put_threshold_spec : {M : Type 1} → statement M
 unfolding threshold_text puts

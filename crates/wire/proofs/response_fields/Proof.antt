@@ -10,5 +10,5 @@ response_fields_spec =
     (λ c. search rules)
     (λ c κs. search rules)
     (λ c. search rules)
-    (λ c. rw c.in-Nobody.is c.plain_fields.ensures)
-    (λ c. rw c.in-Of.is))
+    (λ c. rw c.in-None.is c.plain_fields.ensures)
+    (λ c. rw c.in-Some.is))
