@@ -33,15 +33,6 @@ use Rattle.server_votes.specs.Inner.{MovesAny, MovesTwo, leading, informed, join
 use Rattle.server_votes.proofs.MoveLaws.{sends, moves-still, moves-telling}
 use Rattle.server_votes.proofs.RoomLaws.{informed-state, length_promoted, length-deleted, renewed_fits}
 
--- what a standing says of the timestamp looked for
-pub stood : (x : Option Timestamp) (w : Option Timestamp) (t : Timestamp) → w ≡ x → w ≡ Some t → x ≡ Some t
-stood None w t e a = let z : ◌≡◌ {A = ℕ} 0 1 = cc in absurd (omega arith)
-stood (Some u) w t e a = let h : u ≡ t = cc in cc
-
-absent : (x : Option Timestamp) (w : Option Timestamp) → w ≡ x → w ≡ None → x ≡ None
-absent None w e a = refl
-absent (Some u) w e a = let z : ◌≡◌ {A = ℕ} 0 1 = cc in absurd (omega arith)
-
 module _ (v : Votes) (row : List ℕ) (good : Padded row v.len) where
   pub fits : 2 * length (queue_of row v.len) ≤ length row
   fits = omega (arith, length-queue row v.len good, good.within, good.places.even)
@@ -269,8 +260,8 @@ module _ (j : ServerId) (tag : Tag) (r : Request) (q : State) {v : Votes} (row a
     (e : w ≡ timestamp_in r.client (candidates q)) where
   pub receives_new : w ≡ None → MovesTwo v row after m (act j tag r q) → Moves v row after m (receive j tag r q)
   unfolding receive
-  receives_new a two = rw (absent (timestamp_in r.client (candidates q)) w e a) two.moves
+  receives_new a two = rw (sym e ∙ a) two.moves
 
   pub receives_known : (t : Timestamp) → w ≡ Some t → Moves v row after m (compare j tag r q t) → Moves v row after m (receive j tag r q)
   unfolding receive
-  receives_known t a p = rw (stood (timestamp_in r.client (candidates q)) w t e a) p
+  receives_known t a p = rw (sym e ∙ a) p

@@ -1,5 +1,4 @@
 -- What a server's block becomes where a record is written in it: the same place with the record's state, and valid again.
-use mathlib.Core.Logic.{tt}
 use Rattle.std.specs.Prelude.{None}
 use Prim.Native.Nat.{ℕ, ◌≤◌}
 use native.Mathlib.Omega.{arith}

@@ -8,7 +8,7 @@ use mathlib.Core.Bool.{Bool, true, false}
 use mathlib.Core.List.{List, [], ◌∷◌, map}
 use lib.ListN.{length, replicate, length-replicate}
 use borrow.Author.Tests.{eq-eqb, le-leb, lt-leb, lt-ltb}
-use mathlib.Core.Logic.{⊎_elim, tt}
+use mathlib.Core.Logic.{⊎_elim}
 use Rattle.std.specs.Prelude.{if◌then◌else◌, Some, None, Option}
 use Rattle.ids.specs.Requests.{is_request}
 use Rattle.ids.specs.declared.Timestamp.{Timestamp}

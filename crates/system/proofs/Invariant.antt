@@ -1,5 +1,4 @@
 -- The invariant of a whole run: tokens, nested down-sets, and the count of the most servers down. Every event keeps it.
-use mathlib.Core.Logic.{tt}
 use Rattle.std.specs.Prelude.{Some, None}
 use mathlib.Core.Path.{◌≡◌, refl, ap}
 use Prim.Native.Nat.{ℕ, suc, zero, ◌≤◌, ◌<◌, zero-le}

@@ -1,5 +1,4 @@
 -- Servers that are down and stay down answer nobody: no RESPONSE of theirs is in transit, and no own response of theirs is kept.
-use mathlib.Core.Logic.{tt}
 use Rattle.std.specs.Prelude.{Some, None, Option}
 use mathlib.Core.Path.{◌≡◌, refl, sym, ◌∙◌}
 use Prim.Native.Nat.{ℕ}

@@ -1,6 +1,5 @@
 -- The token invariant: a client in its epoch has, at a server never down in it, at most one token or own response, and none
 -- unless the server's owner is its request. Every event keeps it.
-use mathlib.Core.Logic.{tt}
 use mathlib.Core.Path.{◌≡◌, refl, sym, ap, ◌∙◌}
 use Prim.Native.Nat.{ℕ, ◌+◌, ◌≤◌, ◌<◌, zero-le}
 use native.Mathlib.Nat.{le_refl}

@@ -1,6 +1,5 @@
 -- The invariant of every run: each client's state fits its numbers, each server's is good and knows only requests of clients that are there, and so does
 -- each message in transit, which is in range. Every event keeps it.
-use mathlib.Core.Logic.{tt}
 use Rattle.std.specs.Prelude.{Some, None, Option}
 use Prim.Native.Nat.{ℕ, zero, suc, ◌≤◌}
 use native.Mathlib.Omega.{arith}

@@ -1,6 +1,5 @@
 -- Every run is a run of the calls: by the invariant (`Kept`) each record that a party is stored as is valid, and by what the calls do on such a record
 -- (`Outcomes`) each accepted event is the accepted call.
-use mathlib.Core.Logic.{tt}
 use Rattle.std.specs.Prelude.{Some}
 use Prim.Native.Nat.{ℕ, zero, suc, ◌≤◌}
 use native.Mathlib.Omega.{arith}
