@@ -1,5 +1,4 @@
 -- Definitions that only the contracts of private functions cite: no promise rests on them.
-use mathlib.Core.Logic.{tt}
 use Rattle.wire.specs.declared.Sent.{Sent}
 use Rattle.ids.specs.declared.Refusal.{Refusal}
 use Rattle.std.specs.Prelude.{ℕ, ◌≤◌, ◌≡◌, List, [], ◌∷◌, Ok, Err, Result, ⊤}

@@ -1,5 +1,4 @@
 -- What packing answers and leaves, in each case; and the bytes that are laid down so far.
-use mathlib.Core.Logic.{tt}
 use Rattle.std.specs.Prelude.{Ok, Err}
 use Prim.Native.Nat.{ℕ, ◌+◌, ◌-◌, ◌/◌, ◌%◌, ◌<◌, ◌≤◌}
 use native.Mathlib.Omega.{arith}

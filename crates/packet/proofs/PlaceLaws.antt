@@ -1,5 +1,4 @@
 -- What is at a place of an accepted packet, by where the search for it ended; and what the next message is, from the packet's judgement.
-use mathlib.Core.Logic.{tt}
 use Rattle.std.specs.Prelude.{Ok, Err, Result, Some, None, Option}
 use Prim.Native.Nat.{ℕ, ◌+◌, ◌-◌, ◌<◌, ◌≤◌}
 use native.Mathlib.Omega.{arith}
@@ -85,7 +84,10 @@ module _ (s : List ℕ) (at : ℕ) where
           read_here = lent-part s place size q read ∙ its-message.read
 
           pub place-message : (m : Message) (n : ℕ) → q ≡ Ok (m, n) → Ok (Some (m, place + size)) ≡ answer
-          place-message m n a = let g = read_here in let k : its-message.message ≡ m = cc in rw k at its-answer
+          place-message m n a =
+              let g = read_here in
+              let both : ◌≡◌ {A = Message × ℕ} (its-message.message, its-message.used) (m, n) = cc in
+              rw (ap (λ (x : Message × ℕ). x.0) both) at its-answer
 
           pub place_bad : (x : Refusal) → q ≡ Err x → Err x ≡ answer
           place_bad x a = let g = read_here in let z : ◌≡◌ {A = ℕ} 0 1 = cc in absurd (omega arith)

@@ -117,8 +117,9 @@ module _ (s : List ℕ) (at : ℕ) (m : Message) (next : ℕ) where
     by_found ends e h = absurd (end_not_given h)
     by_found nowhere e h = absurd (refused_not_given PacketMalformed h)
     by_found (starts p) e h =
-        let n : at + length p.part ≡ next = cc in
-        let i : p.message ≡ m = cc in
+        let both : ◌≡◌ {A = Message × ℕ} (p.message, at + length p.part) (m, next) = cc in
+        let n : at + length p.part ≡ next = ap (λ (x : Message × ℕ). x.1) both in
+        let i : p.message ≡ m = ap (λ (x : Message × ℕ). x.0) both in
         let c = accepted-carries s ps accepted in
         let g = is_framed s (accepted-framed s ps accepted).0 in
         let j : joined ps ≡ body_of s = carried-joined (body_of s) ps c in

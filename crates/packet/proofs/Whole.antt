@@ -80,8 +80,9 @@ module _ (s : List ℕ) where
   same_reading at all all' (ended e) (gave {next = n} {m = m} g r) = absurd (given_not_end m n (sym g ∙ e))
   same_reading at all all' (gave {next = n} {m = m} g r) (ended e) = absurd (given_not_end m n (sym g ∙ e))
   same_reading at all all' (gave {next = n} {m = m} {ps = ps} g r) (gave {next = n'} {m = m'} {ps = ps'} g' r') =
-      let b : n' ≡ n = cc in
-      let c : m ≡ m' = cc in
+      let both : ◌≡◌ {A = Message × ℕ} (m, n) (m', n') = cc in
+      let b : n' ≡ n = sym (ap (λ (x : Message × ℕ). x.1) both) in
+      let c : m ≡ m' = ap (λ (x : Message × ℕ). x.0) both in
       let d : ps ≡ ps' = same_reading n ps ps' r (rw b at r') in
       rw (c, d)
 

@@ -1,5 +1,4 @@
 -- Definitions that only the contracts of private functions cite: no promise rests on them.
-use mathlib.Core.Logic.{tt}
 use Rattle.ids.specs.declared.Refusal.{Refusal}
 use Rattle.std.specs.Prelude.{ℕ, ◌≤◌, ◌≡◌, Bool, true, false, List, length, drop, if◌then◌else◌, Ok, Err, Result, ⊤}
 use Rattle.ids.specs.Choice.{maybe}

@@ -159,7 +159,8 @@ fn part_of(packet: &[u8], at: usize, next: Result<Option<(Message, usize)>, Refu
 {
     match next {
         Ok(Some((_, end))) => &packet[at..end],
-        Ok(None) | Err(_) => &packet[0..0],
+        Ok(None) => &packet[0..0],
+        Err(_) => &packet[0..0],
     }
 }
 

@@ -5,7 +5,7 @@ use Prim.Native.Nat.{ℕ}
 use mathlib.Core.Path.{◌≡◌, refl, sym, ap, ◌∙◌}
 use mathlib.Core.Bool.{true, false}
 use mathlib.Core.List.{List}
-use mathlib.Core.Logic.{⊎_elim, tt}
+use mathlib.Core.Logic.{⊎_elim}
 use lib.Dec.{ltb}
 use lib.ListN.{length}
 use borrow.Author.Tests.{eq-eqb, ne_eqb}
@@ -73,8 +73,8 @@ module _ (h : Head) (row : List ℕ) (tag : Tag) (k : ClientId) (j : ServerId) (
 
 -- the record is kept or not, by the answer
 module _ (s : Server) (h : Head) (row : List ℕ) (a x : Result Sent Refusal) (e : a ≡ x) where
-  pub keeps-sent : (k n : ℕ) → a ≡ Ok (record { messages = k; bytes = n }) → ◌≡◌ {A = Stepped} (record { server = record { head = h; row = row }; answer = a }) (keeping s h row x)
-  keeps-sent k n p = let q : x ≡ Ok (record { messages = k; bytes = n }) = cc in rw (q, p)
+  pub keeps-sent : (y : Sent) → a ≡ Ok y → ◌≡◌ {A = Stepped} (record { server = record { head = h; row = row }; answer = a }) (keeping s h row x)
+  keeps-sent y p = let q : x ≡ Ok y = cc in rw (q, p)
 
   pub keeps-old : (y : Refusal) → a ≡ Err y → ◌≡◌ {A = Stepped} (record { server = s; answer = a }) (keeping s h row x)
   keeps-old y p = let q : x ≡ Err y = cc in rw (q, p)

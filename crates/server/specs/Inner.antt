@@ -1,5 +1,6 @@
 -- Definitions that only the contracts of private functions cite: no promise rests on them.
-use mathlib.Core.Logic.{tt}
+use Rattle.ids.specs.declared.ClientId.{ClientId}
+use Rattle.ids.specs.declared.ServerId.{ServerId}
 use Rattle.ids.specs.declared.Timestamp.{Timestamp}
 use Rattle.wire.specs.declared.Sent.{Sent}
 use Rattle.std.specs.Prelude.{ℕ, Bool, true, false, not, List, [], ◌∷◌, eqb, length, Ok, Err, Result, Some, None, Option, ⊤}
@@ -10,6 +11,7 @@ use Rattle.ids.specs.declared.Request.{Request as Pair}
 use Rattle.rows.specs.Queue.{timestamp_in}
 use Rattle.wire.specs.declared.Message.{Message}
 use Rattle.wire.specs.declared.Message.TheVariants.{Request, Yield, Release, Inquiry, Response, Check}
+use Rattle.server_votes.specs.declared.Tag.{Tag}
 use Rattle.server_votes.specs.declared.Tag.TheVariants.{Request as REQUEST, Yield as YIELD, Release as RELEASE, Inquiry as INQUIRY}
 use Rattle.server_votes.specs.declared.Moved.{Moved}
 use Rattle.server.specs.declared.Head.{Head}

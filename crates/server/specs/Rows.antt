@@ -1,5 +1,4 @@
 -- A call on a head and a lent row: what it rules, and what is left of head, row and messages.
-use mathlib.Core.Logic.{tt}
 use Rattle.ids.specs.declared.Refusal.{Refusal}
 use Rattle.std.specs.Prelude.{ℕ, ◌≡◌, List, [], Ok, Err, Result, ⊤}
 use Rattle.ids.specs.Refusals.{code, Says, accepts, refuses}

@@ -1,5 +1,4 @@
 -- Events that send: an accepted step whose messages have room is what the words become, one whose messages have none is refused 19.
-use mathlib.Core.Logic.{tt}
 use Rattle.wire.specs.declared.Sent.{Sent}
 use mathlib.Core.Path.{◌≡◌, refl, sym, ap, ◌∙◌}
 use Prim.Native.Nat.{ℕ, ◌+◌, ◌-◌, ◌≤◌}

@@ -1,5 +1,4 @@
 -- What an event does, once for all invariants: it is refused, or one of eleven things happens.
-use Rattle.sim_changes.specs.declared.Effect.{Effect}
 use Rattle.std.specs.Prelude.{Some, Option}
 use mathlib.Core.Path.{◌≡◌}
 use Prim.Native.Nat.{ℕ}

@@ -84,8 +84,8 @@ module _ (d : List ℕ) where
 abbrev Any : Request → Type 0
 Any r = Unit
 
-abbrev None : Request → Type 0
-None r = ⊥
+abbrev Never : Request → Type 0
+Never r = ⊥
 
 any_line : (l : List Request) → All Any l
 any_line [] = empty
@@ -174,7 +174,7 @@ module _ (n : ℕ) (wins : Quorum) (d : List ℕ) where
         }
     silent inv a (server_takes {i = i} tag k j t e up) =
         silent-server j _ up (delivery_delivered stills_keeping i.0 e)
-        (fair_receive {P = Any} {R = None} tag _ (λ p b. absurd b) tt (any_server (server_at w j).state)).from
+        (fair_receive {P = Any} {R = Never} tag _ (λ p b. absurd b) tt (any_server (server_at w j).state)).from
     silent inv a (client_takes {i = i} {k = k} {j = j} {o = o} e lives) =
         silent_calm k i.0 (RESPONSE k j o) _ e lives
         (calm_respond n wins k j o (pending-all (Past (last (at no_client w.clients))) i.0 e inv.safe.sound.mail).0 (inv.safe.sound.fine k.0))
@@ -185,8 +185,8 @@ module _ (n : ℕ) (wins : Quorum) (d : List ℕ) where
         (λ x y. refl)
     silent inv a (loses {i = i}) = record { down = s.down; mail = (delivery_dropped stills_gone i.0).arrive (Unsaid d) s.mail empty; blank = s.blank }
     silent inv a (suspects {j = j} up _ _) = silent-server j _ up unchanged
-        (fair_suspect {P = Any} {R = None} (λ p b. absurd b) (any_server (server_at w j).state)).from
-    silent inv a (asks {j = j} up) = silent-server j _ up unchanged (fair_check {P = Any} {R = None} (any_server (server_at w j).state)).from
+        (fair_suspect {P = Any} {R = Never} (λ p b. absurd b) (any_server (server_at w j).state)).from
+    silent inv a (asks {j = j} up) = silent-server j _ up unchanged (fair_check {P = Any} {R = Never} (any_server (server_at w j).state)).from
 
   -- whatever follows, but for an `up` of theirs
   pub silent-from : {w : System} → Inv n wins w → Silent d w → {es : List Event} → All (Stays d) es → Silent d (run_from n wins w es)

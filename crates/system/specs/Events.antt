@@ -1,6 +1,6 @@
 -- What an event does to a whole system: the row 'gallery event' of document 01's table, each refusal in its order.
 use Rattle.ids.specs.declared.Request.{Request}
-use Rattle.std.specs.Prelude.{ℕ, ◌+◌, Bool, true, false, not, ◌&&◌, List, [], ◌∷◌, ◌++◌, map, leb, length, if◌then◌else◌, Result, Option}
+use Rattle.std.specs.Prelude.{ℕ, ◌+◌, Bool, true, false, not, ◌&&◌, List, [], ◌∷◌, ◌++◌, map, leb, length, if◌then◌else◌, Option}
 use Rattle.ids.specs.Choice.{maybe}
 use Rattle.ids.specs.Requests.{by_owner}
 use Rattle.ids.specs.declared.ClientId.{ClientId}

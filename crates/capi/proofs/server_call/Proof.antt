@@ -1,5 +1,4 @@
 -- `capi::server_call` meets its contract: the row is the words behind the head, and the step on it is the outcome on the words.
-use mathlib.Core.Logic.{tt}
 use Rattle.std.specs.Prelude.{Ok}
 use mathlib.Core.Path.{◌≡◌}
 use Prim.Native.Nat.{◌≤◌}
