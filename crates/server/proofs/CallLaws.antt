@@ -41,21 +41,17 @@ use Rattle.server.specs.Rows.{Turns}
 use Rattle.server.proofs.TurnLaws.{turns_refused, turns_done}
 
 -- what is received, by what the message asks of a server
-asks-step : (s : Server) (m : Message) (x : Tag) (k : ClientId) (j : ServerId) (t : Timestamp) → asked_by m ≡ Some (x, k, j, t) → received s m ≡ taken s x k j t
-asks-step s (message.Request k' j' t') x k j t e = cc
-asks-step s (message.Yield k' j' t') x k j t e = cc
-asks-step s (message.Release k' j' t') x k j t e = cc
-asks-step s (message.Inquiry k' j' t') x k j t e = cc
-asks-step s (message.Response k' j' o) x k j t e = let z : ◌≡◌ {A = ℕ} 0 1 = cc in absurd (omega arith)
-asks-step s (message.Check k' j' t') x k j t e = let z : ◌≡◌ {A = ℕ} 0 1 = cc in absurd (omega arith)
+abbrev by_asked : Server → Option (Tag × ClientId × ServerId × Timestamp) → Outcome State
+by_asked s None = refused NotForServer
+by_asked s (Some (x, k, j, t)) = taken s x k j t
 
-asks_nothing : (s : Server) (m : Message) → asked_by m ≡ None → received s m ≡ refused NotForServer
-asks_nothing s (message.Request k j t) e = let z : ◌≡◌ {A = ℕ} 0 1 = cc in absurd (omega arith)
-asks_nothing s (message.Yield k j t) e = let z : ◌≡◌ {A = ℕ} 0 1 = cc in absurd (omega arith)
-asks_nothing s (message.Release k j t) e = let z : ◌≡◌ {A = ℕ} 0 1 = cc in absurd (omega arith)
-asks_nothing s (message.Inquiry k j t) e = let z : ◌≡◌ {A = ℕ} 0 1 = cc in absurd (omega arith)
-asks_nothing s (message.Response k j o) e = refl
-asks_nothing s (message.Check k j t) e = refl
+received_asked : (s : Server) (m : Message) → received s m ≡ by_asked s (asked_by m)
+received_asked s (message.Request k j t) = refl
+received_asked s (message.Yield k j t) = refl
+received_asked s (message.Release k j t) = refl
+received_asked s (message.Inquiry k j t) = refl
+received_asked s (message.Response k j o) = refl
+received_asked s (message.Check k j t) = refl
 
 pub received_as : (s : Server) (x : Tag) (k : ClientId) (j : ServerId) (t : Timestamp) → received s (tagged.message x k j t) ≡ taken s x k j t
 received_as s Asks k j t = refl
@@ -102,11 +98,11 @@ module _ (h : Head) (row : List ℕ) (r : Turned) (b : Bool) (e : b ≡ valid (s
         -- by what the message asks of a server
         module _ (a : Option (Tag × ClientId × ServerId × Timestamp)) (d : a ≡ asked_by m) where
           pub message_not : a ≡ None → r ≡ refusing h NotForServer → Turns h row (message_outcome s m) r row
-          message_not q p = turns_refused h row (message_outcome s m) r NotForServer (its-kind ∙ asks_nothing s m (sym d ∙ q)) p
+          message_not q p = turns_refused h row (message_outcome s m) r NotForServer (its-kind ∙ (received_asked s m ∙ ap (by_asked s) (sym d ∙ q))) p
 
           pub message-taken : (x : Tag) (k : ClientId) (j : ServerId) (u : Timestamp) (after : List ℕ) → a ≡ Some (x, k, j, u)
               → Turns h row (taken s x k j u) r after → Turns h row (message_outcome s m) r after
-          message-taken x k j u after q p = rw (its-kind, asks-step s m x k j u (sym d ∙ q)) p
+          message-taken x k j u after q p = rw (its-kind ∙ (received_asked s m ∙ ap (by_asked s) (sym d ∙ q))) p
 
     -- 15, and then the owner's place goes on
     pub suspect_nobody : h.votes.owner ≡ None → r ≡ refusing h NoOwner → Turns h row (suspect_outcome s) r row
