@@ -113,7 +113,7 @@ module _ (n : ℕ) where
       (λ (a : wins (map filled l) ≡ true).
       ⊎_elim
       (λ (b : wins (map (is_request r) l) ≡ true). rw (a, b) g)
-      (λ (b : wins (map (is_request r) l) ≡ false). rw (a, b, length-replicate n None) (omega arith))
+      (λ (b : wins (map (is_request r) l) ≡ false). rw (a, b, length-replicate {A = Option Pair} n None) (omega arith))
       (decided (wins (map (is_request r) l))))
       (λ (a : wins (map filled l) ≡ false). rw a g)
       (decided (wins (map filled l)))
@@ -187,7 +187,7 @@ module _ (c : Client) (p : Step State) where
       record {
         before = v;
         most = rw (← g) (tries-few c.head.n c.head.id (view c));
-        long = rw (← g, length-replicate c.head.n None) (omega arith);
+        long = rw (← g, length-replicate {A = Option Pair} c.head.n None) (omega arith);
       }
 
   pub exit_accepted : exit_outcome c ≡ stepped p → Accepted
@@ -200,7 +200,7 @@ module _ (c : Client) (p : Step State) where
       record {
         before = v;
         most = rw (← g) (exits-few c.head.n c.head.id (view c));
-        long = rw (← g, length-replicate c.head.n None) (omega arith);
+        long = rw (← g, length-replicate {A = Option Pair} c.head.n None) (omega arith);
       }
 
 -- what passes f: the messages with which request r replies to server j
