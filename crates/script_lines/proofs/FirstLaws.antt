@@ -2,7 +2,7 @@
 use Rattle.std.specs.Prelude.{Some, None, Option}
 use Prim.Native.Nat.{ℕ, ◌+◌, ◌-◌, ◌≤◌, ◌<◌}
 use native.Mathlib.Omega.{arith}
-use mathlib.Core.Path.{◌≡◌, refl, ◌∙◌, sym}
+use mathlib.Core.Path.{◌≡◌, refl, ap, ◌∙◌, sym}
 use mathlib.Core.Bool.{Bool, true, false}
 use mathlib.Core.Logic.{⊎_elim}
 use mathlib.Core.List.{List}
@@ -17,7 +17,6 @@ use Rattle.script_lines.specs.Words.{text, same, word, rest}
 use Rattle.script_lines.specs.Lines.{next, four_in, setting_in, max_line}
 use Rattle.script_lines.specs.Inner.{field_at}
 use Rattle.system.specs.declared.Setting.{Setting}
-use Rattle.script_numbers.proofs.ReadLaws.{read_some, read_none}
 use Rattle.script_lines.proofs.WordLaws.{cut_word, cut-none, cut_some, word_shorter, no, yes}
 
 -- how a field is decided: there is no space, or a number before it, or none
@@ -37,13 +36,13 @@ module _ (s : List ℕ) (at p : ℕ) (ends : (p ≡ at + length (word (drop at s
     pub field_found : (x : ℕ) → r ≡ Some x → Some (x, p + 1) ≡ field_at s at
     unfolding field_at
     field_found x e =
-        let o : number (word (drop at s)) ≡ Some x = read_some _ x (sym read_word ∙ e) in
+        let o : number (word (drop at s)) ≡ Some x = sym read_word ∙ e in
         let b : rest (drop at s) ≡ Some (drop (p + 1) s) = cut_some s at p ends.0 (omega (arith, ends.1)) in
         simp (o, b, ← ends.0)
 
     pub field_unread : r ≡ None → None ≡ field_at s at
     unfolding field_at
-    field_unread e = let o : number (word (drop at s)) ≡ None = read_none _ (sym read_word ∙ e) in rw o
+    field_unread e = let o : number (word (drop at s)) ≡ None = sym read_word ∙ e in rw o
 
 -- x stands before the first space from place `at` on, and a is the place behind that space
 pub record Found (s : List ℕ) (at x a : ℕ) : Type 0 where
@@ -56,12 +55,13 @@ module _ (s : List ℕ) (at : ℕ) where
       → (o : Option ℕ) → number (word (drop at s)) ≡ o → field_at s at ≡ Some (x, a) → Found s at x a
   unfolding field_at
   found-space x a b h None n e =
-      let f : None ≡ Some (x, a) = rw n at e in
+      let f : ◌≡◌ {A = Option (ℕ × ℕ)} None (Some (x, a)) = rw n at e in
       let z : ◌≡◌ {A = ℕ} 0 1 = cc in absurd (omega arith)
   found-space x a b h (Some y) n e =
-      let f : Some (y, at + length (word (drop at s)) + 1) ≡ Some (x, a) = rw (n, b) at e in
-      let p : y ≡ x = cc in
-      let q : at + length (word (drop at s)) + 1 ≡ a = cc in
+      let f : ◌≡◌ {A = Option (ℕ × ℕ)} (Some (y, at + length (word (drop at s)) + 1)) (Some (x, a)) = rw (n, b) at e in
+      let both : ◌≡◌ {A = ℕ × ℕ} (y, at + length (word (drop at s)) + 1) (x, a) = cc in
+      let p : y ≡ x = ap (λ (z : ℕ × ℕ). z.0) both in
+      let q : at + length (word (drop at s)) + 1 ≡ a = ap (λ (z : ℕ × ℕ). z.1) both in
       record { value = rw p at n; behind = rw q at b; within = omega arith }
 
   pub found : (x a : ℕ) (r : Option (ℕ × ℕ)) → at ≤ length s → r ≡ field_at s at → r ≡ Some (x, a) → Found s at x a
@@ -84,7 +84,7 @@ module _ (s : List ℕ) (at : ℕ) where
   missing_by f None q n b e = rw n
   missing_by f (Some x) None n b e = simp (n, b)
   missing_by f (Some x) (Some l) n b e =
-      let g : Some (x, at + length (word (drop at s)) + 1) ≡ None = rw (n, b) at e in
+      let g : ◌≡◌ {A = Option (ℕ × ℕ)} (Some (x, at + length (word (drop at s)) + 1)) None = rw (n, b) at e in
       let z : ◌≡◌ {A = ℕ} 0 1 = cc in absurd (omega arith)
 
   missing : {A : Type 0} (f : ℕ → List ℕ → Option A) (r : Option (ℕ × ℕ)) → r ≡ field_at s at → r ≡ None → next (drop at s) f ≡ None
@@ -124,13 +124,13 @@ module _ (s : List ℕ) (at : ℕ) where
         pub no_fourth : r ≡ None → None ≡ four_in (drop at s)
         unfolding four_in
         no_fourth e =
-            let o : number (drop c s) ≡ None = read_none _ (sym read-rest ∙ e) in
+            let o : number (drop c s) ≡ None = sym read-rest ∙ e in
             simp (g₁.value, g₁.behind, g₂.value, g₂.behind, g₃.value, g₃.behind, o)
 
         pub all_four : (k : ℕ) → r ≡ Some k → Some (record { n = n; m = m; f = f; clients = k }) ≡ four_in (drop at s)
         unfolding four_in
         all_four k e =
-            let o : number (drop c s) ≡ Some k = read_some _ k (sym read-rest ∙ e) in
+            let o : number (drop c s) ≡ Some k = sym read-rest ∙ e in
             simp (g₁.value, g₁.behind, g₂.value, g₂.behind, g₃.value, g₃.behind, o)
 
 -- the whole line

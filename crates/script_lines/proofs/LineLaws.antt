@@ -15,7 +15,6 @@ use Rattle.script_lines.specs.declared.Command.{Command}
 use Rattle.script_lines.specs.declared.Command.TheVariants as command
 use Rattle.script_lines.specs.declared.Line.{Line}
 use Rattle.script_lines.specs.declared.Line.TheVariants.{Bad}
-use Rattle.script_numbers.proofs.ReadLaws.{read_some, read_none}
 use Rattle.script_lines.proofs.WordLaws.{cut_word, cut-none, cut_some, cut_end}
 
 pub event-long : (s : List ℕ) → max_line < length s → Bad ≡ line_of (event_in s)
@@ -38,14 +37,14 @@ module _ (s : List ℕ) (p : ℕ) (short : length s ≤ max_line) (ends : (p ≡
       pub event_no_number : r ≡ None → Bad ≡ line_of (event_in s)
       unfolding event_in line_of
       event_no_number e =
-          let o : number (drop (p + 1) s) ≡ None = read_none _ (sym read_all ∙ e) in
+          let o : number (drop (p + 1) s) ≡ None = sym read_all ∙ e in
           simp (le-leb (length s) max_line short, behind, o)
 
       pub event_command : (x : ℕ) (c : Command) (l : Line) → r ≡ Some x → c ≡ command_in (take (p - 0) (drop 0 s))
           → l ≡ line_of (event_of c x) → l ≡ line_of (event_in s)
       unfolding event_in
       event_command x c l e k f =
-          let o : number (drop (p + 1) s) ≡ Some x = read_some _ x (sym read_all ∙ e) in
+          let o : number (drop (p + 1) s) ≡ Some x = sym read_all ∙ e in
           let w : c ≡ command_in (word s) = rw (cut_word s 0 p ends.0) at k in
           simp (le-leb (length s) max_line short, behind, o, ← w) f
 

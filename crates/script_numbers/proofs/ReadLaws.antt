@@ -33,14 +33,6 @@ module _ (limit x b : ℕ) where
   unfolding digit_up_to
   digit_fits l h g = simp (le-leb 48 b l, le-leb b 57 h, le-leb (10 * x + (b - 48)) limit g)
 
-pub read_some : (o : Option ℕ) (y : ℕ) → o ≡ Some y → o ≡ Some y
-read_some None y e = let z : ◌≡◌ {A = ℕ} 0 1 = cc in absurd (omega arith)
-read_some (Some x) y e = cc
-
-pub read_none : (o : Option ℕ) → o ≡ None → o ≡ None
-read_none None e = refl
-read_none (Some x) e = let z : ◌≡◌ {A = ℕ} 0 1 = cc in absurd (omega arith)
-
 -- x is read from the bytes before place i
 pub record Reads (limit : ℕ) (s : List ℕ) (x i : ℕ) : Type 0 where
   pub within : i ≤ length s
@@ -54,13 +46,13 @@ module _ (limit : ℕ) (s : List ℕ) where
     pub reads_more : (y : ℕ) → r ≡ Some y → Reads limit s y (i + 1)
     unfolding digits_up_to
     reads_more y e =
-        let d : digit_up_to limit x (get_or s i 0) ≡ Some y = read_some _ y (sym told ∙ e) in
+        let d : digit_up_to limit x (get_or s i 0) ≡ Some y = sym told ∙ e in
         record { within = omega arith; left = rw add-one (inv.left ∙ rw (drop-cons s i 0 h, d)) }
 
     pub reads_stop : r ≡ None → None ≡ digits_up_to limit 0 s
     unfolding digits_up_to
     reads_stop e =
-        let d : digit_up_to limit x (get_or s i 0) ≡ None = read_none _ (sym told ∙ e) in
+        let d : digit_up_to limit x (get_or s i 0) ≡ None = sym told ∙ e in
         rw (inv.left, drop-cons s i 0 h, d)
 
   pub reads_all : (x i : ℕ) → Reads limit s x i → length s ≤ i → Some x ≡ digits_up_to limit 0 s

@@ -86,7 +86,10 @@ module _ (at number from : ℕ) (bytes t : List ℕ) (p : Result (Fields × ℕ)
     where
       go : (r : Result (Message × ℕ) Refusal) → read_of (drop from bytes) ≡ r → numbers_of r ≡ Ok (f, used) → Took f used
       go (Err x) i h = absurd (let z : ◌≡◌ {A = ℕ} 0 1 = cc in omega arith)
-      go (Ok (m, u)) i h = let y : u ≡ used = cc in record { message = m; read = rw y at i; same = cc }
+      go (Ok (m, u)) i h =
+          let both : ◌≡◌ {A = Fields × ℕ} (fields_of m, u) (f, used) = cc in
+          let y : u ≡ used = ap (λ (x : Fields × ℕ). x.1) both in
+          record { message = m; read = rw y at i; same = ap (λ (x : Fields × ℕ). x.0) both }
 
   pub fitting_inside : (f : Fields) (used : ℕ) → p ≡ Ok (f, used) → from + used ≤ length bytes
   fitting_inside f used q =
@@ -99,11 +102,12 @@ module _ (at number from : ℕ) (bytes t : List ℕ) (p : Result (Fields × ℕ)
   unfolding slot_words
   one-posted f used t' q s =
       let T = fitting_took f used q in
+      let both : (m : Message) (u : ℕ) → read_of (drop from bytes) ≡ Ok (m, u) → ◌≡◌ {A = Message × ℕ} (m, u) (T.message, used) = λ m u r. let z = T.read in cc in
       record {
         inside = fitting_inside f used q;
         same = ap length s ∙ length-sets t at (number ∷ (0 ∷ words f));
-        behind = λ m u r. let y : u ≡ used = cc in rw y;
-        put = λ m u r. let y : fields_of m ≡ f = cc in rw y s;
+        behind = λ m u r. let y : u ≡ used = ap (λ (x : Message × ℕ). x.1) (both m u r) in rw y;
+        put = λ m u r. let y : fields_of m ≡ f = ap (λ (x : Message × ℕ). fields_of x.0) (both m u r) ∙ T.same in rw y s;
       }
 
   pub none-posted : (x : Refusal) → p ≡ Err x → PostsOne at number from bytes t t from
