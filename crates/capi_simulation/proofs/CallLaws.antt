@@ -9,7 +9,7 @@ use mathlib.Core.Logic.{⊎_elim}
 use lib.Dec.{eqb}
 use lib.ListN.{length, set}
 use borrow.Author.Tests.{ne_eqb, lt-ltb, le-ltb}
-use Rattle.std.specs.Prelude.{if◌then◌else◌, Ok, Err}
+use Rattle.std.specs.Prelude.{Result, if◌then◌else◌, Ok, Err}
 use Rattle.ids.specs.Refusals.{code, Says, accepts, refuses}
 use Rattle.ids.specs.declared.Refusal.{Refusal}
 use Rattle.ids.specs.declared.Refusal.TheVariants.{RoomShort, BadLine, NoSuchParty, InvalidRecord}
@@ -17,7 +17,7 @@ use Rattle.ids.proofs.Choice.{decided, clash}
 use Rattle.ids.proofs.Codes.{some_number}
 use Rattle.wire.specs.Step.{refused, stepped}
 use Rattle.system.specs.declared.Event.{Event as Happening}
-use Rattle.system.specs.Events.{Result}
+use Rattle.system.specs.Events.{EventOutcome}
 use Rattle.system.specs.Places.{System}
 use Rattle.system.specs.Runs.{is_stepped}
 use Rattle.sim_layout.specs.Layout.{simulation_size, view, valid}
@@ -96,7 +96,7 @@ not_0 k n z = let t : eqb 0 0 ≡ false = rw z at n in clash (eqb 0 0) refl t
 given-none : (answer : List ℕ) (s : Says ℕ) → eqb s.number 0 ≡ false → answer ≡ given answer s
 given-none answer s n = rw n refl
 
-not_stepped : (u : System) (o : Result) (x : Refusal) → reply_of u o ≡ Err x → is_stepped o ≡ false
+not_stepped : (u : System) (o : EventOutcome) (x : Refusal) → reply_of u o ≡ Err x → is_stepped o ≡ false
 unfolding reply_of
 not_stepped u (refused y) x h = refl
 not_stepped u (stepped s) x h = let z : ◌≡◌ {A = ℕ} 0 1 = cc in absurd (omega arith)

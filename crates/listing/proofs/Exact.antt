@@ -28,7 +28,7 @@ use Rattle.system.specs.Numbered.{has, client_no, server_no, span}
 use Rattle.system.specs.Transit.{InTransit, pending, present}
 use Rattle.system.specs.Setting.{takes}
 use Rattle.system.specs.Places.{System}
-use Rattle.system.specs.Events.{Result, need, event}
+use Rattle.system.specs.Events.{EventOutcome, need, event}
 use Rattle.system.specs.Runs.{after, is_stepped, run_by, accepted_by, start}
 use Rattle.system.proofs.Branch.{branch, perhaps}
 use Rattle.system.proofs.Tokens.{All, empty, more}
@@ -78,7 +78,7 @@ among_group (g ∷ gs) zero m = append_left (each (λ g. g) gs) m
 among_group (g ∷ gs) (suc r) m = append_right g (among_group gs r m)
 
 -- the first thing that an event needs
-needed : (b : Bool) (x : Refusal) (o : Result) → is_stepped (need b x o) ≡ true → b ≡ true
+needed : (b : Bool) (x : Refusal) (o : EventOutcome) → is_stepped (need b x o) ≡ true → b ≡ true
 needed true x o h = refl
 needed false x o h = absurd (false≢true h)
 

@@ -16,7 +16,7 @@ use mathlib.Core.List.{List, [], ◌∷◌, map, Memᴰ as Among}
 use Rattle.std.specs.Prelude.{if◌then◌else◌}
 use Rattle.system.specs.declared.Event.{Event}
 use Rattle.system.specs.Places.{System}
-use Rattle.system.specs.Events.{Result}
+use Rattle.system.specs.Events.{EventOutcome}
 use Rattle.system.specs.Runs.{after}
 use Rattle.system.proofs.Branch.{branch}
 use Rattle.listing.specs.Listing.{each, goes_on, follow}
@@ -43,7 +43,7 @@ module _ {A B : Type 0} (f : A → List B) where
       (λ (n : Among y (each f l)). let (z, a, b) = each-among l n in (z, later a, b))
       (append_cases (f x) m)
 
-module _ (step : System → Event → Result) (f left : ℕ) (w : System) where
+module _ (step : System → Event → EventOutcome) (f left : ℕ) (w : System) where
   -- what follows with e as the next event
   abbrev pub onward : Event → List (List Event)
   onward e = if goes_on step f w e then map (λ es. e ∷ es) ([] ∷ follow step f left (after w (step w e))) else []

@@ -23,7 +23,7 @@ use Rattle.sends.proofs.ServerSends.{receive-few, suspect-few, check-few}
 use Rattle.system.specs.declared.Event.{Event}
 use Rattle.system.specs.Transit.{InTransit, numbered, replaced, gone, keeping, again}
 use Rattle.system.specs.Places.{System, client_at, server_at}
-use Rattle.system.specs.Events.{Result}
+use Rattle.system.specs.Events.{EventOutcome}
 use Rattle.system.specs.Runs.{run_by, after, start, next, run_from}
 use Rattle.system.proofs.Branch.{branch}
 use Rattle.system.proofs.Tokens.{All, empty, more, all_append}
@@ -103,7 +103,7 @@ abbrev pub event_sends : ℕ → ℕ
 event_sends n = max n 3
 
 module _ {n : ℕ} {wins : Quorum} {w : System} where
-  tidy_after : {e : Event} {o : Result} → Effect n wins w e o → Tidy w.sent w.transit → Tidy (after w o).sent (after w o).transit
+  tidy_after : {e : Event} {o : EventOutcome} → Effect n wins w e o → Tidy w.sent w.transit → Tidy (after w o).sent (after w o).transit
   unfolding after
   tidy_after refuses t = t
   tidy_after (begins _ _ _) t = tidy_sent _ t
@@ -118,7 +118,7 @@ module _ {n : ℕ} {wins : Quorum} {w : System} where
   tidy_after (suspects _ _ _) t = tidy_sent _ t
   tidy_after (asks _) t = tidy_sent _ t
 
-  sent-after : {e : Event} {o : Result} → Effect n wins w e o → Inv n wins w → (after w o).sent ≤ w.sent + event_sends n
+  sent-after : {e : Event} {o : EventOutcome} → Effect n wins w e o → Inv n wins w → (after w o).sent ≤ w.sent + event_sends n
   unfolding after
   sent-after refuses v = omega arith
   sent-after (begins {k = k} _ _ _) v = omega (arith, (tries-few n k (client_at w k).state).few)

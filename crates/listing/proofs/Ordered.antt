@@ -17,7 +17,7 @@ use Rattle.system.specs.declared.Setting.{Setting}
 use Rattle.system.specs.Numbered.{client_no, server_no, span}
 use Rattle.system.specs.Setting.{takes}
 use Rattle.system.specs.Places.{System}
-use Rattle.system.specs.Events.{Result}
+use Rattle.system.specs.Events.{EventOutcome}
 use Rattle.system.specs.Runs.{after}
 use Rattle.system.proofs.Branch.{branch}
 use Rattle.script_lines.specs.Printed.{number_of}
@@ -124,7 +124,7 @@ ascends_map e no_runs = no_runs
 ascends_map e (one_more {es = x} {rs = rs} ahead A) =
     one_more {es = e ∷ x} (λ y s. let (z, m, q) = of_map (λ es. e ∷ es) rs (stands_among s) in rw (← q) (alike (ahead z (among_stands m)))) (ascends_map e A)
 
-module _ (step : System → Event → Result) (f : ℕ) where
+module _ (step : System → Event → EventOutcome) (f : ℕ) where
   ascends_each : (left : ℕ) (w : System) → ((e : Event) → Ascends (onward step f left w e)) → {l : List Event} → Rising l
       → Ascends (each (onward step f left w) l)
   ascends_each left w h none = no_runs

@@ -20,7 +20,7 @@ use Rattle.system.specs.Numbered.{client_no, server_no, span}
 use Rattle.system.specs.Setting.{takes}
 use Rattle.system.specs.Limits.{system_messages, last_number}
 use Rattle.system.specs.Places.{System}
-use Rattle.system.specs.Events.{Result, nothing, with_places}
+use Rattle.system.specs.Events.{EventOutcome, nothing, with_places}
 use Rattle.system.specs.Runs.{after, run_from}
 use Rattle.system.proofs.Branch.{branch, bit-one}
 use Rattle.system.proofs.Restarts.{length-span}
@@ -68,13 +68,13 @@ same-both : {A : Type 0} (x : A) (b : Bool) → (if b then x else x) ≡ x
 same-both x true = refl
 same-both x false = refl
 
-room-enough : (places last : ℕ) (w : System) (o : Result) → length (after w o).transit ≤ places → (after w o).sent ≤ last → with_places places last o ≡ o
+room-enough : (places last : ℕ) (w : System) (o : EventOutcome) → length (after w o).transit ≤ places → (after w o).sent ≤ last → with_places places last o ≡ o
 unfolding after with_places
 room-enough places last w (refused x) a b = refl
 room-enough places last w (stepped v) a b =
     rw (le-leb (length v.state.transit) places a, le-leb v.state.sent last b) (same-both (stepped v) (nothing v.sent))
 
-abbrev bounded : Setting → System → Event → Result
+abbrev bounded : Setting → System → Event → EventOutcome
 bounded s w e = with_places system_messages last_number (step s w e)
 
 module _ (s : Setting) (servers : s.n ≤ listed_servers) where

@@ -7,7 +7,7 @@ use Rattle.system.specs.declared.Setting.{Setting}
 use Rattle.system.specs.Numbered.{client_no, server_no, span}
 use Rattle.system.specs.Setting.{takes}
 use Rattle.system.specs.Places.{System}
-use Rattle.system.specs.Events.{Result, event}
+use Rattle.system.specs.Events.{EventOutcome, event}
 use Rattle.system.specs.Runs.{after, is_stepped, most_holders, start}
 
 -- the sizes up to which runs are listed
@@ -43,7 +43,7 @@ abbrev pub candidates : System → List Event
 candidates w = events_of (length w.clients) (length w.servers) w.sent
 
 -- by a step that says what an event does, within f servers ever down within one epoch
-module _ (step : System → Event → Result) (f : ℕ) where
+module _ (step : System → Event → EventOutcome) (f : ℕ) where
   -- the event is accepted, and what was a run is one still
   abbrev pub goes_on : System → Event → Bool
   goes_on w e = is_stepped (step w e) && leb (after w (step w e)).most f
@@ -55,7 +55,7 @@ module _ (step : System → Event → Result) (f : ℕ) where
       each (λ e. if goes_on w e then map (λ es. e ∷ es) ([] ∷ follow left (after w (step w e))) else []) (candidates w)
 
 -- the events of a setting, and its start
-abbrev pub step : Setting → System → Event → Result
+abbrev pub step : Setting → System → Event → EventOutcome
 step s = event s.n (enough s.m)
 
 abbrev pub fresh : Setting → System

@@ -12,11 +12,12 @@ use lib.Dec.{leb, ltb, eqb}
 use lib.ListN.{length}
 use lib.Seq.{sets}
 use borrow.Author.Tests.{le-leb, lt-leb}
-use Rattle.std.specs.Prelude.{if◌then◌else◌, Ok, Err, Option}
+use Rattle.std.specs.Prelude.{Result, if◌then◌else◌, Ok, Err, Option}
 use Rattle.ids.specs.Limits.{max_servers, earlier_servers, within, valid_client, valid_timestamp, valid_parties_up_to, valid_stamped_up_to}
 use Rattle.ids.specs.declared.ClientId.{ClientId}
 use Rattle.ids.specs.declared.ServerId.{ServerId}
 use Rattle.ids.specs.declared.Timestamp.{Timestamp}
+use Rattle.ids.specs.declared.Refusal.{Refusal}
 use Rattle.ids.specs.declared.Refusal.TheVariants.{HeaderShort, KindUnknown, LengthWrong, MessageCut, NumberOutOfRange, RoomShort, InvalidRecord}
 use Rattle.ids.proofs.Choice.{decided, and_true}
 use Rattle.wire.specs.Format.{valid_up_to, valid_response_up_to, valid_named, valid, fields_of, bytes_of, server_named, message_of, fields_in, kind_in, length_in, length_of, known, size_of}
@@ -75,7 +76,7 @@ read_known_lem s =
     (by_tests m (length_of (kind_in s)) (ltb (length s) 4) (not (known (kind_in s))) (not (eqb (length_in s) (length_of (kind_in s))))
     (ltb (length s) (length_of (kind_in s))) (valid m))
   where
-    by_last : (m : Message) (n : ℕ) (k : Bool) → (if not k then Err NumberOutOfRange else Ok (m, n)) ≡ (if k then Ok (m, n) else Err NumberOutOfRange)
+    by_last : (m : Message) (n : ℕ) (k : Bool) → ◌≡◌ {A = Result (Message × ℕ) Refusal} (if not k then Err NumberOutOfRange else Ok (m, n)) (if k then Ok (m, n) else Err NumberOutOfRange)
     by_last m n true = refl
     by_last m n false = refl
 

@@ -11,7 +11,7 @@ use lib.ListN.{length, get_or, set, take, drop, replicate, length-map, length-se
 use lib.Seq.{sets, length-sets}
 use borrow.Rule.Slice.PartMut.{put_mid, put_same}
 use borrow.Author.Tests.{eq-eqb, ne_eqb, le-leb, lt-leb, leb-false, lt-ltb, le-ltb}
-use Rattle.std.specs.Prelude.{if◌then◌else◌, Ok, Err, Some, None, Option}
+use Rattle.std.specs.Prelude.{Result, if◌then◌else◌, Ok, Err, Some, None, Option}
 use Rattle.ids.specs.Limits.{within, max_short}
 use Rattle.ids.specs.declared.Refusal.{Refusal}
 use Rattle.ids.specs.declared.Refusal.TheVariants.{BadLine, ParameterOutOfRange, NoSuchParty}
@@ -24,7 +24,7 @@ use Rattle.system.specs.declared.Event.{Event}
 use Rattle.system.specs.declared.Event.TheVariants.{Try, Exit, Fall, Down, Up, Take, Drop, Miss, Check}
 use Rattle.system.specs.Numbered.{has}
 use Rattle.system.specs.Places.{System, is_inside, holders}
-use Rattle.system.specs.Events.{Result, with_places}
+use Rattle.system.specs.Events.{EventOutcome, with_places}
 use Rattle.system.specs.Runs.{after, is_stepped}
 use Rattle.sim_blocks.specs.Regions.{blocks}
 use Rattle.sim_blocks.proofs.RegionBlocks.{length-blocks}
@@ -98,7 +98,7 @@ few-holders s v =
     omega (arith, a, b, c, count-few (map is_inside (blocks client_block client_place (get_or s 3 0) (layout.client_words s))))
 
 -- the line of a reply is the line of the event's outcome
-reply-line : (i : ℕ) (u : System) (o : Result) → reply_line i (bounded.reply_of u o) ≡ answer_line i u o
+reply-line : (i : ℕ) (u : System) (o : EventOutcome) → reply_line i (bounded.reply_of u o) ≡ answer_line i u o
 unfolding bounded.reply_of reply_line answer_line
 reply-line i u (refused x) = refl
 reply-line i u (stepped s) = refl
@@ -196,7 +196,7 @@ module _ (w out : List ℕ) (at : ℕ) (R : Ready w out at) where
       abbrev before : Run
       before = run_in (counts_in (head_in w)) (simulation_in w)
 
-      abbrev outcome : Result
+      abbrev outcome : EventOutcome
       outcome = bounded.happens (simulation_in w) e
 
       abbrev head : Head

@@ -16,7 +16,7 @@ use Rattle.ids.specs.declared.Refusal.TheVariants.{BadLine, ParameterOutOfRange}
 use Rattle.ids.proofs.Choice.{decided, Test}
 use Rattle.system.specs.declared.Event.{Event}
 use Rattle.system.specs.Places.{System}
-use Rattle.system.specs.Events.{Result}
+use Rattle.system.specs.Events.{EventOutcome}
 use Rattle.system.specs.Runs.{after}
 use Rattle.simulation.specs.Opens.{in_range}
 use Rattle.sim_run.specs.Run.{Run, fresh, started, happens, next, plays}
@@ -200,7 +200,7 @@ module _ (s : Setting) where
         answer_line (suc r.answered) r.run.system (happens s r.run.system x) ++ to_come (onward r (next r.run x)) tl ≡ to_come r (l ∷ tl)
     unfolding plays
     event-told tl x e =
-        let o : Result = happens s r.run.system x in
+        let o : EventOutcome = happens s r.run.system x in
         let w : (next r.run x).system ≡ after r.run.system o = moved-system r.run _ ∙
         ap (λ (t : Setting). after r.run.system (happens t r.run.system x)) q in
         sym (append_assoc (answer_line (suc r.answered) r.run.system o) (answers s (suc (suc r.answered)) (next r.run x).system tl) _) ∙

@@ -5,7 +5,7 @@ use Rattle.ids.specs.declared.Refusal.TheVariants.{BadLine, ParameterOutOfRange}
 use Rattle.wire.specs.Step.{refused, stepped}
 use Rattle.system.specs.declared.Event.{Event}
 use Rattle.system.specs.Places.{System, holders}
-use Rattle.system.specs.Events.{Result}
+use Rattle.system.specs.Events.{EventOutcome}
 use Rattle.system.specs.Runs.{after, run_by, accepted_events, most_holders}
 use Rattle.simulation.specs.Opens.{in_range}
 use Rattle.sim_run.specs.Run.{fresh, happens}
@@ -31,7 +31,7 @@ lines_of (b ∷ s) = if eqb b newline then [] ∷ lines_of s else continued b (l
 -- event lines ---------------------------------------------------------------------------------------------------------------------
 
 -- the answer to event number i, which gave o
-unfoldable pub answer_line : ℕ → System → Result → List ℕ
+unfoldable pub answer_line : ℕ → System → EventOutcome → List ℕ
 answer_line i w (refused x) = no_line i x
 answer_line i w (stepped t) = ok_line i (length t.sent) (holders (after w (stepped t)))
 

@@ -18,7 +18,7 @@ use Rattle.wire.specs.Step.{refused, stepped}
 use Rattle.system.specs.declared.Event.{Event}
 use Rattle.system.specs.declared.Setting.{Setting}
 use Rattle.system.specs.Places.{System}
-use Rattle.system.specs.Events.{Result}
+use Rattle.system.specs.Events.{EventOutcome}
 use Rattle.simulation.specs.Opens.{in_range}
 use Rattle.sim_run.specs.Run.{happens, next}
 use Rattle.ids.proofs.Choice.{decided, Test}
@@ -117,7 +117,7 @@ unfolding Speaks opened
 opened_speaks None = refused_some BadLine
 opened_speaks (Some s) = either_speaks (in_range s) _ _ (header_some s) (refused_some ParameterOutOfRange)
 
-answer_some : (i : ℕ) (w : System) (o : Result) → answer_line i w o ≡ [] → ⊥
+answer_some : (i : ℕ) (w : System) (o : EventOutcome) → answer_line i w o ≡ [] → ⊥
 unfolding answer_line
 answer_some i w (refused x) = no_some i x
 answer_some i w (stepped s) = ok_some i _ _

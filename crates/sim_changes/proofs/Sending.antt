@@ -9,7 +9,7 @@ use lib.Dec.{eqb, leb}
 use lib.ListN.{length, length-append}
 use lib.Seq.{sets}
 use borrow.Author.Tests.{ne_eqb, le-ltb}
-use Rattle.std.specs.Prelude.{if◌then◌else◌, Ok, Err, ⊤}
+use Rattle.std.specs.Prelude.{Result, if◌then◌else◌, Ok, Err, ⊤}
 use Rattle.ids.specs.declared.Refusal.{Refusal}
 use Rattle.ids.specs.declared.Refusal.TheVariants.{SystemFull}
 use Rattle.ids.proofs.Choice.{clash}
@@ -21,7 +21,7 @@ use Rattle.system.specs.Limits.{last_number, system_messages, system_servers}
 use Rattle.system.specs.declared.Event.{Event}
 use Rattle.system.specs.Transit.{InTransit, numbered}
 use Rattle.system.specs.Places.{System}
-use Rattle.system.specs.Events.{Result, event, nothing, with_places}
+use Rattle.system.specs.Events.{EventOutcome, event, nothing, with_places}
 use Rattle.system.specs.Runs.{after}
 use Rattle.sim_transit.specs.Slots.{messages_in}
 use Rattle.sim_transit.proofs.PostLaws.{messages_read_buffer}
@@ -41,7 +41,7 @@ pub record Steps (w : List ℕ) (e : Event) (gone : ℕ) (l : List Message) (s :
   pub last : s.state.sent ≡ sent_of w + length l
   pub sends : Sends (setting_of w).n (setting_of w).clients l
 
-by_list : (l : List Message) (b : Bool) (x y : Result) → (if nothing l then x else if b then x else y) ≡ (if eqb (length l) 0 || b then x else y)
+by_list : (l : List Message) (b : Bool) (x y : EventOutcome) → (if nothing l then x else if b then x else y) ≡ (if eqb (length l) 0 || b then x else y)
 by_list [] b x y = refl
 by_list (m ∷ l) b x y = rw (ne_eqb (length (m ∷ l)) 0 (λ h. omega arith))
 

@@ -1,7 +1,7 @@
 -- What an event does to a simulation: the system's event with refusal 19, seen through `view`.
 use Rattle.sim_changes.specs.declared.Effect.{Effect}
 use Rattle.ids.specs.declared.Refusal.{Refusal}
-use Rattle.std.specs.Prelude.{◌≡◌, ℕ, true, false, List, [], ◌∷◌, length, if◌then◌else◌, Ok, Err}
+use Rattle.std.specs.Prelude.{Result, ◌≡◌, ℕ, true, false, List, [], ◌∷◌, length, if◌then◌else◌, Ok, Err}
 use Rattle.ids.specs.Refusals.{code, Says, accepts, refuses}
 use Rattle.ids.specs.declared.Refusal.TheVariants.{InvalidRecord}
 use Rattle.wire.specs.Step.{refused, stepped}
@@ -9,16 +9,16 @@ use Rattle.client_responses.specs.Figure1.{enough}
 use Rattle.system.specs.Limits.{system_messages, last_number}
 use Rattle.system.specs.declared.Event.{Event}
 use Rattle.system.specs.Places.{System, holders}
-use Rattle.system.specs.Events.{Result, event, with_places}
+use Rattle.system.specs.Events.{EventOutcome, event, with_places}
 use Rattle.system.specs.Runs.{after, is_stepped}
 use Rattle.sim_layout.specs.Layout.{setting_of, view, valid}
 
 -- an event with n servers and threshold m
-abbrev pub bounded : ℕ → ℕ → System → Event → Result
+abbrev pub bounded : ℕ → ℕ → System → Event → EventOutcome
 bounded n m u e = with_places system_messages last_number (event n (enough m) u e)
 
 -- the event's outcome
-abbrev pub happens : List ℕ → Event → Result
+abbrev pub happens : List ℕ → Event → EventOutcome
 happens w e = bounded (setting_of w).n (setting_of w).m (view w) e
 
 -- of a valid simulation w the words w' are what the event leaves: valid again, and so with the index made afresh from their messages
@@ -29,12 +29,12 @@ pub record Leaves (w : List ℕ) (e : Event) (w' : List ℕ) : Type 0 where
   pub kept : is_stepped (happens w e) ≡ false → w' ≡ w
 
 -- how many messages the event sent, or its refusal
-abbrev pub moved_of : Result → Result ℕ Refusal
+abbrev pub moved_of : EventOutcome → Result ℕ Refusal
 moved_of (refused x) = Err x
 moved_of (stepped s) = Ok (length s.sent)
 
 -- the same with the living holders afterwards
-unfoldable pub reply_of : System → Result → Result Effect Refusal
+unfoldable pub reply_of : System → EventOutcome → Result Effect Refusal
 reply_of u (refused x) = Err x
 reply_of u (stepped s) = Ok (record { sent = length s.sent; holders = holders (after u (stepped s)) })
 
@@ -51,7 +51,7 @@ abbrev pub reply_says : Result Effect Refusal → Says ℕ
 reply_says (Err x) = refuses (code x)
 reply_says (Ok s) = accepts (s.sent ∷ s.holders ∷ [])
 
-abbrev pub result_says : System → Result → Says ℕ
+abbrev pub result_says : System → EventOutcome → Says ℕ
 result_says u (refused x) = refuses (code x)
 result_says u (stepped s) = accepts (length s.sent ∷ holders (after u (stepped s)) ∷ [])
 

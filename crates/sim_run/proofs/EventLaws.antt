@@ -1,6 +1,6 @@
 -- An event of a run: the simulation's reply says which case of the run's step it is, and the counts follow the reply.
 use Rattle.sim_changes.specs.declared.Effect.{Effect}
-use Rattle.std.specs.Prelude.{Ok, Err}
+use Rattle.std.specs.Prelude.{Result, Ok, Err}
 use mathlib.Core.Path.{◌≡◌, sym, ap, ◌∙◌}
 use Prim.Native.Nat.{ℕ, ◌+◌, max}
 use mathlib.Core.List.{List}
@@ -11,7 +11,7 @@ use Rattle.wire.specs.Step.{refused, stepped}
 use Rattle.system.specs.declared.Setting.{Setting}
 use Rattle.system.specs.declared.Event.{Event}
 use Rattle.system.specs.Places.{System}
-use Rattle.system.specs.Events.{Result}
+use Rattle.system.specs.Events.{EventOutcome}
 use Rattle.system.specs.Runs.{after}
 use Rattle.sim_layout.specs.Layout.{setting_of, view, valid}
 use Rattle.sim_layout.proofs.ValidLaws as layout_laws
@@ -32,7 +32,7 @@ unfolding counted
 counted-accepted c r sent holders k e q = rw (e, q)
 
 -- from the outcome to the run after it
-outcome : (s : Setting) (u v : System) (o : Result) → v ≡ after u o → (c d : Counts) → d ≡ counted c (reply_of u o) →
+outcome : (s : Setting) (u v : System) (o : EventOutcome) → v ≡ after u o → (c d : Counts) → d ≡ counted c (reply_of u o) →
     ◌≡◌ {A = Run} (record { setting = s; system = v; accepted = d.accepted; holding = d.holding })
     (moved (record { setting = s; system = u; accepted = c.accepted; holding = c.holding }) o)
 unfolding moved counted reply_of after

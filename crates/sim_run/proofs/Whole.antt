@@ -10,7 +10,7 @@ use Rattle.system.specs.Limits.{system_messages, last_number}
 use Rattle.system.specs.declared.Setting.{Setting}
 use Rattle.system.specs.declared.Event.{Event}
 use Rattle.system.specs.Places.{System, holders}
-use Rattle.system.specs.Events.{Result}
+use Rattle.system.specs.Events.{EventOutcome}
 use Rattle.system.specs.Runs.{after, is_stepped, run_by, accepted_events, most_holders}
 use Rattle.system.specs.Downs.{most_down}
 use Rattle.system.proofs.Downs.{most-down, places-follow}
@@ -33,23 +33,23 @@ most-least s w (e ∷ es) = omega arith
 
 -- one event, which gave o
 module _ (r : Run) where
-  pub moved-setting : (o : Result) → (moved r o).setting ≡ r.setting
+  pub moved-setting : (o : EventOutcome) → (moved r o).setting ≡ r.setting
   unfolding moved
   moved-setting (refused x) = refl
   moved-setting (stepped t) = refl
 
-  pub moved-system : (o : Result) → (moved r o).system ≡ after r.system o
+  pub moved-system : (o : EventOutcome) → (moved r o).system ≡ after r.system o
   unfolding moved after
   moved-system (refused x) = refl
   moved-system (stepped t) = refl
 
-  pub moved-accepted : (o : Result) → (moved r o).accepted ≡ r.accepted + (if is_stepped o then 1 else 0)
+  pub moved-accepted : (o : EventOutcome) → (moved r o).accepted ≡ r.accepted + (if is_stepped o then 1 else 0)
   unfolding moved
   moved-accepted (refused x) = omega arith
   moved-accepted (stepped t) = refl
 
   module _ (h : holders r.system ≤ r.holding) where
-    pub moved-holding : (o : Result) → (moved r o).holding ≡ max r.holding (holders (after r.system o))
+    pub moved-holding : (o : EventOutcome) → (moved r o).holding ≡ max r.holding (holders (after r.system o))
     unfolding moved after
     moved-holding (refused x) = omega (arith, h)
     moved-holding (stepped t) = refl
@@ -57,7 +57,7 @@ module _ (r : Run) where
     by_counts : (e : Event) (es : List Event) → ahead (next r e) es ≡ ahead r (e ∷ es)
     unfolding accepted_events most_holders run_by
     by_counts e es =
-        let o : Result = happens r.setting r.system e in
+        let o : EventOutcome = happens r.setting r.system e in
         let w : System = after r.system o in
         let b : ℕ = if is_stepped o then 1 else 0 in
         let n : ℕ = accepted_events (happens r.setting) w es in
@@ -78,7 +78,7 @@ plays-ahead [] r h =
     let y : r.holding ≡ max r.holding (holders r.system) = omega (arith, h) in
     λ i. record { setting = r.setting; system = r.system; accepted = x i; holding = y i }
 plays-ahead (e ∷ es) r h =
-    let o : Result = happens r.setting r.system e in
+    let o : EventOutcome = happens r.setting r.system e in
     let k : holders (next r e).system ≤ (next r e).holding = rw (moved-system r o, moved-holding r h o) (omega arith) in
     plays-ahead es (next r e) k ∙ by_counts r h e es
 

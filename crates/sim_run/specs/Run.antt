@@ -6,7 +6,7 @@ use Rattle.client_responses.specs.Figure1.{enough}
 use Rattle.system.specs.declared.Setting.{Setting}
 use Rattle.system.specs.declared.Event.{Event}
 use Rattle.system.specs.Places.{System, holders}
-use Rattle.system.specs.Events.{Result}
+use Rattle.system.specs.Events.{EventOutcome}
 use Rattle.system.specs.Runs.{after, start}
 use Rattle.sim_changes.specs.Happens.{bounded}
 
@@ -24,11 +24,11 @@ abbrev pub started : Setting → Run
 started s = record { setting = s; system = fresh s; accepted = 0; holding = holders (fresh s) }
 
 -- an event of the simulation: the system's, with refusal 19
-abbrev pub happens : Setting → System → Event → Result
+abbrev pub happens : Setting → System → Event → EventOutcome
 happens s w e = bounded s.n s.m w e
 
 -- after an event, which gave o
-unfoldable pub moved : Run → Result → Run
+unfoldable pub moved : Run → EventOutcome → Run
 moved r (refused x) = r
 moved r (stepped t) =
     record {

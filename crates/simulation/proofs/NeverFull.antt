@@ -25,11 +25,11 @@ use Rattle.system.specs.declared.Event.TheVariants.{Try, Exit, Fall, Down, Up, T
 use Rattle.system.specs.Numbered.{has}
 use Rattle.system.specs.Transit.{pending, present}
 use Rattle.system.specs.Places.{System, client_at, server_at}
-use Rattle.system.specs.Events.{Result, need, tried, exited, fallen, went_down, came_up, server_took, response_took, check_took, dropped, suspected, asked, deliver, event, nothing, with_places}
+use Rattle.system.specs.Events.{EventOutcome, need, tried, exited, fallen, went_down, came_up, server_took, response_took, check_took, dropped, suspected, asked, deliver, event, nothing, with_places}
 use Rattle.sim_layout.specs.Layout.{setting_of, view}
 use Rattle.sim_changes.specs.Happens.{happens}
 
-abbrev Never : Result → Type 0
+abbrev Never : EventOutcome → Type 0
 Never o = o ≡ refused QueueFull → ⊥
 
 step_never : (s : Step System) → Never (stepped s)
@@ -57,12 +57,12 @@ spent_never e = let z : ◌≡◌ {A = ℕ} 0 1 = cc in omega arith
 places_never : Never (refused SystemFull)
 places_never e = let z : ◌≡◌ {A = ℕ} 0 1 = cc in omega arith
 
-need_never : (b : Bool) (x : Refusal) (o : Result) → Never (refused x) → Never o → Never (need b x o)
+need_never : (b : Bool) (x : Refusal) (o : EventOutcome) → Never (refused x) → Never o → Never (need b x o)
 need_never true x o f g e = g e
 need_never false x o f g e = f e
 
 -- a party that is there, then one that lives or is up, then the rest
-party_need : (a b : Bool) (o : Result) → Never o → Never (need a NoSuchParty (need b PartyDown o))
+party_need : (a b : Bool) (o : EventOutcome) → Never o → Never (need a NoSuchParty (need b PartyDown o))
 party_need a b o f = need_never a NoSuchParty (need b PartyDown o) party_never (need_never b PartyDown o down_never f)
 
 up_step : (b : Bool) (s : Step System) → Never (need b PartyDown (stepped s))
@@ -104,11 +104,11 @@ module _ (n : ℕ) (wins : Quorum) (u : System) where
   event_never (Miss j) = party_need (has u.servers j.0) (server_at u j).up _ (missed_never j (server_at u j).state.owner)
   event_never (Check j) = party_need (has u.servers j.0) (server_at u j).up (stepped (asked u j)) (step_never (asked u j))
 
-if_never : (a b : Result) (x : Bool) → Never a → Never b → Never (if x then a else b)
+if_never : (a b : EventOutcome) (x : Bool) → Never a → Never b → Never (if x then a else b)
 if_never a b true f g = f
 if_never a b false f g = g
 
-room_never : (places last : ℕ) (o : Result) → Never o → Never (with_places places last o)
+room_never : (places last : ℕ) (o : EventOutcome) → Never o → Never (with_places places last o)
 unfolding with_places
 room_never places last (refused x) f = f
 room_never places last (stepped s) f =

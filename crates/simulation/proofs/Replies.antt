@@ -1,6 +1,6 @@
 -- The last steps: an event's variant, its answer with the living holders, and the answer for words that may be no simulation.
 use Rattle.sim_changes.specs.declared.Effect.{Effect}
-use Rattle.std.specs.Prelude.{Ok, Err}
+use Rattle.std.specs.Prelude.{Result, Ok, Err}
 use mathlib.Core.Path.{◌≡◌, refl, sym, ap, ◌∙◌}
 use Prim.Native.Nat.{ℕ}
 use native.Mathlib.Omega.{arith}
@@ -13,7 +13,7 @@ use Rattle.ids.proofs.Choice.{clash, holds, fails, of_choice}
 use Rattle.wire.specs.Step.{refused, stepped}
 use Rattle.system.specs.declared.Event.{Event}
 use Rattle.system.specs.Places.{System, holders}
-use Rattle.system.specs.Events.{Result}
+use Rattle.system.specs.Events.{EventOutcome}
 use Rattle.system.specs.Runs.{after}
 use Rattle.sim_layout.specs.Layout.{view, valid}
 use Rattle.sim_changes.specs.Happens.{happens, Leaves, moved_of, reply_of, EventLeaves, event_reply, reply_says, result_says, event_says}
@@ -23,12 +23,12 @@ pub as_event : {w w' : List ℕ} {r : Result ℕ Refusal} {e e' : Event} → e �
 as_event p h = rw p h
 
 -- a refusal, and an answer with the holders v has
-refused-reply : (u : System) (o : Result) (x : Refusal) → Err x ≡ moved_of o → Err x ≡ reply_of u o
+refused-reply : (u : System) (o : EventOutcome) (x : Refusal) → Err x ≡ moved_of o → Err x ≡ reply_of u o
 unfolding reply_of
 refused-reply u (refused y) x h = let z : x ≡ y = cc in ap (λ (a : Refusal). Err a) z
 refused-reply u (stepped s) x h = let z : ◌≡◌ {A = ℕ} 0 1 = cc in absurd (omega arith)
 
-accepted-reply : (u : System) (o : Result) (v : System) (c : ℕ) → v ≡ after u o → Ok c ≡ moved_of o → Ok (record { sent = c; holders = holders v }) ≡ reply_of u o
+accepted-reply : (u : System) (o : EventOutcome) (v : System) (c : ℕ) → v ≡ after u o → Ok c ≡ moved_of o → Ok (record { sent = c; holders = holders v }) ≡ reply_of u o
 unfolding reply_of
 accepted-reply u (refused y) v c g h = let z : ◌≡◌ {A = ℕ} 0 1 = cc in absurd (omega arith)
 accepted-reply u (stepped s) v c g h =
@@ -56,7 +56,7 @@ module _ (w : List ℕ) (e : Event) (b : Bool) (t : b ≡ valid w) where
       (record { valid_leaves = λ y. h.0; invalid_kept = λ y. clash (valid w) yes y }, rw yes h.1)
 
 -- the same in document 01's numbers
-pub result_row : (u : System) (o : Result) → reply_says (reply_of u o) ≡ result_says u o
+pub result_row : (u : System) (o : EventOutcome) → reply_says (reply_of u o) ≡ result_says u o
 unfolding reply_of
 result_row u (refused x) = refl
 result_row u (stepped s) = refl

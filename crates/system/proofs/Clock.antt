@@ -27,7 +27,7 @@ use Rattle.system.specs.declared.Receiver.TheVariants.{Client, Server}
 use Rattle.system.specs.Numbered.{at, put}
 use Rattle.system.specs.Transit.{pending}
 use Rattle.system.specs.Places.{System, ClientPlace, no_client, client_at}
-use Rattle.system.specs.Events.{Result, deliver, event}
+use Rattle.system.specs.Events.{EventOutcome, deliver, event}
 use Rattle.system.specs.Runs.{after, is_stepped, next, run_by, run_from}
 use Rattle.system.specs.Index.{receiver_of}
 use Rattle.system.specs.Clock as clock
@@ -51,7 +51,7 @@ module _ (n : ℕ) (wins : Quorum) where
         each (put-flagged no_client (λ x. x.living) refl w.clients k.0 c lives) (λ x. seen_by w i ≤ x.state.seen.0) i
         (λ e. rw e more) (λ _. le_refl _)
 
-    kept : {e : Event} {o : Result} → Effect n wins w e o → (i : ℕ) → seen_by w i ≤ seen_by (after w o) i
+    kept : {e : Event} {o : EventOutcome} → Effect n wins w e o → (i : ℕ) → seen_by w i ≤ seen_by (after w o) i
     unfolding after tries exits
     kept refuses i = le_refl _
     kept (begins {k = k} lives _ _) i = changes k _ lives (le_refl _) i
@@ -100,7 +100,7 @@ module _ (n : ℕ) (wins : Quorum) where
     sees i (INQUIRY a j t) k e to lives = no_client_lem j k to
 
     -- the timestamp of a try
-    tries-above : (k : ClientId) {o : Result} → Effect n wins w (Try k) o → is_stepped o ≡ true
+    tries-above : (k : ClientId) {o : EventOutcome} → Effect n wins w (Try k) o → is_stepped o ≡ true
         → seen_by w k.0 < (at no_client (after w o).clients k.0).state.timestamp.0
     unfolding after tries newer
     tries-above k refuses h = absurd (false≢true h)

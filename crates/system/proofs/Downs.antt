@@ -20,7 +20,7 @@ use Rattle.system.specs.declared.Event.{Event}
 use Rattle.system.specs.declared.Event.TheVariants.{Down}
 use Rattle.system.specs.Numbered.{at, put, member, added, client_no, server_no}
 use Rattle.system.specs.Places.{ClientPlace, ServerPlace, System, no_client, no_server, client_at, server_at, in_epoch, down_from, downed, worst}
-use Rattle.system.specs.Events.{Result, event, went_down, nothing, with_places}
+use Rattle.system.specs.Events.{EventOutcome, event, went_down, nothing, with_places}
 use Rattle.system.specs.Runs.{after, is_stepped, run_by, start, run}
 use Rattle.system.specs.Downs as epochs
 use Rattle.system.specs.Downs.{is_down, down_now, either, ends, ever_down, most_down, Follows}
@@ -36,16 +36,16 @@ use Rattle.system.proofs.Flags.{Marked, numbers, length-numbers, member-numbers,
 -- what an event does to a client's epoch ------------------------------------------------------------------------------------
 
 -- the client whose epoch begins: an event that gave o is that client's accepted try
-abbrev begun : Event → Result → Option ClientId
+abbrev begun : Event → EventOutcome → Option ClientId
 begun e o = if is_stepped o then epochs.begins e else None
 
 -- the event neither begins nor ends client k's epoch
-record Passes (k : ClientId) (e : Event) (o : Result) : Type 0 where
+record Passes (k : ClientId) (e : Event) (o : EventOutcome) : Type 0 where
   ends : is_stepped o && ends k e ≡ false
   begins : begun e o ≡ Some k → ⊥
 
 -- client k's place is c before the event and c' after it, the servers are q and q'
-data Turn (k : ClientId) (e : Event) (o : Result) (q q' : List ServerPlace) (c c' : ClientPlace) : Type 0 where
+data Turn (k : ClientId) (e : Event) (o : EventOutcome) (q q' : List ServerPlace) (c c' : ClientPlace) : Type 0 where
   opens : begun e o ≡ Some k → q' ≡ q → in_epoch c ≡ false → in_epoch c' ≡ true
       → c'.downs ≡ down_from 1 q → Turn k e o q q' c c'
   closes : is_stepped o && ends k e ≡ true → (begun e o ≡ Some k → ⊥) → in_epoch c' ≡ false → c'.downs ≡ [] → Turn k e o q q' c c'
@@ -62,13 +62,13 @@ now-down (q ∷ l) (suc i) v h e = now-down l i v (omega arith) e
 none_some : {i : ClientId} → ◌≡◌ {A = Option ClientId} None (Some i) → ⊥
 none_some e = let z : ◌≡◌ {A = ℕ} 0 1 = cc in omega arith
 
-passed : {e : Event} (o : Result) (i : ClientId) → epochs.begins e ≡ None → ends i e ≡ false → Passes i e o
+passed : {e : Event} (o : EventOutcome) (i : ClientId) → epochs.begins e ≡ None → ends i e ≡ false → Passes i e o
 passed (refused x) i b n = record { ends = refl; begins = none_some }
 passed (stepped v) i b n = record { ends = n; begins = λ q. none_some (sym b ∙ q) }
 
 module _ {n : ℕ} {wins : Quorum} {w : System} (s : Safe n wins w) where
   -- the place of client k is the only one to change
-  turn_one : (k : ClientId) (c : ClientPlace) {e : Event} {o : Result} {q : List ServerPlace} → (client_at w k).living ≡ true →
+  turn_one : (k : ClientId) (c : ClientPlace) {e : Event} {o : EventOutcome} {q : List ServerPlace} → (client_at w k).living ≡ true →
       ((i : ClientId) → (i.0 ≡ k.0 → ⊥) → Passes i e o) → Turn k e o w.servers q (client_at w k) c →
       (i : ClientId) → Turn i e o w.servers q (client_at w i) (at no_client (put w.clients k.0 c) i.0)
   turn_one k c {e} {o} {q} lives others t i =
@@ -78,7 +78,7 @@ module _ {n : ℕ} {wins : Quorum} {w : System} (s : Safe n wins w) where
       (λ ne. stays (others i ne) refl refl)
 
   -- it has made a step in its section
-  turn_step : (k : ClientId) (c : ClientState) {e : Event} {o : Result} → (client_at w k).living ≡ true → ((i : ClientId) → Passes i e o) →
+  turn_step : (k : ClientId) (c : ClientState) {e : Event} {o : EventOutcome} → (client_at w k).living ≡ true → ((i : ClientId) → Passes i e o) →
       is_remainder c.section ≡ is_remainder (client_at w k).state.section →
       (i : ClientId) → Turn i e o w.servers w.servers (client_at w i)
       (at no_client (put w.clients k.0 (record { living = true; state = c; downs = (client_at w k).downs })) i.0)
@@ -98,7 +98,7 @@ module _ {n : ℕ} {wins : Quorum} {w : System} (s : Safe n wins w) where
       (λ ep. counts passes ep ep x (now-down w.servers x _ (flagged_in no_server (λ q. q.up) refl w.servers (suc x) up).1 refl) refl)
       (λ _. stays passes refl refl))
 
-  turn : {e : Event} {o : Result} → Effect n wins w e o → (i : ClientId) →
+  turn : {e : Event} {o : EventOutcome} → Effect n wins w e o → (i : ClientId) →
       Turn i e o w.servers (after w o).servers (client_at w i) (client_at (after w o) i)
   unfolding after tries exits
   turn refuses = λ i. stays (record { ends = refl; begins = none_some }) refl refl
@@ -132,7 +132,7 @@ record Known (n : ℕ) (wins : Quorum) (w : System) : Type 0 where
   inv : Inv n wins w
   marked : (k : ClientId) → Marked (client_at w k).downs
 
-turn_marked : {k : ClientId} {e : Event} {o : Result} {q q' : List ServerPlace} {c c' : ClientPlace} → Turn k e o q q' c c'
+turn_marked : {k : ClientId} {e : Event} {o : EventOutcome} {q q' : List ServerPlace} {c c' : ClientPlace} → Turn k e o q q' c c'
     → Marked c.downs → Marked c'.downs
 turn_marked {q = q} (opens _ _ _ _ d) m = record { flags = map is_down q; same = d ∙ down-numbers 1 q }
 turn_marked (closes _ _ _ d) m = record { flags = []; same = d }
@@ -157,7 +157,7 @@ down_in : {n : ℕ} {wins : Quorum} {w : System} → Inv n wins w → (k : Clien
 down_in {w = w} v k ep i h = v.safe.nest.now k.0 ep (suc i) (rw (down-numbers 1 w.servers, member-numbers (down_now w) i) h)
 
 -- the servers ever down from now on in client k's epoch, as the first event ends it or not
-module _ (step : System → Event → Result) (k : ClientId) where
+module _ (step : System → Event → EventOutcome) (k : ClientId) where
   module _ (w : System) (e : Event) (es : List Event) where
     ever-ends : is_stepped (step w e) && ends k e ≡ true → ever_down step k w (e ∷ es) ≡ down_now w
     unfolding ever_down
@@ -177,15 +177,15 @@ module _ (step : System → Event → Result) (k : ClientId) where
       go (inl q) = rw (ever-ends w e es q) h
       go (inr q) = rw (ever-goes w e es q) (either_left (down_now w) (ever_down step k (after w (step w e)) es) i h)
 
-module _ (n : ℕ) (wins : Quorum) (step : System → Event → Result) (follows : Follows n wins step) where
-  effects : (w : System) (e : Event) (o : Result) → (is_stepped o ≡ true → o ≡ event n wins w e) → Effect n wins w e o
+module _ (n : ℕ) (wins : Quorum) (step : System → Event → EventOutcome) (follows : Follows n wins step) where
+  effects : (w : System) (e : Event) (o : EventOutcome) → (is_stepped o ≡ true → o ≡ event n wins w e) → Effect n wins w e o
   effects w e (refused x) f = refuses
   effects w e (stepped v) f = rw (f refl) (effect n wins w e)
 
-  keeps : (w : System) (e : Event) (o : Result) → (is_stepped o ≡ true → o ≡ event n wins w e) → Inv n wins w → Inv n wins (after w o)
+  keeps : (w : System) (e : Event) (o : EventOutcome) → (is_stepped o ≡ true → o ≡ event n wins w e) → Inv n wins w → Inv n wins (after w o)
   unfolding after
   keeps w e (refused x) f v = v
-  keeps w e (stepped s) f v = subst (λ (o : Result). Inv n wins (after w o)) (sym (f refl)) (inv_event n wins w v e)
+  keeps w e (stepped s) f v = subst (λ (o : EventOutcome). Inv n wins (after w o)) (sym (f refl)) (inv_event n wins w v e)
 
   module _ {w : System} (known : Known n wins w) (e : Event) where
     turns : (k : ClientId) → Turn k e (step w e) w.servers (after w (step w e)).servers (client_at w k) (client_at (after w (step w e)) k)
@@ -300,7 +300,7 @@ module _ (n : ℕ) (wins : Quorum) (step : System → Event → Result) (follows
       length-few k t (stays _ _ d) (inr out) = rw d (omega (arith, known.inv.bound k.0, t.most))
       length-few k t (counts _ _ ep _ _ _) (inr out) = clash _ ep out
 
-      most-least : (o : Result) → w.most ≤ b → ((k : ClientId) → length (client_at (after w o) k).downs ≤ b) → (after w o).most ≤ b
+      most-least : (o : EventOutcome) → w.most ≤ b → ((k : ClientId) → length (client_at (after w o) k).downs ≤ b) → (after w o).most ≤ b
       unfolding after
       most-least (refused x) m h = m
       most-least (stepped v) m h = omega (arith, worst-least b v.state.clients h)
@@ -372,9 +372,9 @@ pub places-follow : (n : ℕ) (wins : Quorum) (places last : ℕ) → Follows n 
 unfolding with_places
 places-follow n wins places last w e = accepted (event n wins w e)
   where
-    accepted : (o : Result) → is_stepped (with_places places last o) ≡ true → with_places places last o ≡ o
+    accepted : (o : EventOutcome) → is_stepped (with_places places last o) ≡ true → with_places places last o ≡ o
     accepted (refused x) h = refl
     accepted (stepped v) h =
-        let G : Result → Type 0 = λ r. is_stepped r ≡ true → r ≡ stepped v in
+        let G : EventOutcome → Type 0 = λ r. is_stepped r ≡ true → r ≡ stepped v in
         branch G (nothing v.sent) (λ _ _. refl)
         (λ _. branch G (leb (length v.state.transit) places && leb v.state.sent last) (λ _ _. refl) (λ _ g. absurd (false≢true g))) h

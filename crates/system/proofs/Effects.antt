@@ -21,12 +21,12 @@ use Rattle.system.specs.declared.Event.TheVariants.{Try, Exit, Fall, Down, Up, T
 use Rattle.system.specs.Numbered.{has}
 use Rattle.system.specs.Transit.{pending, present}
 use Rattle.system.specs.Places.{System, client_at, server_at}
-use Rattle.system.specs.Events.{Result, tried, exited, fallen, went_down, came_up, server_took, response_took, check_took, dropped, suspected, asked, to_server, deliver, event}
+use Rattle.system.specs.Events.{EventOutcome, tried, exited, fallen, went_down, came_up, server_took, response_took, check_took, dropped, suspected, asked, to_server, deliver, event}
 use Rattle.system.proofs.Branch.{branch, perhaps, owned}
 use Rattle.server_votes.proofs.Tagged.{message}
 
 module _ (n : ℕ) (wins : Quorum) (w : System) where
-  pub data Effect : Event → Result → Type 0 where
+  pub data Effect : Event → EventOutcome → Type 0 where
     refuses : {e : Event} {x : Refusal} → Effect e (refused x)
     begins : {k : ClientId} → (client_at w k).living ≡ true → is_remainder (client_at w k).state.section ≡ true →
         may_try (client_at w k).state ≡ true → Effect (Try k) (stepped (tried n w k))

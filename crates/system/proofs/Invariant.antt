@@ -24,7 +24,7 @@ use Rattle.system.specs.declared.Event.{Event}
 use Rattle.system.specs.Numbered.{at, put, has, client_no, server_no}
 use Rattle.system.specs.Transit.{pending, replaced, gone}
 use Rattle.system.specs.Places.{ClientPlace, ServerPlace, System, no_client, no_server, client_at, server_at, in_epoch, down_from}
-use Rattle.system.specs.Events.{Result, client_moves, event}
+use Rattle.system.specs.Events.{EventOutcome, client_moves, event}
 use Rattle.system.specs.Runs.{run_by, after, start, next, run_from, run}
 use Rattle.system.proofs.Effects.{Effect, refuses, begins, leaves, dies, sinks, rises, server_takes, client_takes, client_checked, loses, suspects, asks, effect}
 use Rattle.ids.proofs.Choice.{clash}
@@ -64,11 +64,11 @@ module _ (n : ℕ) (wins : Quorum) where
     pub safe : Safe w
     pub bound : (k : ℕ) → length (client_at w (client_no k)).downs ≤ w.most
 
-  abbrev Good : Result → Type 0
+  abbrev Good : EventOutcome → Type 0
   Good (refused x) = Unit
   Good (stepped v) = Safe v.state
 
-  keeps : {w : System} → Inv w → (o : Result) → Good o → Inv (after w o)
+  keeps : {w : System} → Inv w → (o : EventOutcome) → Good o → Inv (after w o)
   unfolding after
   keeps i (refused x) g = i
   keeps i (stepped v) g =
@@ -103,7 +103,7 @@ module _ (n : ℕ) (wins : Quorum) where
           nest = nest_client (new_client_lem k.0 _ lives) s.nest (λ ep. goes_on (rw (lives, ← c.epoch) ep) refl);
         }
 
-    good : {e : Event} {o : Result} → Effect n wins w e o → Good o
+    good : {e : Event} {o : EventOutcome} → Effect n wins w e o → Good o
     unfolding tries exits
     good refuses = tt
     good (begins {k = k} lives _ _) =
@@ -213,7 +213,7 @@ module _ (n : ℕ) (wins : Quorum) where
   inv_run clients es = inv_from (start n wins clients) (inv_start clients) es
 
   -- the most servers down within an epoch never falls
-  pub most-after : (w : System) (o : Result) → w.most ≤ (after w o).most
+  pub most-after : (w : System) (o : EventOutcome) → w.most ≤ (after w o).most
   unfolding after
   most-after w (refused x) = le_refl w.most
   most-after w (stepped v) = omega arith

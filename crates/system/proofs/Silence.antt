@@ -20,7 +20,7 @@ use Rattle.system.specs.declared.Event.TheVariants.{Try, Exit, Fall, Down, Up, T
 use Rattle.system.specs.Numbered.{at, member, client_no, server_no}
 use Rattle.system.specs.Transit.{InTransit, pending, replaced, gone}
 use Rattle.system.specs.Places.{System, no_client, no_server, client_at, server_at}
-use Rattle.system.specs.Events.{Result, client_moves, server_moves, event}
+use Rattle.system.specs.Events.{EventOutcome, client_moves, server_moves, event}
 use Rattle.system.specs.Runs.{run_by, after, run_from}
 use Rattle.system.proofs.Effects.{Effect, refuses, begins, leaves, dies, sinks, rises, server_takes, client_takes, client_checked, loses, suspects, asks, effect}
 use Rattle.ids.proofs.Choice.{clash}
@@ -99,11 +99,11 @@ any_server : (q : ServerState) → Holds Any q
 any_server q = record { owner = any_named q.owner; queue = any_line q.queue }
 
 module _ (n : ℕ) (wins : Quorum) (d : List ℕ) where
-  abbrev Good : Result → Type 0
+  abbrev Good : EventOutcome → Type 0
   Good (refused x) = Unit
   Good (stepped v) = Silent d v.state
 
-  keeps : {w : System} → Silent d w → (o : Result) → Good o → Silent d (after w o)
+  keeps : {w : System} → Silent d w → (o : EventOutcome) → Good o → Silent d (after w o)
   unfolding after
   keeps s (refused x) g = s
   keeps s (stepped v) g = record { down = g.down; mail = g.mail; blank = g.blank }
@@ -142,7 +142,7 @@ module _ (n : ℕ) (wins : Quorum) (d : List ℕ) where
         silent-client k _ step lives (delivery_delivered stills_gone i e) (all_map (by_unsaid d k _) c.by)
         (λ j y ep. rw c.timestamp (omega (arith, c.kept j, no_gain j y, s.blank k.0 j y (sym c.epoch ∙ ep))))
 
-    silent : {e : Event} {o : Result} → Inv n wins w → Stays d e → Effect n wins w e o → Good o
+    silent : {e : Event} {o : EventOutcome} → Inv n wins w → Stays d e → Effect n wins w e o → Good o
     unfolding tries exits
     silent inv a refuses = tt
     silent inv a (begins {k = k} lives _ _) =

@@ -26,7 +26,7 @@ use Rattle.system.specs.declared.Receiver.TheVariants.{Client, Server}
 use Rattle.system.specs.Numbered.{has}
 use Rattle.system.specs.Transit.{InTransit, numbered, pending, present, replaced, gone, keeping, is_for, again}
 use Rattle.system.specs.Places.{System, client_at, server_at}
-use Rattle.system.specs.Events.{Result, need, tried, exited, fallen, went_down, came_up, server_took, response_took, check_took, dropped, suspected, asked, deliver, event, nothing, with_places}
+use Rattle.system.specs.Events.{EventOutcome, need, tried, exited, fallen, went_down, came_up, server_took, response_took, check_took, dropped, suspected, asked, deliver, event, nothing, with_places}
 use Rattle.system.specs.Runs.{after}
 use Rattle.system.specs.Index.{receiver_of, same_receiver, is_to, entry_of, Entry, index_of, some_to, numbered_to, reaches, touched}
 use Rattle.system.proofs.Branch.{perhaps, owned}
@@ -110,7 +110,7 @@ again-others r j (x ∷ l) h = rw (again-others r j l h) (go (decided (is_for j 
 
 module _ (w : System) (e : Event) (r : Receiver) where
   -- where r is not touched its list stays
-  abbrev Keeps : Result → Type 0
+  abbrev Keeps : EventOutcome → Type 0
   Keeps o = touched w e o r ≡ false → index_of r (after w o).transit ≡ index_of r w.transit
 
   keeps-refused : (x : Refusal) → Keeps (refused x)
@@ -130,11 +130,11 @@ module _ (w : System) (e : Event) (r : Receiver) where
   unfolding after touched
   keeps_quiet s p g h = g (neither (some_to r s.sent) (reaches w e r) h).1
 
-  keeps-need : (b : Bool) (x : Refusal) (o : Result) → Keeps o → Keeps (need b x o)
+  keeps-need : (b : Bool) (x : Refusal) (o : EventOutcome) → Keeps o → Keeps (need b x o)
   keeps-need true x o f = f
   keeps-need false x o f = keeps-refused x
 
-  keeps_party : (a b : Bool) (o : Result) → Keeps o → Keeps (need a NoSuchParty (need b PartyDown o))
+  keeps_party : (a b : Bool) (o : EventOutcome) → Keeps o → Keeps (need a NoSuchParty (need b PartyDown o))
   keeps_party a b o f = keeps-need a NoSuchParty (need b PartyDown o) (keeps-need b PartyDown o f)
 
 module _ (n : ℕ) (wins : Quorum) (w : System) (r : Receiver) where
@@ -203,11 +203,11 @@ module _ (n : ℕ) (wins : Quorum) (w : System) (r : Receiver) where
       → index_of r (after w (event n wins w e)).transit ≡ index_of r w.transit
   untouched e = keeps-event e
 
-  keeps_if : (e : Event) (b : Bool) (x y : Result) → Keeps w e r x → Keeps w e r y → Keeps w e r (if b then x else y)
+  keeps_if : (e : Event) (b : Bool) (x y : EventOutcome) → Keeps w e r x → Keeps w e r y → Keeps w e r (if b then x else y)
   keeps_if e true x y f g = f
   keeps_if e false x y f g = g
 
-  keeps-places : (e : Event) (places last : ℕ) (o : Result) → Keeps w e r o → Keeps w e r (with_places places last o)
+  keeps-places : (e : Event) (places last : ℕ) (o : EventOutcome) → Keeps w e r o → Keeps w e r (with_places places last o)
   unfolding with_places
   keeps-places e places last (refused x) f = f
   keeps-places e places last (stepped s) f =

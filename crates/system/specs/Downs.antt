@@ -8,7 +8,7 @@ use Rattle.client_responses.specs.Figure1.{Quorum, count}
 use Rattle.system.specs.declared.Event.{Event}
 use Rattle.system.specs.declared.Event.TheVariants.{Try, Exit, Fall, Down, Up, Take, Drop, Miss, Check}
 use Rattle.system.specs.Places.{ServerPlace, System}
-use Rattle.system.specs.Events.{Result, event}
+use Rattle.system.specs.Events.{EventOutcome, event}
 use Rattle.system.specs.Runs.{after, is_stepped}
 
 -- a flag for each server: it is down now
@@ -49,7 +49,7 @@ ends k (Miss j) = false
 ends k (Check j) = false
 
 -- by a step that says what an event does
-module _ (step : System → Event → Result) where
+module _ (step : System → Event → EventOutcome) where
   -- the servers down at some moment of client k's epoch, from now to its end
   unfoldable pub ever_down : ClientId → System → List Event → List Bool
   ever_down k w [] = down_now w
@@ -65,5 +65,5 @@ module _ (step : System → Event → Result) where
       (most_down (after w (step w e)) es)
 
 -- a step that may refuse more than `event` does, and else does the same
-abbrev pub Follows : ℕ → Quorum → (System → Event → Result) → Type 0
+abbrev pub Follows : ℕ → Quorum → (System → Event → EventOutcome) → Type 0
 Follows n wins step = (w : System) (e : Event) → is_stepped (step w e) ≡ true → step w e ≡ event n wins w e

@@ -117,34 +117,34 @@ asked w j = server_moves w j w.transit (votes.check j (server_at w j).state)
 
 -- events ----------------------------------------------------------------------------------------------------------------------
 
-abbrev pub Result : Type 0
-Result = Outcome System
+abbrev pub EventOutcome : Type 0
+EventOutcome = Outcome System
 
 -- go on if the condition holds, else refuse
-abbrev pub need : Bool → Refusal → Result → Result
+abbrev pub need : Bool → Refusal → EventOutcome → EventOutcome
 need b x o = if b then o else refused x
 
 -- go on with what was found, else refuse
-abbrev pub found : {A : Type 0} → Option A → Refusal → (A → Result) → Result
+abbrev pub found : {A : Type 0} → Option A → Refusal → (A → EventOutcome) → EventOutcome
 found o x f = maybe o (refused x) f
 
 infixr 5 ◌>>◌
-abbrev pub ◌>>◌ : (Result → Result) → Result → Result
+abbrev pub ◌>>◌ : (EventOutcome → EventOutcome) → EventOutcome → EventOutcome
 f >> o = f o
 
 infixr 5 ◌>>=◌
-abbrev pub ◌>>=◌ : {A : Type 0} → ((A → Result) → Result) → (A → Result) → Result
+abbrev pub ◌>>=◌ : {A : Type 0} → ((A → EventOutcome) → EventOutcome) → (A → EventOutcome) → EventOutcome
 f >>= g = f g
 
 -- server j takes a message
-abbrev pub to_server : System → ℕ → Tag → ClientId → ServerId → Timestamp → Result
+abbrev pub to_server : System → ℕ → Tag → ClientId → ServerId → Timestamp → EventOutcome
 to_server w i tag k j t = do
   need (server_at w j).up PartyDown
   stepped (server_took w i tag k j t)
 
 module _ (n : ℕ) (wins : Quorum) where
   -- the receiver takes the message with number i
-  unfoldable pub deliver : System → ℕ → Message → Result
+  unfoldable pub deliver : System → ℕ → Message → EventOutcome
   deliver w i (REQUEST k j t) = to_server w i tag.Request k j t
   deliver w i (YIELD k j t) = to_server w i tag.Yield k j t
   deliver w i (RELEASE k j t) = to_server w i tag.Release k j t
@@ -156,7 +156,7 @@ module _ (n : ℕ) (wins : Quorum) where
     need (client_at w k).living PartyDown
     stepped (check_took w i k j t)
 
-  unfoldable pub event : System → Event → Result
+  unfoldable pub event : System → Event → EventOutcome
   event w (Try k) = do
     need (has w.clients k.0) NoSuchParty
     need (client_at w k).living PartyDown
@@ -202,7 +202,7 @@ abbrev pub nothing : List Message → Bool
 nothing [] = true
 nothing (m ∷ l) = false
 
-unfoldable pub with_places : ℕ → ℕ → Result → Result
+unfoldable pub with_places : ℕ → ℕ → EventOutcome → EventOutcome
 with_places places last (refused x) = refused x
 with_places places last (stepped s) =
     if nothing s.sent then stepped s

@@ -10,7 +10,7 @@ use Rattle.system.specs.declared.Receiver.{Receiver}
 use Rattle.system.specs.declared.Receiver.TheVariants.{Client, Server}
 use Rattle.system.specs.Transit.{InTransit}
 use Rattle.system.specs.Places.{System}
-use Rattle.system.specs.Events.{Result}
+use Rattle.system.specs.Events.{EventOutcome}
 
 -- whom a message is for
 abbrev pub receiver_of : Message → Receiver
@@ -66,6 +66,6 @@ reaches w (Miss j) r = false
 reaches w (Check j) r = false
 
 -- r's list may be another after the event e with outcome o: a refused event changes none
-unfoldable pub touched : System → Event → Result → Receiver → Bool
+unfoldable pub touched : System → Event → EventOutcome → Receiver → Bool
 touched w e (refused x) r = false
 touched w e (stepped s) r = some_to r s.sent || reaches w e r

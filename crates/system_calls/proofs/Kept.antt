@@ -39,7 +39,7 @@ use Rattle.system.specs.declared.Event.{Event}
 use Rattle.system.specs.Numbered.{at, put, client_no}
 use Rattle.system.specs.Transit.{InTransit, pending}
 use Rattle.system.specs.Places.{System, ClientPlace, ServerPlace, no_client, no_server, client_at, server_at, downed}
-use Rattle.system.specs.Events.{Result, client_moves, server_moves, event}
+use Rattle.system.specs.Events.{EventOutcome, client_moves, server_moves, event}
 use Rattle.system.specs.Runs.{after, run_by, start, next, run_from, run}
 use Rattle.system.proofs.Effects.{Effect, refuses, begins, leaves, dies, sinks, rises, server_takes, client_takes, client_checked, loses, suspects, asks, effect}
 use Rattle.system.proofs.PlaceLaws.{Changes, each, put-flagged, put-numbered, flagged_in, counts-down, at-replicate}
@@ -198,7 +198,7 @@ idle-fits clients =
     record { good = record { owner = refl; all = refl; behind = refl; sorted = tt; single = tt }; holds = record { owner = tt; queue = empty } }
 
 -- what a result leaves keeps it
-abbrev Goes : ℕ → ℕ → ℕ → Result → Type 0
+abbrev Goes : ℕ → ℕ → ℕ → EventOutcome → Type 0
 Goes n m clients (refused x) = Unit {0}
 Goes n m clients (stepped s) = Kept n m clients s.state
 
@@ -267,7 +267,7 @@ module _ (n m clients : ℕ) (w : System) (K : Kept n m clients w) where
     up_sizes : (j : ServerId) → (server_at w j).up ≡ true → server.valid_sizes n j ≡ true
     up_sizes j up = let (a, b) = has-server j up in server_sizes z j a b
 
-    goes : {e : Event} {o : Result} → Effect n (enough m) w e o → Goes n m clients o
+    goes : {e : Event} {o : EventOutcome} → Effect n (enough m) w e o → Goes n m clients o
     goes refuses = tt
     goes (begins {k = k} lives rest may) =
         let F = its-fits k lives in
@@ -338,7 +338,7 @@ module _ (n m clients : ℕ) (w : System) (K : Kept n m clients w) where
 
 -- a run keeps it
 module _ (n m clients : ℕ) (z : client.valid_sizes n m ≡ true) where
-  kept-after : (w : System) → Kept n m clients w → (o : Result) → Goes n m clients o → Kept n m clients (after w o)
+  kept-after : (w : System) → Kept n m clients w → (o : EventOutcome) → Goes n m clients o → Kept n m clients (after w o)
   unfolding after
   kept-after w K (refused x) g = K
   kept-after w K (stepped s) g =
@@ -362,7 +362,7 @@ module _ (n m clients : ℕ) (z : client.valid_sizes n m ≡ true) where
   fresh-fits few (suc k) a b =
       let (c, d, e, f) = sizes_range n m z in
       let R : InRange n m (client_no (suc k)) = record
-      { Some = c; few = d; threshold = e; reached = f; client = rw (le-leb 1 (suc k) a, le-leb (suc k) max_client (omega arith)) } in
+      { some = c; few = d; threshold = e; reached = f; client = rw (le-leb 1 (suc k) a, le-leb (suc k) max_client (omega arith)) } in
       rw (get_or-replicate clients k (record { living = true; state = fresh n; downs = [] }) no_client (omega arith))
       (remainder_fits n m (client_no (suc k)) R (record { 0 = 0 }) (record { 0 = 0 }))
 

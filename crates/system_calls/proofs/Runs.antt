@@ -39,7 +39,7 @@ use Rattle.system.specs.declared.Event.{Event}
 use Rattle.system.specs.Numbered.{at, has}
 use Rattle.system.specs.Transit.{InTransit, pending, replaced, gone, keeping}
 use Rattle.system.specs.Places.{System, no_client, no_server, client_at, server_at}
-use Rattle.system.specs.Events.{Result, client_moves, server_moves}
+use Rattle.system.specs.Events.{EventOutcome, client_moves, server_moves}
 use Rattle.system.specs.Runs.{start, run}
 use Rattle.system.proofs.Effects.{Effect, refuses, begins, leaves, dies, sinks, rises, server_takes, client_takes, client_checked, loses, suspects, asks, effect}
 use Rattle.server_votes.proofs.Tagged.{message}
@@ -107,7 +107,7 @@ module _ (n m clients : ℕ) (z : client.valid_sizes n m ≡ true) (few : client
           left = λ room g. rw (ch.here, r room g) (server-after n clients few j sized held (K.server-fits j.0) p);
         }
 
-  abbrev By : Event → Result → Type 0
+  abbrev By : Event → EventOutcome → Type 0
   By e (refused x) = Unit {0}
   By e (stepped s) = ByCalls n m w e s
 
@@ -116,7 +116,7 @@ module _ (n m clients : ℕ) (z : client.valid_sizes n m ≡ true) (few : client
       → (y : Message) → pending i w.transit ≡ Some y → TakenByCall n m w s y
   taken_as i s x e h y f = let q : x ≡ y = cc in subst (TakenByCall n m w s) q h
 
-  by : {e : Event} {o : Result} → Effect n (enough m) w e o → By e o
+  by : {e : Event} {o : EventOutcome} → Effect n (enough m) w e o → By e o
   by refuses = tt
   by (begins {k = k} lives rest may) =
       client-called k lives w.transit _ (tries n k (client_at w k).state) _ (begin_outcome_lem n m k (client_at w k).state (fits k lives) rest may)

@@ -7,7 +7,7 @@ use Rattle.client_responses.specs.Figure1.{enough}
 use Rattle.system.specs.declared.Event.{Event}
 use Rattle.system.specs.declared.Event.TheVariants.{Try, Exit, Fall, Down, Up, Drop, Miss, Check}
 use Rattle.system.specs.Places.{System, holders}
-use Rattle.system.specs.Events.{Result, event}
+use Rattle.system.specs.Events.{EventOutcome, event}
 use Rattle.system.specs.Runs.{after, start, next, run, accepted_events, most_holders}
 use Rattle.system.specs.Setting.{takes}
 use Rattle.system.specs.Numbered.{client_no, server_no}
@@ -34,7 +34,7 @@ pub record Script : Type 0 where
   pub holding : ℕ
   pub downs : ℕ
 
-abbrev pub said : System → Result → Said
+abbrev pub said : System → EventOutcome → Said
 said w (refused x) = refuses (code x)
 said w (stepped s) = sends (length s.sent) (holders (after w (stepped s)))
 

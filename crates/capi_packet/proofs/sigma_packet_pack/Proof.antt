@@ -13,7 +13,7 @@ sigma_packet_pack_spec =
     (λ c. search rules)
     (λ c κs. search rules)
     (λ c. search rules)
-    (λ c. let p = c.pack.ensures.0 in (pack_done _ _ p.0 _ c.in-Bytes.is, p.1))
+    (λ c. let p = c.pack.ensures.0 in (pack_done _ _ p.0 _ c.in-Ok.is, p.1))
     (λ c. search rules)
     (λ c.
     let p = c.pack.ensures.0 in

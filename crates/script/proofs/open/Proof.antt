@@ -6,19 +6,19 @@ use Rattle.script.proofs.open.Statement.{statement}
 use Rattle.script.proofs.open.Tie as tie
 
 -- the line is read
-module _ (c : tie.After-read_setting-first) where
+module _ (c : tie.After-read_setting) where
   abbrev entry : tie.Start
   entry = c.before.before.before
 
-returns : tie.Need-returns-in-Bad
+returns : tie.Need-returns-in-None
 returns c =
     bad_first c.args.w.now c.args.out.now c.args.at c.requires.0 _ _ _
-    (sym c.in-Bad.is ∙ c.read_setting-first.ensures) c.refuse.ensures
+    (sym c.in-None.is ∙ c.read_setting.ensures) c.refuse.ensures
 
 returns-2 : tie.Need-returns-in-Some
 returns-2 c =
     setting-first c.args.w.now c.args.out.now c.args.at c.requires.0 _ _ _
-    _ (sym c.in-Some.is ∙ c.read_setting-first.ensures) c.begin.ensures
+    _ (sym c.in-Some.is ∙ c.read_setting.ensures) c.begin.ensures
 
 pub open_spec : {M : Type 1} → statement M
 open_spec =

@@ -13,9 +13,9 @@ returns : tie.Need-returns-in-Err
 returns c =
     replied_no _ _ _ _ _ _ (omega arith) _ c.in-Err.is c.put_no.ensures
 
-returns-2 : tie.Need-returns-in-Accepted
+returns-2 : tie.Need-returns-in-Ok
 returns-2 c =
-    replied_ok _ _ _ _ _ _ (omega arith) _ _ (omega arith) (omega arith) c.in-Accepted.is
+    replied_ok _ _ _ _ _ _ (omega arith) _ _ (omega arith) (omega arith) c.in-Ok.is
     c.put_ok.ensures
 
 pub put_reply_spec : {M : Type 1} → statement M

@@ -7,7 +7,7 @@ use Rattle.sim_run.proofs.counted.Tie as tie
 returns : tie.Need-returns-in-Err
 returns c = search (rules, counted-refused)
 
-returns-2 : tie.Need-returns-in-Accepted
+returns-2 : tie.Need-returns-in-Ok
 returns-2 c = search (rules, counted-accepted)
 
 pub counted_spec : {M : Type 1} → statement M

@@ -5,15 +5,15 @@ use borrow.Author.Rules.{rules}
 use Rattle.text_screen.proofs.put_numbered.Statement.{statement}
 use Rattle.text_screen.proofs.put_numbered.Tie as tie
 
-returns : tie.Need-returns-in-Event
+returns : tie.Need-returns-in-Ok
 unfolding asked_text
 returns c =
-    rw (← c.run_event-a.ensures.0, c.in-Event.is)
+    rw (← c.run_event.ensures.0, c.in-Ok.is)
     c.put_event.ensures
 
 returns-2 : tie.Need-returns-in-Err
 unfolding asked_text puts
-returns-2 c = rw (← c.run_event-a.ensures.0, c.in-Err.is)
+returns-2 c = rw (← c.run_event.ensures.0, c.in-Err.is)
 
 pub put_numbered_spec : {M : Type 1} → statement M
 put_numbered_spec =

@@ -21,4 +21,4 @@ put_threshold_spec =
     (λ c. search rules)
     (λ c. search rules)
     returns
-    (λ c. rw c.in-OutOfRange.is))
+    (λ c. rw c.in-None.is))
