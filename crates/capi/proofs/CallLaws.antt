@@ -2,7 +2,7 @@
 use Rattle.std.specs.Prelude.{Ok, Err, Result, Some, None, Option}
 use Prim.Native.Nat.{ℕ, ◌<◌, ◌≤◌}
 use native.Mathlib.Omega.{arith}
-use mathlib.Core.Path.{◌≡◌, refl}
+use mathlib.Core.Path.{ap, ◌≡◌, refl}
 use mathlib.Core.Bool.{true, false}
 use mathlib.Core.List.{List, [], ◌∷◌, ◌++◌}
 use mathlib.Core.Logic.{⊎_elim}
@@ -34,9 +34,8 @@ module _ (s ws : List ℕ) (p : Result (Fields × ℕ) Refusal) (e : p ≡ numbe
   from : (q : Result (Message × ℕ) Refusal) (f : Fields) (n : ℕ) → read_of s ≡ q → p ≡ numbers_of q → p ≡ Ok (f, n) → From f n
   from (Err x) f n a b c = let z : ◌≡◌ {A = ℕ} 0 1 = cc in absurd (omega arith)
   from (Ok (m, n')) f n a b c =
-      let g : fields_of m ≡ f = cc in
-      let k : n' ≡ n = cc in
-      record { message = m; accepted = rw k at a; numbers = g }
+      let both : ◌≡◌ {A = Fields × ℕ} (fields_of m, n') (f, n) = cc in
+      record { message = m; accepted = rw (ap (λ (x : Fields × ℕ). x.1) both) at a; numbers = ap (λ (x : Fields × ℕ). x.0) both }
 
   module _ (f : Fields) (n : ℕ) (a : p ≡ Ok (f, n)) where
     read-from : From f n

@@ -119,11 +119,10 @@ module _ {A : Type 0} where
   -- what an accepted step answers fits the words it is stored in
   fitting : (x : Outcome A) (a : Result Sent Refusal) → a ≡ answer_of x
       → ((p : Step A) → x ≡ stepped p → (length p.sent ≤ max_word) × (size_of_all p.sent ≤ max_word)) → Storable a
-  fitting (refused e) a q k = record { few = λ i n h. let z : ◌≡◌ {A = ℕ} 0 1 = cc in absurd (omega arith) }
+  fitting (refused e) a q k = record { few = λ s h. let z : ◌≡◌ {A = ℕ} 0 1 = cc in absurd (omega arith) }
   fitting (stepped p) a q k =
       record {
-        few = λ i n h. let c₁ : length p.sent ≡ i = cc in let c₂ : size_of_all p.sent ≡ n = cc in
-            (omega (arith, (k p refl).0), omega (arith, (k p refl).1));
+        few = λ s h. let c : ◌≡◌ {A = Sent} (record { messages = length p.sent; bytes = size_of_all p.sent }) s = cc in rw (← c) (k p refl);
       }
 
 -- THE SERVER'S CALL
@@ -143,11 +142,13 @@ module _ (a b c : Option Message) where
       let ms : List Message = three_mails a b c in
       ⊎_elim
       (λ (t : ltb room (size_of_all ms) ≡ true). record
-      { few = λ i n h. let k : x ≡ Err RoomShort = rw t at e in let z : ◌≡◌ {A = ℕ} 0 1 = cc in absurd (omega arith) })
+      { few = λ s h. let k : x ≡ Err RoomShort = rw t at e in let z : ◌≡◌ {A = ℕ} 0 1 = cc in absurd (omega arith) })
       (λ (t : ltb room (size_of_all ms) ≡ false).
       record {
-        few = λ i n h. let k : x ≡ Ok (record { messages = length ms; bytes = size_of_all ms }) = rw t at e in let c₁ : length ms ≡ i = cc in let c₂ : size_of_all
-            ms ≡ n = cc in (omega (arith, three_few), omega (arith, three_few, size_few ms));
+        few = λ s h.
+            let k : x ≡ Ok (record { messages = length ms; bytes = size_of_all ms }) = rw t at e in
+            let c : ◌≡◌ {A = Sent} (record { messages = length ms; bytes = size_of_all ms }) s = cc in
+            rw (← c) (omega (arith, three_few), omega (arith, three_few, size_few ms));
       })
       (decided (ltb room (size_of_all ms)))
 

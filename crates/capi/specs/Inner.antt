@@ -45,7 +45,7 @@ short_answer (Ok s) = code RoomShort
 
 -- what an answer counts fits a word
 pub record Storable (a : Result Sent Refusal) : Type 0 where
-  pub few : (k n : ℕ) → a ≡ Ok (record { messages = k; bytes = n }) → (k ≤ max_word) × (n ≤ max_word)
+  pub few : (s : Sent) → a ≡ Ok s → (s.messages ≤ max_word) × (s.bytes ≤ max_word)
 
 -- a server's step on a lent row, with the record as words: one that was made, and any
 abbrev pub accepted_words : Turned → List ℕ → Outcome (List ℕ)

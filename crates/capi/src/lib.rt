@@ -142,14 +142,9 @@ fn server_store(
     ensures { (result ≡ answer_code a) × (state.new ≡ answer_record (server_words (server.server_of h row.now)) state.old a) × (sent.new ≡ answer_counts sent.old a) }
 {
     match a {
-        Ok(
-            Sent {
-                messages: count,
-                bytes,
-            },
-        ) => {
+        Ok(done) => {
             put_server(state, h, row);
-            put_counts(sent, count, bytes);
+            put_counts(sent, done.messages, done.bytes);
             0
         }
         Err(e) => ids::code_of(e),
@@ -249,15 +244,10 @@ fn client_finish(t: client::Turned, state: &mut [u32], sent: &mut [u32]) -> u32
 {
     let answer = t.answer;
     match answer {
-        Ok(
-            Sent {
-                messages: count,
-                bytes,
-            },
-        ) => {
+        Ok(done) => {
             let h = t.head;
             words::put_client_head(state, h);
-            put_counts(sent, count, bytes);
+            put_counts(sent, done.messages, done.bytes);
             0
         }
         Err(e) => ids::code_of(e),

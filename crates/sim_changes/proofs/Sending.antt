@@ -128,7 +128,10 @@ module _ {w : List ℕ} {e : Event} {gone : ℕ} {l : List Message} {s : Step Sy
 
   module _ (count size : ℕ) (f : a ≡ Ok (record { messages = count; bytes = size })) where
     pub call_count : count ≡ length l
-    call_count = let g = C.answered in cc
+    call_count =
+        let g = C.answered in
+        let same : ◌≡◌ {A = Sent} (record { messages = count; bytes = size }) (record { messages = length l; bytes = size_of_all l }) = cc in
+        ap (λ (x : Sent). x.messages) same
 
     pub call_few : count ≤ system_servers
     call_few = omega (arith, call_count, C.steps.sends.few)
