@@ -20,7 +20,7 @@ client_head-requires c =
     let there = act-client c.args.w.now c.args.k c.args.act c.requires in
     (client_in_lem _ _ there, client-held _ c.args.k there)
 
-pub call_client-s-requires : goal.call_client-requires
+pub call_client-s-requires : goal.call_client-s-requires
 call_client-s-requires c = act-asks c.args.w.now c.args.k c.args.act c.requires _ (client_read _ _ _ c.client_head.ensures c.client_row.ensures)
 
 -- the call was refused, as the event is

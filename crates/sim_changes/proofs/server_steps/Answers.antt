@@ -14,7 +14,7 @@ server_head-requires c =
     let there = act-server c.args.w.now c.args.j c.args.act c.requires.0 in
     (server_in_lem _ _ there, record_held _ c.args.j there)
 
-pub call_server-t-requires : goal.call_server-requires
+pub call_server-t-requires : goal.call_server-t-requires
 call_server-t-requires c = server-padded c.args.w.now c.args.j (act-server c.args.w.now c.args.j c.args.act c.requires.0) _ _ (server_read _ _ _ c.server_head.ensures c.server_row.ensures)
 
 pub returns-in_err-t : goal.returns-in_err-t
