@@ -580,14 +580,6 @@ module _ (w out : List ℕ) (at : ℕ) (R : Ready w out at) (zeroth : get_or w s
 
 -- an event line, by what the parser said of it -------------------------------------------------------------------------------------
 
-pub first_bad_lem : (o : Option Setting) → None ≡ o → o ≡ None
-first_bad_lem None e = refl
-first_bad_lem (Some s) e = let z : ◌≡◌ {A = ℕ} 0 1 = cc in absurd (omega arith)
-
-pub first-setting : (o : Option Setting) (s : Setting) → Some s ≡ o → o ≡ Some s
-first-setting None s e = let z : ◌≡◌ {A = ℕ} 0 1 = cc in absurd (omega arith)
-first-setting (Some t) s e = let z : t ≡ s = cc in ap Some z
-
 module _ (w out : List ℕ) (at : ℕ) (R : Ready w out at) where
   module _ (w' out' : List ℕ) (r : ℕ) where
     pub swapped : (p q : Printed Stage) → p ≡ q → Does w out at q w' out' r → Does w out at p w' out' r
@@ -596,11 +588,11 @@ module _ (w out : List ℕ) (at : ℕ) (R : Ready w out at) where
     pub bad_first : None ≡ line-setting (view w).line → Does w out at (record { now = closed; out = refused_line BadLine }) w' out' r
         → Does w out at (opened (line-setting (view w).line)) w' out' r
     unfolding opened
-    bad_first e D = rw (first_bad_lem (line-setting (view w).line) e) D
+    bad_first e D = rw (sym e) D
 
     pub setting-first : (s : Setting) → Some s ≡ line-setting (view w).line → Does w out at (opened (Some s)) w' out' r
         → Does w out at (opened (line-setting (view w).line)) w' out' r
-    setting-first s e D = rw (first-setting (line-setting (view w).line) s e) D
+    setting-first s e D = rw (sym e) D
 
     pub opening_does : get_or w stage_at 0 ≡ stage_opening → Does w out at (opened (line-setting (view w).line)) w' out' r
         → Does w out at (worked (view w).stage (view w).line) w' out' r

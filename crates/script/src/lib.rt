@@ -282,7 +282,7 @@ fn put_reply(out: &mut [u8], at: usize, number: u32, reply: Result<Effect, Refus
 {
     match reply {
         Err(x) => script_lines::put_no(out, at, number, x),
-        Ok(Effect { sent, holders }) => script_lines::put_ok(out, at, number, sent, holders),
+        Ok(effect) => script_lines::put_ok(out, at, number, effect.sent, effect.holders),
     }
 }
 

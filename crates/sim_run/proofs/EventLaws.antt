@@ -22,15 +22,6 @@ use Rattle.sim_run.specs.Run.{Run, moved}
 use Rattle.sim_run.specs.Calls.{run_in, Goes}
 use Rattle.sim_run.specs.Inner.{counted}
 
-pub counted-refused : (c : Counts) (r : Result Effect Refusal) (x : Refusal) → r ≡ Err x → c ≡ counted c r
-unfolding counted
-counted-refused c r x e = rw e
-
-pub counted-accepted : (c : Counts) (r : Result Effect Refusal) (sent holders k : ℕ) → r ≡ Ok (record { sent = sent; holders = holders }) → k ≡ max c.holding holders
-    → record { accepted = c.accepted + 1; holding = k } ≡ counted c r
-unfolding counted
-counted-accepted c r sent holders k e q = rw (e, q)
-
 -- from the outcome to the run after it
 outcome : (s : Setting) (u v : System) (o : EventOutcome) → v ≡ after u o → (c d : Counts) → d ≡ counted c (reply_of u o) →
     ◌≡◌ {A = Run} (record { setting = s; system = v; accepted = d.accepted; holding = d.holding })

@@ -34,9 +34,9 @@ fn counted(c: Counts, reply: Result<Effect, Refusal>) -> Counts
 {
     match reply {
         Err(_) => c,
-        Ok(Effect { holders, .. }) => {
+        Ok(effect) => {
             let accepted = c.accepted + 1;
-            let holding = sim_layout::larger(c.holding, holders);
+            let holding = sim_layout::larger(c.holding, effect.holders);
             Counts { accepted, holding }
         }
     }
