@@ -36,15 +36,18 @@ module _ (w input out w' out' : List ℕ) (p : Result Progress Refusal) (v : val
   fed-valid = f.1.again feeds
 
   module _ (u k : ℕ) (t : p ≡ Ok (record { used = u; wrote = k })) where
+    took : ◌≡◌ {A = Progress} (record { used = u; wrote = k }) (record { used = fed-all.used; wrote = length fed-all.out })
+    took = cc (sym t ∙ fed_took)
+
     pub took_used : u ≡ fed-all.used
-    took_used = cc (sym t ∙ fed_took)
+    took_used = ap (λ (x : Progress). x.used) took
 
     pub fed-used : u ≤ length input
     fed-used = omega (arith, took_used, used-few (length out) (view w) input)
 
     pub fed_wrote : k ≤ length out'
     fed_wrote =
-        let e : k ≡ length fed-all.out = cc (sym t ∙ fed_took) in
+        let e : k ≡ length fed-all.out = ap (λ (x : Progress). x.wrote) took in
         omega (arith, e, f.1.within feeds, ap length (f.1.bytes feeds), length-sets out 0 fed-all.out)
 
 module _ (w out w' out' : List ℕ) (p : Result Progress Refusal) (v : valid w ≡ true) (room : max_ending ≤ length out)
@@ -58,5 +61,6 @@ module _ (w out w' out' : List ℕ) (p : Result Progress Refusal) (v : valid w �
 
   pub end_wrote : (u k : ℕ) → p ≡ Ok (record { used = u; wrote = k }) → k ≤ length out'
   end_wrote u k t =
-      let e : k ≡ length (finished (view w)) = cc (sym t ∙ end_took) in
+      let same : ◌≡◌ {A = Progress} (record { used = u; wrote = k }) (record { used = 0; wrote = length (finished (view w)) }) = cc (sym t ∙ end_took) in
+      let e : k ≡ length (finished (view w)) = ap (λ (x : Progress). x.wrote) same in
       omega (arith, e, f.1.within finishes, ap length (f.1.bytes finishes), length-sets out 0 (finished (view w)))

@@ -118,7 +118,7 @@ module _ {w₀ input out₀ w out : List ℕ} {used at : ℕ} (F : Feeding w₀ 
           λ i. record { now = q.now; out = a i; used = z i }
 
   -- nothing more is taken in
-  stopped : fed_within (length out₀ - at) (view w) (drop used input) ≡ record { now = view w; out = []; used = 0 } → FedAs w₀ input out₀ w out (Took used at)
+  stopped : fed_within (length out₀ - at) (view w) (drop used input) ≡ record { now = view w; out = []; used = 0 } → FedAs w₀ input out₀ w out (Ok (record { used = used; wrote = at }))
   stopped e =
       let f : fed_within (length out₀) (view w₀) input ≡ record { now = view w; out = F.printed ++ []; used = used + 0 } = F.rest ∙ ap
       (follows F.printed used) e in
@@ -127,10 +127,10 @@ module _ {w₀ input out₀ w out : List ℕ} {used at : ℕ} (F : Feeding w₀ 
       (λ i. record { now = view w; out = append-nil F.printed i; used = z i }) in
       record { answer = rw (g, F.place); reader = rw g; again = F.valid; bytes = rw g F.bytes; within = rw g (omega (arith, F.place, F.fits, F.size)) }
 
-  pub feeding_short : length out - at < max_printed → FedAs w₀ input out₀ w out (Took used at)
+  pub feeding_short : length out - at < max_printed → FedAs w₀ input out₀ w out (Ok (record { used = used; wrote = at }))
   feeding_short h = stopped (stop_room (length out₀ - at) (view w) (drop used input) (omega (arith, h, F.size)))
 
-  pub feeding_all : length input ≤ used → FedAs w₀ input out₀ w out (Took used at)
+  pub feeding_all : length input ≤ used → FedAs w₀ input out₀ w out (Ok (record { used = used; wrote = at }))
   feeding_all h =
       let z : used ≡ length input = omega (arith, F.within) in
       stopped (ap (fed_within (length out₀ - at) (view w)) (ap (λ (n : ℕ). drop n input) z ∙ drop-length input) ∙ stop_end (length out₀ - at) (view w))
