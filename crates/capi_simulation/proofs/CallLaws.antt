@@ -66,10 +66,10 @@ module _ (w : List ℕ) (e : Happening) where
   short-size n k p = rw (wrong_size w n, refused-room 0 InvalidRecord) p
 
   module _ (copy : List ℕ) (c : copy ≡ w) (r : Result Effect Refusal) (h : reply_says r ≡ event_says copy e) where
-    pub short-accepted : (sent holders k : ℕ) → r ≡ Ok (record { sent = sent; holders = holders }) → k ≡ code RoomShort → k ≡ (with_words 0 (event_says w e)).number
-    short-accepted sent holders k q p =
-        let s : accepts (sent ∷ holders ∷ []) ≡ event_says w e = rw (q, c) at h in
-        p ∙ ap number (sym (accepted-short 0 (sent ∷ holders ∷ []) (omega arith)) ∙ ap (with_words 0) s)
+    pub short-accepted : (y : Effect) (k : ℕ) → r ≡ Ok y → k ≡ code RoomShort → k ≡ (with_words 0 (event_says w e)).number
+    short-accepted y k q p =
+        let s : accepts (y.sent ∷ y.holders ∷ []) ≡ event_says w e = rw (q, c) at h in
+        p ∙ ap number (sym (accepted-short 0 (y.sent ∷ y.holders ∷ []) (omega arith)) ∙ ap (with_words 0) s)
 
     pub short-refused : (x : Refusal) (k : ℕ) → r ≡ Err x → k ≡ code x → k ≡ (with_words 0 (event_says w e)).number
     short-refused x k q p =
@@ -127,13 +127,13 @@ module _ (w : List ℕ) (e : Happening) (answer : List ℕ) where
     goes : (x : Happening) → ◌≡◌ {A = Line} (Event e) (Event x) → EventLeaves w x w'
     goes x q = let z : e ≡ x = cc in rw (← z) h.0.0
 
-    pub happens-accepted : answer_words ≤ length answer → (sent holders : ℕ) → r ≡ Ok (record { sent = sent; holders = holders })
-        → Leaves w (Event e) answer 0 w' (set (set answer 0 sent) 1 holders)
+    pub happens-accepted : answer_words ≤ length answer → (y : Effect) → r ≡ Ok y
+        → Leaves w (Event e) answer 0 w' (set (set answer 0 y.sent) 1 y.holders)
     unfolding simulation_says
-    happens-accepted le sent holders q =
-        let s : event_says w e ≡ accepts (sent ∷ holders ∷ []) = rw q at (sym h.1) in
-        let t : with_words (length answer) (event_says w e) ≡ accepts (sent ∷ holders ∷ []) =
-        ap (with_words (length answer)) s ∙ accepted-room (length answer) (sent ∷ holders ∷ []) le in
+    happens-accepted le y q =
+        let s : event_says w e ≡ accepts (y.sent ∷ y.holders ∷ []) = rw q at (sym h.1) in
+        let t : with_words (length answer) (event_says w e) ≡ accepts (y.sent ∷ y.holders ∷ []) =
+        ap (with_words (length answer)) s ∙ accepted-room (length answer) (y.sent ∷ y.holders ∷ []) le in
         record { number = rw t refl; told = rw t refl; happened = λ x p _. goes x p; kept = λ n. absurd (n (ap number t)) }
 
     pub happens-refused : (x : Refusal) (k : ℕ) → r ≡ Err x → k ≡ code x → Leaves w (Event e) answer k w' answer

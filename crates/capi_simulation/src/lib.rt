@@ -12,7 +12,7 @@ ghost use Rattle.capi_simulation.specs.Calls.{command_of, asked, simulation_says
 use ids::Refusal;
 use script_lines::{Command, Line};
 use sim_layout::SIMULATION_WORDS;
-use simulation::{Effect, Simulation};
+use simulation::Simulation;
 use system::{Event, Setting};
 
 // The words of an answer: the messages sent, and the living holders.
@@ -96,9 +96,9 @@ fn happen(words: &mut [u32], e: Event, answer: &mut [u32]) -> u32
         return short(words, e);
     }
     match simulation::event(words, e) {
-        Ok(Effect { sent, holders }) => {
-            answer[0] = sent;
-            answer[1] = holders;
+        Ok(effect) => {
+            answer[0] = effect.sent;
+            answer[1] = effect.holders;
             0
         }
         Err(x) => ids::code_of(x),
