@@ -55,29 +55,7 @@ pub record Feeding (w₀ input out₀ w out : List ℕ) (used at : ℕ) : Type 0
   pub bytes : out ≡ sets out₀ 0 printed
   pub rest : fed_within (length out₀) (view w₀) input ≡ follows printed used (fed_within (length out₀ - at) (view w) (drop used input))
 
-pub feeding_none : (w input out : List ℕ) → Sound w → Feeding w input out w out 0 0
-feeding_none w input out S =
-    let z : length out - 0 ≡ length out = omega arith in
-    let q : Fed = fed_within (length out) (view w) input in
-    let y : 0 + q.used ≡ q.used = omega arith in
-    record {
-      valid = S.valid;
-      long = S.long;
-      begun = S.long;
-      short = S.short;
-      within = omega arith;
-      fits = omega arith;
-      size = refl;
-      printed = [];
-      place = refl;
-      bytes = refl;
-      rest = rw z (λ i. record { now = q.now; out = q.out; used = sym y i });
-    }
-
 module _ {w₀ input out₀ w out : List ℕ} {used at : ℕ} (F : Feeding w₀ input out₀ w out used at) where
-  pub feeding_ready : max_printed ≤ length out - at → Ready w out at
-  feeding_ready h = record { valid = F.valid; long = F.long; short = F.short; room = omega (arith, F.size, F.fits) }
-
   pub feeding_more : used < length input → max_printed ≤ length out - at → (w' out' : List ℕ) (r : ℕ)
       → Takes out at (taken (view w) (get_or input used 0)) w' out' r → Feeding w₀ input out₀ w' out' (used + 1) r
   feeding_more lt room w' out' r T =

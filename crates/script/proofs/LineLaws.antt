@@ -3,16 +3,15 @@ use mathlib.Core.Path.{◌≡◌, refl, sym, ap, ◌∙◌}
 use Prim.Native.Nat.{ℕ, zero, suc, ◌+◌, ◌-◌, ◌≤◌, ◌<◌}
 use native.Mathlib.Numerals.{add-one}
 use native.Mathlib.Omega.{arith}
-use mathlib.Core.Bool.{true, false}
+use mathlib.Core.Bool.{true}
 use mathlib.Core.List.{List, [], ◌∷◌, ◌++◌}
-use lib.ListN.{length, get_or, set, take, drop, replicate, length-take, length-drop, length-set, length-replicate}
+use lib.ListN.{length, get_or, set, take, drop, replicate, length-take, length-set, length-replicate}
 use lib.Seq.{sets, sets-eq, take_all, take-suc, take-set-le, get_or-set_same, get_or-take, get_or-drop, length-take-le, drop-set-lt, drop-drop}
-use borrow.Author.Tests.{eqb-true, le-leb, lt-leb, leb-true}
+use borrow.Author.Tests.{eqb-true, le-leb, leb-true}
 use Rattle.ids.specs.Lists.{every}
 use Rattle.ids.proofs.ListLaws.{every_set, every-at, every_drop, every_append, every-same}
 use Rattle.ids.proofs.Choice.{both}
 use lib.Dec.{eqb}
-use Rattle.sim_blocks.proofs.Fronts.{Passing, passing-none, passing_failed, passing-more, passing-all, Clearing, clearing_all}
 use Rattle.sim_layout.specs.Layout.{blank}
 use Rattle.script_lines.proofs.PutLaws.{Copied, copied_more, copied_all}
 use Rattle.script_output.specs.Reader.{max_kept, behind}
@@ -88,10 +87,6 @@ line-cleared l i F e =
     rw (sets-eq (replicate i 0) l 0 (omega (arith, e, F.few, z)), z) (every_append (eqb 0) (replicate i 0) (drop i l) (every-same (eqb 0) i 0 refl) F.behind)
 
 -- the line is done with
-pub line_off : (w₀ w : List ℕ) (len i : ℕ) → (len ≡ get_or w₀ length_at 0) → Clearing w₀ line_from len w i → len ≤ i → set w length_at 0 ≡ without_line w₀
-line_off w₀ w len i e S h =
-    ap (λ (l : List ℕ). set l length_at 0) (clearing_all w₀ line_from len w i S h ∙ ap (λ (n : ℕ). sets w₀ line_from (replicate n 0)) e)
-
 pub line-gone : (w : List ℕ) (S : Sound w) → (view (without_line w) ≡ record { stage = (view w).stage; line = [] }) × (valid (without_line w) ≡ true)
 unfolding view head_in stage_of valid_run valid_idle
 line-gone w S =
@@ -124,24 +119,6 @@ module _ (w : List ℕ) (b : ℕ) (S : Sound w) where
         view-is p ∙ (λ j. record { stage = stage_of (head_in w) (simulation_in w); line = z j }),
         still-valid w _ _ _ S.valid p refl refl refl (line-longer (kept_in w) i b (known w S.valid).line (omega (arith, h)) small),
       )
-
--- the words of the line, tested one by one
-module _ (w : List ℕ) where
-  pub bytes-none : length w ≡ state_size → Passing byte_word 0 (drop line_from w) max_kept 0
-  bytes-none e = passing-none byte_word 0 (drop line_from w) max_kept (omega (arith, length-drop line_from w))
-
-  module _ (i : ℕ) (S : Passing byte_word 0 (drop line_from w) max_kept i) (lt : i < max_kept) where
-    pub bytes_failed : 255 < get_or w (line_from + i) 0 → false ≡ every byte_word (kept_in w)
-    unfolding kept_in
-    bytes_failed h =
-        passing_failed byte_word 0 (drop line_from w) max_kept i S lt (ap byte_word (get_or-drop line_from w i 0) ∙ lt-leb (get_or w (line_from + i) 0) 255 h)
-
-    pub bytes-more : get_or w (line_from + i) 0 ≤ 255 → Passing byte_word 0 (drop line_from w) max_kept (i + 1)
-    bytes-more h = passing-more byte_word 0 (drop line_from w) max_kept i S lt (ap byte_word (get_or-drop line_from w i 0) ∙ le-leb (get_or w (line_from + i) 0) 255 h)
-
-  pub bytes-all : (i : ℕ) → Passing byte_word 0 (drop line_from w) max_kept i → max_kept ≤ i → true ≡ every byte_word (kept_in w)
-  unfolding kept_in
-  bytes-all i S h = passing-all byte_word 0 (drop line_from w) max_kept i S h
 
 -- the line's words, copied out
 module _ (w : List ℕ) (S : Sound w) where

@@ -7,7 +7,7 @@ use native.Mathlib.Omega.{arith}
 use mathlib.Core.Bool.{Bool, true, false}
 use mathlib.Core.List.{List, [], ◌∷◌, map}
 use lib.Dec.{leb}
-use lib.ListN.{length, get_or, set, take, drop, replicate, length-map, length-set, length-replicate}
+use lib.ListN.{length, get_or, set, take, drop, replicate, length-map, length-set}
 use lib.Seq.{sets, length-sets}
 use borrow.Rule.Slice.PartMut.{put_mid, put_same}
 use borrow.Author.Tests.{eq-eqb, ne_eqb, le-leb, lt-leb, leb-false, lt-ltb, le-ltb}
@@ -37,8 +37,6 @@ use Rattle.script_lines.specs.Words.{newline}
 use Rattle.script_lines.specs.Lines.{event_in, sixteen_bits, line_of, setting_in as line-setting}
 use Rattle.script_lines.specs.Printed.{header_line, no_line, ok_line, end_line, refused_line}
 use Rattle.script_lines.proofs.PrintedLaws.{Small, no_short, ok_short, header-short, end_short, refused-short}
-use Rattle.sim_blocks.proofs.Fronts.{Clearing, clearing_more, clearing_all}
-use Rattle.sim_blocks.proofs.BlockParts.{covered}
 use Rattle.sim_layout.specs.Layout as layout
 use Rattle.sim_layout.proofs.ValidLaws as layout_laws
 use Rattle.sim_layout.proofs.LendLaws.{came_back}
@@ -292,16 +290,10 @@ module _ (w : List ℕ) (at : ℕ) (o : List ℕ) where
   unfolding ended
   end_closed a b = rw (stage-closed w a b) (prints-none o at)
 
--- words set to 0 from the first on
-pub cleared_more : (o l : List ℕ) (n i : ℕ) → Clearing o 0 n l i → i < n → Clearing o 0 n (set l i 0) (i + 1)
-cleared_more o l n i S h = let z : 0 + i ≡ i = omega arith in rw z at (clearing_more o 0 n l i S h)
-
+-- words set to 0
 pub newly : (w w' : List ℕ) → length w ≡ state_size → w' ≡ replicate state_size 0 → w' ≡ new_words w
 unfolding new_words
 newly w w' e p = rw (eq-eqb (length w) state_size e) p
-
-pub all-cleared : (o l : List ℕ) (i : ℕ) → length o ≡ state_size → Clearing o 0 state_size l i → state_size ≤ i → l ≡ replicate state_size 0
-all-cleared o l i e S h = clearing_all o 0 state_size l i S h ∙ covered o (replicate state_size 0) (length-replicate {A = ℕ} state_size 0 ∙ sym e)
 
 pub newly_answered : (w : List ℕ) → length w ≡ state_size → Ok (record { used = 0; wrote = 0 }) ≡ new_script w
 unfolding new_script

@@ -69,14 +69,7 @@ fn bytes_valid(w: &[u32]) -> bool
     requires { length w.now ≡ state_size }
     ensures { result ≡ every byte_word (kept_in w.now) }
 {
-    let mut i: usize = 0;
-    while i < LINE {
-        if 255 < w[LINE_FROM + i] {
-            return false;
-        }
-        i += 1;
-    }
-    true
+    w[LINE_FROM..STATE_HEAD].iter().all(|x| *x <= 255)
 }
 
 // Whether the words of the line are bytes, and 0 behind the line so far.
@@ -171,11 +164,7 @@ fn clear_line(w: &mut [u32])
     ensures { w.new ≡ without_line w.old }
 {
     let len = w[LENGTH] as usize;
-    let mut i: usize = 0;
-    while i < len {
-        w[LINE_FROM + i] = 0;
-        i += 1;
-    }
+    w[LINE_FROM..LINE_FROM + len].fill(0);
     w[LENGTH] = 0;
 }
 
@@ -185,10 +174,8 @@ fn copy_line(w: &[u32], line: &mut [u8])
     ensures { line.new ≡ sets line.old 0 (view w.now).line }
 {
     let len = w[LENGTH] as usize;
-    let mut i: usize = 0;
-    while i < len {
+    for i in 0..len {
         line[i] = w[LINE_FROM + i] as u8;
-        i += 1;
     }
 }
 
@@ -369,11 +356,7 @@ fn clear(w: &mut [u32])
     requires { length w.old ≡ state_size }
     ensures { w.new ≡ replicate state_size 0 }
 {
-    let mut i: usize = 0;
-    while i < STATE_WORDS {
-        w[i] = 0;
-        i += 1;
-    }
+    w.fill(0);
 }
 
 // The bytes of the input, one after another, while there is room for a line.
@@ -381,16 +364,14 @@ fn take_all(w: &mut [u32], input: &[u8], out: &mut [u8]) -> Result<Progress, Ref
     requires { Sound w.old }
     ensures { FedAs w.old input.now out.old w.new out.new result }
 {
-    let mut used: usize = 0;
     let mut at: usize = 0;
-    while used < input.len() {
+    for (used, b) in input.iter().enumerate() {
         if out.len() - at < MAX_PRINTED {
             return Ok(Progress { used, wrote: at });
         }
-        at = take(w, out, at, input[used]);
-        used += 1;
+        at = take(w, out, at, *b);
     }
-    Ok(Progress { used, wrote: at })
+    Ok(Progress { used: input.len(), wrote: at })
 }
 
 // The next part of the input. Refused 21, 6.

@@ -1,16 +1,13 @@
 -- The parts of a block: what the code's loops and tests say of them, and what a store in one leaves of the others.
-use Prim.Native.Nat.{ℕ, zero, suc, ◌+◌, ◌-◌, ◌*◌, ◌≤◌, ◌<◌}
+use Prim.Native.Nat.{ℕ, zero, suc, ◌+◌, ◌-◌, ◌*◌, ◌≤◌}
 use native.Mathlib.Omega.{arith}
 use mathlib.Core.Path.{◌≡◌, refl, sym, ap, ◌∙◌}
 use mathlib.Core.Bool.{Bool, true, false}
 use mathlib.Core.List.{List, [], ◌∷◌, ◌++◌, append-nil, append_assoc}
 use lib.Dec.{leb}
 use lib.ListN.{length, get_or, take, drop, set, length-drop, length-take, replicate, take-append-drop}
-use lib.Seq.{sets, get_or-set_other, length-sets, sets-eq, drop-length, drop-drop, get_or-drop, take-length, take_all, length-take-le, drop-append-le}
-use borrow.Author.Tests.{le-leb, lt-leb}
-use Rattle.ids.specs.Requests.{no_request}
+use lib.Seq.{sets, get_or-set_other, length-sets, sets-eq, drop-length, drop-drop, take_all, length-take-le, drop-append-le, drop-cons}
 use Rattle.std.specs.Prelude.{if◌then◌else◌, Some, None}
-use Rattle.ids.specs.declared.Request.{Request}
 use Rattle.server.specs.Record as server
 use Rattle.server.specs.declared.Server.{Server}
 use Rattle.client.specs.Record as client
@@ -19,78 +16,24 @@ use Rattle.system.specs.Places.{in_epoch}
 use Rattle.words.specs.Records.{client_words, server_words, server_from, server_head, client_head, client_head_words, server_head_words, server_head_from, max_word}
 use Rattle.sim_blocks.specs.Blocks.{named_pair, cleared, server_record, client_place, emptied, flags_from, client_block, server_block, client_record_size, server_record_size, response_words, queue_words}
 use Rattle.ids.specs.Lists.{every}
-use Rattle.sim_blocks.proofs.Fronts.{Passing, passing-none, passing-more, passing_failed, passing-all, Clearing, clearing_all}
+use Rattle.std.specs.List.{list_all, range_with_len}
 use Rattle.server.specs.Calls.{empty_head}
 use Rattle.system.specs.Limits.{system_servers}
 use Rattle.rows.specs.Rows.{requests_in}
-use Rattle.rows.proofs.WordLaws.{requests-at}
 use Rattle.rows.proofs.CopyLaws.{part-whole}
 use Rattle.wire.proofs.BytesLaws.{stored_on}
 use Rattle.client.specs.declared.Head.{Head as ClientHead}
 use Rattle.server.specs.declared.Head.{Head as ServerHead}
 
-module _ (l : List ℕ) (most : ℕ) where
-  abbrev below : ℕ → Bool
-  below x = leb x most
-
-  pub most-none : Passing below 0 l (length l) 0
-  most-none = passing-none below 0 l (length l) (omega arith)
-
-  module _ (i : ℕ) (S : Passing below 0 l (length l) i) where
-    pub most_failed : i < length l → most < get_or l i 0 → false ≡ every (λ x. leb x most) l
-    most_failed h g = passing_failed below 0 l (length l) i S h (lt-leb _ _ g) ∙ ap (every below) (take-length l)
-
-    pub most-more : i < length l → get_or l i 0 ≤ most → Passing below 0 l (length l) (i + 1)
-    most-more h g = passing-more below 0 l (length l) i S h (le-leb _ _ g)
-
-    pub most-all : length l ≤ i → true ≡ every (λ x. leb x most) l
-    most-all h = passing-all below 0 l (length l) i S h ∙ ap (every below) (take-length l)
-
--- the requests in words
-requests_fit : (ws : List ℕ) (n : ℕ) → 2 * n ≤ length ws → n ≤ length (requests_in ws)
+-- a test of the requests in words by their places, from request i on
+pub named-all : (ws : List ℕ) (clients head i k : ℕ) → head + 2 * (i + k) ≤ length ws
+    → list_all (λ (i : ℕ). leb (get_or ws (head + 2 * i) 0) clients) (range_with_len i k)
+    ≡ every (named_pair clients) (take k (requests_in (drop (head + 2 * i) ws)))
 unfolding requests_in
-requests_fit ws zero h = omega arith
-requests_fit [] (suc n) h = absurd (omega arith)
-requests_fit (k ∷ []) (suc n) h = absurd (omega arith)
-requests_fit (k ∷ (t ∷ ws)) (suc n) h = omega (arith, requests_fit ws n (omega arith))
-
-module _ (ws : List ℕ) (head count clients : ℕ) where
-  abbrev requests : List Request
-  requests = requests_in (drop head ws)
-
-  -- what `requests_named` knows before request i
-  pub record Naming (i : ℕ) : Type 0 where
-    pub room : head + 2 * count ≤ length ws
-    pub passing : Passing (named_pair clients) no_request (requests_in (drop head ws)) count i
-
-  pub naming_none : head + 2 * count ≤ length ws → Naming 0
-  naming_none h =
-      record {
-        room = h;
-        passing = passing-none (named_pair clients) no_request requests count
-            (requests_fit (drop head ws) count (omega (arith, length-drop head ws)));
-      }
-
-  module _ (i : ℕ) (S : Naming i) where
-    its-client : i < count → (get_or requests i no_request).client.0 ≡ get_or ws (head + 2 * i) 0
-    its-client h =
-        ap (λ (q : Request). q.client.0) (requests-at (drop head ws) i (omega (arith, length-drop head ws, S.room))) ∙
-        get_or-drop head ws (2 * i) 0
-
-    pub naming_failed : i < count → clients < get_or ws (head + 2 * i) 0 → false ≡ every (named_pair clients) (take count (requests_in (drop head ws)))
-    naming_failed h g = passing_failed (named_pair clients) no_request requests count i S.passing h
-        (lt-leb (get_or requests i no_request).client.0 clients (omega (arith, its-client h)))
-
-    pub naming_more : i < count → get_or ws (head + 2 * i) 0 ≤ clients → Naming (i + 1)
-    naming_more h g =
-        record {
-          room = S.room;
-          passing = passing-more (named_pair clients) no_request requests count i S.passing h
-              (le-leb (get_or requests i no_request).client.0 clients (omega (arith, its-client h)));
-        }
-
-    pub naming_all : count ≤ i → true ≡ every (named_pair clients) (take count (requests_in (drop head ws)))
-    naming_all h = passing-all (named_pair clients) no_request requests count i S.passing h
+named-all ws clients head i zero h = refl
+named-all ws clients head i (suc k) h =
+    let z : suc (suc (head + 2 * i)) ≡ head + 2 * (i + 1) = omega arith in
+    rw (drop-cons ws (head + 2 * i) 0 (omega arith), drop-cons ws (suc (head + 2 * i)) 0 (omega arith), z, named-all ws clients head (i + 1) k (omega arith))
 
 -- the words of a record are read back as that record
 pub read_in : {A : Type 0} (x : Bool) (y z : A) → (if x then Some y else None) ≡ Some z → (x ≡ true) × (y ≡ z)
@@ -169,10 +112,6 @@ server_head-long h = refl
 pub length-cleared : (b : List ℕ) → length (cleared b) ≡ length b
 unfolding cleared
 length-cleared b = length-sets b flags_from (replicate system_servers 0)
-
-pub all-cleared : (b l : List ℕ) (i : ℕ) → Clearing b flags_from system_servers l i → system_servers ≤ i → l ≡ cleared b
-unfolding cleared
-all-cleared b l i S h = clearing_all b flags_from system_servers l i S h
 
 -- the flags behind those of n servers
 pub rest_of : (l : List ℕ) (n : ℕ) (y : Bool) → length l ≡ system_servers → y ≡ every (λ x. leb x 0) (take (system_servers - n) (drop n l))

@@ -12,7 +12,6 @@ use Rattle.ids.specs.declared.ClientId.{ClientId}
 use Rattle.ids.specs.declared.ServerId.{ServerId}
 use Rattle.ids.proofs.Choice.{both}
 use Rattle.server_votes.specs.Figure1.{candidates}
-use Rattle.server_votes.specs.Queues as votes
 use Rattle.server.specs.Record as server
 use Rattle.server.specs.declared.Server.{Server}
 use Rattle.server.proofs.KeepsValid.{Good, view-good}

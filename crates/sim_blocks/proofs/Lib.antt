@@ -1,6 +1,5 @@
 pub mod RegionLaws
 pub mod RegionBlocks
-pub mod Fronts
 pub mod BlockParts
 pub mod TestLaws
 pub mod FlagLaws

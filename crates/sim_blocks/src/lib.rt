@@ -43,14 +43,7 @@ pub const SERVER_BLOCK: usize = 1 + SERVER_RECORD;
 fn at_most(words: &[u32], most: u32) -> bool
     ensures { result ≡ every (λ x. leb x most) words.now }
 {
-    let mut i: usize = 0;
-    while i < words.len() {
-        if most < words[i] {
-            return false;
-        }
-        i += 1;
-    }
-    true
+    words.iter().all(|x| *x <= most)
 }
 
 // Whether the first `count` requests behind a record's head of so many words are of clients 0 to `clients`.
@@ -58,14 +51,7 @@ fn requests_named(words: &[u32], head: usize, count: usize, clients: u32) -> boo
     requires { head + 2 * count ≤ length words.now }
     ensures { result ≡ every (named_pair clients) (take count (requests_in (drop head words.now))) }
 {
-    let mut i: usize = 0;
-    while i < count {
-        if clients < words[head + 2 * i] {
-            return false;
-        }
-        i += 1;
-    }
-    true
+    (0..count).all(|i| words[head + 2 * i] <= clients)
 }
 
 fn fits_client(words: &[u32], n: u32, m: u32, clients: u32, k: ClientId) -> bool
@@ -193,11 +179,7 @@ pub fn clear_flags(b: &mut [u32])
     requires { length b.old ≡ client_block }
     ensures { b.new ≡ cleared b.old }
 {
-    let mut i: usize = 0;
-    while i < FLAGS {
-        b[FLAGS_FROM + i] = 0;
-        i += 1;
-    }
+    b[FLAGS_FROM..CLIENT_BLOCK].fill(0);
 }
 
 // The client falls: it does not live, and its epoch is over.
@@ -228,28 +210,12 @@ pub fn mark_down(b: &mut [u32], j: ServerId)
     }
 }
 
-// 1 for a flag that is set.
-fn bit_of(x: u32) -> u32
-    ensures { result ≡ (if eqb x 0 then 0 else 1) }
-{
-    if x == 0 {
-        return 0;
-    }
-    1
-}
-
 // How many flags are set.
 fn flags_set(words: &[u32]) -> u32
     requires { length words.now ≡ system_servers }
     ensures { result ≡ length (flagged 1 words.now) }
 {
-    let mut count: u32 = 0;
-    let mut i: usize = 0;
-    while i < FLAGS {
-        count += bit_of(words[i]);
-        i += 1;
-    }
-    count
+    words.iter().filter(|x| **x != 0).count() as u32
 }
 
 // How many servers were down in the client's epoch.

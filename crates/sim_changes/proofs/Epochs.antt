@@ -5,20 +5,20 @@ use Prim.Native.Nat.{ℕ, zero, suc, ◌+◌, ◌*◌, ◌-◌, ◌≤◌, ◌<�
 use native.Mathlib.Omega.{arith}
 use mathlib.Core.Bool.{true}
 use mathlib.Core.List.{List, [], ◌∷◌, map}
-use lib.ListN.{length, get_or, set, take, drop, length-map, length-set}
+use lib.ListN.{length, get_or, set, take, drop, length-map}
 use lib.Seq.{sets, take_all, length-sets}
 use borrow.Rule.Slice.PartMut.{put_mid, put_same}
 use Rattle.std.specs.Prelude.{if◌then◌else◌}
 use Rattle.ids.specs.declared.ServerId.{ServerId}
 use Rattle.sim_blocks.proofs.RegionBlocks.{length-blocks}
 use Rattle.sim_blocks.specs.Regions.{blocks}
-use Rattle.system.specs.Numbered.{put, at, client_no, server_no}
+use Rattle.system.specs.Numbered.{put, client_no, server_no}
 use Rattle.system.specs.Places.{System, ClientPlace, ServerPlace, no_client, no_server, client_at, server_at, in_epoch, downed, down_from, worst}
 use Rattle.sim_blocks.specs.Blocks.{client_place, server_place, cleared, client_block, server_block, flags_from, client_record_size}
 use Rattle.sim_blocks.proofs.FlagLaws.{down_bit}
 use Rattle.sim_blocks.proofs.ClientLaws.{ClientIs}
 use Rattle.sim_blocks.proofs.EpochLaws.{mark-block, flag_next, put-block, cleared-block}
-use Rattle.sim_layout.specs.Layout.{setting_of, most_of, client_words, server_words, view, valid, simulation_size, clients_from}
+use Rattle.sim_layout.specs.Layout.{setting_of, most_of, client_words, server_words, view, simulation_size, clients_from}
 use Rattle.sim_layout.specs.Parts.{client_block_of, server_block_of, ClientIn, ServerIn}
 use Rattle.sim_layout.proofs.ViewLaws.{setting_kept, clients-servers}
 use Rattle.sim_layout.proofs.PlaceLaws.{client-place, server-place}
@@ -89,7 +89,7 @@ module _ (w : List ℕ) (j : ServerId) where
       record { has = H; count = refl; within = omega arith; near = record { system = refl; setting = refl; again = sound w H.valid } }
 
   module _ (clients : ℕ) (w' : List ℕ) (i : ℕ) (M : Marking w j clients w' i) where
-    pub marking_fits : clients ≤ system_clients
+    marking_fits : clients ≤ system_clients
     marking_fits = omega (arith, M.count, few_clients w (sound w M.has.valid))
 
     pub marking_in : i < clients → ClientIn w' (client_no (i + 1)) × (1 ≤ j.0) × (j.0 ≤ system_servers)
@@ -133,12 +133,6 @@ module _ (w : List ℕ) (j : ServerId) where
         let z : i + 1 ≡ suc i = omega arith in
         let e' = rw z at e in
         rw z (record { has = M.has; count = M.count; within = omega (arith, lt); near = rw e' (marked_near lt) })
-
-    pub marking_sized : (length w' ≡ simulation_size) × ((setting_of w').clients ≤ system_clients)
-    marking_sized = (M.near.again.long, few_clients w' M.near.again)
-
-    pub marking_same : (x : ℕ) (w'' : List ℕ) → w'' ≡ set w' 6 x → length w'' ≡ length w
-    marking_same x w'' e = ap length e ∙ (length-set w' 6 x ∙ (M.near.again.long ∙ sym (sound w M.has.valid).long))
 
     pub marking_all : clients ≤ i → (w'' : List ℕ) → w'' ≡ set w' 6 (max (most_of w') (worst (view w').clients))
         → Becomes w w'' (with_clients (view w) (map (downed j) (view w).clients))
@@ -235,9 +229,6 @@ module _ (w : List ℕ) (k : ℕ) (H : HasClient w (client_no k)) where
       client_near w (sound w H.valid) k (sets (client_block_of w (client_no k)) flags_from (bits_of w)) _ H.first H.last B
 
 module _ (w : List ℕ) (k n : ℕ) (w' : List ℕ) (i : ℕ) (P : Flagging w k n w' i) where
-  pub flagging_fits : n ≤ system_servers
-  flagging_fits = omega (arith, P.count, few_servers w (sound w P.has.valid))
-
   pub flagging_sized : (length w' ≡ simulation_size) × ((setting_of w').clients ≤ system_clients)
   flagging_sized =
       rw P.words (
@@ -247,8 +238,8 @@ module _ (w : List ℕ) (k n : ℕ) (w' : List ℕ) (i : ℕ) (P : Flagging w k 
             (few_clients w (sound w P.has.valid)),
       )
 
-  pub flagging_same : (x : ℕ) (w'' : List ℕ) → w'' ≡ set w' 6 x → length w'' ≡ length w
-  flagging_same x w'' e = ap length e ∙ (length-set w' 6 x ∙ (flagging_sized.0 ∙ sym (long w k P.has)))
+  flagging_fits : n ≤ system_servers
+  flagging_fits = omega (arith, P.count, few_servers w (sound w P.has.valid))
 
   pub flagging_server : i < n → ServerIn w' (server_no (i + 1))
   flagging_server lt = record { long = flagging_sized.0; first = omega arith; last = omega (arith, flagging_fits, lt) }

@@ -8,14 +8,13 @@ use mathlib.Core.Bool.{true, false}
 use mathlib.Core.List.{List, [], ◌∷◌}
 use lib.Dec.{eqb, ltb}
 use lib.ListN.{length, get_or, set, take, drop, replicate, length-set, length-drop}
-use lib.Seq.{sets, length-sets, drop-drop, get_or-set_same, get_or-set_other, length-take-le}
-use borrow.Author.Tests.{eq-eqb, eqb-true, ltb-true, ltb-false, le-leb}
+use lib.Seq.{sets, length-sets, drop-drop, length-take-le}
+use borrow.Author.Tests.{eqb-true, ltb-true, ltb-false, le-leb}
 use Rattle.ids.specs.Limits.{within, valid_client, max_client, max_servers}
 use Rattle.ids.specs.Lists.{every}
 use Rattle.ids.specs.declared.ServerId.{ServerId}
 use Rattle.ids.proofs.Choice.{both, decided}
 use Rattle.ids.proofs.LimitsLaws.{within-range}
-use Rattle.server_votes.specs.Queues as votes
 use Rattle.server_votes.specs.Figure1.{idle}
 use Rattle.client.specs.Record.{client_of, head_in}
 use Rattle.client.proofs.RecordLaws.{fresh-stored}
@@ -67,34 +66,6 @@ blank-drop : (n : ℕ) (l : List ℕ) → blank l ≡ true → blank (drop n l) 
 blank-drop zero l h = h
 blank-drop (suc n) [] h = refl
 blank-drop (suc n) (x ∷ l) h = blank-drop n l (both (eqb 0 x) (blank l) h).1
-
-blank-all : (l : List ℕ) → ((x : ℕ) → x < length l → get_or l x 0 ≡ 0) → blank l ≡ true
-blank-all [] h = refl
-blank-all (y ∷ l) h = rw (eq-eqb 0 y (sym (h 0 (omega arith)))) (blank-all l (λ x q. h (suc x) (omega arith)))
-
--- `clear_all`: the first i words are 0
-pub record Clearing (w₀ w : List ℕ) (i : ℕ) : Type 0 where
-  pub same : length w ≡ length w₀
-  pub within : i ≤ length w
-  pub done : (x : ℕ) → x < i → get_or w x 0 ≡ 0
-
-pub clearing_none : (w : List ℕ) → Clearing w w 0
-clearing_none w = record { same = refl; within = omega arith; done = λ x q. absurd (omega arith) }
-
-module _ (w₀ w : List ℕ) (i : ℕ) (C : Clearing w₀ w i) where
-  pub clearing_more : i < length w → Clearing w₀ (set w i 0) (i + 1)
-  clearing_more lt =
-      record {
-        same = length-set w i 0 ∙ C.same;
-        within = omega (arith, length-set w i 0, lt);
-        done = λ x q. ⊎_elim
-            (λ (t : ltb x i ≡ true). get_or-set_other w i x 0 0 (λ e. omega (arith, ltb-true x i t)) ∙ C.done x (ltb-true x i t))
-            (λ (t : ltb x i ≡ false). let v : x ≡ i = omega (arith, ltb-false x i t, q) in rw v (get_or-set_same w i 0 0 lt))
-            (decided (ltb x i));
-      }
-
-  pub clearing_all : length w ≤ i → Cleared w₀ w
-  clearing_all h = record { same = C.same; zeros = blank-all w (λ x q. C.done x (omega arith)) }
 
 -- one party's block
 module _ (n m k : ℕ) (w : List ℕ) (h : ClientIn w (client_no k)) where
@@ -176,20 +147,11 @@ unfolding in_turn
 putting_none f w c = record { same = refl; within = omega arith; words = refl }
 
 module _ (f : ℕ → List ℕ → List ℕ) (w₀ : List ℕ) (c : ℕ) (w : List ℕ) (i : ℕ) (P : Putting f w₀ c w i) where
-  pub putting_client : (length w₀ ≡ simulation_size) × (c ≤ system_clients) → i < c → ClientIn w (client_no (i + 1))
-  putting_client h lt = record { long = P.same ∙ h.0; first = omega arith; last = omega (arith, h.1, lt) }
-
-  pub putting_server : (length w₀ ≡ simulation_size) × (c ≤ system_servers) → i < c → ServerIn w (server_no (i + 1))
-  putting_server h lt = record { long = P.same ∙ h.0; first = omega arith; last = omega (arith, h.1, lt) }
-
   pub putting_more : ((k : ℕ) (l : List ℕ) → length (f k l) ≡ length l) → i < c → (w' : List ℕ) → w' ≡ f (i + 1) w → Putting f w₀ c w' (i + 1)
   unfolding in_turn
   putting_more same lt w' e =
       let z : i + 1 ≡ suc i = omega arith in
       record { same = ap length e ∙ (same (i + 1) w ∙ P.same); within = omega arith; words = e ∙ (ap (λ (l : List ℕ). f (i + 1) l) P.words ∙ rw z) }
-
-  pub putting_all : c ≤ i → w ≡ in_turn f c w₀
-  putting_all h = let z : i ≡ c = omega (arith, P.within, h) in P.words ∙ ap (λ (x : ℕ). in_turn f x w₀) z
 
 -- blocks put one after another: the first i are f's, and behind them all is 0
 record Filled (s : ℕ) (f : ℕ → List ℕ) (l : List ℕ) (i : ℕ) : Type 0 where

@@ -180,10 +180,8 @@ pub fn note_down(w: &mut [u32], j: ServerId)
     ensures { Becomes w.old w.new (with_clients (view w.old) (map (downed j) (view w.old).clients)) }
 {
     let clients = w[CLIENTS] as u16;
-    let mut i: u16 = 0;
-    while i < clients {
+    for i in 0..clients {
         sim_layout::mark_client(w, ClientId(i + 1), j);
-        i += 1;
     }
     note_most(w);
 }
@@ -205,11 +203,9 @@ fn begin_epoch(w: &mut [u32], k: ClientId)
     ensures { Becomes w.old w.new (with_clients (view w.old) (put (view w.old).clients k.0 (record { living = (client_at (view w.old) k).living; state = (client_at (view w.old) k).state; downs = down_from 1 (view w.old).servers }))) }
 {
     let n = w[SERVERS] as u16;
-    let mut i: u16 = 0;
-    while i < n {
+    for i in 0..n {
         let x = down_flag(w, ServerId(i + 1));
         sim_layout::put_flag(w, k, ServerId(i + 1), x);
-        i += 1;
     }
     note_most(w);
 }
@@ -367,11 +363,7 @@ pub fn server_acts(w: &mut [u32], j: ServerId, act: ServerAct) -> Result<u32, Re
 fn clear_all(w: &mut [u32])
     ensures { Cleared w.old w.new }
 {
-    let mut i: usize = 0;
-    while i < w.len() {
-        w[i] = 0;
-        i += 1;
-    }
+    w.fill(0);
 }
 
 fn new_client(w: &mut [u32], n: u16, m: u16, k: ClientId)
@@ -388,10 +380,8 @@ fn new_clients(w: &mut [u32], n: u16, m: u16, clients: u16)
     requires { (length w.old ≡ simulation_size) × (clients ≤ system_clients) }
     ensures { w.new ≡ in_turn (λ i. new_client n m (client_no i)) clients w.old }
 {
-    let mut i: u16 = 0;
-    while i < clients {
+    for i in 0..clients {
         new_client(w, n, m, ClientId(i + 1));
-        i += 1;
     }
 }
 
@@ -409,10 +399,8 @@ fn new_servers(w: &mut [u32], n: u16)
     requires { (length w.old ≡ simulation_size) × (n ≤ system_servers) }
     ensures { w.new ≡ in_turn (λ i. new_server n (server_no i)) n w.old }
 {
-    let mut i: u16 = 0;
-    while i < n {
+    for i in 0..n {
         new_server(w, n, ServerId(i + 1));
-        i += 1;
     }
 }
 

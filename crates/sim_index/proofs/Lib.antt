@@ -1,5 +1,4 @@
 pub mod LoopLaws
-pub mod RowLaws
 pub mod EntryLaws
 pub mod WordLaws
 pub mod PlaceLaws

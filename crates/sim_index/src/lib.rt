@@ -27,17 +27,12 @@ pub struct Card {
     pub mark: u32,
 }
 
-// How many entries the receivers before place `p` have. It adds in 32 bits, so that the loop becomes vector code.
+// How many entries the receivers before place `p` have. It adds in 32 bits, so that the sum becomes vector code.
 pub fn start(x: &[u32], p: usize) -> usize
     requires { (length x.now ≡ index_size) × (p ≤ receivers) × (start_of p x.now ≤ system_messages) }
     ensures { result ≡ start_of p x.now }
 {
-    let mut total: u32 = 0;
-    let mut i: usize = 0;
-    while i < p {
-        total += x[i];
-        i += 1;
-    }
+    let total: u32 = x[..p].iter().sum();
     total as usize
 }
 
@@ -46,14 +41,8 @@ fn find(x: &[u32], from: usize, to: usize, v: u32) -> usize
     requires { (from ≤ to) × (to ≤ length x.now) }
     ensures { result ≡ from + first_of v (take (to - from) (drop from x.now)) }
 {
-    let mut i = from;
-    while i < to {
-        if x[i] == v {
-            return i;
-        }
-        i += 1;
-    }
-    i
+    let found = x[from..to].iter().position(|y| *y == v);
+    from + found.unwrap_or(to - from)
 }
 
 // A number and a mark stand at entry `at`: those from there on to entry `end` move back by one.
@@ -61,15 +50,9 @@ fn insert(x: &mut [u32], at: usize, end: usize, number: u32, mark: u32)
     requires { (at ≤ end) × (end < system_messages) × (length x.old ≡ index_size) }
     ensures { x.new ≡ inserted (marks_from + at) (marks_from + end) mark (inserted (numbers_from + at) (numbers_from + end) number x.old) }
 {
-    let mut i = end;
-    while at < i {
-        let n = x[NUMBERS + (i - 1)];
-        x[NUMBERS + i] = n;
-        let m = x[MARKS + (i - 1)];
-        x[MARKS + i] = m;
-        i -= 1;
-    }
+    x.copy_within(NUMBERS + at..NUMBERS + end, NUMBERS + at + 1);
     x[NUMBERS + at] = number;
+    x.copy_within(MARKS + at..MARKS + end, MARKS + at + 1);
     x[MARKS + at] = mark;
 }
 
@@ -78,15 +61,9 @@ fn delete(x: &mut [u32], at: usize, last: usize)
     requires { (at ≤ last) × (last < system_messages) × (length x.old ≡ index_size) }
     ensures { x.new ≡ deleted (marks_from + at) (marks_from + last) (deleted (numbers_from + at) (numbers_from + last) x.old) }
 {
-    let mut i = at;
-    while i < last {
-        let n = x[NUMBERS + (i + 1)];
-        x[NUMBERS + i] = n;
-        let m = x[MARKS + (i + 1)];
-        x[MARKS + i] = m;
-        i += 1;
-    }
+    x.copy_within(NUMBERS + at + 1..NUMBERS + last + 1, NUMBERS + at);
     x[NUMBERS + last] = 0;
+    x.copy_within(MARKS + at + 1..MARKS + last + 1, MARKS + at);
     x[MARKS + last] = 0;
 }
 
@@ -149,13 +126,5 @@ pub fn same(x: &[u32], y: &[u32]) -> bool
     requires { length x.now ≡ length y.now }
     ensures { result ≡ is_same x.now y.now }
 {
-    let n = x.len();
-    let mut i: usize = 0;
-    while i < n {
-        if x[i] != y[i] {
-            return false;
-        }
-        i += 1;
-    }
-    true
+    x == y
 }

@@ -31,7 +31,7 @@ use Rattle.sim_indexed.specs.Calls.{Few, Valid, Posts, CanPost}
 use Rattle.sim_indexed.specs.Inner.{Readable, with_index, Listing, Unlisted}
 use Rattle.sim_indexed.proofs.CardLaws.{card_may, kept-placed, slots-placed}
 use Rattle.sim_indexed.proofs.IndexedLaws.{Parts, parts, afresh-long, table-first, index-last, joined-valid, joined-messages}
-use Rattle.sim_indexed.proofs.IndexedLaws.{lent, back_index, back_table, lent-index, lent-long, index_back, table-long, index-long}
+use Rattle.sim_indexed.proofs.IndexedLaws.{lent, back_index, back_table, lent-index, index_back, table-long, index-long}
 
 slots_split : (i k : ℕ) (t : List ℕ) → slots (i + k) t ≡ slots i t ++ slots k (drop (slot_size * i) t)
 unfolding slots
@@ -133,9 +133,6 @@ module _ (from to : ℕ) (o : List ℕ) where
         let n = length-append (table o) (afresh (slots i (table o))) in
         ap length J.so_far ∙ omega (arith, n, table-long o J.begun.size, afresh-long (slots i (table o)) l)
 
-    pub joining-same : length t ≡ length o
-    joining-same = joining-size ∙ sym J.begun.size
-
     pub joining-slot : i < to → Listing i t
     joining-slot h =
         let U = J.begun in
@@ -147,9 +144,6 @@ module _ (from to : ℕ) (o : List ℕ) where
 
     pub joining-more : i < to → (t' : List ℕ) → t' ≡ with_index (i + 1) t → Joining from to o t' (i + 1)
     joining-more h t' e = record { first = omega (arith, J.first); within = omega arith; begun = J.begun; so_far = rw same-table at e }
-
-    pub joining-all : to ≤ i → t ≡ with_index to o
-    joining-all h = let z : i ≡ to = omega (arith, J.within) in rw z at J.so_far
 
 -- messages posted: the table has them, and then the index
 module _ (len sent : ℕ) (l : List Message) (t : List ℕ) (C : CanPost len sent l t) where
@@ -227,18 +221,6 @@ module _ (n clients sent len : ℕ) (t : List ℕ) where
       }
 
   module _ (x : List ℕ) (i : ℕ) (M : Making n clients sent len t x i) where
-    pub making_slot : i < len → Readable i t
-    making_slot h = record { n = n; clients = clients; sent = sent; len = len; few = M.few; valid = M.valid; used = h }
-
-    pub making_more : i < len → (y : List ℕ) → y ≡ afresh (slots (i + 1) t) → Making n clients sent len t y (i + 1)
-    making_more h y e =
-        let few = (valid-sized n clients sent len t M.valid).few in
-        let l = afresh-long (slots (i + 1) t) (omega (arith, length-slots (i + 1) t, few)) in
-        record { within = omega arith; few = M.few; valid = M.valid; long = sym (ap length e ∙ l); so_far = e }
-
-    pub making_long : (y : List ℕ) → length y ≡ indexed_size → length (lent y) ≡ length x
-    making_long y s = lent-long y s ∙ M.long
-
     pub making_all : len ≤ i → x ≡ afresh (slots len t)
     making_all h = let z : i ≡ len = omega (arith, M.within) in rw z at M.so_far
 

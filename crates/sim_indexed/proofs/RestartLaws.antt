@@ -22,7 +22,7 @@ use Rattle.sim_index.specs.Calls.{start_of}
 use Rattle.sim_indexed.specs.Indexed.{table, in_transit, card_of}
 use Rattle.sim_indexed.specs.Calls.{Few, Valid, Held, Place, Restarts}
 use Rattle.sim_indexed.specs.Inner.{EntryAt, Pends, entry_place}
-use Rattle.sim_indexed.proofs.IndexedLaws.{parts, lent, held-parts}
+use Rattle.sim_indexed.proofs.IndexedLaws.{lent, held-parts}
 use Rattle.sim_indexed.proofs.EntriesLaws.{many, begins, many-own, many-other, Found, found, first-is, last-is}
 use Rattle.sim_indexed.proofs.ReceiverLaws.{to_place}
 
@@ -172,9 +172,6 @@ module _ (len at end : ℕ) (o : List ℕ) where
 
     its-valid : Valid H.n H.clients H.sent len t
     its-valid = R.valid H.n H.clients H.sent H.few H.valid
-
-    pub restarting_same : length t ≡ length o
-    restarting_same = (parts H.n H.clients H.sent len t its-valid).size ∙ sym H.size
 
     -- entry `at` is the next message's
     module _ (more : at < end) where

@@ -71,10 +71,8 @@ pub fn valid(t: &[u32], len: usize, sent: u32, n: u32, clients: u32) -> bool
         return false;
     }
     let mut made = [0u32; INDEX_WORDS];
-    let mut i: usize = 0;
-    while i < len {
+    for i in 0..len {
         list_into(&mut made, &t[0..TABLE], i);
-        i += 1;
     }
     sim_index::same(&t[TABLE..INDEXED_WORDS], &made)
 }
@@ -141,11 +139,10 @@ pub fn restart(t: &mut [u32], len: usize, j: ServerId)
     ensures { Restarts len j t.old t.new }
 {
     let p = j.0 as usize - 1;
-    let mut at = sim_index::start(&t[TABLE..INDEXED_WORDS], p);
+    let from = sim_index::start(&t[TABLE..INDEXED_WORDS], p);
     let end = sim_index::start(&t[TABLE..INDEXED_WORDS], p + 1);
-    while at < end {
+    for at in from..end {
         pend(t, len, at);
-        at += 1;
     }
 }
 
@@ -164,10 +161,8 @@ fn list_slots(t: &mut [u32], from: usize, to: usize)
     requires { Unlisted from to t.old }
     ensures { t.new ≡ with_index to t.old }
 {
-    let mut i = from;
-    while i < to {
+    for i in from..to {
         list_slot(t, i);
-        i += 1;
     }
 }
 

@@ -4,7 +4,6 @@ pub mod PlaceLaws
 pub mod PartLaws
 pub mod LendLaws
 pub mod ReadLaws
-pub mod LoopLaws
 pub mod TestLaws
 pub mod HolderLaws
 pub mod Determined

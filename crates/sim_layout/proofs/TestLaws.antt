@@ -48,9 +48,6 @@ module _ (f : List ℕ → ClientPlace) (l : List ℕ) where
       ap (λ (k : ℕ). length (f (take client_block (drop (k * client_block) l))).downs) z in
       h ∙ (omega (arith, e, x', worst-more client_block f i l) ∙ ap (λ (k : ℕ). worst (blocks client_block f k l)) (sym y))
 
-  pub worst_end : (i c r : ℕ) → i ≤ c → c ≤ i → r ≡ worst (blocks client_block f i l) → r ≡ worst (blocks client_block f c l)
-  worst_end i c r p q e = let z : i ≡ c = omega arith in e ∙ ap (λ (k : ℕ). worst (blocks client_block f k l)) z
-
 -- blocks_valid
 module _ (n m clients : ℕ) (w : List ℕ) (r : (length w ≡ simulation_size) × (n ≤ system_servers) × (clients ≤ system_clients)) (a : Bool)
     (p : a ≡ valid_from (λ (i : ℕ). valid_client_block n m clients (client_no i)) 1 (blocks client_block itself clients (client_words w))) where

@@ -1,7 +1,7 @@
 -- What a valid simulation says of each of its parts, and what makes one valid again after a store.
 use mathlib.Core.Path.{◌≡◌, refl, sym, ap, ◌∙◌}
 use mathlib.Core.Logic.{⊎_elim}
-use Prim.Native.Nat.{ℕ, zero, suc, ◌+◌, ◌*◌, ◌≤◌, ◌<◌}
+use Prim.Native.Nat.{ℕ, zero, suc, ◌+◌, ◌-◌, ◌*◌, ◌≤◌, ◌<◌}
 use native.Mathlib.Omega.{arith}
 use mathlib.Core.Bool.{Bool, true, false}
 use mathlib.Core.List.{List, []}
@@ -9,6 +9,7 @@ use lib.Dec.{eqb, leb}
 use lib.ListN.{length, get_or, take, drop}
 use lib.Seq.{sets, drop-drop, get_or-set_same, get_or-set_other}
 use borrow.Author.Tests.{eqb-true, eqb-false, eq-eqb, leb-true, le-leb}
+use Rattle.std.specs.List.{list_all, range_with_len}
 use Rattle.ids.specs.Limits.{within}
 use Rattle.ids.proofs.Choice.{both, decided}
 use Rattle.quorum.specs.Check.{in_range_up_to}
@@ -50,6 +51,17 @@ module _ (f : ℕ → List ℕ → Bool) (s : ℕ) where
       let b : s + i * s ≡ suc i * s = omega arith in
       let at : drop (i * s) (drop s l) ≡ drop (suc i * s) l = drop-drop (i * s) s l ∙ ap (λ (x : ℕ). drop x l) b in
       rw (← a, at) (h (suc i) (omega arith))))
+
+-- a test of the blocks by their places, from place i on
+pub valid-all : (f : ℕ → List ℕ → Bool) (s : ℕ) (l : List ℕ) (i c : ℕ)
+    → list_all (λ (i : ℕ). f (i + 1) (take s (drop ((i + 1 - 1) * s) l))) (range_with_len i c) ≡ valid_from f (i + 1) (blocks s itself c (drop (i * s) l))
+unfolding valid_from blocks
+valid-all f s l i zero = refl
+valid-all f s l i (suc c) =
+    let z : i + 1 - 1 ≡ i = omega arith in
+    let y : suc (i + 1) ≡ i + 1 + 1 = omega arith in
+    let x : i * s + s ≡ (i + 1) * s = omega arith in
+    rw (valid-all f s l (i + 1) c, z, y, drop-drop s (i * s) l, x)
 
 -- block j after a store in block i
 pub block_here : (s c i : ℕ) (l : List ℕ) (a : ℕ) (vs : List ℕ) → i < c → a + length vs ≤ s →

@@ -199,14 +199,7 @@ pub fn is_blank(w: &[u32], from: usize, to: usize) -> bool
     requires { (from ≤ to) × (to ≤ length w.now) }
     ensures { result ≡ blank (take (to - from) (drop from w.now)) }
 {
-    let mut i = from;
-    while i < to {
-        if w[i] != 0 {
-            return false;
-        }
-        i += 1;
-    }
-    true
+    w[from..to].iter().all(|x| *x == 0)
 }
 
 fn client_valid(w: &[u32], n: u32, m: u32, clients: u32, k: ClientId) -> bool
@@ -223,14 +216,7 @@ fn clients_valid(w: &[u32], n: u32, m: u32, clients: u16) -> bool
     requires { (length w.now ≡ simulation_size) × (clients ≤ system_clients) }
     ensures { result ≡ valid_from (λ (i : ℕ). valid_client_block n m clients (client_no i)) 1 (blocks client_block itself clients (clients_part w.now)) }
 {
-    let mut i: u16 = 0;
-    while i < clients {
-        if !client_valid(w, n, m, clients as u32, ClientId(i + 1)) {
-            return false;
-        }
-        i += 1;
-    }
-    true
+    (0..clients).all(|i| client_valid(w, n, m, clients as u32, ClientId(i + 1)))
 }
 
 fn server_valid(w: &[u32], n: u32, clients: u32, j: ServerId) -> bool
@@ -247,23 +233,13 @@ fn servers_valid(w: &[u32], n: u16, clients: u32) -> bool
     requires { (length w.now ≡ simulation_size) × (n ≤ system_servers) }
     ensures { result ≡ valid_from (λ (i : ℕ). valid_server_block n clients (server_no i)) 1 (blocks server_block itself n (servers_part w.now)) }
 {
-    let mut i: u16 = 0;
-    while i < n {
-        if !server_valid(w, n as u32, clients, ServerId(i + 1)) {
-            return false;
-        }
-        i += 1;
-    }
-    true
+    (0..n).all(|i| server_valid(w, n as u32, clients, ServerId(i + 1)))
 }
 
 pub fn larger(a: u32, b: u32) -> u32
     ensures { result ≡ max a b }
 {
-    if a < b {
-        return b;
-    }
-    a
+    a.max(b)
 }
 
 // The servers ever down in the client's epoch.
@@ -282,11 +258,8 @@ pub fn worst_down(w: &[u32], clients: u16) -> u32
     ensures { result ≡ worst (blocks client_block client_place clients (clients_part w.now)) }
 {
     let mut most: u32 = 0;
-    let mut i: u16 = 0;
-    while i < clients {
-        let x = downs_of(w, ClientId(i + 1));
-        most = larger(most, x);
-        i += 1;
+    for i in 0..clients {
+        most = most.max(downs_of(w, ClientId(i + 1)));
     }
     most
 }
@@ -296,15 +269,9 @@ fn count_inside(w: &[u32], clients: u16) -> u32
     requires { (length w.now ≡ simulation_size) × (clients ≤ system_clients) }
     ensures { result ≡ count (map is_inside (blocks client_block client_place clients (clients_part w.now))) }
 {
-    let mut found: u32 = 0;
-    let mut i: u16 = 0;
-    while i < clients {
-        if is_inside(w, ClientId(i + 1)) {
-            found += 1;
-        }
-        i += 1;
-    }
-    found
+    (0..clients)
+        .filter(|i| is_inside(w, ClientId(*i + 1)))
+        .count() as u32
 }
 
 // The tests of the blocks and of what stands behind them, in a setting in range.

@@ -357,6 +357,3 @@ module _ (len sent count : ℕ) (bytes o : List ℕ) where
 
       pub posting_more : Posting len sent count bytes o t' (number + 1) from' (i + 1)
       posting_more = let N = its-next in posting_next N.message N.used N.read (left ∙ N.others)
-
-    pub posting_all : count ≤ i → t ≡ posted_words len sent (messages_in count bytes) o
-    posting_all h = P.done ∙ ap (λ (l : List Message). posted_words len sent l o) (take_all i (messages_in count bytes) (omega (arith, P.whole)))

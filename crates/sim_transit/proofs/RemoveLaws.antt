@@ -1,12 +1,11 @@
 -- A message removed: the words behind its slot move up by seven, and the last used slot becomes zeros.
 use Prim.Native.Nat.{ℕ, suc, ◌+◌, ◌-◌, ◌*◌, ◌<◌, ◌≤◌}
-use native.Mathlib.Numerals.{add-one}
 use native.Mathlib.Omega.{arith}
 use mathlib.Core.Path.{◌≡◌, refl, sym, ap, ◌∙◌}
 use mathlib.Core.Bool.{true}
 use mathlib.Core.List.{List, ◌∷◌, ◌++◌, map, map-append, append_assoc}
-use lib.ListN.{length, get_or, set, take, drop, replicate, length-set, length-drop, length-append}
-use lib.Seq.{sets, paste, sets-eq, length-sets, drop-drop, length-take-le, paste-zero, paste-suc, take-paste, drop-paste, length-paste, get_or-drop, drop_at}
+use lib.ListN.{length, take, drop, replicate, length-drop, length-append}
+use lib.Seq.{sets, paste, sets-eq, length-sets, drop-drop, length-take-le, take-paste, drop-paste, length-paste, drop_at}
 use Rattle.ids.specs.Lists.{every}
 use Rattle.system.specs.Transit.{replaced, gone}
 use Rattle.sim_transit.specs.Slots.{slot_of, slot_at, rows, slots, valid_slot, ascending, slot_size, transit_size}
@@ -18,43 +17,6 @@ use Rattle.sim_transit.proofs.NumbersLaws.{ascends_without, replaced-there}
 use Rattle.ids.proofs.ListLaws.{every_append, every-parts}
 use Rattle.sim_transit.proofs.ValidLaws.{Known, known, known-valid, slots_around}
 use Rattle.system.specs.Limits.{system_messages}
-
--- what `move_up` knows before word i: i words have moved
-pub record Moving (o : List ℕ) (from count : ℕ) (t : List ℕ) (i : ℕ) : Type 0 where
-  pub within : i ≤ count
-  pub room : from + count + slot_size ≤ length o
-  pub size : length t ≡ length o
-  pub done : t ≡ paste o from (drop (from + slot_size) o) i
-
-module _ (o : List ℕ) (from count : ℕ) where
-  pub moving_none : from + count + slot_size ≤ length o → Moving o from count o 0
-  moving_none h = record { within = omega arith; room = h; size = refl; done = paste-zero o from (drop (from + slot_size) o) }
-
-  module _ (t : List ℕ) (i : ℕ) (M : Moving o from count t i) where
-    moved_word : i < count → get_or t (from + i + slot_size) 0 ≡ get_or (drop (from + slot_size) o) i 0
-    moved_word h =
-        let r = M.room in
-        let ls : i ≤ length (drop (from + slot_size) o) = simp length-drop (omega arith) in
-        let lo : from ≤ length o = omega arith in
-        let d : drop (from + i) t ≡ drop (from + i) o = rw M.done (drop-paste o from (drop (from + slot_size) o) i lo ls) in
-        let z : from + slot_size + i ≡ from + i + slot_size = omega arith in
-        rw (get_or-drop (from + slot_size) o i 0, z, ← get_or-drop (from + i) o slot_size 0, ← get_or-drop (from + i) t slot_size 0, d)
-
-    pub moving_more : i < count → Moving o from count (set t (from + i) (get_or t (from + i + slot_size) 0)) (i + 1)
-    moving_more h =
-        let r = M.room in
-        let hd : from + i < length o = omega arith in
-        let hs : i < length (drop (from + slot_size) o) = simp length-drop (omega arith) in
-        record {
-          within = omega arith;
-          room = M.room;
-          size = length-set t (from + i) (get_or t (from + i + slot_size) 0) ∙ M.size;
-          done = rw (moved_word h, add-one) (ap (λ (l : List ℕ). set l (from + i) (get_or (drop (from + slot_size) o) i 0)) M.done ∙
-              paste-suc o from (drop (from + slot_size) o) i 0 hd hs);
-        }
-
-    pub moving_all : count ≤ i → t ≡ paste o from (drop (from + slot_size) o) count
-    moving_all h = let z : i ≡ count = omega (arith, M.within) in rw z at M.done
 
 -- removal: the k slots behind slot i have moved up, and the last used one is empty
 module _ (t t₁ t₂ : List ℕ) (i k : ℕ) (size : length t ≡ transit_size) (used : i + suc k ≤ system_messages)

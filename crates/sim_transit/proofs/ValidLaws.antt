@@ -1,16 +1,16 @@
 -- The words of all slots: what the test of them says, and how the code's loops make it, slot by slot.
-use Prim.Native.Nat.{ℕ, suc, ◌+◌, ◌-◌, ◌*◌, ◌<◌, ◌≤◌}
-use native.Mathlib.Numerals.{add-one}
+use Prim.Native.Nat.{ℕ, zero, suc, ◌+◌, ◌-◌, ◌*◌, ◌<◌, ◌≤◌}
 use native.Mathlib.Omega.{arith}
 use mathlib.Core.Path.{◌≡◌, refl, sym, ap, ◌∙◌}
 use mathlib.Core.Bool.{Bool, true, false, ◌&&◌}
 use mathlib.Core.List.{List, [], ◌∷◌, ◌++◌, map, map-append}
 use lib.Dec.{eqb, leb}
 use lib.ListN.{length, get_or, take, drop}
-use lib.Seq.{drop-drop, drop-cons, drop-length}
+use lib.Seq.{drop-drop}
 use borrow.Author.Tests.{lt-ltb, le-ltb, le-leb, lt-leb, leb-true, eqb-true, ne_eqb}
 use Rattle.ids.proofs.ListLaws.{every-parts}
 use Rattle.ids.proofs.Choice.{both}
+use Rattle.std.specs.List.{list_all, range_with_len}
 use Rattle.ids.specs.Lists.{every}
 use Rattle.sim_transit.specs.Slots.{slot_of, slot_at, rows, slots, valid_slot, ascending, valid_slots, transit_size, slot_size}
 use Rattle.sim_transit.proofs.RowsLaws.{rows_around, rows_next, rows_same}
@@ -77,26 +77,14 @@ module _ (t : List ℕ) (len i : ℕ) (h : i < len) where
   unfolding slots
   slots-here = ap (map slot_of) rows-here
 
--- what `slots_valid` knows before slot i: the whole test is the test of the slots from there on
-pub record Tested (n clients : ℕ) (t : List ℕ) (len i : ℕ) : Type 0 where
-  pub within : i ≤ len
-  pub same : every (valid_slot n clients) (rows len t) ≡ every (valid_slot n clients) (rows (len - i) (drop (slot_size * i) t))
-
-module _ (n clients : ℕ) (t : List ℕ) (len : ℕ) where
-  pub tested_none : Tested n clients t len 0
-  tested_none = let z : len - 0 ≡ len = omega arith in record { within = omega arith; same = rw z }
-
-  module _ (i : ℕ) (T : Tested n clients t len i) where
-    module _ (x : Bool) (e : x ≡ valid_slot n clients (take slot_size (drop (slot_size * i) t))) (h : i < len) where
-      pub tested_failed : x ≡ false → false ≡ every (valid_slot n clients) (rows len t)
-      tested_failed p = rw (T.same, rows-here t len i h, ← e, p)
-
-      pub tested_more : x ≡ true → Tested n clients t len (i + 1)
-      tested_more p = record { within = omega arith; same = rw (T.same, rows-here t len i h, ← e, p) }
-
-    pub tested_all : len ≤ i → true ≡ every (valid_slot n clients) (rows len t)
-    unfolding rows
-    tested_all h = let z : len - i ≡ 0 = omega (arith, T.within) in rw (T.same, z)
+-- a test of the slots by their places, from slot i on
+pub rows-all : (f : List ℕ → Bool) (t : List ℕ) (i k : ℕ)
+    → list_all (λ (i : ℕ). f (take slot_size (drop (slot_size * i) t))) (range_with_len i k) ≡ every f (rows k (drop (slot_size * i) t))
+unfolding rows
+rows-all f t i zero = refl
+rows-all f t i (suc k) =
+    let y : slot_size * (i + 1) ≡ slot_size * i + slot_size = omega arith in
+    rw (rows-all f t (i + 1) k, y, drop-drop slot_size (slot_size * i) t)
 
 -- what `numbers_ascend` knows before slot i: the numbers ascend if those from there on ascend from the last one
 pub record Climbing (sent : ℕ) (t : List ℕ) (len last i : ℕ) : Type 0 where
@@ -104,9 +92,6 @@ pub record Climbing (sent : ℕ) (t : List ℕ) (len last i : ℕ) : Type 0 wher
   pub same : ascending 0 sent (slots len t) ≡ ascending last sent (slots (len - i) (drop (slot_size * i) t))
 
 module _ (sent : ℕ) (t : List ℕ) (len : ℕ) where
-  pub climbing_none : Climbing sent t len 0 0
-  climbing_none = let z : len - 0 ≡ len = omega arith in record { within = omega arith; same = rw z }
-
   module _ (last i : ℕ) (C : Climbing sent t len last i) where
     module _ (h : i < len) where
       pub climbing_low : get_or t (slot_size * i) 0 ≤ last → false ≡ ascending 0 sent (slots len t)
@@ -127,27 +112,6 @@ module _ (sent : ℕ) (t : List ℕ) (len : ℕ) where
     pub climbing_all : len ≤ i → true ≡ ascending 0 sent (slots len t)
     unfolding ascending slots rows
     climbing_all h = let z : len - i ≡ 0 = omega (arith, C.within) in rw (C.same, z)
-
--- what `rest_zero` knows before word i
-pub record Blank (t : List ℕ) (len i : ℕ) : Type 0 where
-  pub within : i ≤ transit_size
-  pub same : every (eqb 0) (drop (slot_size * len) t) ≡ every (eqb 0) (drop i t)
-
-module _ (t : List ℕ) (len : ℕ) (size : length t ≡ transit_size) where
-  pub blank_none : len ≤ system_messages → Blank t len (slot_size * len)
-  blank_none h = record { within = omega arith; same = refl }
-
-  module _ (i : ℕ) (B : Blank t len i) where
-    pub blank_failed : i < transit_size → (get_or t i 0 ≡ 0 → ⊥) → false ≡ every (eqb 0) (drop (slot_size * len) t)
-    blank_failed h p =
-        let n : 0 ≡ get_or t i 0 → ⊥ = λ e. p (sym e) in
-        rw (B.same, drop-cons t i 0 (omega arith), ne_eqb 0 (get_or t i 0) n)
-
-    pub blank-more : i < transit_size → get_or t i 0 ≡ 0 → Blank t len (i + 1)
-    blank-more h p = record { within = omega arith; same = rw (B.same, drop-cons t i 0 (omega arith), p, add-one) }
-
-    pub blank-all : transit_size ≤ i → true ≡ every (eqb 0) (drop (slot_size * len) t)
-    blank-all h = let z : i ≡ length t = omega (arith, B.within) in rw (B.same, z, drop-length t)
 
 -- the five tests in their order
 module _ (n clients sent len : ℕ) (t : List ℕ) where

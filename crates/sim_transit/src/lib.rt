@@ -57,14 +57,7 @@ fn slots_valid(t: &[u32], len: usize, n: u32, clients: u32) -> bool
     requires { Sized len t.now }
     ensures { result ≡ every (valid_slot n clients) (rows len t.now) }
 {
-    let mut i: usize = 0;
-    while i < len {
-        if !slot_valid(t, i, n, clients) {
-            return false;
-        }
-        i += 1;
-    }
-    true
+    (0..len).all(|i| slot_valid(t, i, n, clients))
 }
 
 fn numbers_ascend(t: &[u32], len: usize, sent: u32) -> bool
@@ -72,8 +65,7 @@ fn numbers_ascend(t: &[u32], len: usize, sent: u32) -> bool
     ensures { result ≡ ascending 0 sent (slots len t.now) }
 {
     let mut last: u32 = 0;
-    let mut i: usize = 0;
-    while i < len {
+    for i in 0..len {
         let number = t[SLOT * i];
         if number <= last {
             return false;
@@ -82,7 +74,6 @@ fn numbers_ascend(t: &[u32], len: usize, sent: u32) -> bool
             return false;
         }
         last = number;
-        i += 1;
     }
     true
 }
@@ -91,14 +82,7 @@ fn rest_zero(t: &[u32], len: usize) -> bool
     requires { Sized len t.now }
     ensures { result ≡ every (eqb 0) (drop (slot_size * len) t.now) }
 {
-    let mut i = SLOT * len;
-    while i < TRANSIT_WORDS {
-        if t[i] != 0 {
-            return false;
-        }
-        i += 1;
-    }
-    true
+    t[SLOT * len..].iter().all(|x| *x == 0)
 }
 
 // Whether the words are `len` messages in transit of a system with `n` servers and so many clients that has sent `sent` messages.
@@ -210,25 +194,14 @@ fn move_up(t: &mut [u32], from: usize, count: usize)
     requires { from + count + slot_size ≤ length t.old }
     ensures { t.new ≡ paste t.old from (drop (from + slot_size) t.old) count }
 {
-    let mut i: usize = 0;
-    while i < count {
-        let w = t[from + i + SLOT];
-        t[from + i] = w;
-        i += 1;
-    }
+    t.copy_within(from + SLOT..from + SLOT + count, from);
 }
 
 fn clear(t: &mut [u32], at: usize)
     requires { at + slot_size ≤ length t.old }
     ensures { t.new ≡ sets t.old at (replicate slot_size 0) }
 {
-    t[at] = 0;
-    t[at + 1] = 0;
-    t[at + 2] = 0;
-    t[at + 3] = 0;
-    t[at + 4] = 0;
-    t[at + 5] = 0;
-    t[at + 6] = 0;
+    t[at..at + SLOT].fill(0);
 }
 
 // The message in slot `i` of the `len` used ones is gone: those behind it move up. For the simulation, whose words are valid.
@@ -276,11 +249,9 @@ pub fn post(t: &mut [u32], len: usize, sent: u32, bytes: &[u8], count: usize)
 {
     let mut number = sent;
     let mut from: usize = 0;
-    let mut i: usize = 0;
-    while i < count {
+    for i in 0..count {
         number += 1;
         from = post_one(t, SLOT * (len + i), number, bytes, from);
-        i += 1;
     }
 }
 

@@ -47,9 +47,8 @@ module _ (n : MessageNumber) (d : Bool) where
   unfolding listed_at entries_text
   listed_next [] i e = let z : ◌≡◌ {A = ℕ} 0 1 = cc in absurd (omega arith)
   listed_next (x ∷ l) zero e =
-      let f : n.0 ≡ x.number = cc in
-      let g : d ≡ x.delivered = cc in
-      rw (f, g)
+      let both : ◌≡◌ {A = MessageNumber × Bool} (n, d) (record { 0 = x.number }, x.delivered) = cc in
+      rw (ap (λ (y : MessageNumber × Bool). y.0.0) both, ap (λ (y : MessageNumber × Bool). y.1) both)
   listed_next (x ∷ l) (suc i) e = rw (listed_next l i e)
 
 module _ (l : List Entry) (s₀ : Sheet) where

@@ -1,6 +1,6 @@
 -- The texts of a list, one element more; and what a valid simulation says of its blocks.
 use mathlib.Core.Path.{◌≡◌, refl, sym, ap, ◌∙◌}
-use Prim.Native.Nat.{ℕ, zero, suc, ◌+◌, ◌*◌, ◌≤◌, ◌<◌}
+use Prim.Native.Nat.{ℕ, zero, suc, ◌+◌, ◌≤◌, ◌<◌}
 use native.Mathlib.Omega.{arith}
 use native.Mathlib.Numerals.{add-one}
 use mathlib.Core.Bool.{Bool, true, false}
@@ -14,7 +14,7 @@ use Rattle.ids.specs.declared.ServerId.{ServerId}
 use Rattle.ids.specs.declared.Request.{Request}
 use Rattle.script_numbers.specs.Decimals.{decimal}
 use Rattle.script_lines.specs.Words.{text}
-use Rattle.rows.specs.Rows.{requests_in, queue_of, Places, Padded}
+use Rattle.rows.specs.Rows.{requests_in, queue_of, Padded}
 use Rattle.client_responses.specs.Row.{shown, responses_in}
 use Rattle.client.specs.Record as client
 use Rattle.client.specs.Record.{client_of}
@@ -29,7 +29,7 @@ use Rattle.server.proofs.RecordLaws.{server-padded}
 use Rattle.words.specs.Records.{server_from, client_from}
 use Rattle.sim_blocks.specs.Blocks.{client_record, server_record, client_place, server_place, holds_server_record, holds_client_record}
 use Rattle.sim_blocks.proofs.Facts.{ClientBlock, client-facts, ServerBlock, server-facts}
-use Rattle.sim_layout.specs.Layout.{setting_of, view, valid}
+use Rattle.sim_layout.specs.Layout.{setting_of, view}
 use Rattle.sim_layout.specs.Parts.{client_block_of, server_block_of}
 use Rattle.sim_changes.specs.Changes.{HasClient, HasServer}
 use Rattle.sim_changes.proofs.Storing.{server-block, server-is, client-block, client-is}
@@ -52,9 +52,6 @@ requests-none s = refl
 
 -- the requests in a row of which len are a queue
 module _ (row : List ℕ) (len : ℕ) (p : Padded row len) where
-  pub place-there : (i : ℕ) → i < len → Places row × (2 * i + 2 ≤ length row)
-  place-there i h = (p.places, omega (arith, p.places.even, p.within))
-
   pub requests-more : (i : ℕ) → i < len → (s₀ : Sheet) {s₁ s₂ : Sheet} (q : Request) → q ≡ get_or (requests_in row) i no_request
       → s₁ ≡ puts (requests_text (queue_of row i)) s₀
       → s₂ ≡ puts (requests_text (q ∷ [])) s₁ → s₂ ≡ puts (requests_text (queue_of row (i + 1))) s₀

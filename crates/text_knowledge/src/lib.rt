@@ -52,10 +52,8 @@ fn put_requests(out: &mut [u8], at: usize, row: &[u32], len: usize) -> usize
     ensures { sheet_of out.new result ≡ puts (requests_text (queue_of row.now len)) (sheet_of out.old at) }
 {
     let mut end = at;
-    let mut i: usize = 0;
-    while i < len {
+    for i in 0..len {
         end = put_next(out, end, rows::request_at(row, i));
-        i += 1;
     }
     end
 }
@@ -114,10 +112,8 @@ fn put_servers(out: &mut [u8], at: usize, w: &[u32], n: u16) -> usize
     ensures { sheet_of out.new result ≡ puts (servers_text (system_of w.now) n) (sheet_of out.old at) }
 {
     let mut end = at;
-    let mut j: u16 = 0;
-    while j < n {
-        j += 1;
-        end = put_server(out, end, w, ServerId(j));
+    for i in 0..n {
+        end = put_server(out, end, w, ServerId(i + 1));
     }
     end
 }
@@ -138,11 +134,9 @@ fn put_supports(out: &mut [u8], at: usize, r: Request, row: &[u32], n: u16) -> u
     ensures { sheet_of out.new result ≡ puts (support_text r (server_no 1) (responses_in row.now n)) (sheet_of out.old at) }
 {
     let mut end = at;
-    let mut i: u16 = 0;
-    while i < n {
+    for i in 0..n {
         let q = rows::request_at(row, i as usize);
-        i += 1;
-        end = put_support(out, end, r, ServerId(i), q);
+        end = put_support(out, end, r, ServerId(i + 1), q);
     }
     end
 }
@@ -227,10 +221,8 @@ fn put_clients(out: &mut [u8], at: usize, w: &[u32], clients: u16) -> usize
     ensures { sheet_of out.new result ≡ puts (clients_text (system_of w.now) clients) (sheet_of out.old at) }
 {
     let mut end = at;
-    let mut k: u16 = 0;
-    while k < clients {
-        k += 1;
-        end = put_client(out, end, w, ClientId(k));
+    for i in 0..clients {
+        end = put_client(out, end, w, ClientId(i + 1));
     }
     end
 }
@@ -343,10 +335,8 @@ fn put_mail(out: &mut [u8], at: usize, w: &[u32]) -> usize
 {
     let len = sim_layout::in_transit(w);
     let mut end = at;
-    let mut i: usize = 0;
-    while i < len {
+    for i in 0..len {
         end = put_in_transit(out, end, w, i);
-        i += 1;
     }
     end
 }
@@ -376,13 +366,11 @@ fn put_entries(out: &mut [u8], at: usize, w: &[u32], r: Receiver) -> usize
 {
     let len = sim_layout::in_transit(w);
     let mut end = at;
-    let mut i: usize = 0;
-    while i < len {
+    for i in 0..len {
         let Some((number, delivered)) = sim_layout::entry_of(w, r, i) else {
             return end;
         };
         end = put_entry(out, end, number, delivered);
-        i += 1;
     }
     end
 }
@@ -411,10 +399,8 @@ fn put_server_boxes(out: &mut [u8], at: usize, w: &[u32], n: u16) -> usize
     ensures { sheet_of out.new result ≡ puts (server_boxes_text (system_of w.now) n) (sheet_of out.old at) }
 {
     let mut end = at;
-    let mut j: u16 = 0;
-    while j < n {
-        j += 1;
-        let server = ServerId(j);
+    for i in 0..n {
+        let server = ServerId(i + 1);
         end = put_box(out, end, w, Receiver::Server(server));
     }
     end
@@ -425,10 +411,8 @@ fn put_client_boxes(out: &mut [u8], at: usize, w: &[u32], clients: u16) -> usize
     ensures { sheet_of out.new result ≡ puts (client_boxes_text (system_of w.now) clients) (sheet_of out.old at) }
 {
     let mut end = at;
-    let mut k: u16 = 0;
-    while k < clients {
-        k += 1;
-        let client = ClientId(k);
+    for i in 0..clients {
+        let client = ClientId(i + 1);
         end = put_box(out, end, w, Receiver::Client(client));
     }
     end
