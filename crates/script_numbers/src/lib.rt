@@ -40,14 +40,12 @@ fn add_digit(x: u32, b: u8) -> Reading
 fn read_digits(s: &[u8]) -> Reading
     ensures { result ≡ reading_of (digits_up_to largest32 0 s.now) }
 {
-    let mut x: u32 = 0;
-    let mut i: usize = 0;
-    while i < s.len() {
-        let Reading::Number(y) = add_digit(x, s[i]) else {
+    let mut x = 0;
+    for b in s {
+        let Reading::Number(y) = add_digit(x, *b) else {
             return Reading::Nothing;
         };
         x = y;
-        i += 1;
     }
     Reading::Number(x)
 }
