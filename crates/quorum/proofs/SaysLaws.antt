@@ -2,7 +2,6 @@
 use Prim.Native.Nat.{ℕ, ◌+◌, ◌*◌, ◌/◌}
 use mathlib.Core.Path.{◌≡◌, refl, ap, ◌∙◌}
 use mathlib.Core.Bool.{not}
-use mathlib.Core.List.{[], ◌∷◌}
 use lib.IntN.{ℤ}
 use lib.ListN.{length}
 use Rattle.ids.specs.Limits.{within, max_servers}
