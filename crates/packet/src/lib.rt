@@ -65,6 +65,8 @@ fn size_at(bytes: &[u8], at: usize) -> usize
     size
 }
 
+// The walks here go from message to message by their length fields: no `for` or iterator over places says that more plainly.
+
 // Whether the messages from a place on, walked by their length fields, end where the bytes do.
 fn walks(bytes: &[u8], from: usize) -> bool
     requires { from ≤ length bytes.now }
