@@ -3,12 +3,11 @@ use Prim.Native.Nat.{ℕ, zero, suc, ◌+◌, ◌-◌, ◌<◌, ◌≤◌}
 use native.Mathlib.Omega.{arith}
 use native.Mathlib.Numerals.{add-one}
 use mathlib.Core.Path.{◌≡◌, refl, sym, ap, ◌∙◌}
-use mathlib.Core.Bool.{Bool, true, false, ◌&&◌, not, and-false}
+use mathlib.Core.Bool.{Bool, true, false, ◌&&◌, not}
 use mathlib.Core.List.{List, [], ◌∷◌}
 use mathlib.Core.Option.{Option, none, some}
 use lib.Dec.{eqb, ltb}
-use Rattle.std.specs.Bool.{MatchBool}
-use Rattle.std.specs.List.{AllWithin, HoldsAt, range_with_len}
+use Rattle.std.specs.List.{range_with_len}
 use Rattle.ids.specs.Limits.{valid_request}
 use lib.ListN.{length, get_or, take, drop, drop_of_length-le, length-drop}
 use lib.Seq.{drop-cons, get_or-take, length-take-le}
@@ -28,20 +27,6 @@ use Rattle.rows.specs.Queues.{first, matching}
 use Rattle.server.specs.Inner.{repeats}
 use Rattle.rows.specs.declared.Wanted.TheVariants.{Client}
 use Rattle.server_votes.proofs.ListLaws.{timestamp-first, timestamp-none}
-
--- what the library's `all` answers is `every`
-pub every_decided : {A : Type 0} (f : A → Bool) (l : List A) (r : Bool)
-    → MatchBool r (AllWithin (λ x. f x ≡ true) l 0 (length l)) ((k : ℕ) × (k < length l) × HoldsAt (λ x. f x ≡ false) l k)
-    → r ≡ every f l
-every_decided f [] true m = refl
-every_decided f [] false (k, h, p) = absurd (omega arith)
-every_decided f (x ∷ l) true m =
-    let t : f x ≡ true = m 0 x (omega arith) (omega arith) in
-    rw t (every_decided f l true (λ k d g h. m (suc k) d (omega arith) (omega arith)))
-every_decided f (x ∷ l) false (zero, h, p) = let t : f x ≡ false = p x in rw t
-every_decided f (x ∷ l) false (suc k, h, p) =
-    let t : false ≡ every f l = every_decided f l false (k, (omega arith), λ d. p d) in
-    rw (← t, and-false (f x))
 
 -- n places from place a on, by their numbers
 module _ (P : List Request) where
