@@ -97,11 +97,8 @@ module _ (h : Head) (row : List ℕ) (f : ServerId → Message) (plain : (j : Se
 pub later-is : (a b t : Timestamp) → t.0 ≡ max a.0 b.0 → t ≡ later a b
 later-is a b t e = λ i. record { 0 = e i }
 
--- `attempt` and `leave`: room for one timestamp more, by the code's `last` and by the definition
+-- `begin_row`: room for one timestamp more, by the code's `last` and by the definition
 module _ (a b last : Timestamp) (e : last ≡ later a b) where
-  pub try_left : (later a b).0 ≤ last_try → last.0 ≤ last_try
-  try_left h = rw e h
-
   pub left_to_try : last.0 ≤ last_try → (later a b).0 ≤ last_try
   left_to_try h = rw e at h
 

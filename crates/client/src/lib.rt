@@ -5,7 +5,7 @@
 ghost use Rattle.std.specs.Prelude.{◌≡◌, Ok, true, ◌&&◌, ◌+◌, ◌*◌, ◌≤◌, ◌<◌, length, replicate};
 ghost use Rattle.std.proofs.lemmas.List.Edits.{sets};
 ghost use Rattle.ids.specs.Limits.{max_timestamp, valid_owner};
-ghost use Rattle.wire.specs.Format.{message_bytes, bytes_of_all};
+ghost use Rattle.wire.specs.Format.{message_bytes, size_of, bytes_of_all};
 ghost use Rattle.wire.specs.Format as format;
 ghost use Rattle.wire.specs.Step.{refused, stepped, with_room, sent_into};
 ghost use Rattle.rows.specs.Rows.{Padded};
@@ -14,7 +14,7 @@ ghost use Rattle.client_responses.specs.Row.{responses_in};
 ghost use Rattle.client.specs.Record.{row_words, client_of, head_in, valid_sizes_up_to, fits_section, no_more, fits_timestamp, valid_up_to, valid, view};
 ghost use Rattle.client.specs.Calls.{for_client, received, NewGives, begin_outcome, exit_outcome, message_outcome, Gives, turned};
 ghost use Rattle.client.specs.Steps.{Answers};
-ghost use Rattle.client.specs.Inner.{request, head_with, saw_in, valid_places, is_refused, settled, refused_new, requests, releases, yields};
+ghost use Rattle.client.specs.Inner.{request, head_with, saw_in, valid_places, is_refused, settled, refused_new, yields};
 
 use client_responses::Section;
 use ids::{ClientId, Refusal, Request, ServerId, Timestamp};
@@ -246,31 +246,16 @@ fn is_critical(s: Section) -> bool
     }
 }
 
-// Writes REQUEST with timestamp `t` from client `k` to each of the servers 1 to `n`.
-fn request_all(k: ClientId, t: Timestamp, n: u16, out: &mut [u8])
-    requires { message_bytes * n ≤ length out.old }
-    ensures { out.new ≡ sets out.old 0 (bytes_of_all (to_all (requests k t) n)) }
+// Writes the message to each of the servers 1 to `n`.
+fn send_all<F: Fn(ServerId) -> Message>(n: u16, out: &mut [u8], message: F)
+    requires callable { F.IsAlwaysCallable message }
+    requires plain { (j : ServerId) (m : Message) → F.post message j m → size_of m ≡ message_bytes }
+    requires room { message_bytes * n ≤ length out.old }
+    ensures { (f : ServerId → Message) → ((j : ServerId) (m : Message) → F.post message j m → m ≡ f j) → out.new ≡ sets out.old 0 (bytes_of_all (to_all f n)) }
 {
-    let mut at: usize = 0;
-    let mut j: u16 = 0;
-    while j < n {
-        j += 1;
-        let m = Message::Request(k, ServerId(j), t);
-        at = wire::put(out, at, m);
-    }
-}
-
-// Writes RELEASE with timestamp `t` from client `k` to each of the servers 1 to `n`.
-fn release_all(k: ClientId, t: Timestamp, n: u16, out: &mut [u8])
-    requires { message_bytes * n ≤ length out.old }
-    ensures { out.new ≡ sets out.old 0 (bytes_of_all (to_all (releases k t) n)) }
-{
-    let mut at: usize = 0;
-    let mut j: u16 = 0;
-    while j < n {
-        j += 1;
-        let m = Message::Release(k, ServerId(j), t);
-        at = wire::put(out, at, m);
+    let mut at = 0;
+    for j in 0..n {
+        at = wire::put(out, at, message(ServerId(j + 1)));
     }
 }
 
@@ -285,7 +270,7 @@ fn attempt(h: Head, row: &mut [u32], out: &mut [u8]) -> Turned
     }
     let last = latest(h);
     let t = Timestamp(last.0 + 1);
-    request_all(h.id, t, h.n, out);
+    send_all(h.n, out, move |j| Message::Request(h.id, j, t));
     rows::clear(row, n);
     moved(h, Section::Trying, t, n, MESSAGE_BYTES * n)
 }
@@ -300,7 +285,7 @@ fn leave(h: Head, row: &mut [u32], out: &mut [u8]) -> Turned
         return refuse(h, Refusal::RoomShort);
     }
     let t = Timestamp(h.timestamp.0 + 1);
-    release_all(h.id, h.timestamp, h.n, out);
+    send_all(h.n, out, move |j| Message::Release(h.id, j, h.timestamp));
     rows::clear(row, n);
     moved(h, Section::Remainder, t, n, MESSAGE_BYTES * n)
 }

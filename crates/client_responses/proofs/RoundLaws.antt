@@ -2,12 +2,12 @@
 use Prim.Native.Nat.{ℕ, zero, suc, ◌+◌, ◌*◌, ◌≤◌, ◌<◌}
 use native.Mathlib.Numerals.{add-one}
 use native.Mathlib.Omega.{arith}
-use mathlib.Core.Path.{◌≡◌, refl, ◌∙◌, ap}
+use mathlib.Core.Path.{◌≡◌, refl}
 use mathlib.Core.Bool.{Bool, true, false}
 use mathlib.Core.List.{List, [], ◌∷◌, ◌++◌, append_assoc, append-nil, map}
 use lib.Dec.{eqb}
 use lib.ListN.{length, get_or, take, length-append, get_or-map}
-use lib.Seq.{sets, length-sets, take-suc, take_all, length-take-le, get_or-take}
+use lib.Seq.{sets, take-suc, take_all, length-take-le, get_or-take}
 use borrow.Author.Tests.{eq-eqb, ne_eqb}
 use Rattle.std.specs.Prelude.{if◌then◌else◌, Some, None, Option}
 use Rattle.ids.specs.Order.{before}
@@ -20,7 +20,7 @@ use Rattle.wire.specs.declared.Message.TheVariants.{Request as REQUEST, Yield as
 use Rattle.wire.proofs.BytesLaws.{stored_on}
 use Rattle.wire.proofs.Sequence.{length-bytes_of_all, bytes_of_all-append, size_of_all-append, bytes_of_all-one, size_of_all-one}
 use Rattle.client_responses.specs.Figure1.{filled, count, reply, replies, round}
-use Rattle.rows.specs.Rows.{requests_in, Places}
+use Rattle.rows.specs.Rows.{requests_in}
 use Rattle.client_responses.specs.Row.{shown, responses_in}
 use Rattle.client_responses.proofs.CountLaws.{length-responses}
 use Rattle.client_responses.proofs.SendLaws.{request-plain, yield_plain, inquiry_plain}
@@ -101,28 +101,22 @@ count-take f (suc i) (x ∷ l) = omega (arith, count-take f i l)
 
 -- the replies to the first i places stand in b, which was o
 pub record Replying (r : Request) (ws : List ℕ) (n : ℕ) (o b : List ℕ) (at i : ℕ) : Type 0 where
-  pub places : Places ws
-  pub words : 2 * n ≤ length ws
-  pub within : i ≤ n
-  pub room : message_bytes * count (map filled (responses_in ws n)) ≤ length o
-  pub size : length b ≡ length o
   pub behind : at ≡ size_of_all (round r 1 (take i (responses_in ws n)))
   pub done : b ≡ sets o 0 (bytes_of_all (round r 1 (take i (responses_in ws n))))
 
 module _ (r : Request) (ws : List ℕ) (n : ℕ) (o : List ℕ) where
-  pub replying_none : Places ws → 2 * n ≤ length ws → message_bytes * count (map filled (responses_in ws n)) ≤ length o → Replying r ws n o o 0 0
+  pub replying_none : Replying r ws n o o 0 0
   unfolding round size_of_all bytes_of_all
-  replying_none p h g = record { places = p; words = h; within = omega arith; room = g; size = refl; behind = refl; done = refl }
+  replying_none = record { behind = refl; done = refl }
 
-  module _ (b : List ℕ) (at i : ℕ) (R : Replying r ws n o b at i) where
-    module _ (h : i < n) where
-      next : round r 1 (take (i + 1) (responses_in ws n)) ≡ round r 1 (take i (responses_in ws n)) ++ replies r (record { 0 = i + 1 })
-          (shown (get_or (requests_in ws) i no_request))
+  module _ (b : List ℕ) (at i : ℕ) (R : Replying r ws n o b at i) (words : 2 * n ≤ length ws) where
+    module _ (q : Request) (e : q ≡ get_or (requests_in ws) i no_request) (h : i < n) where
+      next : round r 1 (take (i + 1) (responses_in ws n)) ≡ round r 1 (take i (responses_in ws n)) ++ replies r (record { 0 = i + 1 }) (shown q)
       next =
-          let z = length-responses ws n R.words in
+          let z = length-responses ws n words in
           let s : i < length (responses_in ws n) = omega arith in
           let s' : i ≤ length (responses_in ws n) = omega arith in
-          let e : 1 + i ≡ suc i = omega arith in
+          let k : 1 + i ≡ suc i = omega arith in
           rw (
             add-one,
             take-suc (responses_in ws n) i (shown no_request),
@@ -130,34 +124,32 @@ module _ (r : Request) (ws : List ℕ) (n : ℕ) (o : List ℕ) where
             length-take-le,
             get_or-map shown (take n (requests_in ws)) i no_request,
             get_or-take,
+            k,
             e,
           )
 
-      pub replying_fits : at + size_of_all (replies r (record { 0 = i + 1 }) (shown (get_or (requests_in ws) i no_request))) ≤ length b
-      replying_fits =
+      pub replying_fits : message_bytes * count (map filled (responses_in ws n)) ≤ length o → length b ≡ length o
+          → at + size_of_all (replies r (record { 0 = i + 1 }) (shown q)) ≤ length b
+      replying_fits room size =
           let e : size_of_all (round r 1 (take (i + 1) (responses_in ws n))) ≡ size_of_all (round r 1 (take i (responses_in ws n))) + size_of_all
-          (replies r (record { 0 = i + 1 }) (shown (get_or (requests_in ws) i no_request))) = rw (next, size_of_all-append) in
-          omega (arith, e, R.room, R.size, R.behind, size-round r 1 (take (i + 1) (responses_in ws n)), count-take filled (i + 1) (responses_in ws n))
+          (replies r (record { 0 = i + 1 }) (shown q)) = rw (next, size_of_all-append) in
+          omega (arith, e, R.behind, size-round r 1 (take (i + 1) (responses_in ws n)), count-take filled (i + 1) (responses_in ws n))
 
-      pub replying_more : (b' : List ℕ) (at' : ℕ) → at' ≡ at + size_of_all (replies r (record { 0 = i + 1 }) (shown (get_or (requests_in ws) i no_request)))
-          → b' ≡ sets b at (bytes_of_all (replies r (record { 0 = i + 1 }) (shown (get_or (requests_in ws) i no_request)))) → Replying r ws n o b' at' (i + 1)
-      replying_more b' at' e p =
-          let m = replies r (record { 0 = i + 1 }) (shown (get_or (requests_in ws) i no_request)) in
+      pub replying_more : (b' : List ℕ) (at' : ℕ)
+          → (at' ≡ at + size_of_all (replies r (record { 0 = i + 1 }) (shown q))) × (b' ≡ sets b at (bytes_of_all (replies r (record { 0 = i + 1 }) (shown q))))
+          → Replying r ws n o b' at' (i + 1)
+      replying_more b' at' p =
+          let m = replies r (record { 0 = i + 1 }) (shown q) in
           let d = round r 1 (take i (responses_in ws n)) in
           record {
-            places = R.places;
-            words = R.words;
-            within = omega arith;
-            room = R.room;
-            size = ap length p ∙ length-sets b at (bytes_of_all m) ∙ R.size;
-            behind = rw (next, size_of_all-append) (omega (arith, R.behind));
+            behind = rw (next, size_of_all-append) (omega (arith, R.behind, p.0));
             done = rw (
               next,
               bytes_of_all-append,
-            ) (stored_on o b b' (bytes_of_all d) (bytes_of_all m) 0 at R.done p (omega (arith, R.behind, length-bytes_of_all d)));
+            ) (stored_on o b b' (bytes_of_all d) (bytes_of_all m) 0 at R.done p.1 (omega (arith, R.behind, length-bytes_of_all d)));
           }
 
     pub replying_all : n ≤ i → b ≡ sets o 0 (bytes_of_all (round r 1 (responses_in ws n)))
     replying_all h =
-        let s : length (responses_in ws n) ≤ i = omega (arith, length-responses ws n R.words) in
+        let s : length (responses_in ws n) ≤ i = omega (arith, length-responses ws n words) in
         rw (take_all i (responses_in ws n) s) at R.done

@@ -1,11 +1,11 @@
 -- A message to each of the servers 1 to n: how many they are, their bytes, and what a loop that writes them knows before server j + 1.
-use Prim.Native.Nat.{ℕ, zero, suc, ◌+◌, ◌*◌, ◌≤◌, ◌<◌}
+use Prim.Native.Nat.{ℕ, zero, suc, ◌+◌, ◌*◌}
 use native.Mathlib.Numerals.{add-one}
 use native.Mathlib.Omega.{arith}
-use mathlib.Core.Path.{◌≡◌, refl, ◌∙◌, ap}
+use mathlib.Core.Path.{◌≡◌, refl}
 use mathlib.Core.List.{List}
 use lib.ListN.{length, length-append}
-use lib.Seq.{sets, length-sets}
+use lib.Seq.{sets}
 use Rattle.ids.specs.declared.ClientId.{ClientId}
 use Rattle.ids.specs.declared.ServerId.{ServerId}
 use Rattle.ids.specs.declared.Timestamp.{Timestamp}
@@ -28,37 +28,25 @@ module _ (f : ServerId → Message) where
     size-to_all (suc n) = rw (size_of_all-append, size_of_all-one) (omega (arith, size-to_all n, plain (record { 0 = suc n })))
 
 -- the messages to the servers 1 to j stand in l, which was o
-pub record Sending (f : ServerId → Message) (n : ℕ) (o l : List ℕ) (at j : ℕ) : Type 0 where
-  pub within : j ≤ n
-  pub room : message_bytes * n ≤ length o
-  pub size : length l ≡ length o
-  pub behind : at ≡ message_bytes * j
+pub record Sending (f : ServerId → Message) (o l : List ℕ) (at j : ℕ) : Type 0 where
+  pub behind : at ≡ size_of_all (to_all f j)
   pub done : l ≡ sets o 0 (bytes_of_all (to_all f j))
 
-module _ (f : ServerId → Message) (plain : (j : ServerId) → size_of (f j) ≡ message_bytes) (n : ℕ) (o : List ℕ) where
-  pub sending-none : message_bytes * n ≤ length o → Sending f n o o 0 0
-  unfolding to_all bytes_of_all
-  sending-none h = record { within = omega arith; room = h; size = refl; behind = omega arith; done = refl }
+module _ (f : ServerId → Message) (o : List ℕ) where
+  pub sending-none : Sending f o o 0 0
+  unfolding to_all size_of_all bytes_of_all
+  sending-none = record { behind = refl; done = refl }
 
-  module _ (l : List ℕ) (at j : ℕ) (S : Sending f n o l at j) where
-    pub sending-fits : j < n → at + size_of (f (record { 0 = j + 1 })) ≤ length l
-    sending-fits h = omega (arith, S.room, S.size, S.behind, plain (record { 0 = j + 1 }))
-
-    pub sending-more : (l' : List ℕ) (r : ℕ) → j < n → r ≡ at + size_of (f (record { 0 = j + 1 }))
-        → l' ≡ sets l at (bytes_of (f (record { 0 = j + 1 }))) → Sending f n o l' r (j + 1)
-    unfolding to_all
-    sending-more l' r h e p =
-        record {
-          within = omega arith;
-          room = S.room;
-          size = ap length p ∙ length-sets l at (bytes_of (f (record { 0 = j + 1 }))) ∙ S.size;
-          behind = omega (arith, S.behind, plain (record { 0 = j + 1 }));
-          done = rw add-one
-              (put_next o l l' 0 at (to_all f j) (f (record { 0 = suc j })) S.done (omega (arith, S.behind, size-to_all f plain j)) (rw add-one at p));
-        }
-
-    pub sending-all : n ≤ j → l ≡ sets o 0 (bytes_of_all (to_all f n))
-    sending-all h = let e : j ≡ n = omega (arith, S.within) in rw e at S.done
+  pub sending-more : (l : List ℕ) (at j : ℕ) → Sending f o l at j → (l' : List ℕ) (r : ℕ) (m : Message) → m ≡ f (record { 0 = j + 1 })
+      → (r ≡ at + size_of m) × (l' ≡ sets l at (bytes_of m)) → Sending f o l' r (j + 1)
+  unfolding to_all
+  sending-more l at j S l' r m e p =
+      let k : j + 1 ≡ suc j = add-one j in
+      let m' : m ≡ f (record { 0 = suc j }) = rw k at e in
+      record {
+        behind = rw (add-one, size_of_all-append, size_of_all-one, ← m') (omega (arith, p.0, S.behind));
+        done = rw (add-one, ← m') (put_next o l l' 0 at (to_all f j) m S.done (omega (arith, S.behind)) p.1);
+      }
 
 -- all that a client sends has 12 bytes
 pub request-plain : (k : ClientId) (t : Timestamp) (j : ServerId) → size_of (Request k j t) ≡ message_bytes

@@ -24,19 +24,10 @@ pub enum Section {
 }
 
 // The tests of a place's two words count, and the loops over them never leave early, so that they become vector code.
-fn one_if(b: bool) -> usize
-    ensures { result ≡ one b }
-{
-    if b { 1 } else { 0 }
-}
-
 fn filled(client: u32, timestamp: u32) -> usize
     ensures { result ≡ one (filled_of (shown (pair client timestamp))) }
 {
-    if client != 0 {
-        return 1;
-    }
-    one_if(timestamp != 0)
+    usize::from(client != 0 || timestamp != 0)
 }
 
 // The words of `r`, unless they are those of an empty place.
@@ -57,7 +48,7 @@ fn misfit(r: Request, client: u32, timestamp: u32) -> usize
     ensures { result ≡ one (misfit_of r (shown (pair client timestamp))) }
 {
     if client == 0 {
-        return one_if(timestamp != 0);
+        return usize::from(timestamp != 0);
     }
     if timestamp == 0 {
         return 1;
@@ -65,7 +56,7 @@ fn misfit(r: Request, client: u32, timestamp: u32) -> usize
     if client != r.client.0 as u32 {
         return 0;
     }
-    one_if(timestamp != r.timestamp.0)
+    usize::from(timestamp != r.timestamp.0)
 }
 
 // How many of the first `n` places are filled.
@@ -73,11 +64,9 @@ pub fn filled_count(row: &[u32], n: usize) -> usize
     requires { 2 * n ≤ length row.now }
     ensures { result ≡ count (map filled_of (responses_in row.now n)) }
 {
-    let mut found: usize = 0;
-    let mut i: usize = 0;
-    while i < n {
+    let mut found = 0;
+    for i in 0..n {
         found += filled(row[2 * i], row[2 * i + 1]);
-        i += 1;
     }
     found
 }
@@ -87,11 +76,9 @@ pub fn own_count(r: Request, row: &[u32], n: usize) -> usize
     requires { 2 * n ≤ length row.now }
     ensures { result ≡ count (own_of r (responses_in row.now n)) }
 {
-    let mut found: usize = 0;
-    let mut i: usize = 0;
-    while i < n {
+    let mut found = 0;
+    for i in 0..n {
         found += own(r, row[2 * i], row[2 * i + 1]);
-        i += 1;
     }
     found
 }
@@ -101,11 +88,9 @@ pub fn misfit_count(r: Request, row: &[u32], n: usize) -> usize
     requires { Places row.now × (2 * n ≤ length row.now) }
     ensures { result ≡ count (map (misfit_of r) (responses_in row.now n)) }
 {
-    let mut found: usize = 0;
-    let mut i: usize = 0;
-    while i < n {
+    let mut found = 0;
+    for i in 0..n {
         found += misfit(r, row[2 * i], row[2 * i + 1]);
-        i += 1;
     }
     found
 }
@@ -205,11 +190,9 @@ pub fn send_round(r: Request, row: &[u32], n: u16, out: &mut [u8])
     requires { Places row.now × (2 * n ≤ length row.now) × (message_bytes * count (map filled_of (responses_in row.now n)) ≤ length out.old) }
     ensures { out.new ≡ sets out.old 0 (bytes_of_all (round r 1 (responses_in row.now n))) }
 {
-    let mut at: usize = 0;
-    let mut i: u16 = 0;
-    while i < n {
+    let mut at = 0;
+    for i in 0..n {
         let q = rows::request_at(row, i as usize);
-        i += 1;
-        at = send_reply(r, ServerId(i), q, out, at);
+        at = send_reply(r, ServerId(i + 1), q, out, at);
     }
 }

@@ -1,12 +1,12 @@
--- What packing answers and leaves, in each case; and the bytes that are laid down so far.
+-- What packing answers and leaves, in each case.
 use Rattle.std.specs.Prelude.{Ok, Err}
 use Prim.Native.Nat.{ℕ, ◌+◌, ◌-◌, ◌/◌, ◌%◌, ◌<◌, ◌≤◌}
 use native.Mathlib.Omega.{arith}
-use native.Mathlib.Numerals.{add-one}
-use mathlib.Core.Path.{◌≡◌, refl, sym, ap, ◌∙◌}
-use mathlib.Core.List.{List, [], ◌∷◌}
-use lib.ListN.{length, get_or, set, take}
-use lib.Seq.{sets, length-sets, take-suc, take_all, length-take-le}
+use mathlib.Core.Path.{◌≡◌, refl, sym, ◌∙◌}
+use mathlib.Core.List.{List, append_assoc}
+use lib.ListN.{length, set, take, drop, length-set}
+use lib.Seq.{sets, sets-eq, drop-drop}
+use borrow.Rule.Slice.PartMut.{put_mid}
 use borrow.Author.Tests.{lt-ltb, le-ltb}
 use Rattle.ids.specs.declared.Refusal.{Refusal}
 use Rattle.ids.specs.declared.Refusal.TheVariants.{PacketMalformed, RoomShort}
@@ -17,34 +17,18 @@ use Rattle.packet.specs.Packing.{packed_bytes, packed, pack_of, buffer_after}
 use Rattle.packet.specs.Inner.{judged}
 use Rattle.packet.proofs.PlaceLaws.{good-carries, bad_refused}
 
--- what `put_packet` knows at its loop's head: behind the total the bytes before place i are laid down
-pub record Laying (o l bytes : List ℕ) (i : ℕ) : Type 0 where
-  pub within : i ≤ length bytes
-  pub lengths : length l ≡ length o
-  pub laid : l ≡ sets o total_bytes (take i bytes)
-
-module _ (o bytes : List ℕ) where
-  pub laying_start : Laying o o bytes 0
-  laying_start = record { within = omega arith; lengths = refl; laid = refl }
-
-  module _ (l : List ℕ) (i : ℕ) (inv : Laying o l bytes i) where
-    pub laying_more : i < length bytes → Laying o (set l (total_bytes + i) (get_or bytes i 0)) bytes (i + 1)
-    laying_more h =
-        let k : total_bytes + i ≡ total_bytes + length (take i bytes) = ap (λ n. total_bytes + n) (sym (length-take-le i bytes (omega arith))) in
-        let s : set l (total_bytes + i) (get_or bytes i 0) ≡ sets o total_bytes (take (i + 1) bytes) =
-        rw (add-one, take-suc bytes i 0 h)
-        (stored_on o l (set l (total_bytes + i) (get_or bytes i 0)) (take i bytes) (get_or bytes i 0 ∷ []) total_bytes (total_bytes + i) inv.laid refl k) in
-        record { within = omega arith; lengths = ap length s ∙ length-sets o total_bytes (take (i + 1) bytes); laid = s }
-
-    pub laying_done : length bytes ≤ i → l ≡ sets o total_bytes bytes
-    laying_done h = inv.laid ∙ ap (sets o total_bytes) (take_all i bytes h)
-
-pub laid_packet : (o l bytes : List ℕ) (t : ℕ) → t ≡ packed_bytes bytes → l ≡ sets (set (set o 0 (t % 256)) 1 (t / 256 % 256)) total_bytes bytes
-    → l ≡ sets o 0 (packed bytes)
+-- the total is stored, and the bytes are laid down behind it
+pub laid_packet : (o ys bytes : List ℕ) (k : ℕ) → k ≡ length bytes → ys ≡ bytes → packed_bytes bytes ≤ length o
+    → put_mid total_bytes k (set (set o 0 (packed_bytes bytes % 256)) 1 (packed_bytes bytes / 256 % 256)) ys ≡ sets o 0 (packed bytes)
 unfolding packed
-laid_packet o l bytes t e h =
+laid_packet o ys bytes k n p room =
+    let b : List ℕ = set (set o 0 (packed_bytes bytes % 256)) 1 (packed_bytes bytes / 256 % 256) in
     let total : List ℕ = little_endian total_bytes (packed_bytes bytes) in
-    stored_on o (sets o 0 total) l total bytes 0 total_bytes refl (rw e at h) refl
+    let s : length b ≡ length o = simp length-set in
+    let l : put_mid total_bytes k b ys ≡ sets b total_bytes bytes =
+    rw (p, n, drop-drop (length bytes) total_bytes b)
+    (sym (append_assoc (take total_bytes b) bytes (drop (total_bytes + length bytes) b)) ∙ sym (sets-eq bytes b total_bytes (omega arith))) in
+    stored_on o (sets o 0 total) (put_mid total_bytes k b ys) total bytes 0 total_bytes refl l refl
 
 -- what `pack` answers and leaves
 module _ (bytes o : List ℕ) where

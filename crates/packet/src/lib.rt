@@ -49,6 +49,8 @@ fn size_at(bytes: &[u8], at: usize) -> usize
     size
 }
 
+// The walks here go from message to message by their length fields: no `for` or iterator over places says that more plainly.
+
 // Whether the messages from a place on, walked by their length fields, end where the bytes do.
 fn walks(bytes: &[u8], from: usize) -> bool
     requires { from ≤ length bytes.now }
@@ -231,11 +233,7 @@ fn put_packet(bytes: &[u8], out: &mut [u8])
     let total = TOTAL_BYTES + bytes.len();
     out[0] = (total % 256) as u8;
     out[1] = (total / 256 % 256) as u8;
-    let mut i: usize = 0;
-    while i < bytes.len() {
-        out[TOTAL_BYTES + i] = bytes[i];
-        i += 1;
-    }
+    out[TOTAL_BYTES..total].copy_from_slice(bytes);
 }
 
 // Packs messages that stand one after another, as a step wrote them. The bytes behind the packet stay, and a refusal changes none.

@@ -17,7 +17,6 @@ use Rattle.ids.specs.declared.Refusal.TheVariants.{ParameterOutOfRange, NoSuchPa
 use Rattle.ids.proofs.Choice.{decided, both, holds, fails, Test, clash}
 use Rattle.system.specs.declared.Event.{Event as Happening, Event}
 use Rattle.system.specs.declared.Event.TheVariants.{Try, Down, Up}
-use Rattle.system.specs.Setting as setting
 use Rattle.system.specs.Setting.{takes, lost, unsafe_run}
 use Rattle.quorum.proofs.Settings.{shows-unsafe, unsafe_iff, stalls_iff}
 use Rattle.quorum.specs.declared.Verdict.{Verdict}

@@ -5,7 +5,6 @@ use Rattle.std.specs.Prelude.{Ok, Err, Result, Some, None, Option}
 use Prim.Native.Nat.{ℕ, ◌+◌, ◌*◌, ◌/◌}
 use mathlib.Core.Path.{◌≡◌, refl, ap, ◌∙◌}
 use mathlib.Core.Bool.{not}
-use mathlib.Core.List.{[], ◌∷◌}
 use lib.IntN.{ℤ}
 use lib.ListN.{length}
 use Rattle.ids.specs.Limits.{within, max_servers}

@@ -222,25 +222,13 @@ pub fn default_threshold(n: u32) -> Option<u32>
 pub fn most_faults(n: u32) -> u32
     ensures { (result ≡ most_faults n) × Bears n result }
 {
-    let mut left = n;
-    let mut f: u32 = 0;
-    while left > 3 {
-        left -= 3;
-        f += 1;
-    }
-    f
+    n.saturating_sub(1) / 3
 }
 
 fn above_half(x: u32) -> u32
     ensures { result ≡ above_half x }
 {
-    let mut left = x;
-    let mut m: u32 = 1;
-    while left > 1 {
-        left -= 2;
-        m += 1;
-    }
-    m
+    x / 2 + 1
 }
 
 // The thresholds with which n servers and f faults are accepted.

@@ -8,7 +8,7 @@ use mathlib.Core.Logic.{⊎_elim}
 use mathlib.Core.List.{List, [], ◌∷◌}
 use lib.Dec.{eqb, leb}
 use lib.ListN.{length, get_or, take, drop, replicate, length-drop, drop_of_length-le}
-use lib.Seq.{drop-cons, length-take-le}
+use lib.Seq.{drop-cons}
 use borrow.Author.Tests.{eq-eqb, ne_eqb, le-leb, lt-leb, eqb-true, leb-true}
 use Rattle.ids.specs.Lists.{every}
 use Rattle.ids.specs.Limits.{max_client}
@@ -18,7 +18,7 @@ use Rattle.ids.proofs.Choice.{both, decided}
 use Rattle.ids.proofs.ListLaws.{every-same}
 use Rattle.ids.proofs.RequestLaws.{same_true, same_refl}
 use Rattle.rows.specs.Rows.{requests_in, fits_place, Padded}
-use Rattle.rows.proofs.WordLaws.{requests-at}
+use Rattle.rows.proofs.WordLaws.{requests-at, requests-front}
 use Rattle.rows.specs.Good.{empty, good_row}
 use Rattle.rows.specs.Inner.{miss, misses}
 
@@ -50,65 +50,39 @@ pub odd_requests : (ws : List ℕ) → (2 * (length ws / 2) ≡ length ws → �
 odd_requests ws n e = n (omega arith)
 
 -- a loop over the places from `from` on has counted up to place i
-pub record Counting (f : Request → Bool) (ws : List ℕ) (from n bad i : ℕ) : Type 0 where
-  pub begun : from ≤ i
-  pub within : i ≤ n
-  pub size : length ws ≡ 2 * n
+pub record Counting (f : Request → Bool) (ws : List ℕ) (from bad i : ℕ) : Type 0 where
   pub few : bad ≤ i
   pub passed : bad + misses f (drop i (requests_in ws)) ≡ misses f (drop from (requests_in ws))
 
-module _ (f : Request → Bool) (ws : List ℕ) (from n : ℕ) where
-  pub counting_none : from ≤ n → length ws ≡ 2 * n → Counting f ws from n 0 from
-  counting_none h e = record { begun = omega arith; within = h; size = e; few = omega arith; passed = omega arith }
+module _ (f : Request → Bool) (ws : List ℕ) (from bad i : ℕ) (C : Counting f ws from bad i) (n : ℕ) (size : length ws ≡ 2 * n) where
+  pub counting_more : (x : ℕ) → i < n → x ≡ miss (f (get_or (requests_in ws) i no_request)) → Counting f ws from (bad + x) (i + 1)
+  unfolding misses
+  counting_more x h e =
+      let l = length-requests ws n size in
+      let d : drop i (requests_in ws) ≡ get_or (requests_in ws) i no_request ∷ drop (suc i) (requests_in ws) = drop-cons (requests_in ws) i
+      no_request (omega arith) in
+      let m : misses f (drop i (requests_in ws)) ≡ miss (f (get_or (requests_in ws) i no_request)) + misses f (drop (suc i) (requests_in ws)) = ap (misses f) d in
+      record { few = omega (arith, C.few, few (f (get_or (requests_in ws) i no_request))); passed = rw add-one (omega (arith, C.passed)) }
 
-  module _ (bad i : ℕ) (C : Counting f ws from n bad i) where
-    pub counting_more : (x : ℕ) → i < n → x ≡ miss (f (get_or (requests_in ws) i no_request)) → Counting f ws from n (bad + x) (i + 1)
-    unfolding misses
-    counting_more x h e =
-        let l = length-requests ws n C.size in
-        let d : drop i (requests_in ws) ≡ get_or (requests_in ws) i no_request ∷ drop (suc i) (requests_in ws) = drop-cons (requests_in ws) i
-        no_request (omega arith) in
-        let m : misses f (drop i (requests_in ws)) ≡ miss (f (get_or (requests_in ws) i no_request)) + misses f (drop (suc i) (requests_in ws)) = ap (misses f) d in
-        record {
-          begun = omega (arith, C.begun);
-          within = omega arith;
-          size = C.size;
-          few = omega (arith, C.few, few (f (get_or (requests_in ws) i no_request)));
-          passed = rw add-one (omega (arith, C.passed));
-        }
+  pub counting_all : n ≤ i → bad ≡ misses f (drop from (requests_in ws))
+  unfolding misses
+  counting_all h =
+      let l = length-requests ws n size in
+      let d : drop i (requests_in ws) ≡ [] = drop_of_length-le (requests_in ws) {i = i} (omega arith) in
+      let m : misses f (drop i (requests_in ws)) ≡ 0 = ap (misses f) d in
+      omega (arith, C.passed)
 
-    pub counting_few : (x : ℕ) → i < n → x ≡ miss (f (get_or (requests_in ws) i no_request)) → bad + x ≤ n
-    counting_few x h e = omega (arith, C.few, few (f (get_or (requests_in ws) i no_request)))
+-- the two tests, of a place's words
+module _ (ws : List ℕ) (n : ℕ) (size : length ws ≡ 2 * n) (i x : ℕ) (h : i < n) where
+  inside : 2 * i + 2 ≤ length ws
+  inside = omega (arith, size)
 
-    pub counting_all : n ≤ i → bad ≡ misses f (drop from (requests_in ws))
-    unfolding misses
-    counting_all h =
-        let l = length-requests ws n C.size in
-        let d : drop i (requests_in ws) ≡ [] = drop_of_length-le (requests_in ws) {i = i} (omega arith) in
-        let m : misses f (drop i (requests_in ws)) ≡ 0 = ap (misses f) d in
-        omega (arith, C.passed)
+  pub fits-at : x ≡ miss (leb (get_or ws (2 * i) 0) max_client) → x ≡ miss (fits_place (get_or (requests_in ws) i no_request))
+  fits-at e = rw (requests-at ws i inside) e
 
-    -- the two tests, of a place's words
-    module _ (x : ℕ) (h : i < n) where
-      inside : 2 * i + 2 ≤ length ws
-      inside = omega (arith, C.size)
-
-      pub fits-at : x ≡ miss (leb (get_or ws (2 * i) 0) max_client) → x ≡ miss (fits_place (get_or (requests_in ws) i no_request))
-      fits-at e = rw (requests-at ws i inside) e
-
-      pub empty-at : x ≡ miss (eqb (get_or ws (2 * i) 0) 0 && eqb (get_or ws (2 * i + 1) 0) 0) → x ≡ miss (empty (get_or (requests_in ws) i no_request))
-      unfolding same
-      empty-at e = rw (requests-at ws i inside) (rw add-one at e)
-
--- the places of a row's front
-requests-front : (ws : List ℕ) (k : ℕ) → requests_in (take (2 * k) ws) ≡ take k (requests_in ws)
-unfolding requests_in
-requests-front ws zero = refl
-requests-front [] (suc k) = let z : 2 * suc k ≡ suc (suc (2 * k)) = omega arith in rw z
-requests-front (x ∷ []) (suc k) = let z : 2 * suc k ≡ suc (suc (2 * k)) = omega arith in rw z
-requests-front (x ∷ (t ∷ ws)) (suc k) =
-    let z : 2 * suc k ≡ suc (suc (2 * k)) = omega arith in
-    rw z (ap (λ (l : List Request). record { client = record { 0 = x }; timestamp = record { 0 = t } } ∷ l) (requests-front ws k))
+  pub empty-at : x ≡ miss (eqb (get_or ws (2 * i) 0) 0 && eqb (get_or ws (2 * i + 1) 0) 0) → x ≡ miss (empty (get_or (requests_in ws) i no_request))
+  unfolding same
+  empty-at e = rw (requests-at ws i inside) (rw add-one at e)
 
 -- an empty place fits, so that only those in front need the test
 all-empty : (l : List Request) → every empty l ≡ true → l ≡ replicate (length l) no_request
@@ -156,18 +130,9 @@ module _ (row : List ℕ) (len : ℕ) where
       within : len ≤ length (requests_in row)
       within = omega (arith, even-requests row e)
 
-      -- its front is lent: as many places as are in use
-      pub front-there : 2 * len ≤ length row
-      front-there = omega (arith, h, e)
-
-      pub front_long : length (take (2 * len - 0) row) ≡ 2 * len
-      front_long = let z : 2 * len - 0 ≡ 2 * len = omega arith in rw z (length-take-le (2 * len) row front-there)
-
-      module _ (x : ℕ) (a : x ≡ misses fits_place (requests_in (take (2 * len - 0) row))) where
+      module _ (x : ℕ) (a : x ≡ misses fits_place (requests_in (take (2 * len) row))) where
         front_fits : eqb x 0 ≡ every fits_place (take len (requests_in row))
-        front_fits =
-            let z : 2 * len - 0 ≡ 2 * len = omega arith in
-            rw (a, z, requests-front row len) (none_missed fits_place (take len (requests_in row)))
+        front_fits = rw (a, requests-front row len) (none_missed fits_place (take len (requests_in row)))
 
         pub good-wide : (x ≡ 0 → ⊥) → false ≡ good_row row len
         unfolding good_row

@@ -50,15 +50,6 @@ pub fn put_request(row: &mut [u32], i: usize, r: Request)
     row[2 * i + 1] = r.timestamp.0;
 }
 
-// The request at place `from` stands at place `to` too.
-fn copy_place(row: &mut [u32], from: usize, to: usize)
-    requires { (2 * from + 2 ≤ length row.old) × (2 * to + 2 ≤ length row.old) }
-    ensures { Put row.old row.new to (get_or (requests_in row.old) from no_request) }
-{
-    row[2 * to] = row[2 * from];
-    row[2 * to + 1] = row[2 * from + 1];
-}
-
 fn matches(wanted: Wanted, r: Request, x: Request) -> bool
     ensures { result ≡ matching wanted r x }
 {
@@ -74,14 +65,12 @@ pub fn find(row: &[u32], len: usize, wanted: Wanted, r: Request, from: usize) ->
     requires { (from ≤ len) × Padded row.now len }
     ensures { result ≡ from + first (matching wanted r) (drop from (queue_of row.now len)) }
 {
-    let mut i = from;
-    while i < len {
+    for i in from..len {
         if matches(wanted, r, request_at(row, i)) {
             return i;
         }
-        i += 1;
     }
-    i
+    len
 }
 
 // The place of client `k`, or the length.
@@ -101,11 +90,7 @@ fn insert_at(row: &mut [u32], len: usize, at: usize, r: Request)
     requires { (at ≤ len) × (2 * (len + 1) ≤ length row.old) × Padded row.old len }
     ensures { Holds row.old row.new (len + 1) (take at (queue_of row.old len) ++ r ∷ drop at (queue_of row.old len)) }
 {
-    let mut i = len;
-    while at < i {
-        copy_place(row, i - 1, i);
-        i -= 1;
-    }
+    row.copy_within(2 * at..2 * len, 2 * (at + 1));
     put_request(row, at, r);
 }
 
@@ -124,14 +109,8 @@ pub fn remove(row: &mut [u32], len: usize, at: usize)
     requires { (at < len) × Padded row.old len }
     ensures { Holds row.old row.new (len - 1) (take at (queue_of row.old len) ++ drop (suc at) (queue_of row.old len)) }
 {
-    let last = len - 1;
-    let mut i = at;
-    while i < last {
-        copy_place(row, i + 1, i);
-        i += 1;
-    }
-    let none = nobody();
-    put_request(row, last, none);
+    row.copy_within(2 * (at + 1)..2 * len, 2 * at);
+    put_request(row, len - 1, nobody());
 }
 
 // The queue without `r`, if it is there, and its length.
@@ -152,24 +131,14 @@ pub fn copy(from: &[u32], to: &mut [u32])
     requires { length from.now ≡ length to.old }
     ensures { to.new ≡ from.now }
 {
-    let n = from.len();
-    let mut i: usize = 0;
-    while i < n {
-        to[i] = from[i];
-        i += 1;
-    }
+    to.copy_from_slice(from);
 }
 
 // Every word 0.
 pub fn zero(words: &mut [u32])
     ensures { words.new ≡ replicate (length words.old) 0 }
 {
-    let n = words.len();
-    let mut i: usize = 0;
-    while i < n {
-        words[i] = 0;
-        i += 1;
-    }
+    words.fill(0);
 }
 
 // Every place empty, where only the first `len` are in use: those behind them are not touched.
@@ -177,30 +146,20 @@ pub fn clear(row: &mut [u32], len: usize)
     requires { Padded row.old len }
     ensures { row.new ≡ replicate (length row.old) 0 }
 {
-    let end = 2 * len;
-    zero(&mut row[0..end]);
+    zero(&mut row[..2 * len]);
 }
 
 // The test of a row. Its loops count and never leave early, so that they become vector code.
 fn wide(client: u32) -> usize
     ensures { result ≡ miss (leb client max_client) }
 {
-    if client <= ids::MAX_CLIENT {
-        return 0;
-    }
-    1
+    usize::from(client > ids::MAX_CLIENT)
 }
 
 fn used(client: u32, timestamp: u32) -> usize
     ensures { result ≡ miss (eqb client 0 && eqb timestamp 0) }
 {
-    if client != 0 {
-        return 1;
-    }
-    if timestamp != 0 {
-        return 1;
-    }
-    0
+    usize::from(client != 0 || timestamp != 0)
 }
 
 // How many of the row's clients do not fit their field.
@@ -208,11 +167,9 @@ fn wide_places(row: &[u32], n: usize) -> usize
     requires { length row.now ≡ 2 * n }
     ensures { result ≡ misses fits_place (requests_in row.now) }
 {
-    let mut bad: usize = 0;
-    let mut i: usize = 0;
-    while i < n {
+    let mut bad = 0;
+    for i in 0..n {
         bad += wide(row[2 * i]);
-        i += 1;
     }
     bad
 }
@@ -222,11 +179,9 @@ fn used_places(row: &[u32], len: usize, n: usize) -> usize
     requires { (length row.now ≡ 2 * n) × (len ≤ n) }
     ensures { result ≡ misses empty (drop len (requests_in row.now)) }
 {
-    let mut bad: usize = 0;
-    let mut i = len;
-    while i < n {
+    let mut bad = 0;
+    for i in len..n {
         bad += used(row[2 * i], row[2 * i + 1]);
-        i += 1;
     }
     bad
 }
@@ -243,8 +198,7 @@ pub fn good_row(row: &[u32], len: usize) -> bool
         return false;
     }
     // Only the places in use are tested for their width: those behind them must be empty, which is tested below.
-    let end = 2 * len;
-    if wide_places(&row[0..end], len) != 0 {
+    if wide_places(&row[..2 * len], len) != 0 {
         return false;
     }
     used_places(row, len, n) == 0

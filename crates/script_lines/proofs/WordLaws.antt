@@ -1,96 +1,48 @@
--- Words in a line: a loop that has passed the bytes before place i still has to look at those from i on.
+-- Words in a line.
 use Rattle.std.specs.Prelude.{Some, None}
 use Prim.Native.Nat.{ℕ, suc, ◌+◌, ◌-◌, ◌≤◌, ◌<◌}
 use native.Mathlib.Omega.{arith}
 use native.Mathlib.Numerals.{add-one}
-use mathlib.Core.Path.{◌≡◌, refl, ap, ◌∙◌}
+use mathlib.Core.Path.{◌≡◌, refl, ◌∙◌}
 use mathlib.Core.Bool.{Bool, true, false}
 use mathlib.Core.Logic.{⊎_elim}
 use mathlib.Core.List.{List, [], ◌∷◌}
 use lib.Dec.{eqb}
+use lib.Pointwise.{pointwise}
 use lib.ListN.{length, take, drop, get_or, length-drop}
 use lib.Seq.{drop-cons, drop-length, drop-drop, take_all}
 use borrow.Author.Tests.{eq-eqb, ne_eqb}
 use Rattle.ids.proofs.Choice.{decided}
 use Rattle.script_lines.specs.Words.{space, same, word, rest}
 
--- equal words
-pub same-longer : (a b : List ℕ) → (length a ≡ length b → ⊥) → false ≡ same a b
+-- the library's test of two words is ours
+pub equal_words : (a b : List ℕ) → pointwise eqb a b ≡ same a b
 unfolding same
-same-longer [] [] n = absurd (n refl)
-same-longer [] (c ∷ k) n = refl
-same-longer (b ∷ l) [] n = refl
-same-longer (b ∷ l) (c ∷ k) n =
-    let ih : false ≡ same l k = same-longer l k (λ e. n (ap suc e)) in
-    ⊎_elim (λ (t : eqb b c ≡ true). rw t ih) (λ (t : eqb b c ≡ false). rw t) (decided (eqb b c))
+equal_words [] [] = refl
+equal_words [] (c ∷ k) = refl
+equal_words (b ∷ l) [] = refl
+equal_words (b ∷ l) (c ∷ k) = rw (equal_words l k)
 
--- the words agree before place i
-pub record Agrees (a b : List ℕ) (i : ℕ) : Type 0 where
-  pub within : i ≤ length a
-  pub lengths : length a ≡ length b
-  pub left : same a b ≡ same (drop i a) (drop i b)
-
-module _ (a b : List ℕ) where
-  pub agrees_none : length a ≡ length b → Agrees a b 0
-  agrees_none e = record { within = omega arith; lengths = e; left = refl }
-
-  module _ (i : ℕ) (inv : Agrees a b i) (h : i < length a) where
-    hb : i < length b
-    hb = let e = inv.lengths in omega arith
-
-    pub agrees_more : get_or a i 0 ≡ get_or b i 0 → Agrees a b (i + 1)
-    unfolding same
-    agrees_more e =
-        record {
-          within = omega arith;
-          lengths = inv.lengths;
-          left = rw add-one (inv.left ∙ simp (drop-cons a i 0 h, drop-cons b i 0 hb, eq-eqb _ _ e));
-        }
-
-    pub agrees_stop : (get_or a i 0 ≡ get_or b i 0 → ⊥) → false ≡ same a b
-    unfolding same
-    agrees_stop n = rw inv.left (simp (drop-cons a i 0 h, drop-cons b i 0 hb, ne_eqb _ _ n))
-
-  pub agrees_all : (i : ℕ) → Agrees a b i → length a ≤ i → true ≡ same a b
-  unfolding same
-  agrees_all i inv h =
-      let w = inv.within in
-      let za : i ≡ length a = omega arith in
-      let zb : i ≡ length b = omega (arith, inv.lengths) in
-      let da : drop i a ≡ [] = rw za (drop-length a) in
-      let db : drop i b ≡ [] = rw zb (drop-length b) in
-      rw (inv.left, da, db)
-
--- no space stands from place `at` to place i
-pub record Passes (s : List ℕ) (at i : ℕ) : Type 0 where
-  pub within : i ≤ length s
-  pub left : at + length (word (drop at s)) ≡ i + length (word (drop i s))
-
-module _ (s : List ℕ) (at : ℕ) where
-  pub passes_none : at ≤ length s → Passes s at at
-  passes_none h = record { within = h; left = refl }
-
-  module _ (i : ℕ) (inv : Passes s at i) (h : i < length s) where
-    pub passes_more : (get_or s i 0 ≡ space → ⊥) → Passes s at (i + 1)
+-- where no space stands from place `at` to place i, one byte more
+module _ (s : List ℕ) (at i : ℕ) (inv : at + length (word (drop at s)) ≡ i + length (word (drop i s))) where
+  module _ (h : i < length s) where
+    pub passes_more : (get_or s i 0 ≡ space → ⊥) → at + length (word (drop at s)) ≡ i + 1 + length (word (drop (i + 1) s))
     unfolding word
     passes_more n =
         let e : length (word (drop i s)) ≡ suc (length (word (drop (suc i) s))) = simp (drop-cons s i 0 h, ne_eqb _ _ n) in
-        record { within = omega arith; left = rw add-one (omega (arith, inv.left)) }
+        rw (add-one i) (omega arith)
 
-    pub passes_stop : get_or s i 0 ≡ space → i ≡ at + length (word (drop at s))
+    pub passes_stop : get_or s i 0 ≡ space → (i ≡ at + length (word (drop at s))) × (i ≤ length s)
     unfolding word
     passes_stop e =
         let z : length (word (drop i s)) ≡ 0 = simp (drop-cons s i 0 h, eq-eqb _ _ e) in
-        omega (arith, inv.left)
+        (omega arith, omega arith)
 
-  pub passes_all : (i : ℕ) → Passes s at i → length s ≤ i → i ≡ at + length (word (drop at s))
+  pub passes_all : i ≡ length s → (length s ≡ at + length (word (drop at s))) × (length s ≤ length s)
   unfolding word
-  passes_all i inv h =
-      let w = inv.within in
-      let zi : i ≡ length s = omega arith in
-      let d : drop i s ≡ [] = rw zi (drop-length s) in
-      let z : length (word (drop i s)) ≡ 0 = rw d in
-      omega (arith, inv.left)
+  passes_all e =
+      let z : length (word (drop i s)) ≡ 0 = rw (e, drop-length s) in
+      (omega arith, omega arith)
 
 -- a call's answer, tested, decides what it equals
 pub no : {r b : Bool} → r ≡ b → r ≡ false → b ≡ false

@@ -42,21 +42,11 @@ pub enum Line {
     Bad,
 }
 
-// Whether two words are the same.
+// Whether two words are the same: `==` itself takes a word such as b"try" only as b"try".as_slice().
 fn equal(a: &[u8], b: &[u8]) -> bool
     ensures { result ≡ same a.now b.now }
 {
-    if a.len() != b.len() {
-        return false;
-    }
-    let mut i: usize = 0;
-    while i < a.len() {
-        if a[i] != b[i] {
-            return false;
-        }
-        i += 1;
-    }
-    true
+    a == b
 }
 
 // The place of the first space from `at` on, or the end.
@@ -64,14 +54,12 @@ fn word_end(line: &[u8], at: usize) -> usize
     requires { at ≤ length line.now }
     ensures { (result ≡ at + length (word (drop at line.now))) × (result ≤ length line.now) }
 {
-    let mut i = at;
-    while i < line.len() {
+    for i in at..line.len() {
         if line[i] == b' ' {
             return i;
         }
-        i += 1;
     }
-    i
+    line.len()
 }
 
 // The command that a word is.
@@ -269,12 +257,9 @@ pub fn put_bytes(out: &mut [u8], at: usize, w: &[u8]) -> usize
     requires { at + length w.now ≤ length out.old }
     ensures { (result ≡ at + length w.now) × (out.new ≡ sets out.old at w.now) }
 {
-    let mut i: usize = 0;
-    while i < w.len() {
-        out[at + i] = w[i];
-        i += 1;
-    }
-    at + i
+    let end = at + w.len();
+    out[at..end].copy_from_slice(w);
+    end
 }
 
 // A word and a space.

@@ -1,4 +1,4 @@
--- Reading a number up to a limit: a loop that has read the digits before place i still has to read those from i on.
+-- Reading a number up to a limit, digit by digit.
 use Rattle.std.specs.Prelude.{Some, None, Option}
 use Prim.Native.Nat.{ℕ, suc, ◌+◌, ◌-◌, ◌*◌, ◌≤◌, ◌<◌}
 use native.Mathlib.Omega.{arith}
@@ -8,8 +8,8 @@ use mathlib.Core.Bool.{true, false}
 use mathlib.Core.Logic.{⊎_elim}
 use mathlib.Core.List.{List, [], ◌∷◌}
 use lib.Dec.{eqb}
-use lib.ListN.{length, drop, get_or}
-use lib.Seq.{drop-cons, drop-length}
+use lib.ListN.{length, drop, get_or, drop_of_length-le}
+use lib.Seq.{drop-cons}
 use borrow.Author.Tests.{le-leb, lt-leb, lt-ltb, eq-eqb, ne_eqb}
 use Rattle.ids.proofs.Choice.{decided}
 use Rattle.script_numbers.specs.Decimals.{digit_up_to, digits_up_to, number_up_to, number}
@@ -33,34 +33,24 @@ module _ (limit x b : ℕ) where
   unfolding digit_up_to
   digit_fits l h g = simp (le-leb 48 b l, le-leb b 57 h, le-leb (10 * x + (b - 48)) limit g)
 
--- x is read from the bytes before place i
-pub record Reads (limit : ℕ) (s : List ℕ) (x i : ℕ) : Type 0 where
-  pub within : i ≤ length s
-  pub left : digits_up_to limit 0 s ≡ digits_up_to limit x (drop i s)
-
-module _ (limit : ℕ) (s : List ℕ) where
-  pub reads_none : Reads limit s 0 0
-  reads_none = record { within = omega arith; left = refl }
-
-  module _ (x i : ℕ) (inv : Reads limit s x i) (h : i < length s) (r : Option ℕ) (told : r ≡ digit_up_to limit x (get_or s i 0)) where
-    pub reads_more : (y : ℕ) → r ≡ Some y → Reads limit s y (i + 1)
+-- where x is read from the bytes before place i, one digit more
+module _ (limit : ℕ) (s : List ℕ) (x i : ℕ) (inv : digits_up_to limit 0 s ≡ digits_up_to limit x (drop i s)) where
+  module _ (h : i < length s) (r : Option ℕ) (told : r ≡ digit_up_to limit x (get_or s i 0)) where
+    pub reads_more : (y : ℕ) → r ≡ Some y → digits_up_to limit 0 s ≡ digits_up_to limit y (drop (i + 1) s)
     unfolding digits_up_to
     reads_more y e =
         let d : digit_up_to limit x (get_or s i 0) ≡ Some y = sym told ∙ e in
-        record { within = omega arith; left = rw add-one (inv.left ∙ rw (drop-cons s i 0 h, d)) }
+        rw add-one (inv ∙ rw (drop-cons s i 0 h, d))
 
     pub reads_stop : r ≡ None → None ≡ digits_up_to limit 0 s
     unfolding digits_up_to
     reads_stop e =
         let d : digit_up_to limit x (get_or s i 0) ≡ None = sym told ∙ e in
-        rw (inv.left, drop-cons s i 0 h, d)
+        rw (inv, drop-cons s i 0 h, d)
 
-  pub reads_all : (x i : ℕ) → Reads limit s x i → length s ≤ i → Some x ≡ digits_up_to limit 0 s
+  pub reads_all : length s ≤ i → Some x ≡ digits_up_to limit 0 s
   unfolding digits_up_to
-  reads_all x i inv h =
-      let w = inv.within in
-      let z : i ≡ length s = omega arith in
-      rw (inv.left, z, drop-length s)
+  reads_all h = rw (inv, drop_of_length-le s {i = i} h)
 
 -- a whole number
 pub number-empty : (limit : ℕ) (s : List ℕ) → length s ≡ 0 → None ≡ number_up_to limit s

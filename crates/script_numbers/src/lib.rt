@@ -33,14 +33,9 @@ fn add_digit(x: u32, b: u8) -> Option<u32>
 fn read_digits(s: &[u8]) -> Option<u32>
     ensures { result ≡ digits_up_to largest32 0 s.now }
 {
-    let mut x: u32 = 0;
-    let mut i: usize = 0;
-    while i < s.len() {
-        let Some(y) = add_digit(x, s[i]) else {
-            return None;
-        };
-        x = y;
-        i += 1;
+    let mut x = 0;
+    for b in s {
+        x = add_digit(x, *b)?;
     }
     Some(x)
 }

@@ -197,42 +197,21 @@ fn all_valid(row: &[u32], len: usize) -> bool
     requires { Padded row.now len }
     ensures { result ≡ every valid_request (queue_of row.now len) }
 {
-    let mut i: usize = 0;
-    while i < len {
-        if !ids::valid_request(rows::request_at(row, i)) {
-            return false;
-        }
-        i += 1;
-    }
-    true
+    (0..len).all(|i| ids::valid_request(rows::request_at(row, i)))
 }
 
 fn in_order(row: &[u32], len: usize) -> bool
     requires { Padded row.now len }
     ensures { result ≡ ordered (queue_of row.now len) }
 {
-    let mut i: usize = 0;
-    while i + 1 < len {
-        if !ids::precedes(rows::request_at(row, i), rows::request_at(row, i + 1)) {
-            return false;
-        }
-        i += 1;
-    }
-    true
+    (1..len).all(|i| ids::precedes(rows::request_at(row, i - 1), rows::request_at(row, i)))
 }
 
 fn no_client_twice(row: &[u32], len: usize) -> bool
     requires { Padded row.now len }
     ensures { result ≡ once (queue_of row.now len) }
 {
-    let mut i: usize = 0;
-    while i < len {
-        if repeated(row, len, i) {
-            return false;
-        }
-        i += 1;
-    }
-    true
+    (0..len).all(|i| !repeated(row, len, i))
 }
 
 // Whether the client at place `i` stands at a later place too.

@@ -2,7 +2,6 @@
 use mathlib.Core.Path.{◌≡◌}
 use Prim.Native.Nat.{ℕ, suc, ◌+◌, ◌-◌, ◌*◌, ◌≤◌, ◌<◌}
 use native.Mathlib.Omega.{arith}
-use native.Mathlib.Numerals.{add-one}
 use mathlib.Core.Bool.{Bool, true, false}
 use mathlib.Core.List.{[], ◌∷◌, ◌++◌}
 use lib.IntN.{sub_ℕ}
@@ -12,7 +11,7 @@ use Rattle.script_numbers.specs.Decimals.{largest32, decimal}
 use Rattle.script_lines.specs.Words.{text}
 use Rattle.script_lines.specs.Printed.{setting_line}
 use Rattle.script_lines.proofs.PrintedLaws.{setting-short}
-use Rattle.quorum.specs.Check.{in_range, margin}
+use Rattle.quorum.specs.Check.{in_range}
 use Rattle.quorum.specs.Run.{run_event}
 use Rattle.system.specs.Limits.{system_servers}
 use Rattle.ids.proofs.Choice.{fails, holds}
@@ -39,11 +38,14 @@ module _ (n m f : ℕ) where
   unfolding margin_text
   margin_some x e h = rw (holds x (in_range n m f) e h, margin_difference n m f)
 
-  -- one event more
-  pub one_more : (i : ℕ) (s₀ : Sheet) {s₁ s₂ : Sheet} → s₁ ≡ puts (run_text n m f i) s₀ → s₂ ≡ puts (asked_text (run_event n m f (i + 1))) s₁
-      → s₂ ≡ puts (run_text n m f (i + 1)) s₀
+  -- one event more, event number i
+  pub one_more : (i j : ℕ) (s₀ : Sheet) {s₁ s₂ : Sheet} → 1 ≤ i → i ≡ j → s₁ ≡ puts (run_text n m f (i - 1)) s₀
+      → s₂ ≡ puts (asked_text (run_event n m f i)) s₁ → s₂ ≡ puts (run_text n m f j) s₀
   unfolding run_text
-  one_more i s₀ p q = rw (add-one i) (then s₀ _ _ p (rw (add-one i) at q))
+  one_more i j s₀ h e p q =
+      let k : j ≡ suc (i - 1) = omega arith in
+      let k' : i ≡ suc (i - 1) = omega arith in
+      rw k (then s₀ _ _ p (rw k' at q))
 
 -- the line on servers too many for a simulation
 pub limit_none : (n : ℕ) → n ≤ system_servers → limit_text n ≡ []

@@ -201,9 +201,7 @@ pub fn put_script(out: &mut [u8], n: u32, m: u32, f: u32, events: u32) -> usize
     ensures { sheet_of out.new result ≡ puts (script_text n m f events) (sheet_of out.old 0) }
 {
     let mut at = put_opening(out, n, m, f);
-    let mut i: u32 = 0;
-    while i < events {
-        i += 1;
+    for i in 1..=events {
         at = put_numbered(out, at, n, m, f, i);
     }
     at

@@ -1,8 +1,8 @@
--- The end of a line: a loop that has passed the bytes before place i still has to look at those from i on.
+-- The end of a line.
 use Prim.Native.Nat.{ℕ, suc, ◌+◌, ◌≤◌, ◌<◌}
 use native.Mathlib.Omega.{arith}
 use native.Mathlib.Numerals.{add-one}
-use mathlib.Core.Path.{◌≡◌, refl, sym, ◌∙◌}
+use mathlib.Core.Path.{◌≡◌, sym, ◌∙◌}
 use mathlib.Core.List.{List, [], ◌∷◌}
 use mathlib.Core.Logic.{inl, inr}
 use lib.Dec.{eqb, leb}
@@ -22,14 +22,7 @@ line-short (b ∷ l) = by_byte (decided (eqb b newline)) (line-short l)
     by_byte (inl e) h = rw e (omega arith)
     by_byte (inr e) h = rw e (omega arith)
 
--- no newline stands from place `from` to place i
-pub record Seeks (s : List ℕ) (from i : ℕ) : Type 0 where
-  pub left : line_end s from ≡ line_end s i
-
 module _ (s : List ℕ) (i : ℕ) where
-  pub seeks_none : Seeks s i i
-  seeks_none = record { left = refl }
-
   in_range_lem : i ≤ length s → line_end s i ≡ i + length (line (drop i s))
   unfolding line_end
   in_range_lem h = rw (le-leb i (length s) h)
@@ -69,15 +62,16 @@ module _ (s : List ℕ) (i : ℕ) where
         let z : length (line (drop i s)) ≡ 0 = simp (drop-cons s i 0 h, eq-eqb _ _ e) in
         omega (arith, in_range_lem (omega arith))
 
-module _ (s : List ℕ) (from i : ℕ) (inv : Seeks s from i) where
-  pub seeks_more : i < length s → (get_or s i 0 ≡ newline → ⊥) → Seeks s from (i + 1)
-  seeks_more h n = record { left = rw add-one (inv.left ∙ step s i h n) }
+-- where no newline stands from place `from` to place i, one byte more
+module _ (s : List ℕ) (from i : ℕ) (inv : line_end s from ≡ line_end s i) where
+  pub seeks_more : i < length s → (get_or s i 0 ≡ newline → ⊥) → line_end s from ≡ line_end s (i + 1)
+  seeks_more h n = rw add-one (inv ∙ step s i h n)
 
   pub seeks_stop : i < length s → get_or s i 0 ≡ newline → i ≡ line_end s from
-  seeks_stop h e = sym (inv.left ∙ stop s i h e)
+  seeks_stop h e = sym (inv ∙ stop s i h e)
 
   pub seeks_all : length s ≤ i → length s ≡ line_end s from
-  seeks_all h = sym (inv.left ∙ by_place (decided (leb (suc (length s)) i)))
+  seeks_all h = sym (inv ∙ by_place (decided (leb (suc (length s)) i)))
     where
       by_place : Test (leb (suc (length s)) i) → line_end s i ≡ length s
       by_place (inl e) = end_past s i (omega (arith, leb-true (suc (length s)) i e))

@@ -3,23 +3,10 @@
 
 #![tactic(auto)]
 
-ghost use Rattle.std.specs.Prelude.{◌≡◌, [], ◌∷◌, ◌+◌, ◌≤◌, length};
-ghost use Rattle.std.proofs.lemmas.List.Edits.{sets};
+ghost use Rattle.std.specs.Prelude.{◌≡◌, [], ◌∷◌};
 ghost use Rattle.script_numbers.specs.Decimals.{decimal};
 ghost use Rattle.text_sheet.specs.Lines.{line_end};
 ghost use Rattle.text_sheet.specs.Sheet.{sheet, puts};
-
-fn copy(out: &mut [u8], at: usize, text: &[u8]) -> usize
-    requires { at + length text.now ≤ length out.old }
-    ensures { (result ≡ at + length text.now) × (out.new ≡ sets out.old at text.now) }
-{
-    let mut i: usize = 0;
-    while i < text.len() {
-        out[at + i] = text[i];
-        i += 1;
-    }
-    at + i
-}
 
 // A text.
 pub fn put(out: &mut [u8], at: usize, text: &[u8]) -> usize
@@ -31,7 +18,7 @@ pub fn put(out: &mut [u8], at: usize, text: &[u8]) -> usize
     if out.len() - at < text.len() {
         return at;
     }
-    copy(out, at, text)
+    script_lines::put_bytes(out, at, text)
 }
 
 // A number in decimal.
@@ -55,12 +42,10 @@ pub fn put_with(out: &mut [u8], at: usize, text: &[u8], x: u32) -> usize
 pub fn line_end(s: &[u8], from: usize) -> usize
     ensures { result ≡ line_end s.now from }
 {
-    let mut i = from;
-    while i < s.len() {
+    for i in from..s.len() {
         if s[i] == b'\n' {
             return i;
         }
-        i += 1;
     }
     s.len()
 }

@@ -2,7 +2,6 @@
 use native.Mathlib.Omega.{arith}
 use lib.ListN.{length-set}
 use Rattle.script_lines.proofs.PrintedLaws.{length-header, put_heading}
-use borrow.Author.Rules.{rules}
 use Rattle.script_lines.proofs.put_header.Statement.{statement}
 use Rattle.script_lines.proofs.put_header.Tie as tie
 
