@@ -37,12 +37,9 @@ fn put_counts(counts: &mut [usize], p: Result<Progress, Refusal>)
     requires { 2 ≤ length counts.old }
     ensures { counts.new ≡ counts_of counts.old p }
 {
-    match p {
-        Ok(Progress { used, wrote }) => {
-            counts[0] = used;
-            counts[1] = wrote;
-        }
-        Err(_) => {}
+    if let Ok(made) = p {
+        counts[0] = made.used;
+        counts[1] = made.wrote;
     }
 }
 

@@ -371,7 +371,10 @@ fn take_all(w: &mut [u32], input: &[u8], out: &mut [u8]) -> Result<Progress, Ref
         }
         at = take(w, out, at, *b);
     }
-    Ok(Progress { used: input.len(), wrote: at })
+    Ok(Progress {
+        used: input.len(),
+        wrote: at,
+    })
 }
 
 // The next part of the input. Refused 21, 6.

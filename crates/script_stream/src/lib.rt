@@ -16,7 +16,6 @@ ghost use Rattle.script_stream.specs.Pieces.{Answers};
 ghost use Rattle.script.specs.Calls.{FeedLeaves, max_ending};
 
 use console::Input;
-use script::Progress;
 use std::io;
 
 fn zeros() -> [u32; script::STATE_WORDS]
@@ -30,7 +29,7 @@ pub fn start() -> [u32; script::STATE_WORDS]
     ensures { (valid result ≡ true) × (view result ≡ empty) }
 {
     let mut w = zeros();
-    script::new(&mut w);
+    let _ = script::new(&mut w);
     w
 }
 
@@ -39,12 +38,11 @@ fn answer_some(rt: &(impl Print + Eprint), w: &mut [u32], part: &[u8], out: &mut
     requires { (valid w.old ≡ true) × (max_printed ≤ length out.old) }
     ensures { (result ≤ length part.now) × FeedLeaves w.old part.now out.old w.new out.new × (0 < result → result ≡ (fed_within (length out.old) (view w.old) part.now).used) }
 {
-    let p = script::feed(w, part, out);
-    match p {
+    match script::feed(w, part, out) {
         Err(_) => 0,
-        Ok(Progress { used, wrote }) => {
-            if console::write_out(rt, rt, &out[0..wrote]) {
-                return used;
+        Ok(made) => {
+            if console::write_out(rt, rt, &out[0..made.wrote]) {
+                return made.used;
             }
             0
         }
@@ -72,12 +70,8 @@ pub fn finish(rt: &(impl Print + Eprint), w: &mut [u32], out: &mut [u8])
     requires { (valid w.old ≡ true) × (max_ending ≤ length out.old) }
     ensures { Ended w.old out.old w.new out.new }
 {
-    let p = script::finish(w, out);
-    match p {
-        Err(_) => {}
-        Ok(Progress { wrote, .. }) => {
-            console::write_out(rt, rt, &out[0..wrote]);
-        }
+    if let Ok(made) = script::finish(w, out) {
+        console::write_out(rt, rt, &out[0..made.wrote]);
     }
 }
 

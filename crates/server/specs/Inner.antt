@@ -44,7 +44,7 @@ buffering t out = buffers_by t.ruling (three_mails t.first t.second t.third) out
 
 abbrev pub keeping : Server → Head → List ℕ → Result Sent Refusal → Stepped
 keeping s h row (Err e) = record { server = s; answer = Err e }
-keeping s h row (Ok r) = record { server = record { head = h; row = row }; answer = Ok (record { messages = r.messages; bytes = r.bytes }) }
+keeping s h row (Ok r) = record { server = record { head = h; row = row }; answer = Ok r }
 
 -- the first client of the list stands in it again
 abbrev pub repeats : List Pair → Bool

@@ -9,7 +9,7 @@ returns-in_err-x c =
     rw e (reads_stop _ _ _ _ c.loop-b.invariant c.loop-b-test.true _ c.add_digit.ensures c.in_err-x.was)
 
 pub loop-b-preserved : goal.loop-b-preserved
-loop-b-preserved c = search reads_more
+loop-b-preserved c = reads_more _ _ _ _ c.loop-b.invariant c.loop-b-test.true _ c.add_digit.ensures _ c.in_ok-x.was
 
 pub returns : goal.returns
 returns c = search reads_all

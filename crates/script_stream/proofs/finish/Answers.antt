@@ -5,4 +5,4 @@ use Rattle.script_stream.proofs.finish.Goals as goal
 
 pub slice_bounds-write_out-end : goal.slice_bounds-write_out-end
 slice_bounds-write_out-end g c =
-    omega (arith, end_wrote c.args.w.now c.args.out.now _ _ _ c.requires.0 c.requires.1 c.finish-p.ensures.value _ _ c.in-Ok.is)
+    omega (arith, end_wrote c.args.w.now c.args.out.now _ _ _ c.requires.0 c.requires.1 c.finish.ensures.value _ _ c.in-Ok.is)

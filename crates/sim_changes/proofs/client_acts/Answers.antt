@@ -35,8 +35,7 @@ pub has_room-requires : goal.has_room-requires
 has_room-requires c =
     let lives = events.client-lives c.args.w.now c.args.k c.args.act c.requires _ c.is_living.ensures c.if-not-is_living.false in
     let read = client_read _ _ _ c.client_head.ensures c.client_row.ensures in
-    let called = events.client-called c.args.w.now c.args.k c.args.act c.requires lives _ _ read _ _ _ c.call_client-s.ensures _ _ c.in_ok-count.was in
-    (
+    let called = events.client-called c.args.w.now c.args.k c.args.act c.requires lives _ _ read _ _ _ c.call_client-s.ensures _ _ c.in_ok-count.was in (
       (act-client c.args.w.now c.args.k c.args.act c.requires).valid,
       rw c.messages_gone.ensures (gone-few c.args.w.now c.args.k c.args.act c.requires),
       omega (arith, events.client-few called _ _ c.in_ok-count.was),
