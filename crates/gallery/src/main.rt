@@ -33,17 +33,15 @@ fn answer(
     }
 }
 
-// Part by part. A proved loop has to end, and nothing says that the input does: so it counts down from a number that no run uses up.
+// Part by part. A proved loop has to end, and nothing says that the input does: so it counts up to a number that no run reaches.
 fn run(rt: &(impl io::Input + Print + Eprint), w: &mut [u32], part: &mut [u8], out: &mut [u8])
     requires { (valid w.old ≡ true) × (max_ending ≤ length out.old) }
 {
-    let mut turns = u64::MAX;
-    while turns > 0 {
+    for _ in 0..u64::MAX {
         let input = script_stream::read_part(rt, w, part);
         if !answer(rt, w, part, input, out) {
             return;
         }
-        turns -= 1;
     }
 }
 

@@ -104,7 +104,8 @@ pub fn valid(t: &[u32], len: usize, sent: u32, n: u32, clients: u32) -> bool
     rest_zero(t, len)
 }
 
-// The first slot with this number or one above it. The numbers ascend, so each look halves the slots left.
+// The first slot with this number or one above it. The numbers ascend, so each look halves the slots left. They stand seven words apart, and
+// `partition_point` looks at all words.
 fn search(t: &[u32], len: usize, number: u32) -> usize
     requires { Sized len t.now }
     ensures { Bound number len t.now result }

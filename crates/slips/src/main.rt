@@ -185,13 +185,11 @@ fn run(
 )
     requires { (valid w.old ≡ true) × (max_ending ≤ length out.old) }
 {
-    let mut turns = u64::MAX;
-    while turns > 0 {
+    for _ in 0..u64::MAX {
         let input = script_stream::read_part(rt, w, part);
         if !answer(rt, w, part, input, out, wanted) {
             return;
         }
-        turns -= 1;
     }
 }
 
