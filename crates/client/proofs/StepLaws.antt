@@ -1,5 +1,5 @@
 -- What a call answers at each of its returns: a refusal, no room, or the step's head, row and messages.
-use Prim.Native.Nat.{ℕ, ◌+◌, ◌*◌, ◌-◌, ◌≤◌, ◌<◌, max}
+use Prim.Native.Nat.{ℕ, ◌+◌, ◌*◌, ◌-◌, ◌≤◌, ◌<◌}
 use native.Mathlib.Omega.{arith}
 use mathlib.Core.Path.{◌≡◌, refl, ◌∙◌, ap, sym}
 use mathlib.Core.Bool.{Bool, true, false, true≢false, ◌&&◌}
@@ -92,10 +92,6 @@ module _ (h : Head) (row : List ℕ) (f : ServerId → Message) (plain : (j : Se
     all_done after l k g p z e =
         answers-done h row x o r _ q after l (omega (arith, size-to_all f plain h.n)) (rw (length-to_all f h.n, size-to_all f plain h.n) p) (z ∙
         sym (row-without (length row) h.n (padded-words row h.n k))) e
-
--- `later`
-pub later-is : (a b t : Timestamp) → t.0 ≡ max a.0 b.0 → t ≡ later a b
-later-is a b t e = λ i. record { 0 = e i }
 
 -- `begin_row`: room for one timestamp more, by the code's `last` and by the definition
 module _ (a b last : Timestamp) (e : last ≡ later a b) where

@@ -164,10 +164,7 @@ fn refuse(h: Head, e: Refusal) -> Turned
 fn later(a: Timestamp, b: Timestamp) -> Timestamp
     ensures { result ≡ later_of a b }
 {
-    if a.0 < b.0 {
-        return b;
-    }
-    a
+    Timestamp(a.0.max(b.0))
 }
 
 // The largest timestamp that the client has taken or was told of.
@@ -219,31 +216,19 @@ fn moved(h: Head, section: Section, timestamp: Timestamp, count: usize, size: us
 fn is_remainder(s: Section) -> bool
     ensures { result ≡ is_remainder s }
 {
-    match s {
-        Section::Remainder => true,
-        Section::Trying => false,
-        Section::Critical => false,
-    }
+    matches!(s, Section::Remainder)
 }
 
 fn is_trying(s: Section) -> bool
     ensures { result ≡ is_trying s }
 {
-    match s {
-        Section::Remainder => false,
-        Section::Trying => true,
-        Section::Critical => false,
-    }
+    matches!(s, Section::Trying)
 }
 
 fn is_critical(s: Section) -> bool
     ensures { result ≡ is_critical s }
 {
-    match s {
-        Section::Remainder => false,
-        Section::Trying => false,
-        Section::Critical => true,
-    }
+    matches!(s, Section::Critical)
 }
 
 // Writes the message to each of the servers 1 to `n`.
