@@ -18,7 +18,7 @@ use Rattle.capi_script.specs.Calls.{counts_of, fed, ended, Leaves}
 use Rattle.script_output.specs.Reader.{max_printed}
 
 module _ (w out counts w' out' counts' : List ℕ) (x : Refusal) where
-  took_refused : (u k : ℕ) → Ok (record { used = u; wrote = k }) ≡ Err x → ⊥
+  took_refused : (u k : ℕ) → ◌≡◌ {A = Result Progress Refusal} (Ok (record { used = u; wrote = k })) (Err x) → ⊥
   took_refused u k e = let z : ◌≡◌ {A = ℕ} 0 1 = cc in omega arith
 
   kept : (L : Type 0) (p : Result Progress Refusal) → Leaves L p w out counts w' out' counts' → p ≡ Err x → (2 ≤ length counts → L → (w' ≡ w) × (out' ≡ out)) →

@@ -168,10 +168,8 @@ fn note_most(w: &mut [u32])
     requires { (length w.old ≡ simulation_size) × ((setting_of w.old).clients ≤ system_clients) }
     ensures { w.new ≡ set w.old 6 (max (most_of w.old) (worst (view w.old).clients)) }
 {
-    let clients = w[CLIENTS];
-    let worst = sim_layout::worst_down(w, clients as u16);
-    let most = sim_layout::larger(w[MOST], worst);
-    w[MOST] = most;
+    let worst = sim_layout::worst_down(w, w[CLIENTS] as u16);
+    w[MOST] = w[MOST].max(worst);
 }
 
 // Server `j` goes down: the epochs of all clients note it.

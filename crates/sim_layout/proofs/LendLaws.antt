@@ -58,18 +58,13 @@ module _ (w : List ℕ) (k : ClientId) (in-it : ClientIn w k) where
   abbrev client_start : ℕ
   client_start = clients_from + client_block * (k.0 - 1)
 
-  whole-client : take (client_start + client_block - client_start) (drop client_start w) ≡ client_block_of w k
+  pub whole-client : take (client_start + client_block - client_start) (drop client_start w) ≡ client_block_of w k
   whole-client =
       let z : client_start + client_block - client_start ≡ client_block = omega arith in
       ap (λ (x : ℕ). take x (drop client_start w)) z ∙ client-part w k.0 in-it.first in-it.last
 
-  pub client_read : {A : Type 0} (f : List ℕ → A) (r : A) → r ≡ f (take (client_start + client_block - client_start) (drop client_start w))
-      → r ≡ f (client_block_of w k)
-  client_read f r e = e ∙ ap f whole-client
-
-  pub client-lent : {A : Type 0} (f : List ℕ → A) (r : A) → f (client_block_of w k) ≡ r
-      → f (take (client_start + client_block - client_start) (drop client_start w)) ≡ r
-  client-lent f r e = ap f whole-client ∙ e
+  pub client_lent : (b : List ℕ) → b ≡ client_block_of w k → length b ≡ client_block
+  client_lent b e = ap length e ∙ client_block-long w k.0 in-it.long in-it.first in-it.last
 
   pub client-written : (g : List ℕ → List ℕ) (b : List ℕ) → ((l : List ℕ) → length (g l) ≡ length l)
       → b ≡ g (take (client_start + client_block - client_start) (drop client_start w)) →
@@ -83,14 +78,13 @@ module _ (w : List ℕ) (j : ServerId) (in-it : ServerIn w j) where
   abbrev server_start : ℕ
   server_start = servers_from + server_block * (j.0 - 1)
 
-  whole-server : take (server_start + server_block - server_start) (drop server_start w) ≡ server_block_of w j
+  pub whole-server : take (server_start + server_block - server_start) (drop server_start w) ≡ server_block_of w j
   whole-server =
       let z : server_start + server_block - server_start ≡ server_block = omega arith in
       ap (λ (x : ℕ). take x (drop server_start w)) z ∙ server-part w j.0 in-it.first in-it.last
 
-  pub server_read : {A : Type 0} (f : List ℕ → A) (r : A) → r ≡ f (take (server_start + server_block - server_start) (drop server_start w))
-      → r ≡ f (server_block_of w j)
-  server_read f r e = e ∙ ap f whole-server
+  pub server_lent : (b : List ℕ) → b ≡ server_block_of w j → length b ≡ server_block
+  server_lent b e = ap length e ∙ server_block-long w j.0 in-it.long in-it.first in-it.last
 
   pub server-lent : {A : Type 0} (f : List ℕ → A) (r : A) → f (server_block_of w j) ≡ r
       → f (take (server_start + server_block - server_start) (drop server_start w)) ≡ r

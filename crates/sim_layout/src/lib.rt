@@ -54,22 +54,35 @@ const INDEX_FROM: usize = TRANSIT_FROM + sim_indexed::TABLE;
 
 pub const SIMULATION_WORDS: usize = TRANSIT_FROM + sim_indexed::INDEXED_WORDS;
 
+// The block of a client, and of a server.
+fn block_of_client(w: &[u32], k: ClientId) -> &[u32]
+    requires { ClientIn w.now k }
+    ensures { result.now ≡ client_block_of w.now k }
+{
+    let start = CLIENTS_FROM + CLIENT_BLOCK * (k.0 as usize - 1);
+    &w[start..start + CLIENT_BLOCK]
+}
+
+fn block_of_server(w: &[u32], j: ServerId) -> &[u32]
+    requires { ServerIn w.now j }
+    ensures { result.now ≡ server_block_of w.now j }
+{
+    let start = SERVERS_FROM + SERVER_BLOCK * (j.0 as usize - 1);
+    &w[start..start + SERVER_BLOCK]
+}
+
 pub fn is_living(w: &[u32], k: ClientId) -> bool
     requires { ClientIn w.now k }
     ensures { result ≡ (client_place (client_block_of w.now k)).living }
 {
-    let a = CLIENTS_FROM + CLIENT_BLOCK * (k.0 as usize - 1);
-    let e = a + CLIENT_BLOCK;
-    sim_blocks::is_living(&w[a..e])
+    sim_blocks::is_living(block_of_client(w, k))
 }
 
 fn is_inside(w: &[u32], k: ClientId) -> bool
     requires { ClientIn w.now k }
     ensures { result ≡ is_inside (client_place (client_block_of w.now k)) }
 {
-    let a = CLIENTS_FROM + CLIENT_BLOCK * (k.0 as usize - 1);
-    let e = a + CLIENT_BLOCK;
-    sim_blocks::is_inside(&w[a..e])
+    sim_blocks::is_inside(block_of_client(w, k))
 }
 
 // The head of the client's record, and the row of its responses, copied.
@@ -77,20 +90,17 @@ pub fn client_head(w: &[u32], k: ClientId) -> client::Head
     requires { ClientIn w.now k × (holds_client_record (client_record (client_block_of w.now k)) ≡ true) }
     ensures { result ≡ client_head_from (client_record (client_block_of w.now k)) }
 {
-    let a = CLIENTS_FROM + CLIENT_BLOCK * (k.0 as usize - 1);
-    let e = a + CLIENT_BLOCK;
-    sim_blocks::client_head(&w[a..e])
+    sim_blocks::client_head(block_of_client(w, k))
 }
 
 pub fn client_row(w: &[u32], k: ClientId, row: &mut [u32])
     requires { ClientIn w.now k × (length row.old ≡ response_words) }
     ensures { row.new ≡ drop client_head (client_record (client_block_of w.now k)) }
 {
-    let a = CLIENTS_FROM + CLIENT_BLOCK * (k.0 as usize - 1);
-    let e = a + CLIENT_BLOCK;
-    sim_blocks::client_row(&w[a..e], row);
+    sim_blocks::client_row(block_of_client(w, k), row);
 }
 
+// A block to be written is lent where it stands: a function that gives it out would have to say what the words become by what its caller writes.
 pub fn put_client(w: &mut [u32], k: ClientId, h: client::Head, row: &[u32])
     requires { ClientIn w.old k × (length row.now ≡ response_words) }
     ensures { w.new ≡ with_client_block w.old k (sets (client_block_of w.old k) 1 (client_words (client.client_of h row.now))) }
@@ -143,9 +153,7 @@ pub fn is_up(w: &[u32], j: ServerId) -> bool
     requires { ServerIn w.now j }
     ensures { result ≡ (server_place (server_block_of w.now j)).up }
 {
-    let a = SERVERS_FROM + SERVER_BLOCK * (j.0 as usize - 1);
-    let e = a + SERVER_BLOCK;
-    sim_blocks::is_up(&w[a..e])
+    sim_blocks::is_up(block_of_server(w, j))
 }
 
 // The head of the server's record, and the row of its queue, copied.
@@ -153,18 +161,14 @@ pub fn server_head(w: &[u32], j: ServerId) -> server::Head
     requires { ServerIn w.now j × (holds_server_record (server_record (server_block_of w.now j)) ≡ true) }
     ensures { result ≡ server_head_from (server_record (server_block_of w.now j)) }
 {
-    let a = SERVERS_FROM + SERVER_BLOCK * (j.0 as usize - 1);
-    let e = a + SERVER_BLOCK;
-    sim_blocks::server_head(&w[a..e])
+    sim_blocks::server_head(block_of_server(w, j))
 }
 
 pub fn server_row(w: &[u32], j: ServerId, row: &mut [u32])
     requires { ServerIn w.now j × (length row.old ≡ queue_words) }
     ensures { row.new ≡ drop server_head (server_record (server_block_of w.now j)) }
 {
-    let a = SERVERS_FROM + SERVER_BLOCK * (j.0 as usize - 1);
-    let e = a + SERVER_BLOCK;
-    sim_blocks::server_row(&w[a..e], row);
+    sim_blocks::server_row(block_of_server(w, j), row);
 }
 
 pub fn put_server(w: &mut [u32], j: ServerId, h: server::Head, row: &[u32])
@@ -206,9 +210,7 @@ fn client_valid(w: &[u32], n: u32, m: u32, clients: u32, k: ClientId) -> bool
     requires { ClientIn w.now k }
     ensures { result ≡ valid_client_block n m clients k (client_block_of w.now k) }
 {
-    let a = CLIENTS_FROM + CLIENT_BLOCK * (k.0 as usize - 1);
-    let e = a + CLIENT_BLOCK;
-    sim_blocks::valid_client_block(&w[a..e], n, m, clients, k)
+    sim_blocks::valid_client_block(block_of_client(w, k), n, m, clients, k)
 }
 
 // Whether the blocks of the first clients are valid, each as its number.
@@ -223,9 +225,7 @@ fn server_valid(w: &[u32], n: u32, clients: u32, j: ServerId) -> bool
     requires { ServerIn w.now j }
     ensures { result ≡ valid_server_block n clients j (server_block_of w.now j) }
 {
-    let a = SERVERS_FROM + SERVER_BLOCK * (j.0 as usize - 1);
-    let e = a + SERVER_BLOCK;
-    sim_blocks::valid_server_block(&w[a..e], n, clients, j)
+    sim_blocks::valid_server_block(block_of_server(w, j), n, clients, j)
 }
 
 // Whether the blocks of the servers are valid, each as its number.
@@ -236,20 +236,12 @@ fn servers_valid(w: &[u32], n: u16, clients: u32) -> bool
     (0..n).all(|i| server_valid(w, n as u32, clients, ServerId(i + 1)))
 }
 
-pub fn larger(a: u32, b: u32) -> u32
-    ensures { result ≡ max a b }
-{
-    a.max(b)
-}
-
 // The servers ever down in the client's epoch.
 fn downs_of(w: &[u32], k: ClientId) -> u32
     requires { ClientIn w.now k }
     ensures { result ≡ length (client_place (client_block_of w.now k)).downs }
 {
-    let a = CLIENTS_FROM + CLIENT_BLOCK * (k.0 as usize - 1);
-    let e = a + CLIENT_BLOCK;
-    sim_blocks::count_flags(&w[a..e])
+    sim_blocks::count_flags(block_of_client(w, k))
 }
 
 // The most servers ever down within an epoch that runs.

@@ -36,7 +36,7 @@ fn counted(c: Counts, reply: Result<Effect, Refusal>) -> Counts
         Err(_) => c,
         Ok(effect) => {
             let accepted = c.accepted + 1;
-            let holding = sim_layout::larger(c.holding, effect.holders);
+            let holding = c.holding.max(effect.holders);
             Counts { accepted, holding }
         }
     }

@@ -8,4 +8,4 @@ returns-in-Err c = rw c.in-Err.is
 
 pub returns-in-Ok : goal.returns-in-Ok
 unfolding counted
-returns-in-Ok c = rw (c.in-Ok.is, c.larger-holding.ensures)
+returns-in-Ok c = rw (c.in-Ok.is, c.max-holding.ensures)

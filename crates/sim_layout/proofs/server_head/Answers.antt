@@ -1,0 +1,6 @@
+-- The block that is lent is as long as a block.
+use Rattle.sim_layout.proofs.LendLaws.{server_lent}
+use Rattle.sim_layout.proofs.server_head.Goals as goal
+
+pub server_head-requires : goal.server_head-requires
+server_head-requires c = (server_lent c.args.w.now c.args.j c.requires.0 _ c.block_of_server.ensures, rw c.block_of_server.ensures c.requires.1)
