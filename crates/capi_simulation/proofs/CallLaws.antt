@@ -24,7 +24,6 @@ use Rattle.sim_layout.specs.Layout.{simulation_size, view, valid}
 use Rattle.sim_changes.specs.Happens.{happens, reply_of, event_reply, moved_says, reply_says, event_says, EventLeaves}
 use Rattle.simulation.specs.Opens.{open_says}
 use Rattle.script_lines.specs.declared.Command.{Command}
-use Rattle.script_lines.specs.declared.Command.TheVariants as command
 use Rattle.script_lines.specs.declared.Line.{Line}
 use Rattle.script_lines.specs.declared.Line.TheVariants.{Event, Unknown, Bad}
 use Rattle.script_lines.specs.Lines.{event_of, line_of}
@@ -213,57 +212,3 @@ module _ (w answer : List ℕ) (kind number : ℕ) (c : Command) (l : Line) (p :
         happened = λ e y _. bad_event e y;
         kept = λ n. refl;
       })
-
--- `command_of`
-module _ (kind : ℕ) where
-  pub is_try : kind ≡ 1 → command.Try ≡ command_of kind
-  unfolding command_of
-  is_try e = rw e refl
-
-  pub is_exit : kind ≡ 2 → command.Exit ≡ command_of kind
-  unfolding command_of
-  is_exit e = rw e refl
-
-  pub is_fall : kind ≡ 3 → command.Fall ≡ command_of kind
-  unfolding command_of
-  is_fall e = rw e refl
-
-  pub is_down_lem : kind ≡ 4 → command.Down ≡ command_of kind
-  unfolding command_of
-  is_down_lem e = rw e refl
-
-  pub is_up : kind ≡ 5 → command.Up ≡ command_of kind
-  unfolding command_of
-  is_up e = rw e refl
-
-  pub is-take : kind ≡ 6 → command.Take ≡ command_of kind
-  unfolding command_of
-  is-take e = rw e refl
-
-  pub is-drop : kind ≡ 7 → command.Drop ≡ command_of kind
-  unfolding command_of
-  is-drop e = rw e refl
-
-  pub is-miss : kind ≡ 8 → command.Miss ≡ command_of kind
-  unfolding command_of
-  is-miss e = rw e refl
-
-  pub is-check : kind ≡ 9 → command.Check ≡ command_of kind
-  unfolding command_of
-  is-check e = rw e refl
-
-  pub is-other : (kind ≡ 1 → ⊥) → (kind ≡ 2 → ⊥) → (kind ≡ 3 → ⊥) → (kind ≡ 4 → ⊥) → (kind ≡ 5 → ⊥) → (kind ≡ 6 → ⊥) → (kind ≡ 7 → ⊥) → (kind ≡ 8 → ⊥)
-      → (kind ≡ 9 → ⊥) → command.Other ≡ command_of kind
-  unfolding command_of
-  is-other a b c d e f g h i =
-      rw (
-        ne_eqb kind 1 a,
-        ne_eqb kind 2 b,
-        ne_eqb kind 3 c,
-        ne_eqb kind 4 d,
-        ne_eqb kind 5 e,
-        ne_eqb kind 6 f,
-        ne_eqb kind 7 g,
-        ne_eqb kind 8 h,
-        ne_eqb kind 9 i,
-      )

@@ -30,37 +30,22 @@ pub fn sigma_simulation_new(n: u32, m: u32, f: u32, clients: u32, words: &mut [u
 }
 
 // The command of a kind, in the script's order of names.
+#[tactic(auto, unfolding(crate::specs::Calls::command_of))]
 fn command_of(kind: u32) -> Command
     ensures { result ≡ command_of kind }
 {
-    if kind == 1 {
-        return Command::Try;
+    match kind {
+        1 => Command::Try,
+        2 => Command::Exit,
+        3 => Command::Fall,
+        4 => Command::Down,
+        5 => Command::Up,
+        6 => Command::Take,
+        7 => Command::Drop,
+        8 => Command::Miss,
+        9 => Command::Check,
+        _ => Command::Other,
     }
-    if kind == 2 {
-        return Command::Exit;
-    }
-    if kind == 3 {
-        return Command::Fall;
-    }
-    if kind == 4 {
-        return Command::Down;
-    }
-    if kind == 5 {
-        return Command::Up;
-    }
-    if kind == 6 {
-        return Command::Take;
-    }
-    if kind == 7 {
-        return Command::Drop;
-    }
-    if kind == 8 {
-        return Command::Miss;
-    }
-    if kind == 9 {
-        return Command::Check;
-    }
-    Command::Other
 }
 
 // The number of an event with a client or server that nobody has.

@@ -10,7 +10,7 @@ use std::io::{Read, Write};
 use std::{io, str};
 
 // What reading gave: the system failed; the input has ended; so many bytes at the start of what was lent. Which of them is the
-// system's to say.
+// system's to say. No Result: the failure was told on standard error, and there is no error left to hand on.
 #[derive(Clone, Copy)]
 pub enum Input {
     Failed,

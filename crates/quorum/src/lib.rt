@@ -17,7 +17,8 @@ ghost use Rattle.system.specs.Numbered.{client_no};
 use ids::{ClientId, Refusal, ServerId};
 use system::{Event, MessageNumber};
 
-// What the check says of a setting: the margin, and where it is unsafe how many events its run has.
+// What the check says of a setting: the margin, and where it is unsafe how many events its run has. An enum of its own, since three of its four
+// cases have the margin: as a Result it would stand in the error too.
 #[derive(Clone, Copy)]
 pub enum Verdict {
     Accepted(i32),
@@ -26,7 +27,8 @@ pub enum Verdict {
     OutOfRange,
 }
 
-// The thresholds that the commissioning screen proposes: all from the first to the second.
+// The thresholds that the commissioning screen proposes: all from the first to the second. Three cases, which the screen tells apart: no Option says
+// two kinds of none.
 #[derive(Clone, Copy)]
 pub enum Proposal {
     Thresholds(u32, u32),

@@ -38,7 +38,8 @@ pub const STATE_HEAD: usize = LINE_FROM + LINE;
 
 pub const STATE_WORDS: usize = STATE_HEAD + sim_layout::SIMULATION_WORDS;
 
-// The stages: before the first line, while the script runs, and when its first line was refused or it has ended.
+// The stages: before the first line, while the script runs, and when its first line was refused or it has ended. Numbers, since the host keeps the
+// state as words.
 pub const OPENING: u32 = 0;
 
 pub const RUNNING: u32 = 1;

@@ -34,7 +34,7 @@ pub enum Command {
 }
 
 // An event line: its event; an event of a client or server with a number too large for its type, so that there is none such;
-// or no event.
+// or no event. No Result: a simulation whose words are no valid one refuses the second before it says that nobody has the number.
 #[derive(Clone, Copy)]
 pub enum Line {
     Event(Event),

@@ -34,6 +34,7 @@ pub struct Votes {
 #[derive(Clone, Copy)]
 pub struct Moved {
     pub votes: Votes,
+    // A flag and no Result, since `Moves.sent` promises the messages of a step that finds no room too.
     pub full: bool,
     pub first: Option<Message>,
     pub second: Option<Message>,
