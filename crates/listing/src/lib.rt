@@ -3,19 +3,9 @@
 
 #![tactic(auto)]
 
-use ids::Refusal;
-use system::Setting;
-
 // The sizes up to which runs are listed: a setting's servers and clients, and the events of a run.
 pub const MAX_SERVERS: u32 = 3;
 
 pub const MAX_CLIENTS: u32 = 2;
 
 pub const MAX_EVENTS: u32 = 6;
-
-// What is asked for: the runs of a setting with at most so many events; or a refusal.
-#[derive(Clone, Copy)]
-pub enum Asked {
-    Runs(Setting, u32),
-    Refused(Refusal),
-}

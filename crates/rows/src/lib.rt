@@ -15,7 +15,8 @@ ghost use Rattle.rows.specs.Queues.{is_client, matching, first, Holds};
 
 use ids::{ClientId, Request, Timestamp};
 
-// What a search through a queue looks for: a request's client, the request itself, or a request behind it.
+// What a search through a queue looks for: a request's client, the request itself, or a request behind it. An enum and no closure, since `matching` defines
+// the three tests, by which the contracts of the machines speak.
 #[derive(Clone, Copy)]
 pub enum Wanted {
     Client,
