@@ -71,7 +71,8 @@ pub fn sigma_write(words: &[u32], out: &mut [u8]) -> u32
     }
 }
 
-// The steps of a server's record, and of a client's. Enums and no closures: `server_outcome` and `client_outcome` define by their cases what a call gives.
+// The steps of a server's record, and of a client's. Enums and no closures: `server_outcome` and `client_outcome` define by their cases what a call
+// gives.
 #[derive(Clone, Copy)]
 pub enum ServerCall {
     Message(Message),

@@ -48,7 +48,8 @@ pub struct Effect {
 // The bytes into which an event's step writes what it sends.
 const OUT_BYTES: usize = 512;
 
-// What a client does in an event, as an enum and no closure, since `client_event` and `server_event` name the event by its cases: it begins its step (document 01's try), leaves the critical section, or takes the RESPONSE or the CHECK in a slot.
+// What a client does in an event: it begins its step (document 01's try), leaves the critical section, or takes the RESPONSE or the CHECK in a slot. An
+// enum and no closure, as the next one: `client_event` and `server_event` name the event by its cases.
 #[derive(Clone, Copy)]
 pub enum ClientAct {
     Try,
