@@ -54,6 +54,7 @@ pub fn answer_part(rt: &(impl Print + Eprint), w: &mut [u32], part: &[u8], out: 
     requires { (valid w.old ≡ true) × (max_printed ≤ length out.old) }
     ensures { Answers w.old part.now out.old result w.new out.new }
 {
+    // A `while`: each turn goes as far as there was room for.
     let mut done: usize = 0;
     while done < part.len() {
         let used = answer_some(rt, w, &part[done..], out);

@@ -118,6 +118,7 @@ fn answer_lines(
     requires { (valid w.old ≡ true) × (max_printed ≤ length out.old) }
     ensures { (valid w.new ≡ true) × (result ≡ true → Taken w.old part.now w.new) }
 {
+    // A `while`: each turn goes as far as the line is long.
     let mut from: usize = 0;
     while from < part.len() {
         let next = line_behind(part, from);
