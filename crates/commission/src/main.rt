@@ -42,10 +42,8 @@ fn is_there(rt: &impl Env, i: usize) -> bool {
 // Argument `i` as a number. One that is longer than a number is none.
 fn argument(rt: &impl Env, i: usize) -> Option<u32> {
     let mut word = [0u8; 11];
-    match rt.arg(i, &mut word) {
-        Ok(n) => script_numbers::read_number(&word[0..n]),
-        Err(_) => None,
-    }
+    let n = rt.arg(i, &mut word).ok()?;
+    script_numbers::read_number(&word[..n])
 }
 
 // Arguments that are not two or three numbers.

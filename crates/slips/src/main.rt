@@ -118,7 +118,6 @@ fn answer_lines(
     requires { (valid w.old ≡ true) × (max_printed ≤ length out.old) }
     ensures { (valid w.new ≡ true) × (result ≡ true → Taken w.old part.now w.new) }
 {
-    // A `while`: each turn goes as far as the line is long.
     let mut from: usize = 0;
     while from < part.len() {
         let next = line_behind(part, from);
@@ -205,15 +204,7 @@ fn is_given(rt: &impl Env, word: &[u8; 6]) -> bool {
         return false;
     }
     let mut given = [0u8; 6];
-    if rt.arg(1, &mut given).is_err() {
-        return false;
-    }
-    given[0] == word[0]
-        && given[1] == word[1]
-        && given[2] == word[2]
-        && given[3] == word[3]
-        && given[4] == word[4]
-        && given[5] == word[5]
+    rt.arg(1, &mut given).is_ok() && given == *word
 }
 
 fn begin(rt: &(impl io::Input + Print + Eprint), wanted: Wanted) {
