@@ -34,10 +34,6 @@ module _ (row : List ℕ) (len : ℕ) (good : Padded row len) (k : ClientId) (at
 
 -- line 27, by the owner
 module _ (k : ClientId) (v : Votes) (row : List ℕ) where
-  pub stands_behind_nobody : (s : Option Timestamp) → v.owner ≡ None → s ≡ timestamp_in k (queue_of row v.len)
-      → s ≡ timestamp_in k (candidates (view v row))
-  stands_behind_nobody s e p = rw e p
-
   module _ (o : Request) (e : v.owner ≡ Some o) (a : Bool) (m : a ≡ eqb o.client.0 k.0) where
     pub stands_as_owner : a ≡ true → Some o.timestamp ≡ timestamp_in k (candidates (view v row))
     unfolding timestamp_in
