@@ -7,7 +7,7 @@ use mathlib.Core.List.{List, [], ◌∷◌, map}
 use lib.Dec.{eqb, leb}
 use lib.ListN.{length, replicate}
 use lib.Seq.{sets}
-use borrow.Author.Tests.{lt-ltb, le-ltb, le-leb, lt-leb, eq-eqb, ne_eqb, eqb-true, leb-true}
+use borrow.Author.Tests.{lt-ltb, le-ltb, le-leb, lt-leb, eqb-true, leb-true}
 use Rattle.std.specs.Prelude.{if◌then◌else◌, Ok, Option}
 use Rattle.ids.specs.Limits.{max_timestamp, valid_client, valid_owner, valid_parties_up_to}
 use Rattle.ids.specs.declared.ClientId.{ClientId}
@@ -338,14 +338,16 @@ module _ (h : Head) (row : List ℕ) (v : valid (client_of h row) ≡ true) (j :
   unfolding view
   kept = row-again row h.n (valid-padded (client_of h row) v)
 
-  pub check-same : t.0 ≡ h.timestamp.0 → r ≡ record { head = head_with h h.section h.timestamp; answer = Ok (record { messages = 0; bytes = 0 }) } → Answers h row asked o r row o
+  pub check-same : (a : Bool) → a ≡ eqb t.0 h.timestamp.0 → a ≡ true → r ≡ record { head = head_with h h.section h.timestamp; answer = Ok (record { messages = 0; bytes = 0 }) } → Answers h row asked o r row o
   unfolding upon_check view
-  check-same g e = answers_stay h row asked o r (view (client_of h row)) (rw (eq-eqb t.0 h.timestamp.0 g)) kept e
+  check-same a m g e =
+      let its : eqb t.0 h.timestamp.0 ≡ true = cc in
+      answers_stay h row asked o r (view (client_of h row)) (rw its) kept e
 
-  module _ (g : t.0 ≡ h.timestamp.0 → ⊥) where
+  module _ (a : Bool) (m : a ≡ eqb t.0 h.timestamp.0) (g : a ≡ false) where
     its_release : asked ≡ stepped (tell (view (client_of h row)) (Release h.id j t))
     unfolding upon_check view
-    its_release = rw (ne_eqb t.0 h.timestamp.0 g)
+    its_release = let not_its : eqb t.0 h.timestamp.0 ≡ false = cc in rw not_its
 
     one_size : size_of_all (Release h.id j t ∷ []) ≡ message_bytes
     one_size = size_of_all-one (Release h.id j t) ∙ release_plain h.id t j

@@ -86,9 +86,10 @@ fn fits_timestamp(s: Section, t: Timestamp) -> bool
 fn request_of(h: Head) -> Request
     ensures { result ≡ request h }
 {
-    let client = h.id;
-    let timestamp = h.timestamp;
-    Request { client, timestamp }
+    Request {
+        client: h.id,
+        timestamp: h.timestamp,
+    }
 }
 
 fn enough_own(r: Request, row: &[u32], n: usize, m: usize) -> bool
@@ -121,8 +122,7 @@ fn valid_places(h: Head, row: &[u32]) -> bool
     if client_responses::misfit_count(r, row, n) != 0 {
         return false;
     }
-    let section = h.section;
-    fits_section(section, r, row, n, h.m as usize)
+    fits_section(h.section, r, row, n, h.m as usize)
 }
 
 // Whether head and row are a valid record where there are at most so many servers: document 01's paragraph on broken records, turned round.
@@ -135,8 +135,7 @@ pub fn valid_row_up_to(limit: u32, h: Head, row: &[u32]) -> bool
     if !ids::valid_client(h.id) {
         return false;
     }
-    let section = h.section;
-    if !fits_timestamp(section, h.timestamp) {
+    if !fits_timestamp(h.section, h.timestamp) {
         return false;
     }
     if !rows::good_row(row, h.n as usize) {
@@ -156,8 +155,10 @@ pub fn valid_row(h: Head, row: &[u32]) -> bool
 fn refuse(h: Head, e: Refusal) -> Turned
     ensures { result ≡ turned h (refused e) }
 {
-    let answer = Err(e);
-    Turned { head: h, answer }
+    Turned {
+        head: h,
+        answer: Err(e),
+    }
 }
 
 // The larger of the two.
@@ -178,17 +179,9 @@ fn latest(h: Head) -> Timestamp
 fn saw(h: Head, t: Timestamp) -> Head
     ensures { result ≡ saw_in t h }
 {
-    let id = h.id;
-    let section = h.section;
-    let timestamp = h.timestamp;
-    let seen = later(h.seen, t);
     Head {
-        n: h.n,
-        m: h.m,
-        id,
-        section,
-        timestamp,
-        seen,
+        seen: later(h.seen, t),
+        ..h
     }
 }
 
@@ -196,21 +189,17 @@ fn saw(h: Head, t: Timestamp) -> Head
 fn moved(h: Head, section: Section, timestamp: Timestamp, count: usize, size: usize) -> Turned
     ensures { result ≡ record { head = head_with h section timestamp; answer = Ok (record { messages = count; bytes = size }) } }
 {
-    let id = h.id;
-    let seen = h.seen;
-    let head = Head {
-        n: h.n,
-        m: h.m,
-        id,
-        section,
-        timestamp,
-        seen,
-    };
-    let answer = Ok(Sent {
-        messages: count,
-        bytes: size,
-    });
-    Turned { head, answer }
+    Turned {
+        head: Head {
+            section,
+            timestamp,
+            ..h
+        },
+        answer: Ok(Sent {
+            messages: count,
+            bytes: size,
+        }),
+    }
 }
 
 fn is_remainder(s: Section) -> bool
@@ -253,8 +242,7 @@ fn attempt(h: Head, row: &mut [u32], out: &mut [u8]) -> Turned
     if out.len() < MESSAGE_BYTES * n {
         return refuse(h, Refusal::RoomShort);
     }
-    let last = latest(h);
-    let t = Timestamp(last.0 + 1);
+    let t = Timestamp(latest(h).0 + 1);
     send_all(h.n, out, move |j| Message::Request(h.id, j, t));
     rows::clear(row, n);
     moved(h, Section::Trying, t, n, MESSAGE_BYTES * n)
@@ -282,12 +270,10 @@ pub fn begin_row(h: Head, row: &mut [u32], out: &mut [u8]) -> Turned
     if !valid_row(h, row) {
         return refuse(h, Refusal::InvalidRecord);
     }
-    let section = h.section;
-    if !is_remainder(section) {
+    if !is_remainder(h.section) {
         return refuse(h, Refusal::WrongSection);
     }
-    let last = latest(h);
-    if LAST_TRY < last.0 {
+    if LAST_TRY < latest(h).0 {
         return refuse(h, Refusal::TimestampsSpent);
     }
     attempt(h, row, out)
@@ -300,8 +286,7 @@ pub fn exit_row(h: Head, row: &mut [u32], out: &mut [u8]) -> Turned
     if !valid_row(h, row) {
         return refuse(h, Refusal::InvalidRecord);
     }
-    let section = h.section;
-    if !is_critical(section) {
+    if !is_critical(h.section) {
         return refuse(h, Refusal::WrongSection);
     }
     leave(h, row, out)
@@ -366,14 +351,12 @@ fn upon_response(
     requires { (valid (client_of h row.old) ≡ true) × (1 ≤ j.0) × (j.0 ≤ h.n) × (valid_owner o ≡ true) }
     ensures { Answers h row.old (stepped (upon_response (enough h.m) h.n h.id j o (view (client_of h row.old)))) out.old result row.new out.new }
 {
-    let section = h.section;
-    if !is_trying(section) {
-        return moved(h, section, h.timestamp, 0, 0);
+    if !is_trying(h.section) {
+        return moved(h, h.section, h.timestamp, 0, 0);
     }
     let old = client_responses::hear(request_of(h), row, j, o);
     let r = judge(h, row, out);
-    let answer = r.answer;
-    if is_refused(answer) {
+    if is_refused(r.answer) {
         rows::put_request(row, (j.0 as usize) - 1, old);
         return r;
     }
@@ -385,26 +368,22 @@ fn upon_check(h: Head, row: &[u32], j: ServerId, t: Timestamp, out: &mut [u8]) -
     requires { valid (client_of h row.now) ≡ true }
     ensures { Answers h row.now (stepped (upon_check h.id j t (view (client_of h row.now)))) out.old result row.now out.new }
 {
-    let section = h.section;
-    if t.0 == h.timestamp.0 {
-        return moved(h, section, h.timestamp, 0, 0);
+    if t == h.timestamp {
+        return moved(h, h.section, h.timestamp, 0, 0);
     }
     if out.len() < MESSAGE_BYTES {
         return refuse(h, Refusal::RoomShort);
     }
-    let id = h.id;
-    let m = Message::Release(id, j, t);
-    let size = wire::put(out, 0, m);
-    moved(h, section, h.timestamp, 1, size)
+    let size = wire::put(out, 0, Message::Release(h.id, j, t));
+    moved(h, h.section, h.timestamp, 1, size)
 }
 
 // The answer of a step that was given a head with more seen than `h` has: a refused call leaves `h`.
 fn settle(h: Head, r: Turned) -> Turned
     ensures { result ≡ settled h r }
 {
-    let answer = r.answer;
-    if is_refused(answer) {
-        return Turned { head: h, answer };
+    if is_refused(r.answer) {
+        return Turned { head: h, ..r };
     }
     r
 }
@@ -438,7 +417,7 @@ pub fn check_row(h: Head, row: &[u32], j: ServerId, t: Timestamp, out: &mut [u8]
 fn for_client(h: Head, k: ClientId, j: ServerId) -> bool
     ensures { result ≡ for_client h k j }
 {
-    k.0 == h.id.0 && j.0 <= h.n
+    k == h.id && j.0 <= h.n
 }
 
 fn take_response(
@@ -521,26 +500,27 @@ pub fn fresh_head(n: u16, m: u16, id: ClientId) -> Head
 pub fn valid_client(c: Client) -> bool
     ensures { result ≡ valid c }
 {
-    let row = c.row;
-    valid_row(c.head, &row)
+    valid_row(c.head, &c.row)
 }
 
 // A new client's record: its head, and every place empty.
 fn fresh(n: u16, m: u16, id: ClientId) -> Client
     ensures { result ≡ client_of (head_in n m id (fresh_of n)) (replicate row_words 0) }
 {
-    let head = fresh_head(n, m, id);
-    let row = [0; ROW_WORDS];
-    Client { head, row }
+    Client {
+        head: fresh_head(n, m, id),
+        row: [0; ROW_WORDS],
+    }
 }
 
 // What a refused `new` hands back.
 fn no_client() -> Stepped
     ensures { result ≡ refused_new }
 {
-    let client = fresh(0, 0, ClientId(0));
-    let answer = Err(Refusal::ParameterOutOfRange);
-    Stepped { client, answer }
+    Stepped {
+        client: fresh(0, 0, ClientId(0)),
+        answer: Err(Refusal::ParameterOutOfRange),
+    }
 }
 
 // A new client with `n` servers and threshold `m`: in the remainder section, no timestamp taken or seen.
@@ -553,22 +533,23 @@ pub fn new(n: u16, m: u16, id: ClientId) -> Stepped
     if !ids::valid_client(id) {
         return no_client();
     }
-    let client = fresh(n, m, id);
-    let answer = Ok(Sent {
-        messages: 0,
-        bytes: 0,
-    });
-    Stepped { client, answer }
+    Stepped {
+        client: fresh(n, m, id),
+        answer: Ok(Sent {
+            messages: 0,
+            bytes: 0,
+        }),
+    }
 }
 
 // The answer of a call on a lent row, with the row that it left.
 fn together(t: Turned, row: [u32; ROW_WORDS]) -> Stepped
     ensures { result ≡ record { client = client_of t.head row; answer = t.answer } }
 {
-    let head = t.head;
-    let answer = t.answer;
-    let client = Client { head, row };
-    Stepped { client, answer }
+    Stepped {
+        client: Client { head: t.head, row },
+        answer: t.answer,
+    }
 }
 
 pub fn begin(c: Client, out: &mut [u8]) -> Stepped

@@ -5,10 +5,9 @@ use native.Mathlib.Omega.{arith}
 use mathlib.Core.Path.{◌≡◌, refl, ◌∙◌, ap, sym}
 use mathlib.Core.Bool.{Bool, true, false, ◌&&◌, not}
 use mathlib.Core.List.{List, [], ◌∷◌, map}
-use lib.Dec.{eqb}
 use lib.ListN.{length, get_or, take, set, length-set, get_or-map}
 use lib.Seq.{sets, length-sets, take-set-lt, drop-set-lt, get_or-take, set-set, set-get_or}
-use borrow.Author.Tests.{eq-eqb, ne_eqb, le-leb}
+use borrow.Author.Tests.{ne_eqb, le-leb}
 use Rattle.std.specs.Prelude.{if◌then◌else◌, Some, None, Option}
 use Rattle.ids.specs.Limits.{max_client, valid_owner}
 use Rattle.ids.specs.Requests.{same, is_request, no_request}
@@ -19,12 +18,6 @@ use Rattle.rows.specs.Rows.{words_of, request_words, requests_in, fits_place, Pl
 use Rattle.rows.proofs.WordLaws.{put-requests, put-size, put_made, row-again}
 use Rattle.client_responses.specs.Figure1.{current, told, heard}
 use Rattle.client_responses.specs.Row.{shown, place, responses_in, place_of, heard_row}
-
-pub current-other : (r q : Request) → (q.client.0 ≡ r.client.0 → ⊥) → true ≡ current r (Some q)
-current-other r q n = rw (ne_eqb q.client.0 r.client.0 n)
-
-pub current-own : (r q : Request) → q.client.0 ≡ r.client.0 → eqb q.timestamp.0 r.timestamp.0 ≡ current r (Some q)
-current-own r q e = rw (eq-eqb q.client.0 r.client.0 e)
 
 -- what a response tells of is the timestamp of its place
 pub told-place : (o : Option Request) (q : Request) → q ≡ place o → q.timestamp ≡ told o

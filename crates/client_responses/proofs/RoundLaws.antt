@@ -8,7 +8,6 @@ use mathlib.Core.List.{List, [], ◌∷◌, ◌++◌, append_assoc, append-nil, 
 use lib.Dec.{eqb}
 use lib.ListN.{length, get_or, take, length-append, get_or-map}
 use lib.Seq.{sets, take-suc, take_all, length-take-le, get_or-take}
-use borrow.Author.Tests.{eq-eqb, ne_eqb}
 use Rattle.std.specs.Prelude.{if◌then◌else◌, Some, None, Option}
 use Rattle.ids.specs.Order.{before}
 use Rattle.ids.specs.Requests.{same, no_request}
@@ -27,18 +26,22 @@ use Rattle.client_responses.proofs.SendLaws.{request-plain, yield_plain, inquiry
 
 -- one reply
 module _ (r : Request) (j : ServerId) (q : Request) where
-  pub reply_yield : q.client.0 ≡ r.client.0 → YIELD r.client j r.timestamp ≡ reply r j q
-  unfolding reply
-  reply_yield e = rw (eq-eqb q.client.0 r.client.0 e)
-
-  module _ (b : Bool) (n : q.client.0 ≡ r.client.0 → ⊥) (p : b ≡ before r q) where
-    pub reply-request : b ≡ true → REQUEST r.client j r.timestamp ≡ reply r j q
+  module _ (a : Bool) (m : a ≡ eqb q.client.0 r.client.0) where
+    pub reply_yield : a ≡ true → YIELD r.client j r.timestamp ≡ reply r j q
     unfolding reply
-    reply-request t = let e : before r q ≡ true = cc in rw (ne_eqb q.client.0 r.client.0 n, e)
+    reply_yield t = let e : eqb q.client.0 r.client.0 ≡ true = cc in rw e
 
-    pub reply_inquiry : b ≡ false → INQUIRY r.client j r.timestamp ≡ reply r j q
-    unfolding reply
-    reply_inquiry t = let e : before r q ≡ false = cc in rw (ne_eqb q.client.0 r.client.0 n, e)
+    module _ (n : a ≡ false) (b : Bool) (p : b ≡ before r q) where
+      other : eqb q.client.0 r.client.0 ≡ false
+      other = cc
+
+      pub reply-request : b ≡ true → REQUEST r.client j r.timestamp ≡ reply r j q
+      unfolding reply
+      reply-request t = let e : before r q ≡ true = cc in rw (other, e)
+
+      pub reply_inquiry : b ≡ false → INQUIRY r.client j r.timestamp ≡ reply r j q
+      unfolding reply
+      reply_inquiry t = let e : before r q ≡ false = cc in rw (other, e)
 
   by_tests : (a b : Bool) → size_of (if a then YIELD r.client j r.timestamp else if b then REQUEST r.client j r.timestamp else
       INQUIRY r.client j r.timestamp) ≡ message_bytes

@@ -98,7 +98,7 @@ pub fn misfit_count(r: Request, row: &[u32], n: usize) -> usize
 fn is_empty(q: Request) -> bool
     ensures { result ≡ same q no_request }
 {
-    q.client.0 == 0 && q.timestamp.0 == 0
+    q == rows::nobody()
 }
 
 // Whether the place `q` shows the request `r`.
@@ -114,12 +114,7 @@ fn is_current(r: Request, o: Option<Request>) -> bool
 {
     match o {
         None => true,
-        Some(q) => {
-            if q.client.0 != r.client.0 {
-                return true;
-            }
-            q.timestamp.0 == r.timestamp.0
-        }
+        Some(q) => q.client != r.client || q.timestamp == r.timestamp,
     }
 }
 
@@ -136,8 +131,7 @@ fn place_of(o: Option<Request>) -> Request
 pub fn told(o: Option<Request>) -> Timestamp
     ensures { result ≡ told_of o }
 {
-    let q = place_of(o);
-    q.timestamp
+    place_of(o).timestamp
 }
 
 // Lines 8 and 9: server `j` named `o`. Returns what stood in its place, for a caller that must undo it.
@@ -153,8 +147,7 @@ pub fn hear(r: Request, row: &mut [u32], j: ServerId, o: Option<Request>) -> Req
     if !is_current(r, o) {
         return old;
     }
-    let q = place_of(o);
-    rows::put_request(row, i, q);
+    rows::put_request(row, i, place_of(o));
     old
 }
 
@@ -164,7 +157,7 @@ fn reply(r: Request, j: ServerId, q: Request) -> Message
 {
     let k = r.client;
     let t = r.timestamp;
-    if q.client.0 == k.0 {
+    if q.client == k {
         return Message::Yield(k, j, t);
     }
     if ids::precedes(r, q) {
@@ -181,8 +174,7 @@ fn send_reply(r: Request, j: ServerId, q: Request, out: &mut [u8], at: usize) ->
     if is_empty(q) {
         return at;
     }
-    let m = reply(r, j, q);
-    wire::put(out, at, m)
+    wire::put(out, at, reply(r, j, q))
 }
 
 // Lines 14 to 17 for all of the first `n` places.

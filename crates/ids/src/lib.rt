@@ -21,17 +21,17 @@ pub const MAX_TIMESTAMP: u32 = 4_294_967_295;
 pub const MAX_SHORT: u32 = 65_535;
 
 // Document 01's kiosk, keeper and ticket. Three types, so that passing one for another does not build.
-#[derive(Clone, Copy)]
+#[derive(Clone, Copy, PartialEq, Eq)]
 pub struct ClientId(pub u16);
 
-#[derive(Clone, Copy)]
+#[derive(Clone, Copy, PartialEq, Eq)]
 pub struct ServerId(pub u16);
 
-#[derive(Clone, Copy)]
+#[derive(Clone, Copy, PartialEq, Eq)]
 pub struct Timestamp(pub u32);
 
 // A client with the timestamp of its attempt: Figure 1's pair (ci, t).
-#[derive(Clone, Copy)]
+#[derive(Clone, Copy, PartialEq, Eq)]
 pub struct Request {
     pub client: ClientId,
     pub timestamp: Timestamp,
@@ -131,7 +131,7 @@ pub fn precedes(a: Request, b: Request) -> bool
 pub fn same_request(a: Request, b: Request) -> bool
     ensures { result ≡ same a b }
 {
-    a.client.0 == b.client.0 && a.timestamp.0 == b.timestamp.0
+    a == b
 }
 
 // The refusal's number.

@@ -1,34 +1,33 @@
 -- What packing answers and leaves, in each case.
 use Rattle.std.specs.Prelude.{Ok, Err}
-use Prim.Native.Nat.{ℕ, ◌+◌, ◌-◌, ◌/◌, ◌%◌, ◌<◌, ◌≤◌}
+use Prim.Native.Nat.{ℕ, ◌-◌, ◌<◌, ◌≤◌}
 use native.Mathlib.Omega.{arith}
-use mathlib.Core.Path.{◌≡◌, refl, sym, ◌∙◌}
-use mathlib.Core.List.{List, append_assoc}
-use lib.ListN.{length, set, take, drop, length-set}
-use lib.Seq.{sets, sets-eq, drop-drop}
+use mathlib.Core.Path.{◌≡◌, refl, sym}
+use mathlib.Core.List.{List, ◌++◌}
+use lib.ListN.{length, drop}
+use lib.Seq.{sets, sets-eq, length-sets}
 use borrow.Rule.Slice.PartMut.{put_mid}
 use borrow.Author.Tests.{lt-ltb, le-ltb}
 use Rattle.ids.specs.declared.Refusal.{Refusal}
 use Rattle.ids.specs.declared.Refusal.TheVariants.{PacketMalformed, RoomShort}
 use Rattle.wire.specs.Bytes.{little_endian}
-use Rattle.wire.proofs.BytesLaws.{stored_on}
+use Rattle.wire.proofs.BytesLaws.{stored_on, copied}
 use Rattle.packet.specs.Packet.{total_bytes, max_total, contents_of}
 use Rattle.packet.specs.Packing.{packed_bytes, packed, pack_of, buffer_after}
 use Rattle.packet.specs.Inner.{judged}
 use Rattle.packet.proofs.PlaceLaws.{good-carries, bad_refused}
 
--- the total is stored, and the bytes are laid down behind it
-pub laid_packet : (o ys bytes : List ℕ) (k : ℕ) → k ≡ length bytes → ys ≡ bytes → packed_bytes bytes ≤ length o
-    → put_mid total_bytes k (set (set o 0 (packed_bytes bytes % 256)) 1 (packed_bytes bytes / 256 % 256)) ys ≡ sets o 0 (packed bytes)
+-- the total's bytes are laid down, and the packet's behind them
+pub laid_packet : (o front ys bytes : List ℕ) (k : ℕ) → front ≡ little_endian total_bytes (packed_bytes bytes) → k ≡ length bytes → ys ≡ bytes
+    → packed_bytes bytes ≤ length o → put_mid total_bytes k (front ++ drop total_bytes o) ys ≡ sets o 0 (packed bytes)
 unfolding packed
-laid_packet o ys bytes k n p room =
-    let b : List ℕ = set (set o 0 (packed_bytes bytes % 256)) 1 (packed_bytes bytes / 256 % 256) in
+laid_packet o front ys bytes k f n p room =
+    let a : List ℕ = front ++ drop total_bytes o in
     let total : List ℕ = little_endian total_bytes (packed_bytes bytes) in
-    let s : length b ≡ length o = simp length-set in
-    let l : put_mid total_bytes k b ys ≡ sets b total_bytes bytes =
-    rw (p, n, drop-drop (length bytes) total_bytes b)
-    (sym (append_assoc (take total_bytes b) bytes (drop (total_bytes + length bytes) b)) ∙ sym (sets-eq bytes b total_bytes (omega arith))) in
-    stored_on o (sets o 0 total) (put_mid total_bytes k b ys) total bytes 0 total_bytes refl l refl
+    let s : a ≡ sets o 0 total = rw f (sym (sets-eq total o 0 (omega arith))) in
+    let size : length a ≡ length o = rw s (length-sets o 0 total) in
+    let l : put_mid total_bytes k a ys ≡ sets a total_bytes bytes = copied a ys bytes total_bytes k n p (omega (arith, size)) in
+    stored_on o a (put_mid total_bytes k a ys) total bytes 0 total_bytes s l refl
 
 -- what `pack` answers and leaves
 module _ (bytes o : List ℕ) where

@@ -27,7 +27,7 @@ const LEAST_LENGTH: usize = 4;
 fn join(lo: u8, hi: u8) -> usize
     ensures { result ≡ lo + 256 * hi }
 {
-    (lo as usize) + 256 * (hi as usize)
+    usize::from(u16::from_le_bytes([lo, hi]))
 }
 
 // The bytes of the message at a place, by its length field; 0 where no message fits.
@@ -231,8 +231,7 @@ fn put_packet(bytes: &[u8], out: &mut [u8])
     ensures { out.new ≡ sets out.old 0 (packed bytes.now) }
 {
     let total = TOTAL_BYTES + bytes.len();
-    out[0] = (total % 256) as u8;
-    out[1] = (total / 256 % 256) as u8;
+    out[..TOTAL_BYTES].copy_from_slice(&(total as u16).to_le_bytes());
     out[TOTAL_BYTES..total].copy_from_slice(bytes);
 }
 

@@ -55,7 +55,7 @@ fn matches(wanted: Wanted, r: Request, x: Request) -> bool
     ensures { result ≡ matching wanted r x }
 {
     match wanted {
-        Wanted::Client => x.client.0 == r.client.0,
+        Wanted::Client => x.client == r.client,
         Wanted::Pair => ids::same_request(x, r),
         Wanted::Later => ids::precedes(r, x),
     }

@@ -3,12 +3,12 @@ use Rattle.wire.specs.declared.Sent.{Sent}
 use Rattle.std.specs.Prelude.{Ok, Err, Result}
 use Prim.Native.Nat.{ℕ}
 use mathlib.Core.Path.{◌≡◌, refl, sym, ap, ◌∙◌}
-use mathlib.Core.Bool.{true, false}
+use mathlib.Core.Bool.{Bool, true, false, not}
 use mathlib.Core.List.{List}
 use mathlib.Core.Logic.{⊎_elim}
-use lib.Dec.{ltb}
+use lib.Dec.{eqb, ltb}
 use lib.ListN.{length}
-use borrow.Author.Tests.{eq-eqb, ne_eqb}
+use Rattle.std.proofs.lemmas.Bool.{not-true, not-false}
 use Rattle.ids.proofs.Choice.{decided}
 use Rattle.ids.specs.Refusals.{accepts}
 use Rattle.ids.specs.declared.Refusal.{Refusal}
@@ -58,26 +58,24 @@ module _ (h : Head) (row : List ℕ) (o : Outcome State) (r : Turned) where
 
 -- a message of some tag
 module _ (h : Head) (row : List ℕ) (tag : Tag) (k : ClientId) (j : ServerId) (t : Timestamp) (r : Turned) where
-  pub takes_not : (j.0 ≡ h.id.0 → ⊥) → r ≡ refusing h NotForServer → Turns h row (taken (server_of h row) tag k j t) r row
-  takes_not n p = turns_refused h row (taken (server_of h row) tag k j t) r NotForServer (rw (ne_eqb _ _ n)) p
+  module _ (x : Bool) (e : x ≡ not (eqb j.0 h.id.0)) where
+    pub takes_not : x ≡ true → r ≡ refusing h NotForServer → Turns h row (taken (server_of h row) tag k j t) r row
+    takes_not n p =
+        let other = not-true (eqb j.0 h.id.0) cc in
+        turns_refused h row (taken (server_of h row) tag k j t) r NotForServer (rw other) p
 
-  module _ (after : List ℕ) (m : Moved) (same : j.0 ≡ h.id.0)
+    same : x ≡ false → eqb j.0 h.id.0 ≡ true
+    same n = not-false (eqb j.0 h.id.0) cc
+
+  module _ (x : Bool) (e : x ≡ not (eqb j.0 h.id.0)) (n : x ≡ false) (after : List ℕ) (m : Moved)
       (M : Moves h.votes row after m (receive h.id tag (record { client = k; timestamp = t }) (view h.votes row))) where
     pub takes-full : m.full ≡ true → r ≡ refusing h QueueFull → Turns h row (taken (server_of h row) tag k j t) r after
     takes-full f p =
-        let e = (M.kept f).0 in
-        rw e (turns_refused h row (taken (server_of h row) tag k j t) r QueueFull (rw (eq-eqb _ _ same, ← M.full, f)) p)
+        let kept = (M.kept f).0 in
+        rw kept (turns_refused h row (taken (server_of h row) tag k j t) r QueueFull (rw (same x e n, ← M.full, f)) p)
 
     pub takes : m.full ≡ false → r ≡ doing h m → Turns h row (taken (server_of h row) tag k j t) r after
-    takes f p = turns_done h row (taken (server_of h row) tag k j t) r after m _ (rw (eq-eqb _ _ same, ← M.full, f)) M f p
-
--- the record is kept or not, by the answer
-module _ (s : Server) (h : Head) (row : List ℕ) (a x : Result Sent Refusal) (e : a ≡ x) where
-  pub keeps-sent : (y : Sent) → a ≡ Ok y → ◌≡◌ {A = Stepped} (record { server = record { head = h; row = row }; answer = a }) (keeping s h row x)
-  keeps-sent y p = let q : x ≡ Ok y = cc in rw (q, p)
-
-  pub keeps-old : (y : Refusal) → a ≡ Err y → ◌≡◌ {A = Stepped} (record { server = s; answer = a }) (keeping s h row x)
-  keeps-old y p = let q : x ≡ Err y = cc in rw (q, p)
+    takes f p = turns_done h row (taken (server_of h row) tag k j t) r after m _ (rw (same x e n, ← M.full, f)) M f p
 
 -- the answer of a call by value, by its ruling
 module _ (t : Turned) (out : List ℕ) where

@@ -137,10 +137,9 @@ pub fn send(
 fn refuse(head: Head, e: Refusal) -> Turned
     ensures { result ≡ refusing head e }
 {
-    let ruling = Err(e);
     Turned {
         head,
-        ruling,
+        ruling: Err(e),
         first: None,
         second: None,
         third: None,
@@ -151,18 +150,15 @@ fn refuse(head: Head, e: Refusal) -> Turned
 fn done(h: Head, m: Moved) -> Turned
     ensures { result ≡ doing h m }
 {
-    let n = h.n;
-    let id = h.id;
-    let votes = m.votes;
-    let first = m.first;
-    let second = m.second;
-    let third = m.third;
     Turned {
-        head: Head { n, id, votes },
+        head: Head {
+            votes: m.votes,
+            ..h
+        },
         ruling: Ok(()),
-        first,
-        second,
-        third,
+        first: m.first,
+        second: m.second,
+        third: m.third,
     }
 }
 
@@ -178,15 +174,14 @@ pub fn take_row(
     requires { Padded row.old h.votes.len }
     ensures { Turns h row.old (taken (server_of h row.old) tag k j t) result row.new }
 {
-    let id = h.id;
-    if j.0 != id.0 {
+    if j != h.id {
         return refuse(h, Refusal::NotForServer);
     }
     let r = Request {
         client: k,
         timestamp: t,
     };
-    let m = server_votes::receive(id, tag, r, h.votes, row);
+    let m = server_votes::receive(h.id, tag, r, h.votes, row);
     if m.full {
         return refuse(h, Refusal::QueueFull);
     }
@@ -239,21 +234,19 @@ fn valid_votes(v: Votes, row: &[u32]) -> bool
     requires { Padded row.now v.len }
     ensures { result ≡ valid_state (votes_view v row.now) }
 {
-    let owner = v.owner;
-    let len = v.len;
-    if !ids::valid_owner(owner) {
+    if !ids::valid_owner(v.owner) {
         return false;
     }
-    if !all_valid(row, len) {
+    if !all_valid(row, v.len) {
         return false;
     }
-    if !owner_fits(owner, row, len) {
+    if !owner_fits(v.owner, row, v.len) {
         return false;
     }
-    if !in_order(row, len) {
+    if !in_order(row, v.len) {
         return false;
     }
-    no_client_twice(row, len)
+    no_client_twice(row, v.len)
 }
 
 // Whether head and row are a record that a server can have where there are at most so many: document 01's 'A record is broken if ..', turned
@@ -261,18 +254,16 @@ fn valid_votes(v: Votes, row: &[u32]) -> bool
 pub fn valid_row_up_to(limit: u32, h: Head, row: &[u32]) -> bool
     ensures { result ≡ valid_up_to limit (server_of h row.now) }
 {
-    let id = h.id;
-    let v = h.votes;
     if !ids::within_limit(h.n as u32, limit) {
         return false;
     }
-    if !ids::within_limit(id.0 as u32, h.n as u32) {
+    if !ids::within_limit(h.id.0 as u32, h.n as u32) {
         return false;
     }
-    if !rows::good_row(row, v.len) {
+    if !rows::good_row(row, h.votes.len) {
         return false;
     }
-    valid_votes(v, row)
+    valid_votes(h.votes, row)
 }
 
 // The same up to today's limit.
@@ -319,15 +310,9 @@ pub fn suspect_row(h: Head, row: &mut [u32]) -> Turned
     if !valid_row(h, row) {
         return refuse(h, Refusal::InvalidRecord);
     }
-    let id = h.id;
-    let v = h.votes;
-    let owner = v.owner;
-    match owner {
+    match h.votes.owner {
         None => refuse(h, Refusal::NoOwner),
-        Some(o) => {
-            let m = server_votes::delete(id, o, v, row);
-            done(h, m)
-        }
+        Some(o) => done(h, server_votes::delete(h.id, o, h.votes, row)),
     }
 }
 
@@ -338,16 +323,11 @@ pub fn check_row(h: Head, row: &[u32]) -> Turned
     if !valid_row(h, row) {
         return refuse(h, Refusal::InvalidRecord);
     }
-    let id = h.id;
-    let v = h.votes;
-    let owner = v.owner;
-    match owner {
-        None => done(h, server_votes::still(v)),
+    match h.votes.owner {
+        None => done(h, server_votes::still(h.votes)),
         Some(o) => {
-            let client = o.client;
-            let timestamp = o.timestamp;
-            let message = Message::Check(client, id, timestamp);
-            done(h, server_votes::telling(v, message))
+            let message = Message::Check(o.client, h.id, o.timestamp);
+            done(h, server_votes::telling(h.votes, message))
         }
     }
 }
@@ -356,12 +336,8 @@ pub fn check_row(h: Head, row: &[u32]) -> Turned
 fn answered(t: Turned, out: &mut [u8]) -> Result<Sent, Refusal>
     ensures { (result ≡ answering t (length out.old)) × (out.new ≡ buffering t out.old) }
 {
-    let ruling = t.ruling;
-    let first = t.first;
-    let second = t.second;
-    let third = t.third;
-    ruling?;
-    send(first, second, third, out)
+    t.ruling?;
+    send(t.first, t.second, t.third, out)
 }
 
 // The step's messages are sent and its record kept, or, for want of room, neither.
@@ -370,11 +346,10 @@ fn finish(s: Server, t: Turned, row: [u32; ROW_WORDS], out: &mut [u8]) -> Steppe
 {
     let answer = answered(t, out);
     match answer {
-        Ok(_) => {
-            let head = t.head;
-            let server = Server { head, row };
-            Stepped { server, answer }
-        }
+        Ok(_) => Stepped {
+            server: Server { head: t.head, row },
+            answer,
+        },
         Err(_) => Stepped { server: s, answer },
     }
 }
@@ -383,35 +358,40 @@ fn finish(s: Server, t: Turned, row: [u32; ROW_WORDS], out: &mut [u8]) -> Steppe
 pub fn valid_server(s: Server) -> bool
     ensures { result ≡ valid s }
 {
-    let row = s.row;
-    valid_row(s.head, &row)
+    valid_row(s.head, &s.row)
 }
 
 // The head of server `id` of `n` with no owner and nobody waiting, whether or not these numbers are in range.
 pub fn empty_head(n: u16, id: ServerId) -> Head
     ensures { result ≡ empty_head n id }
 {
-    let owner = None;
-    let votes = Votes { owner, len: 0 };
-    Head { n, id, votes }
+    Head {
+        n,
+        id,
+        votes: Votes {
+            owner: None,
+            len: 0,
+        },
+    }
 }
 
 fn empty_server(n: u16, id: ServerId) -> Server
     ensures { result ≡ empty_server n id }
 {
-    let head = empty_head(n, id);
-    let row = [0u32; ROW_WORDS];
-    Server { head, row }
+    Server {
+        head: empty_head(n, id),
+        row: [0; ROW_WORDS],
+    }
 }
 
 // What a refused `new` hands back: a record that no call accepts.
 fn unmade(e: Refusal) -> Stepped
     ensures { result ≡ record { server = blank; answer = Err e } }
 {
-    let id = ServerId(0);
-    let server = empty_server(0, id);
-    let answer = Err(e);
-    Stepped { server, answer }
+    Stepped {
+        server: empty_server(0, ServerId(0)),
+        answer: Err(e),
+    }
 }
 
 // Server `id` of `n`, with no owner. Refused 7.
@@ -424,12 +404,13 @@ pub fn new(n: u16, id: ServerId) -> Stepped
     if !ids::within_limit(id.0 as u32, n as u32) {
         return unmade(Refusal::ParameterOutOfRange);
     }
-    let server = empty_server(n, id);
-    let answer = Ok(Sent {
-        messages: 0,
-        bytes: 0,
-    });
-    Stepped { server, answer }
+    Stepped {
+        server: empty_server(n, id),
+        answer: Ok(Sent {
+            messages: 0,
+            bytes: 0,
+        }),
+    }
 }
 
 // `message_row` on a record by value. Refused 21, 5, 13, 14, 6.
@@ -437,8 +418,7 @@ pub fn message(s: Server, m: Message, out: &mut [u8]) -> Stepped
     ensures { Gives s (with_room (length out.old) (message_outcome s m)) out.old result out.new }
 {
     let mut row = s.row;
-    let head = s.head;
-    let t = message_row(head, &mut row, m);
+    let t = message_row(s.head, &mut row, m);
     finish(s, t, row, out)
 }
 
@@ -447,8 +427,7 @@ pub fn suspect(s: Server, out: &mut [u8]) -> Stepped
     ensures { Gives s (with_room (length out.old) (suspect_outcome s)) out.old result out.new }
 {
     let mut row = s.row;
-    let head = s.head;
-    let t = suspect_row(head, &mut row);
+    let t = suspect_row(s.head, &mut row);
     finish(s, t, row, out)
 }
 
@@ -456,8 +435,6 @@ pub fn suspect(s: Server, out: &mut [u8]) -> Stepped
 pub fn check(s: Server, out: &mut [u8]) -> Stepped
     ensures { Gives s (with_room (length out.old) (check_outcome s)) out.old result out.new }
 {
-    let row = s.row;
-    let head = s.head;
-    let t = check_row(head, &row);
-    finish(s, t, row, out)
+    let t = check_row(s.head, &s.row);
+    finish(s, t, s.row, out)
 }

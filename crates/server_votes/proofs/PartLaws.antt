@@ -4,10 +4,11 @@ use Rattle.std.specs.Prelude.{Some, None, Option}
 use Prim.Native.Nat.{ℕ, ◌<◌, ◌≤◌}
 use native.Mathlib.Omega.{arith}
 use mathlib.Core.Path.{◌≡◌}
+use mathlib.Core.Bool.{Bool, true, false}
 use mathlib.Core.List.{List}
 use lib.ListN.{get_or}
 use lib.Seq.{get_or-take}
-use borrow.Author.Tests.{eq-eqb, ne_eqb}
+use lib.Dec.{eqb}
 use Rattle.ids.specs.Requests.{no_request}
 use Rattle.ids.specs.declared.ClientId.{ClientId}
 use Rattle.ids.specs.declared.Request.{Request}
@@ -33,16 +34,12 @@ module _ (row : List ℕ) (len : ℕ) (good : Padded row len) (k : ClientId) (at
 
 -- line 27, by the owner
 module _ (k : ClientId) (v : Votes) (row : List ℕ) where
-  pub stands_behind_nobody : (s : Option Timestamp) → v.owner ≡ None → s ≡ timestamp_in k (queue_of row v.len)
-      → s ≡ timestamp_in k (candidates (view v row))
-  stands_behind_nobody s e p = rw e p
-
-  module _ (o : Request) (e : v.owner ≡ Some o) where
-    pub stands_as_owner : o.client.0 ≡ k.0 → Some o.timestamp ≡ timestamp_in k (candidates (view v row))
+  module _ (o : Request) (e : v.owner ≡ Some o) (a : Bool) (m : a ≡ eqb o.client.0 k.0) where
+    pub stands_as_owner : a ≡ true → Some o.timestamp ≡ timestamp_in k (candidates (view v row))
     unfolding timestamp_in
-    stands_as_owner h = rw (e, eq-eqb _ _ h)
+    stands_as_owner t = let h : eqb o.client.0 k.0 ≡ true = cc in rw (e, h)
 
-    pub stands_behind : (s : Option Timestamp) → (o.client.0 ≡ k.0 → ⊥) → s ≡ timestamp_in k (queue_of row v.len)
+    pub stands_behind : (s : Option Timestamp) → a ≡ false → s ≡ timestamp_in k (queue_of row v.len)
         → s ≡ timestamp_in k (candidates (view v row))
     unfolding timestamp_in
-    stands_behind s n p = rw (e, ne_eqb _ _ n) p
+    stands_behind s t p = let h : eqb o.client.0 k.0 ≡ false = cc in rw (e, h) p

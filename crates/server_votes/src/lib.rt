@@ -48,9 +48,7 @@ fn waiting(k: ClientId, row: &[u32], len: usize) -> Option<Timestamp>
 {
     let at = rows::search(row, len, k);
     if at < len {
-        let x = rows::request_at(row, at);
-        let t = x.timestamp;
-        return Some(t);
+        return Some(rows::request_at(row, at).timestamp);
     }
     None
 }
@@ -60,13 +58,11 @@ fn standing_of(k: ClientId, v: Votes, row: &[u32]) -> Option<Timestamp>
     requires { Padded row.now v.len }
     ensures { result ≡ timestamp_in k (candidates (view v row.now)) }
 {
-    let o = v.owner;
-    match o {
+    match v.owner {
         None => waiting(k, row, v.len),
         Some(q) => {
-            if q.client.0 == k.0 {
-                let t = q.timestamp;
-                return Some(t);
+            if q.client == k {
+                return Some(q.timestamp);
             }
             waiting(k, row, v.len)
         }
@@ -87,7 +83,7 @@ fn names(o: Option<Request>, k: ClientId) -> bool
 {
     match o {
         None => false,
-        Some(q) => q.client.0 == k.0,
+        Some(q) => q.client == k,
     }
 }
 
@@ -106,11 +102,10 @@ pub fn still(votes: Votes) -> Moved
 pub fn telling(votes: Votes, message: Message) -> Moved
     ensures { result ≡ telling_of votes message }
 {
-    let one = Some(message);
     Moved {
         votes,
         full: false,
-        first: one,
+        first: Some(message),
         second: None,
         third: None,
     }
@@ -120,10 +115,8 @@ pub fn telling(votes: Votes, message: Message) -> Moved
 fn lead(j: ServerId, h: Request, len: usize) -> Moved
     ensures { result ≡ leading j h len }
 {
-    let client = h.client;
     let owner = Some(h);
-    let message = Message::Response(client, j, owner);
-    telling(Votes { owner, len }, message)
+    telling(Votes { owner, len }, Message::Response(h.client, j, owner))
 }
 
 // Lines 52 to 55: the head of the queue becomes owner; with an empty queue there is no owner.
@@ -132,8 +125,10 @@ fn promote(j: ServerId, row: &mut [u32], len: usize) -> Moved
     ensures { MovesAny row.old row.new result (promote_of j (queue_of row.old len)) }
 {
     if len == 0 {
-        let owner = None;
-        return still(Votes { owner, len: 0 });
+        return still(Votes {
+            owner: None,
+            len: 0,
+        });
     }
     let head = rows::request_at(row, 0);
     rows::remove(row, len, 0);
@@ -162,13 +157,11 @@ pub fn delete(j: ServerId, r: Request, v: Votes, row: &mut [u32]) -> Moved
     requires { Padded row.old v.len }
     ensures { MovesOne v row.old row.new result (delete_of j r (view v row.old)) }
 {
-    let owner = v.owner;
-    let len = v.len;
-    if owns(owner, r) {
-        return promote(j, row, len);
+    if owns(v.owner, r) {
+        return promote(j, row, v.len);
     }
-    let n = rows::remove_request(row, len, r);
-    still(Votes { owner, len: n })
+    let len = rows::remove_request(row, v.len, r);
+    still(Votes { len, ..v })
 }
 
 // Lines 35, 41 and 45: RESPONSE with the owner to client `k`, unless `k` is the owner.
@@ -178,18 +171,16 @@ fn inform(j: ServerId, k: ClientId, o: Option<Request>) -> Option<Message>
     if names(o, k) {
         return None;
     }
-    let message = Message::Response(k, j, o);
-    Some(message)
+    Some(Message::Response(k, j, o))
 }
 
 fn overflowing(votes: Votes, message: Message) -> Moved
     ensures { result ≡ overflowing_of votes message }
 {
-    let one = Some(message);
     Moved {
         votes,
         full: true,
-        first: one,
+        first: Some(message),
         second: None,
         third: None,
     }
@@ -200,19 +191,15 @@ fn join(j: ServerId, r: Request, v: Votes, row: &mut [u32]) -> Moved
     requires { Padded row.old v.len }
     ensures { MovesOne v row.old row.new result (joining j r (view v row.old)) }
 {
-    let owner = v.owner;
-    let len = v.len;
-    let client = r.client;
-    let message = Message::Response(client, j, owner);
-    let at = rows::search(row, len, client);
-    if at < len {
+    let message = Message::Response(r.client, j, v.owner);
+    if rows::search(row, v.len, r.client) < v.len {
         return telling(v, message);
     }
-    if row.len() < 2 * len + 2 {
+    if row.len() < 2 * v.len + 2 {
         return overflowing(v, message);
     }
-    let n = rows::insert(row, len, r);
-    telling(Votes { owner, len: n }, message)
+    let len = rows::insert(row, v.len, r);
+    telling(Votes { len, ..v }, message)
 }
 
 // Lines 31 to 35.
@@ -220,12 +207,10 @@ fn act_request(j: ServerId, r: Request, v: Votes, row: &mut [u32]) -> Moved
     requires { Padded row.old v.len }
     ensures { MovesOne v row.old row.new result (act_of j Tag.Request r (view v row.old)) }
 {
-    let owner = v.owner;
-    let client = r.client;
-    if names(owner, client) {
+    if names(v.owner, r.client) {
         return still(v);
     }
-    match owner {
+    match v.owner {
         None => lead(j, r, v.len),
         Some(_) => join(j, r, v, row),
     }
@@ -235,14 +220,9 @@ fn act_request(j: ServerId, r: Request, v: Votes, row: &mut [u32]) -> Moved
 fn informing(j: ServerId, k: ClientId, votes: Votes) -> Moved
     ensures { Informs j k votes result }
 {
-    let owner = votes.owner;
-    let first = inform(j, k, owner);
     Moved {
-        votes,
-        full: false,
-        first,
-        second: None,
-        third: None,
+        first: inform(j, k, votes.owner),
+        ..still(votes)
     }
 }
 
@@ -250,16 +230,10 @@ fn informing(j: ServerId, k: ClientId, votes: Votes) -> Moved
 fn followed(j: ServerId, k: ClientId, before: Moved) -> Moved
     ensures { Followed j k before result }
 {
-    let votes = before.votes;
-    let owner = votes.owner;
-    let first = before.first;
-    let second = inform(j, k, owner);
     Moved {
-        votes,
-        full: before.full,
-        first,
-        second,
+        second: inform(j, k, before.votes.owner),
         third: None,
+        ..before
     }
 }
 
@@ -268,13 +242,11 @@ fn act_yield(j: ServerId, r: Request, v: Votes, row: &mut [u32]) -> Moved
     requires { Padded row.old v.len }
     ensures { MovesTwo v row.old row.new result (act_of j Tag.Yield r (view v row.old)) }
 {
-    let owner = v.owner;
-    let client = r.client;
-    if owns(owner, r) {
+    if owns(v.owner, r) {
         let before = rotate(j, r, row, v.len);
-        return followed(j, client, before);
+        return followed(j, r.client, before);
     }
-    informing(j, client, v)
+    informing(j, r.client, v)
 }
 
 // Line 45.
@@ -282,11 +254,9 @@ fn act_inquiry(j: ServerId, r: Request, v: Votes, row: &[u32]) -> Moved
     requires { Padded row.now v.len }
     ensures { MovesTwo v row.now row.now result (act_of j Tag.Inquiry r (view v row.now)) }
 {
-    let owner = v.owner;
-    let client = r.client;
-    match owner {
+    match v.owner {
         None => still(v),
-        Some(_) => informing(j, client, v),
+        Some(_) => informing(j, r.client, v),
     }
 }
 
@@ -307,21 +277,14 @@ fn act(j: ServerId, tag: Tag, r: Request, v: Votes, row: &mut [u32]) -> Moved
 fn joined(before: Moved, after: Moved) -> Moved
     ensures { result ≡ joined_of before after }
 {
-    let first = before.first;
-    match first {
+    match before.first {
         None => after,
-        Some(_) => {
-            let votes = after.votes;
-            let second = after.first;
-            let third = after.second;
-            Moved {
-                votes,
-                full: after.full,
-                first,
-                second,
-                third,
-            }
-        }
+        Some(_) => Moved {
+            first: before.first,
+            second: after.first,
+            third: after.second,
+            ..after
+        },
     }
 }
 
@@ -335,11 +298,7 @@ fn compare(j: ServerId, tag: Tag, r: Request, v: Votes, row: &mut [u32], t: Time
         return still(v);
     }
     if t.0 < now.0 {
-        let client = r.client;
-        let old = Request {
-            client,
-            timestamp: t,
-        };
+        let old = Request { timestamp: t, ..r };
         let before = delete(j, old, v, row);
         let after = act(j, tag, r, before.votes, row);
         return joined(before, after);
@@ -352,9 +311,7 @@ pub fn receive(j: ServerId, tag: Tag, r: Request, v: Votes, row: &mut [u32]) -> 
     requires { Padded row.old v.len }
     ensures { Moves v row.old row.new result (receive_of j tag r (view v row.old)) }
 {
-    let client = r.client;
-    let s = standing_of(client, v, row);
-    match s {
+    match standing_of(r.client, v, row) {
         None => act(j, tag, r, v, row),
         Some(t) => compare(j, tag, r, v, row, t),
     }

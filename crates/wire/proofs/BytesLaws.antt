@@ -1,12 +1,16 @@
 -- Laws of numbers as bytes, over every width: what is laid out is read back, and what is read is laid out as it stood.
 use Prim.Native.Nat.{ℕ, zero, suc, ◌+◌, ◌*◌, ◌/◌, ◌%◌, ◌^◌, ◌<◌, ◌≤◌, ◌-◌}
 use native.Mathlib.Nat.{pow-suc}
-use native.Mathlib.Numerals.{add-one, add-two}
+use native.Mathlib.Numerals.{add-one}
 use native.Mathlib.Omega.{arith}
-use mathlib.Core.Path.{◌≡◌, refl, ap, ◌∙◌}
+use mathlib.Core.Path.{◌≡◌, refl, sym, ap, ◌∙◌}
 use mathlib.Core.List.{List, [], ◌∷◌, ◌++◌, append_assoc}
 use lib.ListN.{length, get_or, take, drop, set, length-drop}
-use lib.Seq.{drop-cons, sets, take_at, drop_at, take-add}
+use lib.Seq.{drop-cons, sets, sets-eq, take_at, drop_at, take-add}
+use borrow.Rule.Slice.PartMut.{put_mid}
+use Rattle.std.specs.Int.{w32, to_le_bytes}
+use Rattle.std.proofs.lemmas.List.Edits.{paste_all}
+use Rattle.std.proofs.lemmas.Slice.{put_mid-paste}
 use Rattle.wire.specs.Bytes.{little_endian, number, encode, decode, total}
 
 -- every element is a byte
@@ -85,17 +89,17 @@ number-two s at r h e =
     let n : at + 1 ≡ suc at = add-one at in
     rw n at e ∙ omega arith
 
-pub number_four : (s : List ℕ) (at r lo hi : ℕ) → at + 4 ≤ length s → lo ≡ number (take 2 (drop at s))
-    → hi ≡ number (take 2 (drop (at + 2) s)) → r ≡ lo + 65536 * hi → r ≡ number (take 4 (drop at s))
-number_four s at r lo hi h p q e =
-    let n : at + 2 ≡ suc (suc at) = add-two at in
-    let hi' : hi ≡ number (take 2 (drop (suc (suc at)) s)) = rw n at q in
-    omega (
-      arith,
-      number_more s at 3 (omega arith),
-      number_more s (suc at) 2 (omega arith),
-      number_more s (suc (suc at)) 1 (omega arith),
-      number_more s (suc (suc (suc at))) 0 (omega arith),
-      number_more s at 1 (omega arith),
-      number_more s (suc at) 0 (omega arith),
-    )
+-- four bytes of the library's
+pub four_bytes : (x : ℕ) → to_le_bytes w32 x ≡ little_endian 4 x
+four_bytes x =
+    let two : x / 65536 ≡ x / 256 / 256 = omega arith in
+    let three : x / 16777216 ≡ x / 256 / 256 / 256 = omega arith in
+    rw (two, three)
+
+-- what is copied over the k places from place `at` on is a run of stores
+pub copied : (o ys xs : List ℕ) (at k : ℕ) → k ≡ length xs → ys ≡ xs → at + length xs ≤ length o → put_mid at k o ys ≡ sets o at xs
+copied o ys xs at k n p room =
+    put_mid-paste at k o ys xs (length xs) p (sym n) refl ∙
+    paste_all o at xs (length xs) refl ∙
+    sym (append_assoc (take at o) xs (drop (at + length xs) o)) ∙
+    sym (sets-eq xs o at room)

@@ -41,48 +41,32 @@ pub struct Sent {
     pub bytes: usize,
 }
 
-fn join16(lo: u8, hi: u8) -> u16
-    ensures { result ≡ lo + 256 * hi }
-{
-    (lo as u16) + 256 * (hi as u16)
-}
-
-fn join32(lo: u16, hi: u16) -> u32
-    ensures { result ≡ lo + 65536 * hi }
-{
-    (lo as u32) + 65536 * (hi as u32)
-}
-
 fn get16(bytes: &[u8], at: usize) -> u16
     requires { at + 2 ≤ length bytes.now }
     ensures { result ≡ number (take 2 (drop at bytes.now)) }
 {
-    join16(bytes[at], bytes[at + 1])
+    u16::from_le_bytes([bytes[at], bytes[at + 1]])
 }
 
 fn get32(bytes: &[u8], at: usize) -> u32
     requires { at + 4 ≤ length bytes.now }
     ensures { result ≡ number (take 4 (drop at bytes.now)) }
 {
-    join32(get16(bytes, at), get16(bytes, at + 2))
+    u32::from_le_bytes([bytes[at], bytes[at + 1], bytes[at + 2], bytes[at + 3]])
 }
 
 fn put16(out: &mut [u8], at: usize, x: u16)
     requires { at + 2 ≤ length out.old }
     ensures { out.new ≡ sets out.old at (little_endian 2 x) }
 {
-    out[at] = (x % 256) as u8;
-    out[at + 1] = (x / 256 % 256) as u8;
+    out[at..at + 2].copy_from_slice(&x.to_le_bytes());
 }
 
 fn put32(out: &mut [u8], at: usize, x: u32)
     requires { at + 4 ≤ length out.old }
     ensures { out.new ≡ sets out.old at (little_endian 4 x) }
 {
-    out[at] = (x % 256) as u8;
-    out[at + 1] = (x / 256 % 256) as u8;
-    out[at + 2] = (x / 65536 % 256) as u8;
-    out[at + 3] = (x / 16777216 % 256) as u8;
+    out[at..at + 4].copy_from_slice(&x.to_le_bytes());
 }
 
 // Whether this is one of the six kinds.

@@ -1,18 +1,17 @@
 -- The tests of a record's words, one after another; what a passed test tells of them; and a head read from its words and written in them.
 use Rattle.ids.specs.declared.Request.{Request}
 use Rattle.std.specs.Prelude.{Option}
-use Prim.Native.Nat.{ℕ, ◌+◌, ◌≤◌, ◌<◌, ◌-◌}
+use Prim.Native.Nat.{ℕ, ◌+◌, ◌≤◌, ◌<◌}
 use native.Mathlib.Omega.{arith}
 use mathlib.Core.Path.{◌≡◌, refl, sym, ◌∙◌}
 use mathlib.Core.Bool.{Bool, true, false, ◌&&◌}
-use mathlib.Core.Logic.{⊎_elim}
 use mathlib.Core.List.{List, [], ◌∷◌}
 use lib.Dec.{leb, eqb}
 use lib.ListN.{length, get_or, set, drop, length-drop}
 use lib.Seq.{sets}
-use borrow.Author.Tests.{le-leb, lt-leb, leb-true, eqb-true, eqb-false, eq-eqb, ne_eqb}
+use borrow.Author.Tests.{le-leb, lt-leb, leb-true, eqb-true}
 use Rattle.ids.specs.Limits.{max_short}
-use Rattle.ids.proofs.Choice.{both, decided}
+use Rattle.ids.proofs.Choice.{both}
 use Rattle.wire.specs.Format.{owner_of, owner_client, owner_timestamp}
 use Rattle.wire.proofs.BytesLaws.{stored_on}
 use Rattle.server.specs.declared.Head.{Head as ServerHead}
@@ -47,29 +46,15 @@ module _ (a b c : ℕ) where
 
 -- a head and a row: so many words
 module _ (head row : ℕ) (ws : List ℕ) where
-  pub no_head : length ws < head → false ≡ eqb (length ws) (head + row)
-  no_head h = let n : length ws ≡ head + row → ⊥ = omega (arith, h) in sym (ne_eqb (length ws) (head + row) n)
-
-  pub row-behind : head ≤ length ws → eqb (length ws - head) row ≡ eqb (length ws) (head + row)
-  row-behind h =
-      ⊎_elim
-      (λ (e : eqb (length ws - head) row ≡ true).
-      let f : length ws ≡ head + row = omega (arith, h, eqb-true (length ws - head) row e) in
-      e ∙ sym (eq-eqb (length ws) (head + row) f))
-      (λ (e : eqb (length ws - head) row ≡ false).
-      let f : length ws ≡ head + row → ⊥ = λ (q : length ws ≡ head + row). eqb-false (length ws - head) row e (omega (arith, q)) in
-      e ∙ sym (ne_eqb (length ws) (head + row) f))
-      (decided (eqb (length ws - head) row))
-
-  -- so a word of the head can be read
+  -- a word of the head can be read
   pub word-there : (x : Bool) → x ≡ eqb (length ws) (head + row) → (i : ℕ) → i < head → x ≡ true → i < length ws
   word-there x is i h n = omega (arith, h, eqb-true (length ws) (head + row) (sym is ∙ n))
 
 module _ (row : ℕ) (ws : List ℕ) (x : Bool) where
   module _ (is : x ≡ eqb (length ws) (server_size_of row)) where
-    pub server-length : x ≡ false → false ≡ holds_server_of row ws
+    pub server-length : x ≡ false → x ≡ holds_server_of row ws
     unfolding holds_server_of
-    server-length n = rw (sym is ∙ n)
+    server-length n = rw (sym is ∙ n) n
 
     pub server-fits : (y : Bool) → x ≡ true → y ≡ head_fits ws → y ≡ holds_server_of row ws
     unfolding holds_server_of

@@ -23,6 +23,7 @@ pub const SERVER_WORDS: usize = SERVER_HEAD + server::ROW_WORDS;
 
 pub const CLIENT_WORDS: usize = CLIENT_HEAD + client::ROW_WORDS;
 
+// One `&&` of the four was tried: it joins after each test, and the search does not take such a branch apart.
 fn fit(kind: u32, client: u32, server: u32, owner: u32) -> bool
     ensures { result ≡ fits kind client server owner }
 {
@@ -56,26 +57,19 @@ pub fn cross(words: &[u32]) -> Option<Fields>
     ensures value { result ≡ crossing words.now }
     ensures numbers { crossed_says result ≡ five_says words.now }
 {
-    if words.len() != 5 {
+    let [kind, client, server, timestamp, owner] = *words else {
         return None;
-    }
-    let kind = words[0];
-    let client = words[1];
-    let server = words[2];
-    let owner = words[4];
+    };
     if !fit(kind, client, server, owner) {
         return None;
     }
-    Some(fields_of_words(kind, client, server, words[3], owner))
+    Some(fields_of_words(kind, client, server, timestamp, owner))
 }
 
 fn no_message() -> Message
     ensures { result ≡ no_message }
 {
-    let k = ClientId(0);
-    let j = ServerId(0);
-    let t = Timestamp(0);
-    Message::Request(k, j, t)
+    Message::Request(ClientId(0), ServerId(0), Timestamp(0))
 }
 
 // The message that these words are; where they are none, one that every call refuses 5.
@@ -88,7 +82,7 @@ pub fn message_in(words: &[u32]) -> Message
     }
 }
 
-// Whether three numbers fit fields of two bytes.
+// Whether three numbers fit fields of two bytes; for why not by one `&&`, see `fit`.
 pub fn fits_head(a: u32, b: u32, c: u32) -> bool
     ensures { result ≡ fits_head a b c }
 {
@@ -105,23 +99,18 @@ pub fn fits_head(a: u32, b: u32, c: u32) -> bool
 fn has_row(words: &[u32], head: usize, row: usize) -> bool
     ensures { result ≡ eqb (length words.now) (head + row) }
 {
-    if words.len() < head {
-        return false;
-    }
-    words.len() - head == row
+    words.len() >= head && words.len() - head == row
 }
 
 // Whether the words are a server's record with a row of so many words, no number before the places too large for its field.
 pub fn holds_server_of(words: &[u32], row: usize) -> bool
     ensures { result ≡ holds_server_of row words.now }
 {
-    if !has_row(words, SERVER_HEAD, row) {
-        return false;
-    }
-    fits_head(words[0], words[1], words[2])
+    has_row(words, SERVER_HEAD, row) && fits_head(words[0], words[1], words[2])
 }
 
-// Whether the words are a client's record with a row of so many words, no number before the places too large for its field.
+// Whether the words are a client's record with a row of so many words, no number before the places too large for its field; for why not by
+// one `&&`, see `fit`.
 pub fn holds_client_of(words: &[u32], row: usize) -> bool
     ensures { result ≡ holds_client_of row words.now }
 {
@@ -152,24 +141,24 @@ pub fn server_head(words: &[u32]) -> server::Head
     requires { Headed server_head words.now }
     ensures { result ≡ server_head_from words.now }
 {
-    let owner = wire::owner_of(ClientId(words[2] as u16), Timestamp(words[3]));
-    let len = words[4] as usize;
-    let votes = Votes { owner, len };
-    let id = ServerId(words[1] as u16);
-    let n = words[0] as u16;
-    server::Head { n, id, votes }
+    server::Head {
+        n: words[0] as u16,
+        id: ServerId(words[1] as u16),
+        votes: Votes {
+            owner: wire::owner_of(ClientId(words[2] as u16), Timestamp(words[3])),
+            len: words[4] as usize,
+        },
+    }
 }
 
 fn section_of(w: u32) -> Section
     ensures { result ≡ section_of w }
 {
-    if w == 0 {
-        return Section::Remainder;
+    match w {
+        0 => Section::Remainder,
+        1 => Section::Trying,
+        _ => Section::Critical,
     }
-    if w == 1 {
-        return Section::Trying;
-    }
-    Section::Critical
 }
 
 fn section_word(s: Section) -> u32
@@ -187,19 +176,13 @@ pub fn client_head(words: &[u32]) -> client::Head
     requires { Headed client_head words.now }
     ensures { result ≡ client_head_from words.now }
 {
-    let section = section_of(words[3]);
-    let timestamp = Timestamp(words[4]);
-    let seen = Timestamp(words[5]);
-    let id = ClientId(words[2] as u16);
-    let m = words[1] as u16;
-    let n = words[0] as u16;
     client::Head {
-        n,
-        m,
-        id,
-        section,
-        timestamp,
-        seen,
+        n: words[0] as u16,
+        m: words[1] as u16,
+        id: ClientId(words[2] as u16),
+        section: section_of(words[3]),
+        timestamp: Timestamp(words[4]),
+        seen: Timestamp(words[5]),
     }
 }
 
@@ -237,17 +220,13 @@ pub fn put_server_head(words: &mut [u32], h: server::Head)
     requires { (server_head ≤ length words.old) × (h.votes.len ≤ max_word) }
     ensures { words.new ≡ sets words.old 0 (server_head_words h) }
 {
-    let v = h.votes;
-    let owner = v.owner;
-    let holder = owner_client(owner);
-    let since = owner_timestamp(owner);
     put_five(
         words,
         h.n as u32,
         h.id.0 as u32,
-        holder,
-        since,
-        v.len as u32,
+        owner_client(h.votes.owner),
+        owner_timestamp(h.votes.owner),
+        h.votes.len as u32,
     );
 }
 
@@ -256,13 +235,12 @@ pub fn put_client_head(words: &mut [u32], h: client::Head)
     requires { client_head ≤ length words.old }
     ensures { words.new ≡ sets words.old 0 (client_head_words h) }
 {
-    let section = h.section;
     put_five(
         words,
         h.n as u32,
         h.m as u32,
         h.id.0 as u32,
-        section_word(section),
+        section_word(h.section),
         h.timestamp.0,
     );
     words[5] = h.seen.0;

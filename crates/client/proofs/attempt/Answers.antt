@@ -14,5 +14,5 @@ send_all-requires-clause-plain c = λ j m p. search (rules, request-plain)
 pub returns : goal.returns
 returns c =
     let h = c.args.h in
-    let e = c.send_all.ensures (requests h.id (record { 0 = c.latest-last.result.0 + 1 })) (λ j m p. search rules) in
+    let e = c.send_all.ensures (requests h.id (record { 0 = c.latest.result.0 + 1 })) (λ j m p. search rules) in
     search tries-done

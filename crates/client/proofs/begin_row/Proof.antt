@@ -6,7 +6,7 @@ use Rattle.client.proofs.begin_row.Tie as tie
 
 returns-4 : tie.Need-returns
 returns-4 c =
-    rw (begin_tries _ _ _ c.valid_row.ensures _ c.if-not-valid_row.false c.is_remainder.ensures _ c.latest-last.ensures c.if-not-is_remainder.false c.if-last-gt-LAST_TRY.false)
+    rw (begin_tries _ _ _ c.valid_row.ensures _ c.if-not-valid_row.false c.is_remainder.ensures _ c.latest.ensures c.if-not-is_remainder.false c.if-latest-gt-LAST_TRY.false)
     c.attempt.ensures
 
 pub begin_row_spec : {M : Type 1} → statement M

@@ -1,5 +1,5 @@
 -- What is at the place is known from where the search for it ended.
-use Rattle.std.proofs.Common.{◌≡◌, ◌<◌, ◌+◌, length, Err, rules, arith, sym}
+use Rattle.std.proofs.Common.{◌≡◌, ◌<◌, length, Err, rules, arith}
 use Rattle.packet.proofs.WalkLaws.{size-within}
 use Rattle.packet.proofs.ContentsLaws.{here}
 use Rattle.packet.proofs.PlaceLaws.{place_past, place-between, place_end, place-message, place_bad}

@@ -1,5 +1,4 @@
 -- The record decides, then the message's numbers, then what it asks of a server.
-use Rattle.std.proofs.Common.{rules}
 use Rattle.server.proofs.RecordLaws.{server-padded}
 use Rattle.server.proofs.CallLaws.{message_broken, message-range, message-taken, message_not}
 use Rattle.server.proofs.message_row.Goals as goal
