@@ -15,6 +15,8 @@ use Rattle.ids.specs.Refusals.{code}
 use Rattle.ids.specs.declared.Refusal.{Refusal}
 use Rattle.ids.specs.declared.Refusal.TheVariants.{RoomShort, ParameterOutOfRange, Unsafe as NotSafe, Stalls as Stalling}
 use Rattle.system.specs.declared.Event.{Event as Happening, Event}
+use Rattle.system.specs.declared.Event.TheVariants.{Try, Exit, Fall, Down, Up, Take, Drop, Miss, Check}
+use Rattle.script_lines.specs.Printed.{number_of}
 use Rattle.quorum.specs.declared.Verdict.{Verdict}
 use Rattle.quorum.specs.declared.Verdict.TheVariants.{Accepted, Unsafe, Stalls, OutOfRange}
 use Rattle.quorum.specs.Check.{in_range, margin, is_unsafe, is_stalling, judged, verdict, Demand3}
@@ -30,6 +32,18 @@ module _ (ws : List ℕ) (a b number : ℕ) where
 
   pub two-done : 2 ≤ length ws → (number ≡ with_words 2 ws number) × (set (set ws 0 a) 1 b ≡ given ws (a ∷ b ∷ []))
   two-done h = (rw (le-ltb (length ws) 2 h), rw (le-ltb (length ws) 2 h))
+
+-- the number that an event names is the same in a script's line
+same-number : (e : Happening) → number_of e ≡ event_number e
+same-number (Try k) = refl
+same-number (Exit k) = refl
+same-number (Fall k) = refl
+same-number (Down j) = refl
+same-number (Up j) = refl
+same-number (Take i) = refl
+same-number (Drop i) = refl
+same-number (Miss j) = refl
+same-number (Check j) = refl
 
 -- the margin that an answer carries is a number of 32 bits
 abbrev margin_in : Verdict → ℤ
@@ -75,9 +89,9 @@ module _ (n m f : ℕ) (ws new : List ℕ) (r : ℕ) (v : Verdict) (e : (v ≡ v
   setting-refused a p = rw (← e.0, a) (p, refl, rw a at e.1)
 
 module _ (n m f i : ℕ) (ws new : List ℕ) (r : ℕ) (v : Result Event Refusal) (e : v ≡ run_event n m f i) where
-  pub event-given : (x : Happening) (k j : ℕ) → v ≡ Ok x → k ≡ event_kind x → j ≡ event_number x → (r ≡ with_words 2 ws 0) × (new ≡ given ws (k ∷ j ∷ [])) →
+  pub event-given : (x : Happening) (k j : ℕ) → v ≡ Ok x → k ≡ event_kind x → j ≡ number_of x → (r ≡ with_words 2 ws 0) × (new ≡ given ws (k ∷ j ∷ [])) →
       (r ≡ event_code (run_event n m f i) ws) × (new ≡ event_words (run_event n m f i) ws)
-  event-given x k j a s q p = rw (← e, a) (p.0, rw (← s, ← q) p.1)
+  event-given x k j a s q p = rw (← e, a) (p.0, rw (← s, ← (q ∙ same-number x)) p.1)
 
   pub event-refused : (x : Refusal) → v ≡ Err x → r ≡ code x → (r ≡ event_code (run_event n m f i) ws) × (ws ≡ event_words (run_event n m f i) ws)
   event-refused x a p = rw (← e, a) (p, refl)

@@ -6,7 +6,7 @@ ghost use Rattle.std.specs.Prelude.{◌≡◌, [], ◌∷◌};
 ghost use Rattle.quorum.specs.Check.{verdict, Demand3};
 ghost use Rattle.quorum.specs.Run.{run_event};
 ghost use Rattle.quorum.specs.Threshold.{threshold_of};
-ghost use Rattle.capi_quorum.specs.Calls.{signed_word, with_words, given, setting_code, setting_words, event_kind, event_number, event_code, event_words, threshold_code, threshold_words};
+ghost use Rattle.capi_quorum.specs.Calls.{signed_word, with_words, given, setting_code, setting_words, event_kind, event_code, event_words, threshold_code, threshold_words};
 
 use ids::Refusal;
 use quorum::Verdict;
@@ -67,28 +67,12 @@ fn kind_of(e: Event) -> u32
     }
 }
 
-fn number_of(e: Event) -> u32
-    ensures { result ≡ event_number e }
-{
-    match e {
-        Event::Try(k) => k.0 as u32,
-        Event::Exit(k) => k.0 as u32,
-        Event::Fall(k) => k.0 as u32,
-        Event::Down(j) => j.0 as u32,
-        Event::Up(j) => j.0 as u32,
-        Event::Take(i) => i.0,
-        Event::Drop(i) => i.0,
-        Event::Miss(j) => j.0 as u32,
-        Event::Check(j) => j.0 as u32,
-    }
-}
-
 // The event with number i of the run that shows an unsafe setting: its kind in the script's order and the number it names.
 pub fn sigma_run_event(n: u32, m: u32, f: u32, i: u32, words: &mut [u32]) -> u32
     ensures { (result ≡ event_code (run_event n m f i) words.old) × (words.new ≡ event_words (run_event n m f i) words.old) }
 {
     match quorum::run_event(n, m, f, i) {
-        Ok(e) => put_two(words, kind_of(e), number_of(e), 0),
+        Ok(e) => put_two(words, kind_of(e), script_lines::number_of(e), 0),
         Err(x) => ids::code_of(x),
     }
 }

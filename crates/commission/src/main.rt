@@ -22,15 +22,9 @@ fn say_thresholds(rt: &HostRuntime, out: &mut [u8], n: u32, f: u32) {
 
 // The run of an unsafe setting.
 fn show(rt: &HostRuntime, out: &mut [u8], n: u32, m: u32, f: u32) {
-    let v = quorum::check(n, m, f);
-    match v {
-        Verdict::Unsafe(_, events) => {
-            let end = text_screen::put_script(out, n, m, f, events);
-            console::write_out(rt, rt, &out[0..end]);
-        }
-        Verdict::Accepted(_) => {}
-        Verdict::Stalls(_) => {}
-        Verdict::OutOfRange => {}
+    if let Verdict::Unsafe(_, events) = quorum::check(n, m, f) {
+        let end = text_screen::put_script(out, n, m, f, events);
+        console::write_out(rt, rt, &out[0..end]);
     }
 }
 

@@ -1,6 +1,6 @@
 -- The line so far: a byte joins it while there is room for it, and its words are copied out as its bytes.
 use mathlib.Core.Path.{◌≡◌, refl, sym, ap, ◌∙◌}
-use Prim.Native.Nat.{ℕ, zero, suc, ◌+◌, ◌-◌, ◌≤◌, ◌<◌}
+use Prim.Native.Nat.{ℕ, zero, suc, ◌+◌, ◌≤◌, ◌<◌}
 use native.Mathlib.Numerals.{add-one}
 use native.Mathlib.Omega.{arith}
 use mathlib.Core.Bool.{true}
@@ -148,13 +148,12 @@ module _ (w : List ℕ) (S : Sound w) where
       let d = copied_more o l 0 (view w).line i C (omega (arith, lt, line-long)) in
       rw (z, line_word i lt) at d
 
-  pub copy_all : (o l : List ℕ) (i : ℕ) → Copied o l 0 (view w).line i → get_or w length_at 0 ≤ i → l ≡ sets o 0 (view w).line
-  copy_all o l i C h = (copied_all o l 0 (view w).line i C (omega (arith, line-long))).1
-
-  -- the bytes that are parsed
-  pub line_parsed : (o l : List ℕ) → length o ≡ max_kept → l ≡ sets o 0 (view w).line → take (get_or w length_at 0 - 0) (drop 0 l) ≡ (view w).line
-  line_parsed o l e q =
-      let z : get_or w length_at 0 - 0 ≡ length (view w).line = omega (arith, line-long) in
+  -- all of them, as the bytes that are parsed
+  pub copy_all : (o l : List ℕ) (i : ℕ) → length o ≡ max_kept → Copied o l 0 (view w).line i → get_or w length_at 0 ≤ i
+      → take (get_or w length_at 0) l ≡ (view w).line
+  copy_all o l i e C h =
+      let z : get_or w length_at 0 ≡ length (view w).line = omega (arith, line-long) in
+      let q = (copied_all o l 0 (view w).line i C (omega (arith, line-long))).1 in
       let f = sets-eq (view w).line o 0 (omega (arith, line-long, S.short)) in
       rw (z, q, f) (take_left (length (view w).line) (view w).line (drop (0 + length (view w).line) o) (omega arith) ∙ take_all
       (length (view w).line) (view w).line (omega arith))

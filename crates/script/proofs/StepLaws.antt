@@ -1,7 +1,7 @@
 -- What a line does to the state: each store changes one of the counts or the simulation, and the stage is what the definition says.
 use Rattle.sim_changes.specs.declared.Effect.{Effect}
 use mathlib.Core.Path.{◌≡◌, refl, sym, ap, ◌∙◌}
-use Prim.Native.Nat.{ℕ, suc, ◌+◌, ◌-◌, ◌≤◌, ◌<◌, max}
+use Prim.Native.Nat.{ℕ, suc, ◌+◌, ◌≤◌, ◌<◌, max}
 use native.Mathlib.Numerals.{add-one}
 use native.Mathlib.Omega.{arith}
 use mathlib.Core.Bool.{Bool, true, false}
@@ -50,20 +50,15 @@ use Rattle.sim_run.specs.Run.{Run, fresh, started, moved, next}
 use Rattle.sim_run.specs.Calls.{max_accepted, run_in, counts_of, new_answer, NewLeaves, Goes}
 use Rattle.sim_run.proofs.Whole.{moved-system, moved-accepted, moved-holding}
 use Rattle.script_output.specs.Output.{max_lines, answer_line}
-use Rattle.script_output.specs.Reader.{Script, Stage, opening, running, closed, Reader, Printed, unanswered, opened, onward, line_taken, worked, behind, taken, ended, last_line, max_kept, max_printed}
+use Rattle.script_output.specs.Reader.{Script, Stage, opening, running, closed, Reader, Printed, unanswered, opened, onward, line_taken, worked, behind, taken, ended, last_line, max_printed}
 use Rattle.script.specs.State.{stage_opening, stage_running, stage_closed, stage_at, answered_at, accepted_at, holding_at, length_at, state_size, Head, head_in, kept_in, simulation_in, counts_in, script_in, stage_of, view, valid_run, valid_idle, valid, state_head}
 use Rattle.script.specs.Calls.{new_answer as new_script, new_words}
-use Rattle.script.specs.Inner.{Sound, Ready, Reads, Prints, Does, Takes, happened, passing, reply_line, with_counts, without_line}
+use Rattle.script.specs.Inner.{Ready, Reads, Prints, Does, Takes, happened, passing, reply_line, with_counts, without_line}
 use Rattle.script.proofs.StateLaws.{Is, itself-is, view-is, valid-is, store-stage, store-answered, store-accepted, store-holding, store_simulation, Facts, RunFacts, run-facts, from-run, from-facts}
 use Rattle.script.proofs.TestLaws.{few_clients, part-long}
-use Rattle.script.proofs.LineLaws.{known, sound, line-long, line_parsed, line-gone}
+use Rattle.script.proofs.LineLaws.{known, sound, line-long, line-gone}
 use Rattle.system.specs.Limits.{system_clients, system_servers}
 use Rattle.sim_layout.specs.Layout.{simulation_size}
-
--- the line, parsed
-pub line_read : {A : Type 0} (f : List ℕ → A) (w : List ℕ) → Sound w → (o l : List ℕ) → length o ≡ max_kept → l ≡ sets o 0 (view w).line →
-    (r : A) → r ≡ f (take (get_or w length_at 0 - 0) (drop 0 l)) → r ≡ f (view w).line
-line_read f w S o l e q r p = p ∙ ap f (line_parsed w S o l e q)
 
 -- the stage, by its word
 pub stage-opening : (w : List ℕ) → get_or w stage_at 0 ≡ stage_opening → (view w).stage ≡ opening

@@ -169,35 +169,30 @@ fn clear_line(w: &mut [u32])
     w[LENGTH] = 0;
 }
 
-// The line so far, as bytes at the start of the buffer.
-fn copy_line(w: &[u32], line: &mut [u8])
-    requires { Sound w.now × (length line.old ≡ max_kept) }
-    ensures { line.new ≡ sets line.old 0 (view w.now).line }
+// The line so far, as bytes, which stand in the buffer.
+fn line_of<'a>(w: &[u32], line: &'a mut [u8; LINE]) -> &'a [u8]
+    requires { Sound w.now }
+    ensures { result.now ≡ (view w.now).line }
 {
     let len = w[LENGTH] as usize;
     for i in 0..len {
         line[i] = w[LINE_FROM + i] as u8;
     }
+    &line[..len]
 }
 
 fn read_setting(w: &[u32]) -> Option<Setting>
     requires { Sound w.now }
     ensures { result ≡ setting_in (view w.now).line }
 {
-    let mut line = [0u8; LINE];
-    copy_line(w, &mut line);
-    let len = w[LENGTH] as usize;
-    script_lines::parse_setting(&line[0..len])
+    script_lines::parse_setting(line_of(w, &mut [0u8; LINE]))
 }
 
 fn read_event(w: &[u32]) -> Line
     requires { Sound w.now }
     ensures { result ≡ line_of (event_in (view w.now).line) }
 {
-    let mut line = [0u8; LINE];
-    copy_line(w, &mut line);
-    let len = w[LENGTH] as usize;
-    script_lines::parse_event(&line[0..len])
+    script_lines::parse_event(line_of(w, &mut [0u8; LINE]))
 }
 
 // The first line is refused.

@@ -101,42 +101,15 @@ fn line_of_16(c: Command, x: u16) -> Line
     ensures { result ≡ line_of (event_of c x) }
 {
     match c {
-        Command::Try => {
-            let e = Event::Try(ClientId(x));
-            Line::Event(e)
-        }
-        Command::Exit => {
-            let e = Event::Exit(ClientId(x));
-            Line::Event(e)
-        }
-        Command::Fall => {
-            let e = Event::Fall(ClientId(x));
-            Line::Event(e)
-        }
-        Command::Down => {
-            let e = Event::Down(ServerId(x));
-            Line::Event(e)
-        }
-        Command::Up => {
-            let e = Event::Up(ServerId(x));
-            Line::Event(e)
-        }
-        Command::Take => {
-            let e = Event::Take(MessageNumber(x as u32));
-            Line::Event(e)
-        }
-        Command::Drop => {
-            let e = Event::Drop(MessageNumber(x as u32));
-            Line::Event(e)
-        }
-        Command::Miss => {
-            let e = Event::Miss(ServerId(x));
-            Line::Event(e)
-        }
-        Command::Check => {
-            let e = Event::Check(ServerId(x));
-            Line::Event(e)
-        }
+        Command::Try => Line::Event(Event::Try(ClientId(x))),
+        Command::Exit => Line::Event(Event::Exit(ClientId(x))),
+        Command::Fall => Line::Event(Event::Fall(ClientId(x))),
+        Command::Down => Line::Event(Event::Down(ServerId(x))),
+        Command::Up => Line::Event(Event::Up(ServerId(x))),
+        Command::Take => Line::Event(Event::Take(MessageNumber(x as u32))),
+        Command::Drop => Line::Event(Event::Drop(MessageNumber(x as u32))),
+        Command::Miss => Line::Event(Event::Miss(ServerId(x))),
+        Command::Check => Line::Event(Event::Check(ServerId(x))),
         Command::Other => Line::Bad,
     }
 }
@@ -147,21 +120,10 @@ fn line_of_32(c: Command, x: u32) -> Line
     ensures { result ≡ line_of (event_of c x) }
 {
     match c {
-        Command::Try => Line::Unknown,
-        Command::Exit => Line::Unknown,
-        Command::Fall => Line::Unknown,
-        Command::Down => Line::Unknown,
-        Command::Up => Line::Unknown,
-        Command::Take => {
-            let e = Event::Take(MessageNumber(x));
-            Line::Event(e)
-        }
-        Command::Drop => {
-            let e = Event::Drop(MessageNumber(x));
-            Line::Event(e)
-        }
-        Command::Miss => Line::Unknown,
-        Command::Check => Line::Unknown,
+        Command::Take => Line::Event(Event::Take(MessageNumber(x))),
+        Command::Drop => Line::Event(Event::Drop(MessageNumber(x))),
+        Command::Try | Command::Exit | Command::Fall => Line::Unknown,
+        Command::Down | Command::Up | Command::Miss | Command::Check => Line::Unknown,
         Command::Other => Line::Bad,
     }
 }
@@ -357,15 +319,9 @@ pub fn number_of(e: Event) -> u32
     ensures { result ≡ number_of e }
 {
     match e {
-        Event::Try(k) => k.0 as u32,
-        Event::Exit(k) => k.0 as u32,
-        Event::Fall(k) => k.0 as u32,
-        Event::Down(j) => j.0 as u32,
-        Event::Up(j) => j.0 as u32,
-        Event::Take(i) => i.0,
-        Event::Drop(i) => i.0,
-        Event::Miss(j) => j.0 as u32,
-        Event::Check(j) => j.0 as u32,
+        Event::Try(k) | Event::Exit(k) | Event::Fall(k) => k.0 as u32,
+        Event::Down(j) | Event::Up(j) | Event::Miss(j) | Event::Check(j) => j.0 as u32,
+        Event::Take(i) | Event::Drop(i) => i.0,
     }
 }
 

@@ -1,12 +1,14 @@
 -- The tests with which an event begins: a party that is not there, or has fallen, or is down, refuses it; else it is there.
-use Rattle.std.specs.Prelude.{Err}
-use mathlib.Core.Path.{◌≡◌, sym, ◌∙◌}
+use Rattle.std.specs.Prelude.{Ok, Err, Result, ⊤, if◌then◌else◌}
+use mathlib.Core.Path.{◌≡◌, refl, sym, ◌∙◌}
+use native.Mathlib.Omega.{arith}
 use Prim.Native.Nat.{ℕ}
 use mathlib.Core.Bool.{Bool, true, false}
 use mathlib.Core.List.{List}
 use Rattle.ids.specs.Limits.{within}
 use Rattle.ids.specs.declared.ClientId.{ClientId}
 use Rattle.ids.specs.declared.ServerId.{ServerId}
+use Rattle.ids.specs.declared.Refusal.{Refusal}
 use Rattle.ids.specs.declared.Refusal.TheVariants.{NoSuchParty, PartyDown}
 use Rattle.ids.proofs.Choice.{holds, fails}
 use Rattle.wire.specs.Step.{refused}
@@ -28,14 +30,25 @@ use Rattle.sim_changes.proofs.ClientEvents.{client_there_in}
 use Rattle.sim_changes.proofs.ServerEvents.{server_there_in}
 
 -- client k's test, and an event v that is refused if it fails
-module _ (w : List ℕ) (k : ClientId) {a : Bool} (ok : valid w ≡ true) (e : a ≡ within k.0 (setting_of w).clients) where
+module _ (w : List ℕ) (k : ClientId) {r : Result ⊤ Refusal} (ok : valid w ≡ true) (e : r ≡ (if within k.0 (setting_of w).clients then Ok tt else Err NoSuchParty)) where
   pub client_missing : (v : Event)
       → (has (view w).clients k.0 ≡ false → event (setting_of w).n (enough (setting_of w).m) (view w) v ≡ refused NoSuchParty)
-      → a ≡ false → Leaves w v w × (Err NoSuchParty ≡ moved_of (happens w v))
-  client_missing v f t = leaves_refused w v NoSuchParty ok (f (parties.client_missing w ok k.0 a e t))
+      → {x : Refusal} → r ≡ Err x → Leaves w v w × (Err x ≡ moved_of (happens w v))
+  client_missing v f {x} t = go _ refl e
+    where
+      go : (a : Bool) → a ≡ within k.0 (setting_of w).clients → r ≡ (if a then Ok tt else Err NoSuchParty)
+          → Leaves w v w × (Err x ≡ moved_of (happens w v))
+      go true q p = let z : ◌≡◌ {A = ℕ} 0 1 = cc in absurd (omega arith)
+      go false q p =
+          let z : x ≡ NoSuchParty = cc in
+          rw z (leaves_refused w v NoSuchParty ok (f (parties.client_missing w ok k.0 false q refl)))
 
-  pub client-here : a ≡ true → HasClient w k
-  client-here t = parties.client-found w ok k.0 a e t
+  pub client-here : {x : ⊤} → r ≡ Ok x → HasClient w k
+  client-here {x} t = go _ refl e
+    where
+      go : (a : Bool) → a ≡ within k.0 (setting_of w).clients → r ≡ (if a then Ok tt else Err NoSuchParty) → HasClient w k
+      go true q p = parties.client-found w ok k.0 true q refl
+      go false q p = let z : ◌≡◌ {A = ℕ} 0 1 = cc in absurd (omega arith)
 
 -- client k is there
 module _ (w : List ℕ) (k : ClientId) (H : HasClient w k) {b : Bool} (f : b ≡ (client_place (client_block_of w k)).living) where
@@ -51,14 +64,25 @@ module _ (w : List ℕ) (k : ClientId) (H : HasClient w k) {b : Bool} (f : b ≡
       (fallen_falls (setting_of w).n (enough (setting_of w).m) (view w) k (client_there_in w k H) (fails b _ living-here u))
 
 -- server j's test, and an event v that is refused if it fails
-module _ (w : List ℕ) (j : ServerId) {a : Bool} (ok : valid w ≡ true) (e : a ≡ within j.0 (setting_of w).n) where
+module _ (w : List ℕ) (j : ServerId) {r : Result ⊤ Refusal} (ok : valid w ≡ true) (e : r ≡ (if within j.0 (setting_of w).n then Ok tt else Err NoSuchParty)) where
   pub server_missing : (v : Event)
       → (has (view w).servers j.0 ≡ false → event (setting_of w).n (enough (setting_of w).m) (view w) v ≡ refused NoSuchParty)
-      → a ≡ false → Leaves w v w × (Err NoSuchParty ≡ moved_of (happens w v))
-  server_missing v f t = leaves_refused w v NoSuchParty ok (f (parties.server_missing w ok j.0 a e t))
+      → {x : Refusal} → r ≡ Err x → Leaves w v w × (Err x ≡ moved_of (happens w v))
+  server_missing v f {x} t = go _ refl e
+    where
+      go : (a : Bool) → a ≡ within j.0 (setting_of w).n → r ≡ (if a then Ok tt else Err NoSuchParty)
+          → Leaves w v w × (Err x ≡ moved_of (happens w v))
+      go true q p = let z : ◌≡◌ {A = ℕ} 0 1 = cc in absurd (omega arith)
+      go false q p =
+          let z : x ≡ NoSuchParty = cc in
+          rw z (leaves_refused w v NoSuchParty ok (f (parties.server_missing w ok j.0 false q refl)))
 
-  pub server-here : a ≡ true → HasServer w j
-  server-here t = parties.server-found w ok j.0 a e t
+  pub server-here : {x : ⊤} → r ≡ Ok x → HasServer w j
+  server-here {x} t = go _ refl e
+    where
+      go : (a : Bool) → a ≡ within j.0 (setting_of w).n → r ≡ (if a then Ok tt else Err NoSuchParty) → HasServer w j
+      go true q p = parties.server-found w ok j.0 true q refl
+      go false q p = let z : ◌≡◌ {A = ℕ} 0 1 = cc in absurd (omega arith)
 
 -- server j is there
 module _ (w : List ℕ) (j : ServerId) (H : HasServer w j) {b : Bool} (f : b ≡ (server_place (server_block_of w j)).up) where

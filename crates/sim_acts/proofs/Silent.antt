@@ -10,7 +10,6 @@ use lib.Dec.{ltb}
 use lib.ListN.{set}
 use borrow.Author.Tests.{ltb-true, ltb-false}
 use lib.Seq.{sets}
-use Rattle.ids.specs.Limits.{within}
 use Rattle.ids.proofs.Choice.{decided}
 use Rattle.ids.specs.declared.Refusal.TheVariants.{NoSuchParty}
 use Rattle.ids.specs.declared.ClientId.{ClientId}

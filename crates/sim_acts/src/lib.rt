@@ -2,14 +2,38 @@
 
 #![tactic(auto)]
 
-ghost use Rattle.std.specs.Prelude.{◌≡◌, true};
+ghost use Rattle.std.specs.Prelude.{◌≡◌, true, Ok, Err, if◌then◌else◌};
+ghost use Rattle.ids.specs.Limits.{within};
+ghost use Rattle.ids.specs.declared.Refusal.TheVariants.{NoSuchParty};
 ghost use Rattle.system.specs.declared.Event.TheVariants.{Try, Exit, Fall, Down, Up, Drop, Miss, Check};
-ghost use Rattle.sim_layout.specs.Layout.{valid};
+ghost use Rattle.sim_layout.specs.Layout.{valid, setting_of};
 ghost use Rattle.sim_changes.specs.Happens.{happens, Leaves, moved_of};
 
 use ids::{ClientId, Refusal, ServerId};
 use sim_changes::{ClientAct, ServerAct};
 use system::MessageNumber;
+
+// An event of a client or server that the setting lacks is refused.
+
+fn client_there(w: &[u32], k: ClientId) -> Result<(), Refusal>
+    requires { valid w.now ≡ true }
+    ensures { result ≡ if within k.0 (setting_of w.now).clients then Ok tt else Err NoSuchParty }
+{
+    if !sim_layout::has_client(w, k) {
+        return Err(Refusal::NoSuchParty);
+    }
+    Ok(())
+}
+
+fn server_there(w: &[u32], j: ServerId) -> Result<(), Refusal>
+    requires { valid w.now ≡ true }
+    ensures { result ≡ if within j.0 (setting_of w.now).n then Ok tt else Err NoSuchParty }
+{
+    if !sim_layout::has_server(w, j) {
+        return Err(Refusal::NoSuchParty);
+    }
+    Ok(())
+}
 
 // The events that send nothing.
 
@@ -18,9 +42,7 @@ pub fn fall(w: &mut [u32], k: ClientId) -> Result<u32, Refusal>
     requires { valid w.old ≡ true }
     ensures { Leaves w.old (Fall k) w.new × (result ≡ moved_of (happens w.old (Fall k))) }
 {
-    if !sim_layout::has_client(w, k) {
-        return Err(Refusal::NoSuchParty);
-    }
+    client_there(w, k)?;
     if !sim_layout::is_living(w, k) {
         return Err(Refusal::PartyDown);
     }
@@ -33,9 +55,7 @@ pub fn up(w: &mut [u32], j: ServerId) -> Result<u32, Refusal>
     requires { valid w.old ≡ true }
     ensures { Leaves w.old (Up j) w.new × (result ≡ moved_of (happens w.old (Up j))) }
 {
-    if !sim_layout::has_server(w, j) {
-        return Err(Refusal::NoSuchParty);
-    }
+    server_there(w, j)?;
     if sim_layout::is_up(w, j) {
         return Err(Refusal::PartyDown);
     }
@@ -61,9 +81,7 @@ pub fn down(w: &mut [u32], j: ServerId) -> Result<u32, Refusal>
     requires { valid w.old ≡ true }
     ensures { Leaves w.old (Down j) w.new × (result ≡ moved_of (happens w.old (Down j))) }
 {
-    if !sim_layout::has_server(w, j) {
-        return Err(Refusal::NoSuchParty);
-    }
+    server_there(w, j)?;
     if !sim_layout::is_up(w, j) {
         return Err(Refusal::PartyDown);
     }
@@ -80,9 +98,7 @@ pub fn try_enter(w: &mut [u32], k: ClientId) -> Result<u32, Refusal>
     requires { valid w.old ≡ true }
     ensures { Leaves w.old (Try k) w.new × (result ≡ moved_of (happens w.old (Try k))) }
 {
-    if !sim_layout::has_client(w, k) {
-        return Err(Refusal::NoSuchParty);
-    }
+    client_there(w, k)?;
     sim_changes::client_acts(w, k, ClientAct::Try)
 }
 
@@ -91,9 +107,7 @@ pub fn exit(w: &mut [u32], k: ClientId) -> Result<u32, Refusal>
     requires { valid w.old ≡ true }
     ensures { Leaves w.old (Exit k) w.new × (result ≡ moved_of (happens w.old (Exit k))) }
 {
-    if !sim_layout::has_client(w, k) {
-        return Err(Refusal::NoSuchParty);
-    }
+    client_there(w, k)?;
     sim_changes::client_acts(w, k, ClientAct::Exit)
 }
 
@@ -102,9 +116,7 @@ pub fn miss(w: &mut [u32], j: ServerId) -> Result<u32, Refusal>
     requires { valid w.old ≡ true }
     ensures { Leaves w.old (Miss j) w.new × (result ≡ moved_of (happens w.old (Miss j))) }
 {
-    if !sim_layout::has_server(w, j) {
-        return Err(Refusal::NoSuchParty);
-    }
+    server_there(w, j)?;
     if !sim_layout::is_up(w, j) {
         return Err(Refusal::PartyDown);
     }
@@ -122,8 +134,6 @@ pub fn check(w: &mut [u32], j: ServerId) -> Result<u32, Refusal>
     requires { valid w.old ≡ true }
     ensures { Leaves w.old (Check j) w.new × (result ≡ moved_of (happens w.old (Check j))) }
 {
-    if !sim_layout::has_server(w, j) {
-        return Err(Refusal::NoSuchParty);
-    }
+    server_there(w, j)?;
     sim_changes::server_acts(w, j, ServerAct::Check)
 }

@@ -24,7 +24,6 @@ use Rattle.wire.specs.declared.Message.{Message}
 use Rattle.wire.specs.declared.Message.TheVariants.{Response, Check}
 use Rattle.server_votes.specs.declared.Tag.{Tag}
 use Rattle.server_votes.specs.Figure1 as votes
-use Rattle.server.specs.Record as server
 use Rattle.client_responses.specs.Figure1 as client
 use Rattle.client_responses.specs.Figure1.{is_critical, last_try, may_try}
 use Rattle.client.proofs.KeepsValid.{Fits}

@@ -3,6 +3,7 @@ use Rattle.std.specs.Prelude.{Ok, Err, Some, None, Option}
 use mathlib.Core.Path.{◌≡◌, refl, sym, ap, subst, ◌∙◌}
 use Prim.Native.Nat.{ℕ, ◌+◌, ◌*◌, ◌-◌, ◌≤◌}
 use native.Mathlib.Omega.{arith}
+use mathlib.Core.Logic.{◌⊎◌, inl, inr}
 use mathlib.Core.Bool.{Bool, true, false, ◌&&◌}
 use mathlib.Core.List.{List}
 use lib.Dec.{leb}
@@ -300,11 +301,9 @@ module _ {w : List ℕ} {j : ServerId} {a : ServerAct} {h : Head} {row : List �
   stored_as = S.left ∙ its-after w j storing_server (server_step w j a)
 
   module _ {w₁ : List ℕ} (z : w₁ ≡ sets w (servers_from + server_block * (j.0 - 1)) (sets (server_block_of w j) 1 (server_words (server_of h row)))) where
-    pub ask_stored : a ≡ act.Check → Becomes w w₁ (server_stored w j a)
-    ask_stored e = rw e (rw S.up at (check-stored w j.0 storing_server (server_of h row) w₁ z (rw e at stored_as)))
-
-    pub miss-stored : a ≡ act.Suspect → Becomes w w₁ (server_stored w j a)
-    miss-stored e = rw e (rw S.up at (suspect-stored w j.0 storing_server (server_of h row) w₁ z (rw e at stored_as)))
+    pub ask_stored : (a ≡ act.Check) ⊎ (a ≡ act.Suspect) → Becomes w w₁ (server_stored w j a)
+    ask_stored (inl e) = rw e (rw S.up at (check-stored w j.0 storing_server (server_of h row) w₁ z (rw e at stored_as)))
+    ask_stored (inr e) = rw e (rw S.up at (suspect-stored w j.0 storing_server (server_of h row) w₁ z (rw e at stored_as)))
 
   module _ (i : ℕ) (x : Tag) (k : ClientId) (t : Timestamp) (e : a ≡ act.Take i x k t) where
     pends : Pends w i (tagged x k j t)

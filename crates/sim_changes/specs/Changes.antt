@@ -9,7 +9,7 @@ use Rattle.wire.specs.declared.Message.TheVariants.{Request, Yield, Release, Inq
 use Rattle.server_votes.specs.declared.Tag.{Tag}
 use Rattle.server_votes.specs.declared.Tag.TheVariants as tag
 use Rattle.system.specs.declared.MessageNumber.{MessageNumber}
-use Rattle.system.specs.Transit.{InTransit, pending, again}
+use Rattle.system.specs.Transit.{InTransit, pending}
 use Rattle.system.specs.Places.{System, ClientPlace, client_at, server_at, worst}
 use Rattle.sim_layout.specs.Layout.{setting_of, length_of, transit_words, view, valid}
 use Rattle.sim_indexed.specs.Indexed.{slot_in}

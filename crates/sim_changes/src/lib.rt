@@ -247,10 +247,8 @@ fn messages_gone(act: ClientAct) -> u32
     ensures { result ≡ client_gone act }
 {
     match act {
-        ClientAct::Try => 0,
-        ClientAct::Exit => 0,
-        ClientAct::Response(_, _, _) => 1,
-        ClientAct::Check(_, _, _) => 1,
+        ClientAct::Try | ClientAct::Exit => 0,
+        ClientAct::Response(_, _, _) | ClientAct::Check(_, _, _) => 1,
     }
 }
 
@@ -269,11 +267,7 @@ fn store_client(w: &mut [u32], k: ClientId, act: ClientAct, h: client::Head, row
             end_epoch(w, k);
             sim_layout::put_client(w, k, h, row);
         }
-        ClientAct::Response(i, _, _) => {
-            remove_message(w, i);
-            sim_layout::put_client(w, k, h, row);
-        }
-        ClientAct::Check(i, _, _) => {
+        ClientAct::Response(i, _, _) | ClientAct::Check(i, _, _) => {
             remove_message(w, i);
             sim_layout::put_client(w, k, h, row);
         }
@@ -319,8 +313,7 @@ fn store_server(w: &mut [u32], j: ServerId, act: ServerAct, h: server::Head, row
     ensures { Becomes w.old w.new (server_stored w.old j act) }
 {
     match act {
-        ServerAct::Check => sim_layout::put_server(w, j, h, row),
-        ServerAct::Suspect => sim_layout::put_server(w, j, h, row),
+        ServerAct::Check | ServerAct::Suspect => sim_layout::put_server(w, j, h, row),
         ServerAct::Take(i, _, _, _) => {
             mark_message(w, i);
             sim_layout::put_server(w, j, h, row);
@@ -375,6 +368,7 @@ fn new_client(w: &mut [u32], n: u16, m: u16, k: ClientId)
     sim_layout::put_client(w, k, head, &row);
 }
 
+// One function for clients and servers would take what puts one as a closure over the words: no plainer than a loop of one line in each.
 fn new_clients(w: &mut [u32], n: u16, m: u16, clients: u16)
     requires { (length w.old ≡ simulation_size) × (clients ≤ system_clients) }
     ensures { w.new ≡ in_turn (λ i. new_client n m (client_no i)) clients w.old }

@@ -4,7 +4,7 @@
 
 #![tactic(auto)]
 
-ghost use Rattle.std.specs.Prelude.{◌≡◌, true, [], ◌∷◌, ◌++◌, ◌≤◌, ◌<◌, if◌then◌else◌};
+ghost use Rattle.std.specs.Prelude.{ℕ, ◌≡◌, true, [], ◌∷◌, ◌++◌, ◌≤◌, ◌<◌, if◌then◌else◌};
 ghost use Rattle.sim_changes.specs.Changes.{HasClient, HasServer};
 ghost use Rattle.client_responses.specs.Row.{shown, responses_in};
 ghost use Rattle.client.specs.Record.{client_of, view as client_view};
@@ -20,7 +20,7 @@ ghost use Rattle.sim_indexed.specs.Indexed.{slot_in};
 ghost use Rattle.wire.specs.declared.Message.TheVariants.{Response, Check};
 ghost use Rattle.text_knowledge.specs.Knowledge.{request_text, requests_text, queue_text, votes_text, server_text, support_text, section_text, supporters_text, state_text, client_text, servers_text, clients_text, slips_text};
 ghost use Rattle.text_knowledge.specs.Mail.{timestamp_text, to_server_text, to_client_text, owner_text, message_text, standing_text, in_transit_text, mail_text, slips_mail_text};
-ghost use Rattle.text_knowledge.specs.Boxes.{entry_text, entries_text, receiver_text, box_text, server_boxes_text, client_boxes_text, boxes_text, slips_boxes_text};
+ghost use Rattle.text_knowledge.specs.Boxes.{entry_text, entries_text, receiver_text, box_text, boxes_of, boxes_text, slips_boxes_text};
 ghost use Rattle.system.specs.Numbered.{server_no};
 
 use client::Head;
@@ -394,26 +394,21 @@ fn put_box(out: &mut [u8], at: usize, w: &[u32], r: Receiver) -> usize
     text_sheet::put(out, e, b"\n")
 }
 
-fn put_server_boxes(out: &mut [u8], at: usize, w: &[u32], n: u16) -> usize
-    requires { valid w.now ≡ true }
-    ensures { sheet_of out.new result ≡ puts (server_boxes_text (system_of w.now) n) (sheet_of out.old at) }
+// The boxes of the receivers 1 to `n` of a kind.
+fn put_boxes_of<F: Fn(u16) -> Receiver>(
+    out: &mut [u8],
+    at: usize,
+    w: &[u32],
+    n: u16,
+    receiver: F,
+) -> usize
+    requires callable { F.IsAlwaysCallable receiver }
+    requires simulation { valid w.now ≡ true }
+    ensures { (kind : ℕ → Receiver) → ((i : ℕ) (r : Receiver) → F.post receiver i r → r ≡ kind i) → sheet_of out.new result ≡ puts (boxes_of kind (system_of w.now) n) (sheet_of out.old at) }
 {
     let mut end = at;
     for i in 0..n {
-        let server = ServerId(i + 1);
-        end = put_box(out, end, w, Receiver::Server(server));
-    }
-    end
-}
-
-fn put_client_boxes(out: &mut [u8], at: usize, w: &[u32], clients: u16) -> usize
-    requires { valid w.now ≡ true }
-    ensures { sheet_of out.new result ≡ puts (client_boxes_text (system_of w.now) clients) (sheet_of out.old at) }
-{
-    let mut end = at;
-    for i in 0..clients {
-        let client = ClientId(i + 1);
-        end = put_box(out, end, w, Receiver::Client(client));
+        end = put_box(out, end, w, receiver(i + 1));
     }
     end
 }
@@ -424,8 +419,8 @@ fn put_boxes(out: &mut [u8], at: usize, w: &[u32]) -> usize
 {
     let n = sim_layout::servers(w);
     let clients = sim_layout::clients(w);
-    let p = put_server_boxes(out, at, w, n);
-    put_client_boxes(out, p, w, clients)
+    let p = put_boxes_of(out, at, w, n, |j| Receiver::Server(ServerId(j)));
+    put_boxes_of(out, p, w, clients, |k| Receiver::Client(ClientId(k)))
 }
 
 // All slips of a simulation, and behind them its messages in transit by receiver.

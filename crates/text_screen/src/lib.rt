@@ -71,9 +71,7 @@ fn put_events(out: &mut [u8], at: usize, v: Verdict) -> usize
 {
     match v {
         Verdict::Unsafe(_, events) => put_count(out, at, b"events ", events),
-        Verdict::Accepted(_) => at,
-        Verdict::Stalls(_) => at,
-        Verdict::OutOfRange => at,
+        Verdict::Accepted(_) | Verdict::Stalls(_) | Verdict::OutOfRange => at,
     }
 }
 
@@ -94,9 +92,7 @@ fn put_fits(out: &mut [u8], at: usize, n: u32, v: Verdict) -> usize
 {
     match v {
         Verdict::Unsafe(_, _) => put_limit(out, at, n),
-        Verdict::Accepted(_) => at,
-        Verdict::Stalls(_) => at,
-        Verdict::OutOfRange => at,
+        Verdict::Accepted(_) | Verdict::Stalls(_) | Verdict::OutOfRange => at,
     }
 }
 

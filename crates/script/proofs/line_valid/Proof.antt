@@ -1,5 +1,4 @@
 -- `script::line_valid` meets its contract: each return is one case of the definition.
-use native.Mathlib.Omega.{arith}
 use Rattle.script.proofs.TestLaws.{line-long, bytes-wrong, rest_decides}
 use borrow.Author.Rules.{rules}
 use Rattle.script.proofs.line_valid.Statement.{statement}
