@@ -29,7 +29,6 @@ use Rattle.wire.proofs.RoundTrip.{written_is_read}
 use Rattle.server.specs.Record as server
 use Rattle.server.specs.Calls as server_calls
 use Rattle.server.specs.declared.Server.{Server}
-use Rattle.server_votes.specs.Figure1 as votes
 use Rattle.client.specs.Record as client
 use Rattle.client.specs.Calls as client_calls
 use Rattle.client.specs.declared.Client.{Client}

@@ -1,8 +1,8 @@
 -- An event of a run: the simulation's reply says which case of the run's step it is, and the counts follow the reply.
 use Rattle.sim_changes.specs.declared.Effect.{Effect}
-use Rattle.std.specs.Prelude.{Result, Ok, Err}
+use Rattle.std.specs.Prelude.{Result}
 use mathlib.Core.Path.{◌≡◌, sym, ap, ◌∙◌}
-use Prim.Native.Nat.{ℕ, ◌+◌, max}
+use Prim.Native.Nat.{ℕ}
 use mathlib.Core.List.{List}
 use mathlib.Core.Bool.{true}
 use lib.ListN.{length}

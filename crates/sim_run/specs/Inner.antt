@@ -2,7 +2,6 @@
 use Rattle.sim_changes.specs.declared.Effect.{Effect}
 use Rattle.ids.specs.declared.Refusal.{Refusal}
 use Rattle.std.specs.Prelude.{◌+◌, max, Ok, Err, Result}
-use Rattle.sim_changes.specs.Happens as bounded
 use Rattle.sim_run.specs.declared.Counts.{Counts}
 
 -- the counts after a reply

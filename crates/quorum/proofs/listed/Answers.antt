@@ -1,5 +1,4 @@
 -- Each return is one case of the definition.
-use Rattle.std.proofs.Common.{rules}
 use Rattle.quorum.proofs.ReturnLaws.{not_unsafe, outside-run, event_bounds, run_element}
 use Rattle.quorum.proofs.listed.Goals as goal
 

@@ -1,5 +1,5 @@
 -- Each arm is given what was read.
-use Rattle.std.proofs.Common.{arith, rules}
+use Rattle.std.proofs.Common.{arith}
 use Rattle.sim_transit.proofs.PostLaws.{read-rest, fitting_inside, one-posted, none-posted}
 use Rattle.sim_transit.proofs.post_one.Goals as goal
 
