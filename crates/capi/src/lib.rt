@@ -329,7 +329,8 @@ pub fn sigma_client_message(
     client_call(ClientCall::Message(m), state, out, sent)
 }
 
-// A new record's words are stored; the number of one that was refused is returned.
+// A new record's words are stored; the number of one that was refused is returned. What `server` and `client` give are two types: one function
+// for both would take the storing as a closure, and is no plainer.
 fn server_made(r: server::Stepped, state: &mut [u32]) -> u32
     requires { (server_size ≤ length state.old) × (length r.server.row ≡ server.row_words) × (r.server.head.votes.len ≤ max_word) }
     ensures { (result ≡ answer_code r.answer) × (state.new ≡ answer_record (server_words r.server) state.old r.answer) }
@@ -364,7 +365,8 @@ fn client_made(r: client::Stepped, state: &mut [u32]) -> u32
     }
 }
 
-// The record of server `id` of 1 to `n`, in the first words. Refused 7.
+// The record of server `id` of 1 to `n`, in the first words. Refused 7. This pair and the next are calls of the C interface: a helper for both
+// would hold two tests of a line each, and is no plainer.
 pub fn sigma_server_new(n: u32, id: u32, state: &mut [u32]) -> u32
     ensures { (result ≡ code_of (server_new n id (length state.old))) × (state.new ≡ record_into state.old (server_new n id (length state.old))) }
 {

@@ -3,6 +3,7 @@ use mathlib.Core.Path.{◌≡◌, refl, sym, ap, ◌∙◌}
 use Prim.Native.Nat.{ℕ, zero, suc, ◌+◌, ◌≤◌, ◌<◌}
 use native.Mathlib.Omega.{arith}
 use native.Mathlib.Numerals.{add-one}
+use mathlib.Core.Logic.{◌⊎◌, inl, inr}
 use mathlib.Core.Bool.{Bool, true, false}
 use mathlib.Core.List.{List, [], ◌∷◌, ◌++◌, map, map-append, append_assoc}
 use lib.ListN.{length, get_or, take, length-take, length-map}
@@ -122,12 +123,9 @@ module _ (x : Section) (l : List (List ℕ)) (s₀ : Sheet) where
   unfolding puts
   supporters_none e = rw e
 
-  module _ {s₁ : Sheet} (p : s₁ ≡ puts (text " keepers" ∷ l) s₀) where
-    pub supporters_trying : x ≡ Trying → s₁ ≡ puts (supporters_text x l) s₀
-    supporters_trying e = rw e p
-
-    pub supporters_critical : x ≡ Critical → s₁ ≡ puts (supporters_text x l) s₀
-    supporters_critical e = rw e p
+  pub supporters_some : {s₁ : Sheet} → s₁ ≡ puts (text " keepers" ∷ l) s₀ → (x ≡ Trying) ⊎ (x ≡ Critical) → s₁ ≡ puts (supporters_text x l) s₀
+  supporters_some p (inl e) = rw e p
+  supporters_some p (inr e) = rw e p
 
 -- the places of a valid simulation, of which head and row were read
 module _ (w : List ℕ) (j : ServerId) (H : HasServer w j) where

@@ -173,8 +173,7 @@ fn put_supporters_of(
 {
     match s {
         Section::Remainder => at,
-        Section::Trying => put_supporters(out, at, r, row, n),
-        Section::Critical => put_supporters(out, at, r, row, n),
+        Section::Trying | Section::Critical => put_supporters(out, at, r, row, n),
     }
 }
 
