@@ -51,6 +51,7 @@ pub fn sigma_setting(n: u32, m: u32, f: u32, words: &mut [u32]) -> u32
     }
 }
 
+// The number of an event's kind, for C.
 fn kind_of(e: Event) -> u32
     ensures { result ≡ event_kind e }
 {

@@ -18,7 +18,7 @@ use system::{Event, MessageNumber, Setting};
 // The bytes of the longest line that is read, without its newline.
 pub const MAX_LINE: usize = 40;
 
-// The word that an event line begins with; `Other` is any word that is no command.
+// The word that an event line begins with; `Other` is any word that is no command: a case and no None, since an event line has to have one.
 #[derive(Clone, Copy)]
 pub enum Command {
     Try,

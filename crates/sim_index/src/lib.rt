@@ -19,7 +19,7 @@ const MARKS: usize = NUMBERS + MESSAGES;
 
 pub const INDEX_WORDS: usize = MARKS + MESSAGES;
 
-// An entry with its receiver: the receiver's place, the message's number, and 1 if the message is delivered.
+// An entry with its receiver: the receiver's place, the message's number, and 1 if the message is delivered, as the words have it, which a host keeps.
 #[derive(Clone, Copy)]
 pub struct Card {
     pub place: usize,

@@ -213,7 +213,8 @@ fn client_valid(w: &[u32], n: u32, m: u32, clients: u32, k: ClientId) -> bool
     sim_blocks::valid_client_block(block_of_client(w, k), n, m, clients, k)
 }
 
-// Whether the blocks of the first clients are valid, each as its number.
+// Whether the blocks of the first clients are valid, each as its number; below, the same of the servers: one function for both would take the test as a
+// closure and be no shorter.
 fn clients_valid(w: &[u32], n: u32, m: u32, clients: u16) -> bool
     requires { (length w.now ≡ simulation_size) × (clients ≤ system_clients) }
     ensures { result ≡ valid_from (λ (i : ℕ). valid_client_block n m clients (client_no i)) 1 (blocks client_block itself clients (clients_part w.now)) }

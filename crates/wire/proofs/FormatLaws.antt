@@ -1,5 +1,4 @@
 -- Laws of the format's definitions, one for each way in which the code decides them.
-use Rattle.ids.specs.declared.Request.{Request as Pair}
 use Prim.Native.Nat.{ℕ, ◌+◌, ◌≤◌}
 use native.Mathlib.Omega.{arith}
 use mathlib.Core.Path.{◌≡◌, refl}
@@ -9,53 +8,13 @@ use lib.Dec.{eqb}
 use lib.ListN.{length, take, drop}
 use lib.Seq.{drop-drop, sets}
 use borrow.Author.Tests.{eq-eqb, ne_eqb}
-use Rattle.std.specs.Prelude.{if◌then◌else◌, Option}
-use Rattle.ids.specs.declared.ClientId.{ClientId}
-use Rattle.ids.specs.declared.ServerId.{ServerId}
-use Rattle.ids.specs.declared.Timestamp.{Timestamp}
+use Rattle.std.specs.Prelude.{if◌then◌else◌}
 use Rattle.wire.proofs.BytesLaws.{stored_on}
 use Rattle.wire.specs.Bytes.{little_endian, number, encode, decode, total}
-use Rattle.wire.specs.Format.{length_of, bytes_of_fields, bytes_of, size_of, fields_of, message_of, owner_of, length_in, kind_in, field_in, fields_in, message_bytes, response_bytes}
+use Rattle.wire.specs.Format.{length_of, bytes_of_fields, bytes_of, size_of, fields_of, length_in, kind_in, field_in, fields_in, message_bytes, response_bytes}
 use Rattle.wire.specs.Inner.{front}
 use Rattle.wire.specs.declared.Message.{Message}
-use Rattle.wire.specs.declared.Message.TheVariants.{Request, Yield, Release, Inquiry, Response, Check}
 use Rattle.wire.specs.declared.Fields.{Fields}
-
-abbrev client : Fields → ClientId
-client f = record { 0 = f.client }
-
-abbrev server : Fields → ServerId
-server f = record { 0 = f.server }
-
-abbrev timestamp : Fields → Timestamp
-timestamp f = record { 0 = f.timestamp }
-
-module _ (f : Fields) where
-  pub message-request : f.kind ≡ 1 → Request (client f) (server f) (timestamp f) ≡ message_of f
-  unfolding message_of
-  message-request e = rw e
-
-  pub message_yield : f.kind ≡ 2 → Yield (client f) (server f) (timestamp f) ≡ message_of f
-  unfolding message_of
-  message_yield e = rw e
-
-  pub message_release : f.kind ≡ 3 → Release (client f) (server f) (timestamp f) ≡ message_of f
-  unfolding message_of
-  message_release e = rw e
-
-  pub message_inquiry : f.kind ≡ 4 → Inquiry (client f) (server f) (timestamp f) ≡ message_of f
-  unfolding message_of
-  message_inquiry e = rw e
-
-  pub message-response : (o : Option Pair) → f.kind ≡ 5 → o ≡ owner_of (record { 0 = f.owner }) (record { 0 = f.timestamp })
-      → Response (client f) (server f) o ≡ message_of f
-  unfolding message_of
-  message-response o e p = rw (e, p)
-
-  pub message-check : (f.kind ≡ 1 → ⊥) → (f.kind ≡ 2 → ⊥) → (f.kind ≡ 3 → ⊥) → (f.kind ≡ 4 → ⊥) → (f.kind ≡ 5 → ⊥)
-      → Check (client f) (server f) (timestamp f) ≡ message_of f
-  unfolding message_of
-  message-check a b c d e = simp (ne_eqb _ _ a, ne_eqb _ _ b, ne_eqb _ _ c, ne_eqb _ _ d, ne_eqb _ _ e)
 
 pub length-plain : (kind : ℕ) → (kind ≡ 5 → ⊥) → message_bytes ≡ length_of kind
 unfolding length_of

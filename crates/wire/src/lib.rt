@@ -24,7 +24,8 @@ pub enum Message {
     Check(ClientId, ServerId, Timestamp),
 }
 
-// A message's numbers, as wide as the format has them. The owner's client is 0 where the kind has none.
+// A message's numbers, as wide as the format has them: the kind too is the format's number, since these may be the numbers of no message. The owner's
+// client is 0 where the kind has none.
 #[derive(Clone, Copy)]
 pub struct Fields {
     pub kind: u16,
@@ -141,40 +142,28 @@ pub fn fields_of(m: Message) -> Fields
 pub fn owner_of(client: ClientId, timestamp: Timestamp) -> Option<Request>
     ensures { result ≡ owner_of client timestamp }
 {
-    if client.0 == 0 {
-        if timestamp.0 == 0 {
-            return None;
-        }
+    if client.0 == 0 && timestamp.0 == 0 {
+        return None;
     }
-    let q = Request { client, timestamp };
-    Some(q)
+    Some(Request { client, timestamp })
 }
 
 // The message with these numbers; a kind that is not known is taken for CHECK's.
+#[tactic(auto, unfolding(crate::specs::Format::message_of))]
 pub fn message_of(f: Fields) -> Message
     ensures { result ≡ message_of f }
 {
     let k = ClientId(f.client);
     let j = ServerId(f.server);
     let t = Timestamp(f.timestamp);
-    let kind = f.kind;
-    if kind == 1 {
-        return Message::Request(k, j, t);
+    match f.kind {
+        1 => Message::Request(k, j, t),
+        2 => Message::Yield(k, j, t),
+        3 => Message::Release(k, j, t),
+        4 => Message::Inquiry(k, j, t),
+        5 => Message::Response(k, j, owner_of(ClientId(f.owner), t)),
+        _ => Message::Check(k, j, t),
     }
-    if kind == 2 {
-        return Message::Yield(k, j, t);
-    }
-    if kind == 3 {
-        return Message::Release(k, j, t);
-    }
-    if kind == 4 {
-        return Message::Inquiry(k, j, t);
-    }
-    if kind == 5 {
-        let o = owner_of(ClientId(f.owner), t);
-        return Message::Response(k, j, o);
-    }
-    Message::Check(k, j, t)
 }
 
 fn valid_response(k: ClientId, j: ServerId, o: Option<Request>) -> bool
@@ -184,16 +173,17 @@ fn valid_response(k: ClientId, j: ServerId, o: Option<Request>) -> bool
 }
 
 // Whether every number of the message is in its range.
+#[tactic(auto, unfolding(crate::specs::Format::valid_up_to))]
 pub fn valid_message(m: Message) -> bool
     ensures { result ≡ valid m }
 {
     match m {
-        Message::Request(k, j, t) => ids::valid_stamped(k, j, t),
-        Message::Yield(k, j, t) => ids::valid_stamped(k, j, t),
-        Message::Release(k, j, t) => ids::valid_stamped(k, j, t),
-        Message::Inquiry(k, j, t) => ids::valid_stamped(k, j, t),
+        Message::Request(k, j, t)
+        | Message::Yield(k, j, t)
+        | Message::Release(k, j, t)
+        | Message::Inquiry(k, j, t)
+        | Message::Check(k, j, t) => ids::valid_stamped(k, j, t),
         Message::Response(k, j, o) => valid_response(k, j, o),
-        Message::Check(k, j, t) => ids::valid_stamped(k, j, t),
     }
 }
 
