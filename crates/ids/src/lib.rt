@@ -117,7 +117,8 @@ pub fn valid_stamped(k: ClientId, j: ServerId, t: Timestamp) -> bool
     valid_parties(k, j) && valid_timestamp(t)
 }
 
-// Whether `a` is served before `b`: lower timestamp first, with equal timestamps lower client first.
+// Whether `a` is served before `b`: lower timestamp first, with equal timestamps lower client first. Derived, the order would go by client first, as the
+// report's pair (ci, t) stands.
 pub fn precedes(a: Request, b: Request) -> bool
     ensures { result ≡ before a b }
 {
