@@ -14,7 +14,7 @@ use Rattle.ids.specs.Limits.{max_servers}
 use Rattle.ids.specs.Refusals.{code}
 use Rattle.ids.specs.declared.Refusal.{Refusal}
 use Rattle.ids.specs.declared.Refusal.TheVariants.{RoomShort, ParameterOutOfRange, Unsafe as NotSafe, Stalls as Stalling}
-use Rattle.system.specs.declared.Event.{Event as Happening, Event}
+use Rattle.system.specs.declared.Event.{Event}
 use Rattle.system.specs.declared.Event.TheVariants.{Try, Exit, Fall, Down, Up, Take, Drop, Miss, Check}
 use Rattle.script_lines.specs.Printed.{number_of}
 use Rattle.quorum.specs.declared.Verdict.{Verdict}
@@ -34,7 +34,7 @@ module _ (ws : List ℕ) (a b number : ℕ) where
   two-done h = (rw (le-ltb (length ws) 2 h), rw (le-ltb (length ws) 2 h))
 
 -- the number that an event names is the same in a script's line
-same-number : (e : Happening) → number_of e ≡ event_number e
+same-number : (e : Event) → number_of e ≡ event_number e
 same-number (Try k) = refl
 same-number (Exit k) = refl
 same-number (Fall k) = refl
@@ -89,7 +89,7 @@ module _ (n m f : ℕ) (ws new : List ℕ) (r : ℕ) (v : Verdict) (e : (v ≡ v
   setting-refused a p = rw (← e.0, a) (p, refl, rw a at e.1)
 
 module _ (n m f i : ℕ) (ws new : List ℕ) (r : ℕ) (v : Result Event Refusal) (e : v ≡ run_event n m f i) where
-  pub event-given : (x : Happening) (k j : ℕ) → v ≡ Ok x → k ≡ event_kind x → j ≡ number_of x → (r ≡ with_words 2 ws 0) × (new ≡ given ws (k ∷ j ∷ [])) →
+  pub event-given : (x : Event) (k j : ℕ) → v ≡ Ok x → k ≡ event_kind x → j ≡ number_of x → (r ≡ with_words 2 ws 0) × (new ≡ given ws (k ∷ j ∷ [])) →
       (r ≡ event_code (run_event n m f i) ws) × (new ≡ event_words (run_event n m f i) ws)
   event-given x k j a s q p = rw (← e, a) (p.0, rw (← s, ← (q ∙ same-number x)) p.1)
 

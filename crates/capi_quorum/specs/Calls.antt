@@ -4,7 +4,7 @@ use Rattle.std.specs.Prelude.{ℕ, ◌-◌, List, [], ◌∷◌, ltb, ℤ, pos, 
 use Rattle.std.proofs.lemmas.List.Edits.{sets}
 use Rattle.ids.specs.Refusals.{code}
 use Rattle.ids.specs.declared.Refusal.TheVariants.{RoomShort, ParameterOutOfRange}
-use Rattle.system.specs.declared.Event.{Event as Happening, Event}
+use Rattle.system.specs.declared.Event.{Event}
 use Rattle.system.specs.declared.Event.TheVariants.{Try, Exit, Fall, Down, Up, Take, Drop, Miss, Check}
 use Rattle.quorum.specs.declared.Verdict.{Verdict}
 use Rattle.quorum.specs.declared.Verdict.TheVariants.{Accepted, Unsafe, Stalls, OutOfRange}
@@ -36,7 +36,7 @@ setting_words (Unsafe x events) ws = given ws (signed_word x ∷ events ∷ [])
 setting_words (Stalls x) ws = given ws (signed_word x ∷ 0 ∷ [])
 
 -- an event in the script's order of names, and the number that it names
-abbrev pub event_kind : Happening → ℕ
+abbrev pub event_kind : Event → ℕ
 event_kind (Try k) = 1
 event_kind (Exit k) = 2
 event_kind (Fall k) = 3
@@ -47,7 +47,7 @@ event_kind (Drop i) = 7
 event_kind (Miss j) = 8
 event_kind (Check j) = 9
 
-abbrev pub event_number : Happening → ℕ
+abbrev pub event_number : Event → ℕ
 event_number (Try k) = k.0
 event_number (Exit k) = k.0
 event_number (Fall k) = k.0

@@ -2,7 +2,7 @@
 use Rattle.ids.specs.declared.Refusal.{Refusal}
 use Rattle.std.specs.Prelude.{ℕ, ◌+◌, ◌≡◌, List, [], ◌∷◌, eqb, length, if◌then◌else◌, Ok, Err, Result, Some, None, Option}
 use Rattle.ids.specs.declared.Refusal.TheVariants.{PacketMalformed}
-use Rattle.wire.specs.declared.Message.{Message as Carried, Message}
+use Rattle.wire.specs.declared.Message.{Message}
 use Rattle.packet.specs.Packet.{total_bytes, Piece, Contents, refused, carries, packet_of, pieces}
 
 -- what is at a place: a message starts there, the packet ends there, or neither
@@ -46,5 +46,5 @@ part_of s at = part_found (found_in s at)
 -- THE CALLS of a reader from the place `at` on: a message each, with its part, until the packet's end
 pub data ReadFrom (s : List ℕ) : ℕ → List Piece → Type 0 where
   ended : {at : ℕ} → next_of s at ≡ Ok None → ReadFrom s at []
-  gave : {at next : ℕ} {m : Carried} {ps : List Piece} → next_of s at ≡ Ok (Some (m, next)) → ReadFrom s next ps
+  gave : {at next : ℕ} {m : Message} {ps : List Piece} → next_of s at ≡ Ok (Some (m, next)) → ReadFrom s next ps
       → ReadFrom s at (record { message = m; part = part_of s at } ∷ ps)

@@ -2,7 +2,7 @@
 use Rattle.ids.specs.declared.Refusal.{Refusal}
 use Rattle.std.specs.Prelude.{ℕ, ◌≡◌, List, [], ◌∷◌, ◌++◌, Ok, Err, Result, Some, None, Option}
 use Rattle.ids.specs.declared.Refusal.TheVariants.{KindUnknown, NumberOutOfRange, RoomShort, PacketMalformed}
-use Rattle.wire.specs.declared.Message.{Message as Sent, Message}
+use Rattle.wire.specs.declared.Message.{Message}
 use Rattle.wire.specs.declared.Message.TheVariants.{Request, Response}
 use Rattle.packet.specs.Reading.{next_of}
 use Rattle.packet.specs.Packing.{packed, pack_of}
@@ -14,10 +14,10 @@ request = 12 ∷ 0 ∷ 1 ∷ 0 ∷ 5 ∷ 0 ∷ 1 ∷ 0 ∷ 3 ∷ 0 ∷ 0 ∷ 0 �
 abbrev pub response : List ℕ
 response = 14 ∷ 0 ∷ 5 ∷ 0 ∷ 5 ∷ 0 ∷ 1 ∷ 0 ∷ 3 ∷ 0 ∷ 0 ∷ 0 ∷ 2 ∷ 0 ∷ []
 
-abbrev pub requested : Sent
+abbrev pub requested : Message
 requested = Request (record { 0 = 5 }) (record { 0 = 1 }) (record { 0 = 3 })
 
-abbrev pub responded : Sent
+abbrev pub responded : Message
 responded = Response (record { 0 = 5 }) (record { 0 = 1 }) (Some (record { client = record { 0 = 2 }; timestamp = record { 0 = 3 } }))
 
 -- the request to server 0, which is 5; a message of no kind, which is 2
