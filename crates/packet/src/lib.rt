@@ -140,7 +140,8 @@ fn message_at(bytes: &[u8], at: usize) -> Result<Option<(Message, usize)>, Refus
     Ok(Some((m, end)))
 }
 
-// The message at a place of the packet with the place behind it, or `None` where the packet ends. The packet is judged whole first. Bytes behind the packet are not looked at.
+// The message at a place of the packet with the place behind it, or `None` where the packet ends. The packet is judged whole first, and bytes behind it are
+// not looked at.
 pub fn next_at(packet: &[u8], at: usize) -> Result<Option<(Message, usize)>, Refusal>
     ensures value { result ≡ next_of packet.now at }
     ensures numbers { next_says result ≡ packet_says packet.now at }
