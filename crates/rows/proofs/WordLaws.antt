@@ -6,7 +6,7 @@ use mathlib.Core.Path.{◌≡◌, refl, ap, ◌∙◌}
 use mathlib.Core.Bool.{true}
 use mathlib.Core.List.{List, [], ◌∷◌, ◌++◌}
 use lib.ListN.{length, get_or, set, take, drop, replicate, length-set, length-append, length-drop}
-use lib.Seq.{sets, length-sets, length-take-le}
+use lib.Seq.{sets, length-sets, get_or-set_other, length-take-le}
 use Rattle.std.specs.List.{copy_within}
 use borrow.Author.Tests.{leb-true, le-leb}
 use Rattle.ids.specs.Limits.{max_client}
@@ -130,3 +130,19 @@ module _ (row : List ℕ) (i : ℕ) (h : 2 * i + 2 ≤ length row) where
 pub put-stored : (row : List ℕ) (i : ℕ) (r : Request) → r.client.0 ≤ max_client
     → Put row (set (set row (2 * i) r.client.0) (2 * i + 1) r.timestamp.0) i r
 put-stored row i r h = rw add-one (put_made row (sets row (2 * i) (words_of r)) i r refl (λ p. le-leb _ _ h))
+
+-- one place's words stored at another
+module _ (row : List ℕ) (from to : ℕ) (h : 2 * from + 2 ≤ length row) where
+  unmoved : (v : ℕ) → get_or (set row (2 * to) v) (2 * from + 1) 0 ≡ get_or row (suc (2 * from)) 0
+  unmoved v = get_or-set_other row (2 * to) (2 * from + 1) v 0 (λ e. omega arith) ∙ rw add-one refl
+
+  pub put_copied : Put row
+      (set (set row (2 * to) (get_or row (2 * from) 0)) (2 * to + 1) (get_or (set row (2 * to) (get_or row (2 * from) 0)) (2 * from + 1) 0)) to
+      (get_or (requests_in row) from no_request)
+  put_copied =
+      let q = requests-at row from h in
+      rw (
+        unmoved,
+        add-one,
+        q,
+      ) (put_made row (sets row (2 * to) (words_of (place_at row (2 * from)))) to (place_at row (2 * from)) refl (λ p. rw q at (small_at row from h p)))

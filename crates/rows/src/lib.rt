@@ -51,6 +51,16 @@ pub fn put_request(row: &mut [u32], i: usize, r: Request)
     row[2 * i + 1] = r.timestamp.0;
 }
 
+// The request at place `from` stands at place `to` too. Places move by loops over this, since `copy_within` would make the archive for C need
+// `memmove`, which a host may lack.
+fn copy_place(row: &mut [u32], from: usize, to: usize)
+    requires { (2 * from + 2 ≤ length row.old) × (2 * to + 2 ≤ length row.old) }
+    ensures { Put row.old row.new to (get_or (requests_in row.old) from no_request) }
+{
+    row[2 * to] = row[2 * from];
+    row[2 * to + 1] = row[2 * from + 1];
+}
+
 fn matches(wanted: Wanted, r: Request, x: Request) -> bool
     ensures { result ≡ matching wanted r x }
 {
@@ -91,7 +101,9 @@ fn insert_at(row: &mut [u32], len: usize, at: usize, r: Request)
     requires { (at ≤ len) × (2 * (len + 1) ≤ length row.old) × Padded row.old len }
     ensures { Holds row.old row.new (len + 1) (take at (queue_of row.old len) ++ r ∷ drop at (queue_of row.old len)) }
 {
-    row.copy_within(2 * at..2 * len, 2 * (at + 1));
+    for i in (at..len).rev() {
+        copy_place(row, i, i + 1);
+    }
     put_request(row, at, r);
 }
 
@@ -110,7 +122,9 @@ pub fn remove(row: &mut [u32], len: usize, at: usize)
     requires { (at < len) × Padded row.old len }
     ensures { Holds row.old row.new (len - 1) (take at (queue_of row.old len) ++ drop (suc at) (queue_of row.old len)) }
 {
-    row.copy_within(2 * (at + 1)..2 * len, 2 * at);
+    for i in at..len - 1 {
+        copy_place(row, i + 1, i);
+    }
     put_request(row, len - 1, nobody());
 }
 
@@ -127,12 +141,14 @@ pub fn remove_request(row: &mut [u32], len: usize, r: Request) -> usize
     len
 }
 
-// The words of one row in another of the same length.
+// The words of one row in another of the same length, by a loop, since `copy_from_slice` would need `memmove` too.
 pub fn copy(from: &[u32], to: &mut [u32])
     requires { length from.now ≡ length to.old }
     ensures { to.new ≡ from.now }
 {
-    to.copy_from_slice(from);
+    for i in 0..from.len() {
+        to[i] = from[i];
+    }
 }
 
 // Every word 0.
