@@ -233,7 +233,10 @@ fn put_packet(bytes: &[u8], out: &mut [u8])
 {
     let total = TOTAL_BYTES + bytes.len();
     out[..TOTAL_BYTES].copy_from_slice(&(total as u16).to_le_bytes());
-    out[TOTAL_BYTES..total].copy_from_slice(bytes);
+    // A loop, since copying a part of any length would make the archive for C need memmove, which a host may lack.
+    for i in 0..bytes.len() {
+        out[TOTAL_BYTES + i] = bytes[i];
+    }
 }
 
 // Packs messages that stand one after another, as a step wrote them. The bytes behind the packet stay, and a refusal changes none.
