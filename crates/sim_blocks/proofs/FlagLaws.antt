@@ -1,13 +1,16 @@
 -- The flags that are set: how many, and what setting one adds.
-use Prim.Native.Nat.{ℕ, zero, suc, ◌+◌, ◌<◌}
+use Prim.Native.Nat.{ℕ, zero, suc, ◌+◌, ◌≤◌, ◌<◌}
+use native.Mathlib.Numerals.{add-one}
 use native.Mathlib.Omega.{arith}
 use mathlib.Core.Path.{◌≡◌, refl, sym, ap, ◌∙◌}
-use mathlib.Core.Bool.{true, false}
+use mathlib.Core.Bool.{Bool, true, false}
 use mathlib.Core.List.{List, [], ◌∷◌, ◌++◌, map}
 use mathlib.Core.Logic.{⊎_elim}
 use lib.Dec.{eqb}
-use lib.ListN.{length, take, drop, set}
+use lib.ListN.{length, get_or, take, drop, set}
+use lib.Seq.{take-suc, take_all}
 use Rattle.std.specs.Prelude.{if◌then◌else◌}
+use Rattle.std.specs.Int.{from_bool}
 use Rattle.std.specs.List.{count_by}
 use Rattle.std.proofs.Common.{not, cond}
 use Rattle.std.proofs.lemmas.List.Sums.{sum_by-cons}
@@ -28,6 +31,54 @@ count-flagged j (x ∷ l) =
     (λ (t : eqb x 0 ≡ true). rw (sum_by-cons (λ (x : ℕ). cond (not (eqb x 0)) 1 0) x l, t) (omega (arith, count-flagged (suc j) l)))
     (λ (t : eqb x 0 ≡ false). rw (sum_by-cons (λ (x : ℕ). cond (not (eqb x 0)) 1 0) x l, t) (omega (arith, count-flagged (suc j) l)))
     (decided (eqb x 0))
+
+-- how many words are not 0
+abbrev pub ones : List ℕ → ℕ
+ones [] = 0
+ones (x ∷ l) = (if eqb x 0 then 0 else 1) + ones l
+
+length-flagged : (j : ℕ) (l : List ℕ) → length (flagged j l) ≡ ones l
+unfolding flagged
+length-flagged j [] = refl
+length-flagged j (x ∷ l) =
+    ⊎_elim
+    (λ (t : eqb x 0 ≡ true). rw t (omega (arith, length-flagged (suc j) l)))
+    (λ (t : eqb x 0 ≡ false). rw t (omega (arith, length-flagged (suc j) l)))
+    (decided (eqb x 0))
+
+ones-append : (a b : List ℕ) → ones (a ++ b) ≡ ones a + ones b
+ones-append [] b = omega arith
+ones-append (x ∷ a) b = omega (arith, ones-append a b)
+
+pub one_at_most : (x r : ℕ) → r ≡ (if eqb x 0 then 0 else 1) → r ≤ 1
+one_at_most x r e = rw e (by_test (eqb x 0)) where
+  by_test : (b : Bool) → (if b then 0 else 1) ≤ 1
+  by_test true = omega arith
+  by_test false = omega arith
+
+-- a test that fails as a number
+bit : (b : Bool) → from_bool (not b) ≡ (if b then 0 else 1)
+bit true = refl
+bit false = refl
+
+-- what `flags_set` knows before flag i
+pub record Counting (l : List ℕ) (count i : ℕ) : Type 0 where
+  pub few : count ≤ i
+  pub done : count ≡ ones (take i l)
+
+pub counting_none : (l : List ℕ) → Counting l 0 0
+counting_none l = record { few = omega arith; done = refl }
+
+module _ (l : List ℕ) (size : length l ≡ system_servers) (count i : ℕ) (S : Counting l count i) where
+  pub counting_more : (r : ℕ) → i < system_servers → r ≡ from_bool (not (eqb (get_or l i 0) 0)) → Counting l (count + r) (i + 1)
+  counting_more r h p =
+      let e : r ≡ (if eqb (get_or l i 0) 0 then 0 else 1) = p ∙ bit (eqb (get_or l i 0) 0) in
+      let a : take (i + 1) l ≡ take i l ++ (get_or l i 0 ∷ []) = rw add-one (take-suc l i 0 (omega (arith, size))) in
+      let o = ones-append (take i l) (get_or l i 0 ∷ []) in
+      record { few = omega (arith, S.few, one_at_most (get_or l i 0) r e); done = rw a (omega (arith, o, S.done)) }
+
+  pub counting_all : system_servers ≤ i → count ≡ length (flagged 1 l)
+  counting_all h = S.done ∙ ap ones (take_all i l (omega (arith, size))) ∙ sym (length-flagged 1 l)
 
 pub downs-counted : (b : List ℕ) (r : ℕ) → r ≡ length (flagged 1 (take system_servers (drop flags_from b))) → r ≡ length (client_place b).downs
 unfolding client_place

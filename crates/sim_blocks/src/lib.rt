@@ -210,12 +210,17 @@ pub fn mark_down(b: &mut [u32], j: ServerId)
     }
 }
 
-// How many flags are set.
+// How many flags are set. It counts in 32 bits up to a fixed number, so that the loop becomes vector code: with the library's count, which goes
+// in 64 bits, a script of restarts took half as long again.
 fn flags_set(words: &[u32]) -> u32
     requires { length words.now ≡ system_servers }
     ensures { result ≡ length (flagged 1 words.now) }
 {
-    words.iter().filter(|x| **x != 0).count() as u32
+    let mut count = 0;
+    for i in 0..FLAGS {
+        count += u32::from(words[i] != 0);
+    }
+    count
 }
 
 // How many servers were down in the client's epoch.

@@ -1,10 +1,12 @@
--- The library counts the words that are not 0.
-use Rattle.std.proofs.Common.{◌≡◌, ℕ, ◌∙◌, eqb, not, rules}
-use Rattle.std.specs.List.{count_by}
-use Rattle.sim_blocks.proofs.FlagLaws.{count-flagged}
+-- One flag more, and all of them.
+use Rattle.sim_blocks.proofs.FlagLaws.{counting_none, counting_more, counting_all}
 use Rattle.sim_blocks.proofs.flags_set.Goals as goal
 
+pub loop-i-init : goal.loop-i-init
+loop-i-init c = counting_none _
+
+pub loop-i-preserved : goal.loop-i-preserved
+loop-i-preserved c = search counting_more
+
 pub returns : goal.returns
-returns c =
-    let e : c.count.result ≡ count_by (λ (x : ℕ). not (eqb x 0)) c.args.words.now = search rules in
-    e ∙ count-flagged 1 c.args.words.now
+returns c = search counting_all
