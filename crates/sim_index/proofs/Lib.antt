@@ -1,4 +1,5 @@
 pub mod LoopLaws
+pub mod RowLaws
 pub mod EntryLaws
 pub mod WordLaws
 pub mod PlaceLaws

@@ -1,13 +1,13 @@
 -- The library's words beside ours: the sum, the first place and the test of two lists. What a move of words by one leaves, and a word put in there.
-use Prim.Native.Nat.{ℕ, suc, ◌+◌, ◌-◌, ◌<◌, ◌≤◌}
+use Prim.Native.Nat.{ℕ, zero, suc, ◌+◌, ◌-◌, ◌<◌, ◌≤◌}
 use native.Mathlib.Numerals.{add-one}
 use native.Mathlib.Omega.{arith}
-use mathlib.Core.Path.{◌≡◌, refl, sym, ◌∙◌}
+use mathlib.Core.Path.{◌≡◌, refl, sym, ap, ◌∙◌}
 use mathlib.Core.List.{List, [], ◌∷◌, ◌++◌, append_assoc}
-use lib.ListN.{length, get_or, set, take, drop, length-drop}
+use lib.ListN.{length, get_or, set, take, drop, length-drop, drop_of_length-le}
 use lib.Seq.{drop-cons, take-suc, length-take-le, set_at, length_paste_head, append_snoc}
 use lib.Dec.{eqb}
-use Rattle.std.specs.List.{sum as sum_of, position, position_or_len, copy_within}
+use Rattle.std.specs.List.{sum as sum_of, position, position_or_len, list_all, range_with_len, copy_within}
 use Rattle.std.specs.Cmp.Lexicographic.{pointwise}
 use Rattle.std.proofs.lemmas.List.Recursion.{is_sum_by, is_position_or_len}
 use Rattle.std.proofs.Common.{Option, unwrap_or, not}
@@ -50,6 +50,17 @@ same-pointwise [] [] = refl
 same-pointwise [] (y ∷ b) = refl
 same-pointwise (x ∷ a) [] = refl
 same-pointwise (x ∷ a) (y ∷ b) = rw (same-pointwise a b)
+
+-- the same by the places of the words, from place i on
+pub same-all : (x y : List ℕ) → length x ≡ length y → (i k : ℕ) → i + k ≡ length x
+    → list_all (λ (i : ℕ). eqb (get_or x i 0) (get_or y i 0)) (range_with_len i k) ≡ same (drop i x) (drop i y)
+unfolding same
+same-all x y e i zero h = rw (drop_of_length-le x {i = i} (omega arith), drop_of_length-le y {i = i} (omega arith))
+same-all x y e i (suc k) h =
+    let z : suc i ≡ i + 1 = omega arith in
+    let a : drop i x ≡ get_or x i 0 ∷ drop (i + 1) x = drop-cons x i 0 (omega arith) ∙ ap (λ (j : ℕ). get_or x i 0 ∷ drop j x) z in
+    let b : drop i y ≡ get_or y i 0 ∷ drop (i + 1) y = drop-cons y i 0 (omega arith) ∙ ap (λ (j : ℕ). get_or y i 0 ∷ drop j y) z in
+    rw (a, b, same-all x y e (i + 1) k (omega arith))
 
 -- `insert`: one row's words from place `at` on have moved back by one ---------------------------------------------------------------------
 

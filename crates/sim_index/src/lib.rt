@@ -121,10 +121,10 @@ pub fn put_mark(x: &mut [u32], at: usize, mark: u32)
     x[MARKS + at] = mark;
 }
 
-// Whether two indexes have the same words.
+// Whether two indexes have the same words: word by word and not by `==` of slices, so that a wrong answer (`any_index`) can be that of one word.
 pub fn same(x: &[u32], y: &[u32]) -> bool
     requires { length x.now ≡ length y.now }
     ensures { result ≡ is_same x.now y.now }
 {
-    x == y
+    (0..x.len()).all(|i| x[i] == y[i])
 }
