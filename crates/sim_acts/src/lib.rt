@@ -102,12 +102,14 @@ pub fn try_enter(w: &mut [u32], k: ClientId) -> Result<u32, Refusal>
     sim_changes::client_acts(w, k, ClientAct::Try)
 }
 
-// A client leaves the critical section.
+// A client leaves the critical section. Its own test of the party, so that a wrong answer (`exit_of_nobody`) can be that of this event alone.
 pub fn exit(w: &mut [u32], k: ClientId) -> Result<u32, Refusal>
     requires { valid w.old ≡ true }
     ensures { Leaves w.old (Exit k) w.new × (result ≡ moved_of (happens w.old (Exit k))) }
 {
-    client_there(w, k)?;
+    if !sim_layout::has_client(w, k) {
+        return Err(Refusal::NoSuchParty);
+    }
     sim_changes::client_acts(w, k, ClientAct::Exit)
 }
 

@@ -1,13 +1,15 @@
 -- The party is there, or the event is refused.
-use Rattle.std.proofs.Common.{rules, ◌≡◌, Err}
+use Rattle.ids.specs.declared.Refusal.TheVariants.{NoSuchParty}
+use Rattle.system.specs.declared.Event.TheVariants.{Exit}
 use Rattle.sim_changes.proofs.Answers.{no_client-exits}
-use Rattle.sim_acts.proofs.Guards.{client_missing, client-here}
+use Rattle.sim_changes.proofs.Leaving.{leaves_refused}
+use Rattle.sim_changes.proofs.Parties.{client_missing, client-found}
 use Rattle.sim_acts.proofs.exit.Goals as goal
 
-pub returns-in_err-client_there : goal.returns-in_err-client_there
-returns-in_err-client_there c =
-    let e : c.from_residual.result ≡ Err c.in_err-client_there.field-0.0 = search rules in
-    rw e (client_missing _ c.args.k c.requires c.client_there.ensures _ (no_client-exits _ _ _ _) c.in_err-client_there.was)
+pub returns-then-not-has_client : goal.returns-then-not-has_client
+returns-then-not-has_client c =
+    leaves_refused _ (Exit c.args.k) NoSuchParty c.requires
+    (no_client-exits _ _ _ _ (client_missing _ c.requires _ _ c.has_client.ensures c.if-not-has_client.true))
 
 pub client_acts-requires : goal.client_acts-requires
-client_acts-requires c = client-here _ _ c.requires c.client_there.ensures c.in_ok-client_there.was
+client_acts-requires c = client-found _ c.requires _ _ c.has_client.ensures c.if-not-has_client.false
