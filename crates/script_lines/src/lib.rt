@@ -123,7 +123,9 @@ fn line_of_32(c: Command, x: u32) -> Line
         Command::Take => Line::Event(Event::Take(MessageNumber(x))),
         Command::Drop => Line::Event(Event::Drop(MessageNumber(x))),
         Command::Try | Command::Exit | Command::Fall => Line::Unknown,
-        Command::Down | Command::Up | Command::Miss | Command::Check => Line::Unknown,
+        Command::Down | Command::Up | Command::Miss => Line::Unknown,
+        // An arm of its own, so that a wrong answer (`unknown_is_bad`) can be that of this command alone.
+        Command::Check => Line::Unknown,
         Command::Other => Line::Bad,
     }
 }

@@ -29,3 +29,9 @@ unfolding event_of sixteen_bits line_of
 returns-in-Down c =
     let z : leb c.args.x max_short ≡ false = lt-leb _ _ c.requires in
     search (rules, z)
+
+pub returns-in-Check : goal.returns-in-Check
+unfolding event_of sixteen_bits line_of
+returns-in-Check c =
+    let z : leb c.args.x max_short ≡ false = lt-leb _ _ c.requires in
+    search (rules, z)
