@@ -1,7 +1,7 @@
 -- Laws of numbers as bytes, over every width: what is laid out is read back, and what is read is laid out as it stood.
 use Prim.Native.Nat.{ℕ, zero, suc, ◌+◌, ◌*◌, ◌/◌, ◌%◌, ◌^◌, ◌<◌, ◌≤◌, ◌-◌}
 use native.Mathlib.Nat.{pow-suc}
-use native.Mathlib.Numerals.{add-one}
+use native.Mathlib.Numerals.{add-one, add-two}
 use native.Mathlib.Omega.{arith}
 use mathlib.Core.Path.{◌≡◌, refl, sym, ap, ◌∙◌}
 use mathlib.Core.List.{List, [], ◌∷◌, ◌++◌, append_assoc}
@@ -88,6 +88,22 @@ number-two s at r h e =
     let b = number_more s (suc at) 0 (omega arith) in
     let n : at + 1 ≡ suc at = add-one at in
     rw n at e ∙ omega arith
+
+-- four bytes are two and two
+pub number_four : (s : List ℕ) (at r lo hi : ℕ) → at + 4 ≤ length s → lo ≡ number (take 2 (drop at s))
+    → hi ≡ number (take 2 (drop (at + 2) s)) → r ≡ lo + 65536 * hi → r ≡ number (take 4 (drop at s))
+number_four s at r lo hi h p q e =
+    let n : at + 2 ≡ suc (suc at) = add-two at in
+    let hi' : hi ≡ number (take 2 (drop (suc (suc at)) s)) = rw n at q in
+    omega (
+      arith,
+      number_more s at 3 (omega arith),
+      number_more s (suc at) 2 (omega arith),
+      number_more s (suc (suc at)) 1 (omega arith),
+      number_more s (suc (suc (suc at))) 0 (omega arith),
+      number_more s at 1 (omega arith),
+      number_more s (suc at) 0 (omega arith),
+    )
 
 -- four bytes of the library's
 pub four_bytes : (x : ℕ) → to_le_bytes w32 x ≡ little_endian 4 x
