@@ -89,7 +89,7 @@ module _ (w : List ℕ) (j : ServerId) where
       record { has = H; count = refl; within = omega arith; near = record { system = refl; setting = refl; again = sound w H.valid } }
 
   module _ (clients : ℕ) (w' : List ℕ) (i : ℕ) (M : Marking w j clients w' i) where
-    marking_fits : clients ≤ system_clients
+    pub marking_fits : clients ≤ system_clients
     marking_fits = omega (arith, M.count, few_clients w (sound w M.has.valid))
 
     pub marking_in : i < clients → ClientIn w' (client_no (i + 1)) × (1 ≤ j.0) × (j.0 ≤ system_servers)
@@ -238,7 +238,7 @@ module _ (w : List ℕ) (k n : ℕ) (w' : List ℕ) (i : ℕ) (P : Flagging w k 
             (few_clients w (sound w P.has.valid)),
       )
 
-  flagging_fits : n ≤ system_servers
+  pub flagging_fits : n ≤ system_servers
   flagging_fits = omega (arith, P.count, few_servers w (sound w P.has.valid))
 
   pub flagging_server : i < n → ServerIn w' (server_no (i + 1))

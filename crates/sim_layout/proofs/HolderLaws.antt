@@ -1,11 +1,12 @@
 -- Living holders counted by their places are those counted block by block.
-use mathlib.Core.Path.{◌≡◌, refl}
+use mathlib.Core.Path.{◌≡◌, refl, ap, ◌∙◌}
 use Prim.Native.Nat.{ℕ, zero, suc, ◌+◌, ◌*◌, ◌-◌}
 use native.Mathlib.Omega.{arith}
 use mathlib.Core.Bool.{cond}
 use mathlib.Core.List.{List, map}
 use lib.ListN.{take, drop}
 use lib.Seq.{drop-drop}
+use Rattle.std.specs.Prelude.{if◌then◌else◌}
 use Rattle.std.specs.List.{count_by, range_with_len}
 use Rattle.std.proofs.lemmas.List.Sums.{sum_by-cons}
 use Rattle.client_responses.specs.Figure1.{count}
@@ -27,3 +28,16 @@ inside-counted s f l i (suc c) =
       drop-drop s (i * s) l,
       x,
     )
+
+-- one block more adds one if its client is inside
+module _ (s : ℕ) (f : List ℕ → ClientPlace) where
+  abbrev inside_in : ℕ → List ℕ → ℕ
+  inside_in i l = count (map is_inside (blocks s f i l))
+
+  pub count-more : (i : ℕ) (l : List ℕ) → inside_in (suc i) l ≡ inside_in i l + (if is_inside (f (take s (drop (i * s) l))) then 1 else 0)
+  unfolding blocks
+  count-more zero l = let z : 0 * s ≡ 0 = omega arith in rw z (omega arith)
+  count-more (suc i) l =
+      let y : s + i * s ≡ suc i * s = omega arith in
+      let at : drop (i * s) (drop s l) ≡ drop (suc i * s) l = drop-drop (i * s) s l ∙ ap (λ (x : ℕ). drop x l) y in
+      rw (← at) (omega (arith, count-more i (drop s l)))
