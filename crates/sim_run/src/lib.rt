@@ -10,7 +10,7 @@ ghost use Rattle.sim_run.specs.Calls.{max_accepted, new_answer, begun_says, star
 ghost use Rattle.sim_run.specs.Inner.{counted as counted_by};
 
 use ids::Refusal;
-use sim_changes::Effect;
+pub use sim_changes::Effect;
 use system::{Event, Setting};
 
 // The events accepted, and the most living clients in the critical section at once.
