@@ -1,14 +1,15 @@
 -- The words as three parts, the counts, the numbers and the marks: a word read or stored in one of them, and one put in or taken out, leaves the others.
--- So each of the two rows moves as if it were alone. No other proof asks for it, since the code moves one row after the other.
+-- So the two rows move side by side, each as if it were alone.
 use Prim.Native.Nat.{ℕ, suc, ◌+◌, ◌-◌, ◌<◌, ◌≤◌}
 use native.Mathlib.Omega.{arith}
-use mathlib.Core.Path.{◌≡◌, ap, ◌∙◌}
+use mathlib.Core.Path.{◌≡◌, refl, sym, ap, ◌∙◌}
 use mathlib.Core.List.{List, [], ◌∷◌, ◌++◌, append_assoc, append-nil}
-use lib.ListN.{length, get_or, set, take, drop, length-drop, length-append, get_or-append}
-use lib.Seq.{take-append-le, drop-append-le, take-append-add, drop-append-add, get_or-append-add, set-append_left}
+use lib.ListN.{length, get_or, set, take, drop, length-set, length-drop, length-append, take-append-drop, get_or-append}
+use lib.Seq.{take-append-le, drop-append-le, take-append-add, drop-append-add, get_or-append-add, set-append_left, length-take-le, drop-drop}
 use Rattle.system.specs.Limits.{system_messages}
-use Rattle.sim_index.specs.Index.{numbers_from, marks_from}
+use Rattle.sim_index.specs.Index.{numbers_from, marks_from, index_size}
 use Rattle.sim_index.specs.Calls.{inserted, deleted}
+use Rattle.sim_index.proofs.LoopLaws.{insert-moved, back_from, back-none, back-size, back-more, delete-moved, up_to, up-none, up-size, up-more}
 
 -- a part behind others
 module _ (h r : List ℕ) where
@@ -91,3 +92,142 @@ module _ (h n m : List ℕ) (first : length h ≡ numbers_from) (second : length
 
     pub delete-mark : deleted (marks_from + at) (marks_from + end) (h ++ (n ++ m)) ≡ h ++ (n ++ deleted at end m)
     delete-mark = rw (← both, marks_part_lem) (delete-part (h ++ n) m [] at end le (omega (arith, third)) ∙ marks_back (deleted at end m))
+
+-- the parts of an index's words, and the words with other rows
+abbrev pub counts_part : List ℕ → List ℕ
+counts_part o = take numbers_from o
+
+abbrev pub numbers_part : List ℕ → List ℕ
+numbers_part o = take system_messages (drop numbers_from o)
+
+abbrev pub marks_part : List ℕ → List ℕ
+marks_part o = drop marks_from o
+
+abbrev pub with_rows : List ℕ → List ℕ → List ℕ → List ℕ
+with_rows o n m = counts_part o ++ (n ++ m)
+
+module _ (o : List ℕ) (size : length o ≡ index_size) where
+  counts-long : length (counts_part o) ≡ numbers_from
+  counts-long = length-take-le numbers_from o (omega arith)
+
+  numbers-long : length (numbers_part o) ≡ system_messages
+  numbers-long = length-take-le system_messages (drop numbers_from o) (omega (arith, length-drop numbers_from o))
+
+  marks_long : length (marks_part o) ≡ system_messages
+  marks_long = omega (arith, length-drop marks_from o)
+
+  three : with_rows o (numbers_part o) (marks_part o) ≡ o
+  three =
+      rw (← drop-drop system_messages numbers_from o, take-append-drop system_messages (drop numbers_from o)) (take-append-drop numbers_from o)
+
+  -- a number and a mark stored at place k
+  module _ (n m : List ℕ) (second : length n ≡ system_messages) (third : length m ≡ system_messages) (k : ℕ) (lt : k < system_messages) where
+    with_number : (v : ℕ) → set (with_rows o n m) (numbers_from + k) v ≡ with_rows o (set n k v) m
+    with_number v = set-number (counts_part o) n m counts-long second third k lt v
+
+    rows-stored : (v w : ℕ) → set (set (with_rows o n m) (numbers_from + k) v) (marks_from + k) w ≡ with_rows o (set n k v) (set m k w)
+    rows-stored v w =
+        ap (λ (y : List ℕ). set y (marks_from + k) w) (with_number v) ∙
+        set-mark (counts_part o) (set n k v) m counts-long (length-set n k v ∙ second) third k lt w
+
+    -- those of place j
+    rows-moved : (j : ℕ) → j < system_messages
+        → set (set (with_rows o n m) (numbers_from + k) (get_or (with_rows o n m) (numbers_from + j) 0)) (marks_from + k)
+        (get_or (set (with_rows o n m) (numbers_from + k) (get_or (with_rows o n m) (numbers_from + j) 0)) (marks_from + j) 0)
+        ≡ with_rows o (set n k (get_or n j 0)) (set m k (get_or m j 0))
+    rows-moved j lj =
+        let v : ℕ = get_or (with_rows o n m) (numbers_from + j) 0 in
+        let a : v ≡ get_or n j 0 = get_number (counts_part o) n m counts-long second third j lj in
+        let b : get_or (set (with_rows o n m) (numbers_from + k) v) (marks_from + j) 0 ≡ get_or m j 0 =
+        ap (λ (y : List ℕ). get_or y (marks_from + j) 0) (with_number v) ∙
+        get_mark (counts_part o) (set n k v) m counts-long (length-set n k v ∙ second) third j lj in
+        rows-stored v (get_or (set (with_rows o n m) (numbers_from + k) v) (marks_from + j) 0) ∙ (λ i. with_rows o (set n k (a i)) (set m k (b i)))
+
+-- `insert`: in both rows the words from place i on to place `end` have moved back
+abbrev pub opened : List ℕ → ℕ → ℕ → List ℕ
+opened o end i = with_rows o (back_from (numbers_part o) end i) (back_from (marks_part o) end i)
+
+module _ (o : List ℕ) (size : length o ≡ index_size) (end : ℕ) (lt : end < system_messages) where
+  pub opened-none : o ≡ opened o end end
+  opened-none = sym (rw (back-none (numbers_part o) end, back-none (marks_part o) end) (three o size))
+
+  -- the rows, whose words from place i on have moved back, are as long as they were
+  module _ (i : ℕ) (le : i ≤ end) where
+    n-back : length (back_from (numbers_part o) end i) ≡ system_messages
+    n-back = back-size (numbers_part o) end (omega (arith, numbers-long o size)) i le ∙ numbers-long o size
+
+    m-back : length (back_from (marks_part o) end i) ≡ system_messages
+    m-back = back-size (marks_part o) end (omega (arith, marks_long o size)) i le ∙ marks_long o size
+
+  pub opened-more : (x : List ℕ) (i : ℕ) → i < end → x ≡ opened o end (i + 1)
+      → set (set x (numbers_from + i + 1) (get_or x (numbers_from + i) 0)) (marks_from + i + 1)
+      (get_or (set x (numbers_from + i + 1) (get_or x (numbers_from + i) 0)) (marks_from + i) 0)
+      ≡ opened o end i
+  opened-more x i h e =
+      let a : numbers_from + i + 1 ≡ numbers_from + (i + 1) = omega arith in
+      let b : marks_from + i + 1 ≡ marks_from + (i + 1) = omega arith in
+      let n = back-more (numbers_part o) end (omega (arith, numbers-long o size)) i h in
+      let m = back-more (marks_part o) end (omega (arith, marks_long o size)) i h in
+      rw (e, a, b)
+      (rows-moved o size _ _ (n-back (i + 1) (omega arith)) (m-back (i + 1) (omega arith)) (i + 1) (omega arith) i (omega arith) ∙
+      (λ j. with_rows o (n j) (m j)))
+
+  pub opened-all : (x : List ℕ) (at number mark : ℕ) → at ≤ end → x ≡ opened o end at
+      → set (set x (numbers_from + at) number) (marks_from + at) mark
+      ≡ inserted (marks_from + at) (marks_from + end) mark (inserted (numbers_from + at) (numbers_from + end) number o)
+  opened-all x at number mark le e =
+      let n = insert-moved (numbers_part o) _ at end number refl le (omega (arith, numbers-long o size)) in
+      let m = insert-moved (marks_part o) _ at end mark refl le (omega (arith, marks_long o size)) in
+      let long : length (inserted at end number (numbers_part o)) ≡ system_messages =
+      sym (ap length n) ∙ (length-set (back_from (numbers_part o) end at) at number ∙ n-back at le) in
+      let first = counts-long o size in
+      let third = marks_long o size in
+      rw e (rows-stored o size _ _ (n-back at le) (m-back at le) at (omega arith) number mark ∙ (λ j. with_rows o (n j) (m j))) ∙
+      sym (ap (λ (y : List ℕ). inserted (marks_from + at) (marks_from + end) mark (inserted (numbers_from + at) (numbers_from + end) number y))
+      (sym (three o size)) ∙
+      ap (inserted (marks_from + at) (marks_from + end) mark)
+      (insert-number (counts_part o) (numbers_part o) (marks_part o) first (numbers-long o size) third at end le lt number) ∙
+      insert-mark (counts_part o) (inserted at end number (numbers_part o)) (marks_part o) first long third at end le lt mark)
+
+-- `delete`: in both rows the words from behind place `at` to place i have moved up
+abbrev pub closed : List ℕ → ℕ → ℕ → List ℕ
+closed o at i = with_rows o (up_to (numbers_part o) at i) (up_to (marks_part o) at i)
+
+module _ (o : List ℕ) (size : length o ≡ index_size) (at : ℕ) where
+  pub closed_none : o ≡ closed o at at
+  closed_none = sym (rw (up-none (numbers_part o) at, up-none (marks_part o) at) (three o size))
+
+  module _ (i : ℕ) (le : at ≤ i) (lt : i < system_messages) where
+    n-up : length (up_to (numbers_part o) at i) ≡ system_messages
+    n-up = up-size (numbers_part o) at i le (omega (arith, numbers-long o size)) ∙ numbers-long o size
+
+    m-up : length (up_to (marks_part o) at i) ≡ system_messages
+    m-up = up-size (marks_part o) at i le (omega (arith, marks_long o size)) ∙ marks_long o size
+
+    pub closed-more : (x : List ℕ) → i + 1 < system_messages → x ≡ closed o at i
+        → set (set x (numbers_from + i) (get_or x (numbers_from + i + 1) 0)) (marks_from + i)
+        (get_or (set x (numbers_from + i) (get_or x (numbers_from + i + 1) 0)) (marks_from + i + 1) 0)
+        ≡ closed o at (i + 1)
+    closed-more x h e =
+        let a : numbers_from + i + 1 ≡ numbers_from + (i + 1) = omega arith in
+        let b : marks_from + i + 1 ≡ marks_from + (i + 1) = omega arith in
+        let n = up-more (numbers_part o) at i le (omega (arith, numbers-long o size)) (omega (arith, numbers-long o size)) in
+        let m = up-more (marks_part o) at i le (omega (arith, marks_long o size)) (omega (arith, marks_long o size)) in
+        rw (e, a, b) (rows-moved o size _ _ n-up m-up i lt (i + 1) h ∙ (λ j. with_rows o (n j) (m j)))
+
+    pub closed_all : (x : List ℕ) → x ≡ closed o at i
+        → set (set x (numbers_from + i) 0) (marks_from + i) 0
+        ≡ deleted (marks_from + at) (marks_from + i) (deleted (numbers_from + at) (numbers_from + i) o)
+    closed_all x e =
+        let n = delete-moved (numbers_part o) _ at i refl le (omega (arith, numbers-long o size)) in
+        let m = delete-moved (marks_part o) _ at i refl le (omega (arith, marks_long o size)) in
+        let long : length (deleted at i (numbers_part o)) ≡ system_messages =
+        sym (ap length n) ∙ (length-set (up_to (numbers_part o) at i) i 0 ∙ n-up) in
+        let first = counts-long o size in
+        let third = marks_long o size in
+        rw e (rows-stored o size _ _ n-up m-up i lt 0 0 ∙ (λ j. with_rows o (n j) (m j))) ∙
+        sym (ap (λ (y : List ℕ). deleted (marks_from + at) (marks_from + i) (deleted (numbers_from + at) (numbers_from + i) y))
+        (sym (three o size)) ∙
+        ap (deleted (marks_from + at) (marks_from + i))
+        (delete-number (counts_part o) (numbers_part o) (marks_part o) first (numbers-long o size) third at i le lt) ∙
+        delete-mark (counts_part o) (deleted at i (numbers_part o)) (marks_part o) first long third at i le lt)

@@ -45,14 +45,17 @@ fn find(x: &[u32], from: usize, to: usize, v: u32) -> usize
     from + found.unwrap_or(to - from)
 }
 
-// A number and a mark stand at entry `at`: those from there on to entry `end` move back by one.
+// A number and a mark stand at entry `at`: those from there on to entry `end` move back by one. Here and in `delete` one loop over both rows costs less
+// than a `copy_within` of each.
 fn insert(x: &mut [u32], at: usize, end: usize, number: u32, mark: u32)
     requires { (at ≤ end) × (end < system_messages) × (length x.old ≡ index_size) }
     ensures { x.new ≡ inserted (marks_from + at) (marks_from + end) mark (inserted (numbers_from + at) (numbers_from + end) number x.old) }
 {
-    x.copy_within(NUMBERS + at..NUMBERS + end, NUMBERS + at + 1);
+    for i in (at..end).rev() {
+        x[NUMBERS + i + 1] = x[NUMBERS + i];
+        x[MARKS + i + 1] = x[MARKS + i];
+    }
     x[NUMBERS + at] = number;
-    x.copy_within(MARKS + at..MARKS + end, MARKS + at + 1);
     x[MARKS + at] = mark;
 }
 
@@ -61,9 +64,11 @@ fn delete(x: &mut [u32], at: usize, last: usize)
     requires { (at ≤ last) × (last < system_messages) × (length x.old ≡ index_size) }
     ensures { x.new ≡ deleted (marks_from + at) (marks_from + last) (deleted (numbers_from + at) (numbers_from + last) x.old) }
 {
-    x.copy_within(NUMBERS + at + 1..NUMBERS + last + 1, NUMBERS + at);
+    for i in at..last {
+        x[NUMBERS + i] = x[NUMBERS + i + 1];
+        x[MARKS + i] = x[MARKS + i + 1];
+    }
     x[NUMBERS + last] = 0;
-    x.copy_within(MARKS + at + 1..MARKS + last + 1, MARKS + at);
     x[MARKS + last] = 0;
 }
 

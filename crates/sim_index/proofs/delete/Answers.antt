@@ -1,16 +1,16 @@
--- In each row the words behind `at` move up by one, and 0 stands behind them.
-use Rattle.std.proofs.Common.{◌+◌, ap, ◌∙◌, arith, ℕ, length-set}
-use Rattle.sim_index.specs.Index.{numbers_from, marks_from}
-use Rattle.sim_index.specs.Calls.{deleted}
-use Rattle.sim_index.proofs.LoopLaws.{delete-moved}
+-- A word of each row moves up in a turn, from the first on, and 0 stands behind them.
+use Rattle.std.proofs.Common.{arith, ◌≡◌}
+use Rattle.sim_index.proofs.RowLaws.{closed_none, closed-more, closed_all}
 use Rattle.sim_index.proofs.delete.Goals as goal
+
+pub loop-i-init : goal.loop-i-init
+loop-i-init c = closed_none c.args.x.now (search arith) c.args.at
+
+pub loop-i-preserved : goal.loop-i-preserved
+loop-i-preserved c =
+    closed-more c.args.x.now (search arith) c.args.at c.loop-i.i (omega arith) (omega arith) c.loop-i.x (omega arith) c.loop-i.invariant
 
 pub returns : goal.returns
 returns c =
-    let at = numbers_from + c.args.at in
-    let end = numbers_from + c.args.last in
-    let from = marks_from + c.args.at in
-    let to = marks_from + c.args.last in
-    let n = delete-moved c.args.x.now _ at end c.copy_within.ensures.after (omega arith) (omega arith) in
-    let m = delete-moved _ _ from to c.copy_within-2.ensures.after (omega arith) (omega (arith, length-set {A = ℕ}, c.copy_within.ensures.len)) in
-    m ∙ ap (deleted from to) n
+    let n : c.loop-i.i ≡ c.args.last = omega arith in
+    closed_all c.args.x.now (search arith) c.args.at c.args.last (omega arith) (omega arith) c.loop-i.x (rw n at c.loop-i.invariant)

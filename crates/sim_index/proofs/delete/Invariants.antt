@@ -1,0 +1,7 @@
+-- The invariant: in both rows the words from behind `at` to place i have moved up.
+use Rattle.std.proofs.Common.{◌≡◌}
+use Rattle.sim_index.proofs.RowLaws.{closed}
+use Rattle.sim_index.proofs.delete.Given as goal
+
+abbrev pub invariant-loop-i : goal.invariant-loop-i
+invariant-loop-i l = l.x ≡ closed l.initial.x l.at l.i
