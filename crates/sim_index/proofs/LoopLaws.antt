@@ -1,17 +1,19 @@
--- The library's words beside ours: the sum, the first place and the test of two lists. What a move of words by one leaves, and a word put in there.
+-- The library's words beside ours: the sum, the first place and the test of two lists. What a move of words by one leaves, and a word put in there;
+-- and that a row with a word put in or taken out is the row with words moved by one place, as `rows` moves its places.
 use Prim.Native.Nat.{ℕ, zero, suc, ◌+◌, ◌-◌, ◌<◌, ◌≤◌}
 use native.Mathlib.Numerals.{add-one}
 use native.Mathlib.Omega.{arith}
-use mathlib.Core.Path.{◌≡◌, refl, sym, ap, ◌∙◌}
+use mathlib.Core.Path.{◌≡◌, refl, sym, ap, subst, ◌∙◌}
 use mathlib.Core.List.{List, [], ◌∷◌, ◌++◌, append_assoc}
-use lib.ListN.{length, get_or, set, take, drop, length-drop, get_or-append, take-append-drop, drop_of_length-le}
-use lib.Seq.{drop-cons, take-suc, length-take-le, set_at, get_or-take, get_or-drop, paste, paste-zero, paste-suc, length-paste, drop-paste, length_paste_head, append_snoc}
+use lib.ListN.{length, get_or, set, take, drop, length-append, length-drop, take-append-drop, drop_of_length-le}
+use lib.Seq.{drop-cons, drop-drop, take-suc, length-take-le, split_at, get_or_at, set_at, length_paste_head, append_snoc}
 use lib.Dec.{eqb}
 use Rattle.std.specs.List.{sum as sum_of, position, position_or_len, list_all, range_with_len, copy_within}
 use Rattle.std.specs.Cmp.Lexicographic.{pointwise}
 use Rattle.std.proofs.lemmas.List.Recursion.{is_sum_by, is_position_or_len}
 use Rattle.std.proofs.Common.{Option, unwrap_or, not}
 use Rattle.std.proofs.lemmas.List.Sums.{prefix_len-le-length}
+use Rattle.rows.proofs.ShiftLaws.{Shifted, shifted}
 use Rattle.sim_index.specs.Calls.{sum, start_of, first_of, inserted, deleted, same}
 
 -- `start`: the sum ------------------------------------------------------------------------------------------------------------------------
@@ -70,46 +72,14 @@ set_last o l i v h =
     rw (take-suc o i 0 h, append_snoc (take i o) (get_or o i 0) l)
     (set_at (take i o) (get_or o i 0) l v i (length-take-le i o (omega arith)))
 
--- the words as three parts: those in front, those that moved, and those behind
-moved_parts : (o : List ℕ) (at end : ℕ) → at ≤ end
-    → copy_within o at end (at + 1) ≡ take (suc at) o ++ (take (end - at) (drop at o) ++ drop (suc end) o)
-moved_parts o at end le =
-    let y : at + 1 ≡ suc at = omega arith in
-    let z : suc at + (end - at) ≡ suc end = omega arith in
-    rw (y, z) (append_assoc (take (suc at) o) (take (end - at) (drop at o)) (drop (suc end) o))
-
 pub insert-moved : (o w : List ℕ) (at end v : ℕ) → w ≡ copy_within o at end (at + 1) → at ≤ end → end < length o
     → set w at v ≡ inserted at end v o
 insert-moved o w at end v e le lt =
-    rw (e, moved_parts o at end le) (set_last o (take (end - at) (drop at o) ++ drop (suc end) o) at v (omega arith))
-
--- moved word by word, from the last on: before a turn those from place i on have moved, and after it one more
-module _ (o : List ℕ) (end : ℕ) where
-  abbrev pub back_from : ℕ → List ℕ
-  back_from i = copy_within o i end (i + 1)
-
-  pub back-none : back_from end ≡ o
-  back-none =
-      let z : end - end ≡ 0 = omega arith in
-      moved_parts o end end (omega arith) ∙ rw z (take-append-drop (suc end) o)
-
-  module _ (room : end < length o) (i : ℕ) where
-    pub back-size : i ≤ end → length (back_from i) ≡ length o
-    back-size le = length-paste o (i + 1) (drop i o) (end - i) (omega arith) (simp length-drop (omega arith))
-
-    pub back-more : i < end → set (back_from (i + 1)) (i + 1) (get_or (back_from (i + 1)) i 0) ≡ back_from i
-    back-more lt =
-        let n : i + 1 ≡ suc i = omega arith in
-        let l : List ℕ = take (end - suc i) (drop (suc i) o) ++ drop (suc end) o in
-        let d : back_from (i + 1) ≡ take (suc (suc i)) o ++ l = rw n (moved_parts o (suc i) end (omega arith)) in
-        let h : i < length (take (suc (suc i)) o) = omega (arith, length-take-le (suc (suc i)) o (omega arith)) in
-        let w : get_or (back_from (i + 1)) i 0 ≡ get_or o i 0 =
-        rw d (get_or-append (take (suc (suc i)) o) l 0 i h ∙ get_or-take (suc (suc i)) o i 0 (omega arith)) in
-        let z : end - i ≡ suc (end - suc i) = omega arith in
-        let q : take (end - i) (drop i o) ≡ get_or o i 0 ∷ take (end - suc i) (drop (suc i) o) = rw (z, drop-cons o i 0 (omega arith)) refl in
-        let p : back_from i ≡ take (suc i) o ++ (get_or o i 0 ∷ l) =
-        moved_parts o i end (omega arith) ∙ ap (λ (y : List ℕ). take (suc i) o ++ (y ++ drop (suc end) o)) q in
-        rw (w, d, p, n) (set_last o l (suc i) (get_or o i 0) (omega arith))
+    let y : at + 1 ≡ suc at = omega arith in
+    let z : suc at + (end - at) ≡ suc end = omega arith in
+    let d : w ≡ take (suc at) o ++ (take (end - at) (drop at o) ++ drop (suc end) o) =
+    e ∙ rw (y, z) (append_assoc (take (suc at) o) (take (end - at) (drop at o)) (drop (suc end) o)) in
+    rw d (set_last o (take (end - at) (drop at o) ++ drop (suc end) o) at v (omega arith))
 
 -- `delete`: one row's words behind place `at` have moved up by one ------------------------------------------------------------------------
 
@@ -126,35 +96,54 @@ delete-moved o w at last e le lt =
     rw d (set_at (take at o ++ moved) (get_or o last 0) (drop (suc last) o) 0 last long ∙
     append_assoc (take at o) moved (0 ∷ drop (suc last) o))
 
--- moved word by word: before a turn those up to place i have moved, and after it one more
-module _ (o : List ℕ) (at : ℕ) where
-  abbrev pub up_to : ℕ → List ℕ
-  up_to i = copy_within o (at + 1) (i + 1) at
+-- one row, moved word by word (`rows/proofs` ShiftLaws) -----------------------------------------------------------------------------------
 
-  pub up-none : up_to at ≡ o
-  up-none =
-      let z : at + 1 - (at + 1) ≡ 0 = omega arith in
-      rw z (sym (paste-zero o at (drop (at + 1) o)))
+-- the words from place i on are those from there to place j and those from place j on
+parted : (o : List ℕ) (i j : ℕ) → i ≤ j → take (j - i) (drop i o) ++ drop j o ≡ drop i o
+parted o i j le =
+    let z : i + (j - i) ≡ j = omega arith in
+    ap (λ (k : ℕ). take (j - i) (drop i o) ++ drop k o) (sym z) ∙
+    (ap (λ (l : List ℕ). take (j - i) (drop i o) ++ l) (sym (drop-drop (j - i) i o)) ∙ take-append-drop (j - i) (drop i o))
 
-  module _ (i : ℕ) (le : at ≤ i) (lt : i < length o) where
-    few : i + 1 - (at + 1) ≤ length (drop (at + 1) o)
-    few = simp length-drop (omega arith)
+module _ (o : List ℕ) (at end : ℕ) (le : at ≤ end) (lt : end < length o) where
+  front-size : length (take at o) ≡ at
+  front-size = length-take-le at o (omega arith)
 
-    pub up-size : length (up_to i) ≡ length o
-    up-size = length-paste o at (drop (at + 1) o) (i + 1 - (at + 1)) (omega arith) few
+  -- the words that move, of an insertion and of a removal
+  back-size : length (take (end - at) (drop at o)) ≡ end - at
+  back-size = length-take-le (end - at) (drop at o) (omega (arith, length-drop at o))
 
-    pub up-more : i + 1 < length o → set (up_to i) i (get_or (up_to i) (i + 1) 0) ≡ up_to (i + 1)
-    up-more h =
-        let s : List ℕ = drop (at + 1) o in
-        let k : ℕ = i + 1 - (at + 1) in
-        let here : at + k ≡ i = omega arith in
-        let next : i + 1 + 1 - (at + 1) ≡ suc k = omega arith in
-        let behind : at + 1 + k ≡ i + 1 = omega arith in
-        let rest : drop i (up_to i) ≡ drop i o =
-        ap (λ (j : ℕ). drop j (up_to i)) (sym here) ∙ drop-paste o at s k (omega arith) few ∙ ap (λ (j : ℕ). drop j o) here in
-        let word : get_or (up_to i) (i + 1) 0 ≡ get_or s k 0 =
-        rw (get_or-drop (at + 1) o k 0, behind, ← get_or-drop i (up_to i) 1 0, ← get_or-drop i o 1 0, rest) in
-        rw word
-        (ap (λ (j : ℕ). set (up_to i) j (get_or s k 0)) (sym here) ∙
-        paste-suc o at s k 0 (omega arith) (simp length-drop (omega arith)) ∙
-        ap (λ (j : ℕ). paste o at s j) (sym next))
+  up-size : length (take (end - at) (drop (suc at) o)) ≡ end - at
+  up-size = length-take-le (end - at) (drop (suc at) o) (omega (arith, length-drop (suc at) o))
+
+  pub insertion : (v : ℕ) → Shifted 0 (inserted at end v o) o at end
+  insertion v =
+      let whole : take at o ++ (take (end - at) (drop at o) ++ (get_or o end 0 ∷ drop (suc end) o)) ≡ o =
+      ap (λ (l : List ℕ). take at o ++ (take (end - at) (drop at o) ++ l)) (sym (drop-cons o end 0 lt)) ∙
+      (ap (λ (l : List ℕ). take at o ++ l) (parted o at end le) ∙ take-append-drop at o) in
+      subst (λ (y : List ℕ). Shifted 0 (inserted at end v o) y at end) whole
+      (shifted 0 (take at o) (take (end - at) (drop at o)) (drop (suc end) o) v (get_or o end 0) at end front-size
+      (omega (arith, front-size, back-size)))
+
+  pub inserted_at : (v : ℕ) → get_or (inserted at end v o) at 0 ≡ v
+  inserted_at v = get_or_at (take at o) v _ 0 at front-size
+
+  pub removal : Shifted 0 o (deleted at end o) at end
+  removal =
+      let z : suc end - suc at ≡ end - at = omega arith in
+      let whole : take at o ++ (get_or o at 0 ∷ (take (end - at) (drop (suc at) o) ++ drop (suc end) o)) ≡ o =
+      ap (λ (l : List ℕ). take at o ++ (get_or o at 0 ∷ l)) (rw z at (parted o (suc at) (suc end) (omega arith))) ∙
+      sym (split_at o at 0 (omega arith)) in
+      subst (λ (x : List ℕ). Shifted 0 x (deleted at end o) at end) whole
+      (shifted 0 (take at o) (take (end - at) (drop (suc at) o)) (drop (suc end) o) (get_or o at 0) 0 at end front-size
+      (omega (arith, front-size, up-size)))
+
+  pub deleted_last : get_or (deleted at end o) end 0 ≡ 0
+  deleted_last =
+      let p : List ℕ = take at o ++ take (end - at) (drop (suc at) o) in
+      let n : length p ≡ end = length-append (take at o) (take (end - at) (drop (suc at) o)) ∙ omega (arith, front-size, up-size) in
+      rw append_assoc at (get_or_at p 0 (drop (suc end) o) 0 end n)
+
+-- two rows of one length, the one up to place k and the other behind it, are as long
+pub halves-size : (k : ℕ) (a b : List ℕ) → k ≤ length a → length a ≡ length b → length (take k a ++ drop k b) ≡ length b
+halves-size k a b h e = omega (arith, length-append (take k a) (drop k b), length-take-le k a h, length-drop k b)

@@ -9,7 +9,8 @@ use lib.Seq.{take-append-le, drop-append-le, take-append-add, drop-append-add, g
 use Rattle.system.specs.Limits.{system_messages}
 use Rattle.sim_index.specs.Index.{numbers_from, marks_from, index_size}
 use Rattle.sim_index.specs.Calls.{inserted, deleted}
-use Rattle.sim_index.proofs.LoopLaws.{insert-moved, back_from, back-none, back-size, back-more, delete-moved, up_to, up-none, up-size, up-more}
+use Rattle.rows.proofs.ShiftLaws.{Shifted, rise_start, rise_on, rise_end, sink_start, sink_on, sink_end}
+use Rattle.sim_index.proofs.LoopLaws.{insertion, inserted_at, removal, deleted_last, halves-size}
 
 -- a part behind others
 module _ (h r : List ℕ) where
@@ -106,6 +107,10 @@ marks_part o = drop marks_from o
 abbrev pub with_rows : List ℕ → List ℕ → List ℕ → List ℕ
 with_rows o n m = counts_part o ++ (n ++ m)
 
+-- what a turn of the loops leaves: the word of place `from` stands at place `to` too, and then that of place `from2` at place `to2`
+abbrev turn : List ℕ → ℕ → ℕ → ℕ → ℕ → List ℕ
+turn x to from to2 from2 = let y : List ℕ = set x to (get_or x from 0) in set y to2 (get_or y from2 0)
+
 module _ (o : List ℕ) (size : length o ≡ index_size) where
   counts-long : length (counts_part o) ≡ numbers_from
   counts-long = length-take-le numbers_from o (omega arith)
@@ -132,8 +137,7 @@ module _ (o : List ℕ) (size : length o ≡ index_size) where
 
     -- those of place j
     rows-moved : (j : ℕ) → j < system_messages
-        → set (set (with_rows o n m) (numbers_from + k) (get_or (with_rows o n m) (numbers_from + j) 0)) (marks_from + k)
-        (get_or (set (with_rows o n m) (numbers_from + k) (get_or (with_rows o n m) (numbers_from + j) 0)) (marks_from + j) 0)
+        → turn (with_rows o n m) (numbers_from + k) (numbers_from + j) (marks_from + k) (marks_from + j)
         ≡ with_rows o (set n k (get_or n j 0)) (set m k (get_or m j 0))
     rows-moved j lj =
         let v : ℕ = get_or (with_rows o n m) (numbers_from + j) 0 in
@@ -143,91 +147,109 @@ module _ (o : List ℕ) (size : length o ≡ index_size) where
         get_mark (counts_part o) (set n k v) m counts-long (length-set n k v ∙ second) third j lj in
         rows-stored v (get_or (set (with_rows o n m) (numbers_from + k) v) (marks_from + j) 0) ∙ (λ i. with_rows o (set n k (a i)) (set m k (b i)))
 
--- `insert`: in both rows the words from place i on to place `end` have moved back
-abbrev pub opened : List ℕ → ℕ → ℕ → List ℕ
-opened o end i = with_rows o (back_from (numbers_part o) end i) (back_from (marks_part o) end i)
+-- `insert`: in both rows the words behind place i have moved back, and up to it all is as it was
+abbrev pub opened : List ℕ → ℕ → ℕ → ℕ → ℕ → ℕ → List ℕ
+opened o at end number mark i =
+    with_rows o (take (suc i) (numbers_part o) ++ drop (suc i) (inserted at end number (numbers_part o)))
+    (take (suc i) (marks_part o) ++ drop (suc i) (inserted at end mark (marks_part o)))
 
-module _ (o : List ℕ) (size : length o ≡ index_size) (end : ℕ) (lt : end < system_messages) where
-  pub opened-none : o ≡ opened o end end
-  opened-none = sym (rw (back-none (numbers_part o) end, back-none (marks_part o) end) (three o size))
+module _ (o : List ℕ) (size : length o ≡ index_size) (at end number mark : ℕ) (le : at ≤ end) (lt : end < system_messages) where
+  numbers-insertion : Shifted 0 (inserted at end number (numbers_part o)) (numbers_part o) at end
+  numbers-insertion = insertion (numbers_part o) at end le (omega (arith, numbers-long o size)) number
 
-  -- the rows, whose words from place i on have moved back, are as long as they were
-  module _ (i : ℕ) (le : i ≤ end) where
-    n-back : length (back_from (numbers_part o) end i) ≡ system_messages
-    n-back = back-size (numbers_part o) end (omega (arith, numbers-long o size)) i le ∙ numbers-long o size
+  marks-insertion : Shifted 0 (inserted at end mark (marks_part o)) (marks_part o) at end
+  marks-insertion = insertion (marks_part o) at end le (omega (arith, marks_long o size)) mark
 
-    m-back : length (back_from (marks_part o) end i) ≡ system_messages
-    m-back = back-size (marks_part o) end (omega (arith, marks_long o size)) i le ∙ marks_long o size
+  pub opened-none : o ≡ opened o at end number mark end
+  opened-none =
+      sym (three o size) ∙ (λ j. with_rows o (sink_start 0 _ _ at end numbers-insertion j) (sink_start 0 _ _ at end marks-insertion j))
 
-  pub opened-more : (x : List ℕ) (i : ℕ) → i < end → x ≡ opened o end (i + 1)
-      → set (set x (numbers_from + i + 1) (get_or x (numbers_from + i) 0)) (marks_from + i + 1)
-      (get_or (set x (numbers_from + i + 1) (get_or x (numbers_from + i) 0)) (marks_from + i) 0)
-      ≡ opened o end i
-  opened-more x i h e =
-      let a : numbers_from + i + 1 ≡ numbers_from + (i + 1) = omega arith in
-      let b : marks_from + i + 1 ≡ marks_from + (i + 1) = omega arith in
-      let n = back-more (numbers_part o) end (omega (arith, numbers-long o size)) i h in
-      let m = back-more (marks_part o) end (omega (arith, marks_long o size)) i h in
-      rw (e, a, b)
-      (rows-moved o size _ _ (n-back (i + 1) (omega arith)) (m-back (i + 1) (omega arith)) (i + 1) (omega arith) i (omega arith) ∙
-      (λ j. with_rows o (n j) (m j)))
+  -- between two turns the rows are as long as they were
+  module _ (i : ℕ) (h : i ≤ end) where
+    numbers-back : length (take (suc i) (numbers_part o) ++ drop (suc i) (inserted at end number (numbers_part o))) ≡ system_messages
+    numbers-back =
+        halves-size (suc i) _ _ (omega (arith, numbers-long o size)) numbers-insertion.size ∙ (sym numbers-insertion.size ∙ numbers-long o size)
 
-  pub opened-all : (x : List ℕ) (at number mark : ℕ) → at ≤ end → x ≡ opened o end at
-      → set (set x (numbers_from + at) number) (marks_from + at) mark
-      ≡ inserted (marks_from + at) (marks_from + end) mark (inserted (numbers_from + at) (numbers_from + end) number o)
-  opened-all x at number mark le e =
-      let n = insert-moved (numbers_part o) _ at end number refl le (omega (arith, numbers-long o size)) in
-      let m = insert-moved (marks_part o) _ at end mark refl le (omega (arith, marks_long o size)) in
-      let long : length (inserted at end number (numbers_part o)) ≡ system_messages =
-      sym (ap length n) ∙ (length-set (back_from (numbers_part o) end at) at number ∙ n-back at le) in
-      let first = counts-long o size in
-      let third = marks_long o size in
-      rw e (rows-stored o size _ _ (n-back at le) (m-back at le) at (omega arith) number mark ∙ (λ j. with_rows o (n j) (m j))) ∙
-      sym (ap (λ (y : List ℕ). inserted (marks_from + at) (marks_from + end) mark (inserted (numbers_from + at) (numbers_from + end) number y))
-      (sym (three o size)) ∙
-      ap (inserted (marks_from + at) (marks_from + end) mark)
-      (insert-number (counts_part o) (numbers_part o) (marks_part o) first (numbers-long o size) third at end le lt number) ∙
-      insert-mark (counts_part o) (inserted at end number (numbers_part o)) (marks_part o) first long third at end le lt mark)
+    marks-back : length (take (suc i) (marks_part o) ++ drop (suc i) (inserted at end mark (marks_part o))) ≡ system_messages
+    marks-back = halves-size (suc i) _ _ (omega (arith, marks_long o size)) marks-insertion.size ∙ (sym marks-insertion.size ∙ marks_long o size)
 
--- `delete`: in both rows the words from behind place `at` to place i have moved up
-abbrev pub closed : List ℕ → ℕ → ℕ → List ℕ
-closed o at i = with_rows o (up_to (numbers_part o) at i) (up_to (marks_part o) at i)
+  module _ (x : List ℕ) (i : ℕ) (h : i ≤ end) (e : x ≡ opened o at end number mark i) where
+    pub opened-more : at < i
+        → turn x (numbers_from + (i - 1) + 1) (numbers_from + (i - 1)) (marks_from + (i - 1) + 1) (marks_from + (i - 1))
+        ≡ opened o at end number mark (i - 1)
+    opened-more g =
+        let a : numbers_from + (i - 1) + 1 ≡ numbers_from + i = omega arith in
+        let b : marks_from + (i - 1) + 1 ≡ marks_from + i = omega arith in
+        let n = sink_on 0 _ _ at end numbers-insertion i _ refl g h in
+        let m = sink_on 0 _ _ at end marks-insertion i _ refl g h in
+        rw (e, a, b)
+        (rows-moved o size _ _ (numbers-back i h) (marks-back i h) i (omega arith) (i - 1) (omega arith) ∙ (λ j. with_rows o (n j) (m j)))
 
-module _ (o : List ℕ) (size : length o ≡ index_size) (at : ℕ) where
-  pub closed_none : o ≡ closed o at at
-  closed_none = sym (rw (up-none (numbers_part o) at, up-none (marks_part o) at) (three o size))
+    pub opened-all : i ≡ at
+        → set (set x (numbers_from + at) number) (marks_from + at) mark
+        ≡ inserted (marks_from + at) (marks_from + end) mark (inserted (numbers_from + at) (numbers_from + end) number o)
+    opened-all z =
+        let p = inserted_at (numbers_part o) at end le (omega (arith, numbers-long o size)) number in
+        let q = inserted_at (marks_part o) at end le (omega (arith, marks_long o size)) mark in
+        let n = rw p at (sink_end 0 _ _ at end numbers-insertion i _ refl z) in
+        let m = rw q at (sink_end 0 _ _ at end marks-insertion i _ refl z) in
+        let first = counts-long o size in
+        let second = sym numbers-insertion.size ∙ numbers-long o size in
+        let third = marks_long o size in
+        rw e (rows-stored o size _ _ (numbers-back i h) (marks-back i h) at (omega arith) number mark ∙ (λ j. with_rows o (n j) (m j))) ∙
+        sym (ap (λ (y : List ℕ). inserted (marks_from + at) (marks_from + end) mark (inserted (numbers_from + at) (numbers_from + end) number y))
+        (sym (three o size)) ∙
+        ap (inserted (marks_from + at) (marks_from + end) mark)
+        (insert-number (counts_part o) (numbers_part o) (marks_part o) first (numbers-long o size) third at end le lt number) ∙
+        insert-mark (counts_part o) (inserted at end number (numbers_part o)) (marks_part o) first second third at end le lt mark)
 
-  module _ (i : ℕ) (le : at ≤ i) (lt : i < system_messages) where
-    n-up : length (up_to (numbers_part o) at i) ≡ system_messages
-    n-up = up-size (numbers_part o) at i le (omega (arith, numbers-long o size)) ∙ numbers-long o size
+-- `delete`: in both rows the words before place i have moved up, and from it on all is as it was
+abbrev pub closed : List ℕ → ℕ → ℕ → ℕ → List ℕ
+closed o at last i =
+    with_rows o (take i (deleted at last (numbers_part o)) ++ drop i (numbers_part o))
+    (take i (deleted at last (marks_part o)) ++ drop i (marks_part o))
 
-    m-up : length (up_to (marks_part o) at i) ≡ system_messages
-    m-up = up-size (marks_part o) at i le (omega (arith, marks_long o size)) ∙ marks_long o size
+module _ (o : List ℕ) (size : length o ≡ index_size) (at last : ℕ) (le : at ≤ last) (lt : last < system_messages) where
+  numbers-removal : Shifted 0 (numbers_part o) (deleted at last (numbers_part o)) at last
+  numbers-removal = removal (numbers_part o) at last le (omega (arith, numbers-long o size))
 
-    pub closed-more : (x : List ℕ) → i + 1 < system_messages → x ≡ closed o at i
-        → set (set x (numbers_from + i) (get_or x (numbers_from + i + 1) 0)) (marks_from + i)
-        (get_or (set x (numbers_from + i) (get_or x (numbers_from + i + 1) 0)) (marks_from + i + 1) 0)
-        ≡ closed o at (i + 1)
-    closed-more x h e =
+  marks-removal : Shifted 0 (marks_part o) (deleted at last (marks_part o)) at last
+  marks-removal = removal (marks_part o) at last le (omega (arith, marks_long o size))
+
+  pub closed_none : o ≡ closed o at last at
+  closed_none =
+      sym (three o size) ∙ (λ j. with_rows o (rise_start 0 _ _ at last numbers-removal j) (rise_start 0 _ _ at last marks-removal j))
+
+  module _ (x : List ℕ) (i : ℕ) (h : i ≤ last) (e : x ≡ closed o at last i) where
+    numbers-up : length (take i (deleted at last (numbers_part o)) ++ drop i (numbers_part o)) ≡ system_messages
+    numbers-up = halves-size i _ _ (omega (arith, numbers-removal.size, numbers-long o size)) numbers-removal.size ∙ numbers-long o size
+
+    marks-up : length (take i (deleted at last (marks_part o)) ++ drop i (marks_part o)) ≡ system_messages
+    marks-up = halves-size i _ _ (omega (arith, marks-removal.size, marks_long o size)) marks-removal.size ∙ marks_long o size
+
+    pub closed-more : at ≤ i → i < last
+        → turn x (numbers_from + i) (numbers_from + i + 1) (marks_from + i) (marks_from + i + 1) ≡ closed o at last (i + 1)
+    closed-more l g =
         let a : numbers_from + i + 1 ≡ numbers_from + (i + 1) = omega arith in
         let b : marks_from + i + 1 ≡ marks_from + (i + 1) = omega arith in
-        let n = up-more (numbers_part o) at i le (omega (arith, numbers-long o size)) (omega (arith, numbers-long o size)) in
-        let m = up-more (marks_part o) at i le (omega (arith, marks_long o size)) (omega (arith, marks_long o size)) in
-        rw (e, a, b) (rows-moved o size _ _ n-up m-up i lt (i + 1) h ∙ (λ j. with_rows o (n j) (m j)))
+        let n = rise_on 0 _ _ at last numbers-removal i _ refl l g in
+        let m = rise_on 0 _ _ at last marks-removal i _ refl l g in
+        rw (e, a, b) (rows-moved o size _ _ numbers-up marks-up i (omega arith) (i + 1) (omega arith) ∙ (λ j. with_rows o (n j) (m j)))
 
-    pub closed_all : (x : List ℕ) → x ≡ closed o at i
-        → set (set x (numbers_from + i) 0) (marks_from + i) 0
-        ≡ deleted (marks_from + at) (marks_from + i) (deleted (numbers_from + at) (numbers_from + i) o)
-    closed_all x e =
-        let n = delete-moved (numbers_part o) _ at i refl le (omega (arith, numbers-long o size)) in
-        let m = delete-moved (marks_part o) _ at i refl le (omega (arith, marks_long o size)) in
-        let long : length (deleted at i (numbers_part o)) ≡ system_messages =
-        sym (ap length n) ∙ (length-set (up_to (numbers_part o) at i) i 0 ∙ n-up) in
+    pub closed_all : i ≡ last
+        → set (set x (numbers_from + last) 0) (marks_from + last) 0
+        ≡ deleted (marks_from + at) (marks_from + last) (deleted (numbers_from + at) (numbers_from + last) o)
+    closed_all z =
         let first = counts-long o size in
+        let second = numbers-removal.size ∙ numbers-long o size in
         let third = marks_long o size in
-        rw e (rows-stored o size _ _ n-up m-up i lt 0 0 ∙ (λ j. with_rows o (n j) (m j))) ∙
-        sym (ap (λ (y : List ℕ). deleted (marks_from + at) (marks_from + i) (deleted (numbers_from + at) (numbers_from + i) y))
+        let p = deleted_last (numbers_part o) at last le (omega (arith, numbers-long o size)) in
+        let q = deleted_last (marks_part o) at last le (omega (arith, marks_long o size)) in
+        let n = rw p at (rise_end 0 _ _ at last numbers-removal i _ refl z) in
+        let m = rw q at (rise_end 0 _ _ at last marks-removal i _ refl z) in
+        rw e (rows-stored o size _ _ numbers-up marks-up last lt 0 0 ∙ (λ j. with_rows o (n j) (m j))) ∙
+        sym (ap (λ (y : List ℕ). deleted (marks_from + at) (marks_from + last) (deleted (numbers_from + at) (numbers_from + last) y))
         (sym (three o size)) ∙
-        ap (deleted (marks_from + at) (marks_from + i))
-        (delete-number (counts_part o) (numbers_part o) (marks_part o) first (numbers-long o size) third at i le lt) ∙
-        delete-mark (counts_part o) (deleted at i (numbers_part o)) (marks_part o) first long third at i le lt)
+        ap (deleted (marks_from + at) (marks_from + last))
+        (delete-number (counts_part o) (numbers_part o) (marks_part o) first (numbers-long o size) third at last le lt) ∙
+        delete-mark (counts_part o) (deleted at last (numbers_part o)) (marks_part o) first second third at last le lt)
